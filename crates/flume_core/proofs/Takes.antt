@@ -1,0 +1,194 @@
+-- A message handed out: what that leaves stands for the log with that step added.
+use Rattle.std.proofs.Common.{◌≡◌, ℕ, ◌+◌, ◌-◌, ◌<◌, ◌≤◌, Bool, true, false, not, ◌&&◌, if◌then◌else◌, ◌⊎◌, inl, inr, ⊎_elim, nat_le, List}
+use Rattle.std.proofs.Common.{[], ◌∷◌, ◌++◌, length, suc, max, Option, Some, None, refl, sym, ◌∙◌, ap, subst, arith, length-append}
+use Rattle.std.proofs.Common.{append_assoc}
+use Rattle.std.proofs.Math.Bool.{and-true}
+use Rattle.std.proofs.lemmas.Bool.{leb-true, leb-false, le-leb}
+use Rattle.std.proofs.lemmas.List.{length-map, map_push, length_push}
+use Rattle.flume_core.specs.declared.step.Step.{Step}
+use Rattle.flume_core.specs.declared.step.Reply.{Reply}
+use Rattle.flume_core.specs.Log.{Log, Opening, Offer, Takes, capped, change, is_over}
+use Rattle.flume_core.specs.Line.{line, messages, is_live}
+use Rattle.flume_core.specs.Channel.{IsReply, channel, has_ticket}
+use Rattle.flume_core.specs.Limits.{HasRoom, IsAtCapacity, is_full}
+use Rattle.flume_core.specs.Messages.{Blocked}
+use Rattle.flume_core.specs.Sends.{changed, accepted_now}
+use Rattle.flume_core.specs.State.{State, StandsFor, offers_of}
+use Rattle.flume_core.specs.Effects.{admitted, admitted_from, refilled, fronted, fronted_from}
+use Rattle.flume_core.proofs.Parts.{front_at, open_at}
+use Rattle.flume_core.proofs.LineSteps.{line_takes}
+use Rattle.flume_core.proofs.Views.{mark, status, status_is, queued_length, at_capacity, nil_by}
+use Rattle.flume_core.proofs.Marks.{marks_admitted}
+use Rattle.flume_core.proofs.Stands.{stands_as, stands_open, over_same}
+
+-- a queue at capacity, or a line that is no longer, stays
+stays_queued : (cap : Option ℕ) (n long : ℕ) → n ≤ long → IsAtCapacity cap n ⊎ (long ≡ n) → n ≡ max n (capped cap long)
+stays_queued None n long le (inl h) = absurd h
+stays_queued None n long le (inr h) = omega arith
+stays_queued (Some c) n long le (inl h) = omega arith
+stays_queued (Some c) n long le (inr h) = omega arith
+
+-- a queue that got room and whose line is longer gets one more
+one_more : (cap : Option ℕ) (n long : ℕ) → n < long → HasRoom cap n → IsAtCapacity cap (n + 1) → n + 1 ≡ max n (capped cap long)
+one_more None n long lt room full = absurd full
+one_more (Some c) n long lt room full = omega arith
+
+-- what the test of a full queue means
+full_or_room : (cap : Option ℕ) (n : ℕ) → ((is_full cap n ≡ true) × IsAtCapacity cap n) ⊎ ((is_full cap n ≡ false) × HasRoom cap n)
+full_or_room None n = inr (refl, tt)
+full_or_room (Some c) n = by_case (nat_le c n) refl
+  where
+    by_case : (b : Bool) → nat_le c n ≡ b → ((nat_le c n ≡ true) × (c ≤ n)) ⊎ ((nat_le c n ≡ false) × (n < c))
+    by_case true e = inl (e, leb-true c n e)
+    by_case false e = inr (e, leb-false c n e)
+
+-- a full queue is known as such
+full_known : (cap : Option ℕ) (n : ℕ) → IsAtCapacity cap n → is_full cap n ≡ true
+full_known None n h = absurd h
+full_known (Some c) n h = le-leb c n h
+
+module _ {T S : Type 0} where
+  -- the front of the line leaves
+  taken : (o : Opening) (past : Log T) (p : Step T × Reply T) (old new : State T S) (m : T) (x : Offer T) (queued : List (Offer T))
+      → StandsFor o past old → IsReply (channel o past) p.0 p.1 → change past p.0 p.1 ≡ Takes m
+      → line past ≡ x ∷ (queued ++ offers_of new.blocked) → new.queue ≡ messages queued
+      → length new.queue ≡ max (length old.queue - 1) (capped old.capacity (length queued + length new.blocked))
+      → ((t : ℕ) → mark new.sends t ≡ status (is_live past t && true) (has_ticket t (offers_of new.blocked)))
+      → new.capacity ≡ old.capacity → new.next ≡ old.next → new.senders ≡ old.senders → new.receivers ≡ old.receivers
+      → StandsFor o (p ∷ past) new
+  taken o past p old new m x queued h reply e at queue long marks same_capacity same_next same_senders same_receivers =
+      let open_ : is_over past ≡ false = open_at past [] (queued ++ offers_of new.blocked) x at in
+      let left : line (p ∷ past) ≡ queued ++ offers_of new.blocked =
+      line_takes o past p m x (queued ++ offers_of new.blocked) h.run e open_ at in
+      let many : length (line (p ∷ past)) ≡ length queued + length new.blocked =
+      ap length left ∙ length-append queued _ ∙ ap (λ n. length queued + n) (length-map new.blocked _) in
+      stands_open o past p (Takes m) old new h reply e (over_same past p (Takes m) e refl ∙ open_) record {
+        capacity_kept = same_capacity;
+        queued = queued;
+        line_is = left;
+        queue_is = queue;
+        length_is = long ∙ ap (λ c. max (length old.queue - 1) (capped c (length queued + length new.blocked))) h.capacity_is
+            ∙ ap (λ n. max (length old.queue - 1) (capped o.capacity n)) (sym many);
+        marks = marks;
+        next_is = omega arith;
+        senders_are = same_senders;
+        receivers_are = same_receivers;
+      }
+
+  -- the offers behind the front one
+  behind : (o : Opening) (past : Log T) (old : State T S) (m : T) (rest : List T) → StandsFor o past old → old.queue ≡ m ∷ rest
+      → (x : Offer T) × (queued : List (Offer T)) × (line past ≡ x ∷ (queued ++ offers_of old.blocked)) × (rest ≡ messages queued)
+  behind o past old m rest h front =
+      let at = front_at h.queued m rest (sym h.queue_is ∙ front) in
+      let same : at.0.message ∷ messages at.1 ≡ m ∷ rest = sym (ap messages at.2) ∙ sym h.queue_is ∙ front in
+      (at.0, at.1, h.line_is ∙ ap (λ l. l ++ offers_of old.blocked) at.2, (let tail : rest ≡ messages at.1 = cc in tail))
+
+  -- the front message leaves, and no message moves in
+  takes_one : (o : Opening) (past : Log T) (p : Step T × Reply T) (old new : State T S) (m : T) (rest : List T) → StandsFor o past old
+      → IsReply (channel o past) p.0 p.1 → change past p.0 p.1 ≡ Takes m → old.queue ≡ m ∷ rest → new ≡ record old { queue = rest }
+      → IsAtCapacity old.capacity (length rest) ⊎ (old.blocked ≡ []) → StandsFor o (p ∷ past) new
+  takes_one o past p old new m rest h reply e front is full =
+      let at = behind o past old m rest h front in
+      let n : length rest ≡ length at.1 = ap length at.3 ∙ length-map at.1 _ in
+      let was : length old.queue ≡ suc (length rest) = ap length front in
+      let all = length at.1 + length old.blocked in
+      let keeps : length rest ≡ max (length rest) (capped old.capacity all) =
+      stays_queued old.capacity (length rest) all (omega arith)
+      (⊎_elim inl (λ none. inr (let no_more : length old.blocked ≡ 0 = ap length none in omega arith)) full) in
+      stands_as o (p ∷ past) new _ is (taken o past p old _ m at.0 at.1 h reply e at.2 at.3
+      (keeps ∙ ap (λ k. max k (capped old.capacity all)) (omega arith))
+      (λ t. status_is h t ∙ sym (ap (λ c. status c (has_ticket t (offers_of old.blocked))) (and-true (is_live past t))))
+      refl refl refl refl)
+
+  -- the front message leaves, and the first blocked message moves in
+  takes_and_admits : (o : Opening) (past : Log T) (p : Step T × Reply T) (old new : State T S) (m : T) (rest : List T)
+      (b : Blocked T) (later : List (Blocked T)) → StandsFor o past old
+      → IsReply (channel o past) p.0 p.1 → change past p.0 p.1 ≡ Takes m → old.queue ≡ m ∷ rest → old.blocked ≡ b ∷ later
+      → new ≡ record old { queue = rest ++ b.message ∷ []; blocked = later; sends = changed old.sends b.ticket accepted_now }
+      → HasRoom old.capacity (length rest) → StandsFor o (p ∷ past) new
+  takes_and_admits o past p old new m rest b later h reply e front at is room =
+      let x : Offer T = record { message = b.message; ticket = Some b.ticket } in
+      let place = behind o past old m rest h front in
+      let n : length rest ≡ length place.1 = ap length place.3 ∙ length-map place.1 _ in
+      let was : length old.queue ≡ length rest + 1 =
+      ap length front ∙ (let next : suc (length rest) ≡ length rest + 1 = omega arith in next) in
+      let waits : length old.blocked ≡ suc (length later) = ap length at in
+      let full : IsAtCapacity old.capacity (length rest + 1) = subst (IsAtCapacity old.capacity) was (at_capacity h (omega arith)) in
+      let push : length (place.1 ++ x ∷ []) ≡ length place.1 + 1 = length_push place.1 x in
+      let all = length (place.1 ++ x ∷ []) + length later in
+      stands_as o (p ∷ past) new _ is (taken o past p old _ m place.0 (place.1 ++ x ∷ []) h reply e
+      (place.2 ∙ ap (λ l. place.0 ∷ (place.1 ++ offers_of l)) at
+      ∙ ap (λ l. place.0 ∷ l) (sym (append_assoc place.1 (x ∷ []) (offers_of later))))
+      (ap (λ l. l ++ b.message ∷ []) place.3 ∙ sym (map_push _ place.1 x))
+      (length_push rest b.message ∙ one_more old.capacity (length rest) all (omega arith) room full
+      ∙ ap (λ k. max k (capped old.capacity all)) (omega arith))
+      (marks_admitted o past old b later h at) refl refl refl refl)
+
+  -- nothing is queued, and the first blocked message is handed out
+  takes_direct : (o : Opening) (past : Log T) (p : Step T × Reply T) (old new : State T S) (m : T)
+      (b : Blocked T) (later : List (Blocked T)) → StandsFor o past old
+      → IsReply (channel o past) p.0 p.1 → change past p.0 p.1 ≡ Takes m → old.queue ≡ [] → old.blocked ≡ b ∷ later
+      → new ≡ record old { queue = []; blocked = later; sends = changed old.sends b.ticket accepted_now } → StandsFor o (p ∷ past) new
+  takes_direct o past p old new m b later h reply e none at is =
+      let x : Offer T = record { message = b.message; ticket = Some b.ticket } in
+      let zero_long : length old.queue ≡ 0 = ap length none in
+      let n = queued_length h in
+      let no_offer : h.queued ≡ [] = nil_by h.queued (λ some. omega arith) in
+      let waits : length old.blocked ≡ suc (length later) = ap length at in
+      let full : IsAtCapacity old.capacity 0 = subst (IsAtCapacity old.capacity) zero_long (at_capacity h (omega arith)) in
+      stands_as o (p ∷ past) new _ is (taken o past p old _ m x [] h reply e
+      (h.line_is ∙ ap (λ l. l ++ offers_of old.blocked) no_offer ∙ ap offers_of at) refl
+      (stays_queued old.capacity 0 (0 + length later) (omega arith) (inl full)
+      ∙ ap (λ k. max k (capped old.capacity (0 + length later))) (omega arith))
+      (marks_admitted o past old b later h at) refl refl refl refl)
+
+  -- a message is handed out, from a queue that isn't empty
+  takes_queued : (o : Opening) (past : Log T) (p : Step T × Reply T) (old new : State T S) (m : T) (rest : List T) → StandsFor o past old
+      → IsReply (channel o past) p.0 p.1 → change past p.0 p.1 ≡ Takes m → old.queue ≡ m ∷ rest
+      → new ≡ refilled (record old { queue = rest }) → StandsFor o (p ∷ past) new
+  takes_queued o past p old new m rest h reply e front is = by_case (full_or_room old.capacity (length rest)) old.blocked refl
+    where
+      left : State T S
+      left = record old { queue = rest }
+
+      by_case : ((is_full old.capacity (length rest) ≡ true) × IsAtCapacity old.capacity (length rest))
+          ⊎ ((is_full old.capacity (length rest) ≡ false) × HasRoom old.capacity (length rest))
+          → (xs : List (Blocked T)) → old.blocked ≡ xs → StandsFor o (p ∷ past) new
+      by_case (inl full) xs at =
+          let same : new ≡ left = is ∙ ap (λ b. if not b then admitted left else left) full.0 in
+          takes_one o past p old new m rest h reply e front same (inl full.1)
+      by_case (inr room) [] at =
+          let same : new ≡ left =
+          is ∙ ap (λ b. if not b then admitted left else left) room.0 ∙ ap (λ xs. admitted_from xs left) at in
+          takes_one o past p old new m rest h reply e front same (inr at)
+      by_case (inr room) (b ∷ later) at =
+          takes_and_admits o past p old new m rest b later h reply e front at
+          (is ∙ ap (λ b. if not b then admitted left else left) room.0 ∙ ap (λ xs. admitted_from xs left) at) room.1
+
+  -- a message is handed out
+  pub takes : (o : Opening) (past : Log T) (p : Step T × Reply T) (old new : State T S) (m : T) (rest : List T) → StandsFor o past old
+      → IsReply (channel o past) p.0 p.1 → change past p.0 p.1 ≡ Takes m → (fronted old).queue ≡ m ∷ rest
+      → new ≡ refilled (record (fronted old) { queue = rest }) → StandsFor o (p ∷ past) new
+  takes o past p old new m rest h reply e front is = by_queue old.queue old.blocked refl refl
+    where
+      by_queue : (q : List T) (xs : List (Blocked T)) → old.queue ≡ q → old.blocked ≡ xs → StandsFor o (p ∷ past) new
+      by_queue (m' ∷ rest') xs queue at =
+          takes_queued o past p old new m rest h reply e (sym (ap (λ q. (fronted_from q old).queue) queue) ∙ front)
+          (is ∙ ap (λ q. refilled (record (fronted_from q old) { queue = rest })) queue)
+      by_queue [] [] queue at =
+          let nothing : (admitted_from [] old).queue ≡ m ∷ rest =
+          sym (ap (λ q. (fronted_from q old).queue) queue ∙ ap (λ xs. (admitted_from xs old).queue) at) ∙ front in
+          absurd (let none : ⊥ = cc in none)
+      by_queue [] (b ∷ later) queue at =
+          let left : List T → State T S = λ r. record old { queue = r; blocked = later; sends = changed old.sends b.ticket accepted_now } in
+          let one : old.queue ++ b.message ∷ [] ≡ m ∷ rest =
+          sym (ap (λ q. (fronted_from q old).queue) queue ∙ ap (λ xs. (admitted_from xs old).queue) at) ∙ front in
+          let only : b.message ∷ [] ≡ m ∷ rest = sym (ap (λ q. q ++ b.message ∷ []) queue) ∙ one in
+          let empty : rest ≡ [] = cc in
+          let zero_long : length old.queue ≡ 0 = ap length queue in
+          let waits : length old.blocked ≡ suc (length later) = ap length at in
+          let full : IsAtCapacity old.capacity 0 = subst (IsAtCapacity old.capacity) zero_long (at_capacity h (omega arith)) in
+          takes_direct o past p old new m b later h reply e queue at
+          (is ∙ ap (λ q. refilled (record (fronted_from q old) { queue = rest })) queue
+          ∙ ap (λ xs. refilled (record (admitted_from xs old) { queue = rest })) at ∙ ap (λ r. refilled (left r)) empty
+          ∙ ap (λ c. if not c then admitted (left []) else left []) (full_known old.capacity 0 full))

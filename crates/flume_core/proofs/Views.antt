@@ -1,0 +1,129 @@
+-- What a state that stands for a log says of the log.
+use Rattle.std.proofs.Common.{◌≡◌, ◌≢◌, ℕ, ◌+◌, ◌<◌, Bool, true, false, not, cond, ⊎_elim, eqb, List, [], ◌∷◌, ◌++◌, length, map, Option}
+use Rattle.std.proofs.Common.{Some, None, refl, sym, ◌∙◌, ap, subst₂, arith, eqb-true, length-append}
+use Rattle.std.specs.List.{All}
+use Rattle.std.specs.Option.{option_map}
+use Rattle.std.specs.FinMap.{get}
+use Rattle.std.proofs.lemmas.Bool.{or_cases}
+use Rattle.std.proofs.lemmas.List.{drop_at, length-map, map-append}
+use Rattle.std.proofs.lemmas.List.Elements.{All-head, All-tail}
+use Rattle.flume_core.specs.Log.{Log, Opening, senders, receivers}
+use Rattle.flume_core.specs.Line.{line, capacity, boundary, blocked, messages, is_live}
+use Rattle.flume_core.specs.Channel.{IsBlocked, channel, has_ticket}
+use Rattle.flume_core.specs.Limits.{HasRoom, IsAtCapacity, IsOpen, IsClosed}
+use Rattle.flume_core.specs.Messages.{Blocked}
+use Rattle.flume_core.specs.Sends.{SendMap}
+use Rattle.flume_core.specs.State.{State, StandsFor, offers_of}
+use Rattle.flume_core.proofs.Runs.{blocked_at_capacity}
+
+-- a ticket with its mark, if it is live
+abbrev pub status : Bool → Bool → Option Bool
+status live waits = cond live (Some (not waits)) None
+
+-- the mark of a ticket in a map: whether its message was accepted
+abbrev pub mark : {S : Type 0} → SendMap S → ℕ → Option Bool
+mark m t = option_map (λ x. x.accepted) (get m t)
+
+-- the mark of each send is the same in both maps
+abbrev pub SameMarks : {S : Type 0} → SendMap S → SendMap S → Type 0
+SameMarks m n = (t : ℕ) → mark m t ≡ mark n t
+
+-- a mark says whether a ticket waits
+marked : (mark waits : Bool) → Some mark ≡ Some (not waits) → waits ≡ not mark
+marked true true e = absurd (let no : ⊥ = cc in no)
+marked true false e = refl
+marked false true e = refl
+marked false false e = absurd (let no : ⊥ = cc in no)
+
+-- a queue with room isn't at capacity
+pub room_or_full : (capacity : Option ℕ) (n : ℕ) → HasRoom capacity n → IsAtCapacity capacity n → ⊥
+room_or_full None n h k = k
+room_or_full (Some c) n h k = omega arith
+
+-- a list that isn't longer than 0 is empty
+pub nil_by : {X : Type 0} (xs : List X) → (0 < length xs → ⊥) → xs ≡ []
+nil_by [] longer = refl
+nil_by (x ∷ xs) longer = absurd (longer (omega arith))
+
+module _ {T : Type 0} where
+  -- where an offer has the ticket, not all blocked messages have others
+  pub none_blocked_if_absent : (t : ℕ) (xs : List (Blocked T)) → has_ticket t (offers_of xs) ≡ true → All (λ b. b.ticket ≢ t) xs → ⊥
+  none_blocked_if_absent t [] h all = let no : ⊥ = cc in no
+  none_blocked_if_absent t (b ∷ xs) h all =
+      ⊎_elim (λ e. All-head (λ b. b.ticket ≢ t) b xs all (eqb-true b.ticket t e))
+      (λ e. none_blocked_if_absent t xs e (All-tail (λ b. b.ticket ≢ t) b xs all))
+      (or_cases (eqb b.ticket t) (has_ticket t (offers_of xs)) h)
+
+  -- blocked messages have the messages of their offers
+  offered_messages : (xs : List (Blocked T)) → messages (offers_of xs) ≡ map (λ b. b.message) xs
+  offered_messages [] = refl
+  offered_messages (b ∷ xs) = ap (λ l. b.message ∷ l) (offered_messages xs)
+
+module _ {T S : Type 0} where
+  -- as many offers are queued as messages
+  pub queued_length : {o : Opening} {log : Log T} {s : State T S} (h : StandsFor o log s) → length h.queued ≡ length s.queue
+  queued_length {o} {log} {s} h = sym (ap length h.queue_is ∙ length-map h.queued (λ offer. offer.message))
+
+  -- the blocked offers
+  pub blocked_is : {o : Opening} {log : Log T} {s : State T S} → StandsFor o log s → blocked o log ≡ offers_of s.blocked
+  blocked_is {o} {log} {s} h = rw h.line_is (drop_at h.queued (offers_of s.blocked) (boundary o log) (queued_length h ∙ h.boundary_is))
+
+  -- the messages of the line
+  pub line_messages : {o : Opening} {log : Log T} {s : State T S} → StandsFor o log s
+      → messages (line log) ≡ s.queue ++ map (λ b. b.message) s.blocked
+  line_messages {o} {log} {s} h =
+      ap messages h.line_is ∙ map-append _ h.queued (offers_of s.blocked)
+      ∙ ap (λ l. l ++ messages (offers_of s.blocked)) (sym h.queue_is) ∙ ap (λ l. s.queue ++ l) (offered_messages s.blocked)
+
+  -- how long the line is
+  pub line_length : {o : Opening} {log : Log T} {s : State T S} → StandsFor o log s → length (line log) ≡ length s.queue + length s.blocked
+  line_length {o} {log} {s} h =
+      let sum : length (line log) ≡ length h.queued + length (offers_of s.blocked) =
+      ap length h.line_is ∙ length-append h.queued (offers_of s.blocked) in
+      let same = queued_length h in
+      let more : length (offers_of s.blocked) ≡ length s.blocked = length-map s.blocked _ in
+      omega arith
+
+  -- how each ticket stands
+  pub status_is : {o : Opening} {log : Log T} {s : State T S} → StandsFor o log s → (t : ℕ)
+      → mark s.sends t ≡ status (is_live log t) (has_ticket t (offers_of s.blocked))
+  status_is {o} {log} {s} h t = h.sends_are t ∙ ap (λ l. status (is_live log t) (has_ticket t l)) (blocked_is h)
+
+  -- where a message is blocked, the queue is at capacity
+  pub at_capacity : {o : Opening} {log : Log T} {s : State T S} → StandsFor o log s → 0 < length s.blocked
+      → IsAtCapacity s.capacity (length s.queue)
+  at_capacity {o} {log} {s} h some =
+      let long = line_length h in
+      let n = h.boundary_is in
+      rw (h.capacity_is, h.boundary_is) (blocked_at_capacity o log h.run (omega arith))
+
+  -- where the queue has room, none is blocked
+  pub none_blocked : {o : Opening} {log : Log T} {s : State T S} → StandsFor o log s → HasRoom s.capacity (length s.queue) → s.blocked ≡ []
+  none_blocked {o} {log} {s} h room =
+      nil_by s.blocked (λ some. room_or_full s.capacity (length s.queue) room (at_capacity h some))
+
+  -- a blocked message of a live ticket
+  pub is_blocked : {o : Opening} {log : Log T} {s : State T S} → StandsFor o log s → (t : ℕ) (m : T) (before later : List (Blocked T))
+      → s.blocked ≡ before ++ record { ticket = t; message = m } ∷ later → is_live log t ≡ true → IsBlocked (channel o log) t m
+  is_blocked {o} {log} {s} h t m before later e live =
+      (live, offers_of before, offers_of later, blocked_is h ∙ ap offers_of e ∙ map-append _ before _)
+
+  -- an open state has an open log
+  pub open_at_log : {o : Opening} {log : Log T} {s : State T S} → StandsFor o log s
+      → IsOpen s.senders s.receivers → IsOpen (senders log) (receivers log)
+  open_at_log {o} {log} {s} h is = let a = h.senders_are in let b = h.receivers_are in subst₂ IsOpen a b is
+
+  -- a closed state has a closed log
+  pub closed_at_log : {o : Opening} {log : Log T} {s : State T S} → StandsFor o log s
+      → IsClosed s.senders s.receivers → IsClosed (senders log) (receivers log)
+  closed_at_log {o} {log} {s} h is = subst₂ IsClosed h.senders_are h.receivers_are is
+
+  -- and the converse
+  pub room_at_state : {o : Opening} {log : Log T} {s : State T S} → StandsFor o log s
+      → HasRoom (capacity o log) (boundary o log) → HasRoom s.capacity (length s.queue)
+  room_at_state {o} {log} {s} h is = subst₂ HasRoom (sym h.capacity_is) (sym h.boundary_is) is
+
+  -- a queue at capacity is at capacity in the log
+  pub full_at_log : {o : Opening} {log : Log T} {s : State T S} → StandsFor o log s
+      → IsAtCapacity s.capacity (length s.queue) → IsAtCapacity (capacity o log) (boundary o log)
+  full_at_log {o} {log} {s} h is = subst₂ IsAtCapacity h.capacity_is h.boundary_is is

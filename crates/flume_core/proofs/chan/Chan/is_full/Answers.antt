@@ -1,0 +1,7 @@
+-- A query changes nothing.
+use Rattle.std.proofs.Common.{refl, rules}
+use Rattle.flume_core.proofs.Moves.{still}
+use Rattle.flume_core.proofs.chan.Chan.is_full.Goals as goal
+
+pub returns-clause-step : goal.returns-clause-step
+returns-clause-step g c o log h = still o log _ _ _ h (search rules) refl refl

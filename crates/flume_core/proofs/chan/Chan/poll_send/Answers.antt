@@ -1,0 +1,32 @@
+-- How a send stands, as it is answered.
+use Rattle.std.proofs.Common.{refl, ◌∙◌, rules, eq-eqb}
+use Rattle.flume_core.specs.Limits.{IsClosed}
+use Rattle.flume_core.specs.Effects.{resignalled}
+use Rattle.flume_core.proofs.Moves.{still, still_signal, accepts}
+use Rattle.flume_core.proofs.Views.{open_at_log, closed_at_log}
+use Rattle.flume_core.proofs.Answering.{unknown, known, waits, taken_back, same_marks_signal, closed_where}
+use Rattle.flume_core.proofs.chan.Chan.poll_send.Goals as goal
+
+pub returns-in-None-clause-step : goal.returns-in-None-clause-step
+returns-in-None-clause-step g c o log h = still o log _ _ _ h (unknown o log c.args.self.now c.args.ticket h cc) refl refl
+
+pub returns-in-Some-true-clause-step : goal.returns-in-Some-true-clause-step
+returns-in-Some-true-clause-step g c o log h =
+    rw c.learn.ensures.accepted
+    (accepts o log _ _ _ c.args.ticket h (known o log c.args.self.now c.args.ticket h cc) refl (search rules))
+
+pub returns-in-Some-false-clause-step : goal.returns-in-Some-false-clause-step
+returns-in-Some-false-clause-step g c o log h =
+    let waiting = waits o log c.args.self.now c.args.ticket h cc in
+    let shut : IsClosed c.args.self.now.senders c.args.self.now.receivers =
+    closed_where _ _ (search rules) in
+    taken_back o log _ c.args.self.now _ c.args.ticket c.take_back.result h waiting
+    (λ m closed is. rw is refl) (λ m closed is blocked_ told. rw is (blocked_, closed_at_log h shut, told ∙ eq-eqb _ _ shut))
+    c.take_back.ensures.returned c.take_back.ensures.absent c.take_back.ensures.either
+
+pub returns-in-Some-false-2-clause-step : goal.returns-in-Some-false-2-clause-step
+returns-in-Some-false-2-clause-step g c o log h =
+    let waiting = waits o log c.args.self.now c.args.ticket h cc in
+    still_signal o log _ c.args.self.now _ (resignalled c.args.self.now.sends c.args.ticket c.args.signal) h
+    (waiting, open_at_log h (search rules)) refl c.replace_signal.ensures.replaced
+    (same_marks_signal c.args.self.now.sends c.args.ticket c.args.signal)

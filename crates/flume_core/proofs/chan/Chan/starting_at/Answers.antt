@@ -1,0 +1,7 @@
+-- A new channel stands for the empty log.
+use Rattle.std.proofs.Common.{rules}
+use Rattle.flume_core.proofs.Start.{stands_at_start}
+use Rattle.flume_core.proofs.chan.Chan.starting_at.Goals as goal
+
+pub returns-clause-stands : goal.returns-clause-stands
+returns-clause-stands g c = stands_at_start _ _ (search rules)

@@ -1,0 +1,20 @@
+-- How a send stands that takes its message back.
+use Rattle.std.proofs.Common.{refl, ◌∙◌, rules}
+use Rattle.flume_core.proofs.Moves.{still, accepts}
+use Rattle.flume_core.proofs.Answering.{unknown, known, waits, taken_back, closed_as}
+use Rattle.flume_core.proofs.chan.Chan.withdraw_send.Goals as goal
+
+pub returns-in-None-clause-step : goal.returns-in-None-clause-step
+returns-in-None-clause-step g c o log h = still o log _ _ _ h (unknown o log c.args.self.now c.args.ticket h cc) refl refl
+
+pub returns-in-Some-true-clause-step : goal.returns-in-Some-true-clause-step
+returns-in-Some-true-clause-step g c o log h =
+    rw c.learn.ensures.accepted
+    (accepts o log _ _ _ c.args.ticket h (known o log c.args.self.now c.args.ticket h cc) refl (search rules))
+
+pub returns-in-Some-false-clause-step : goal.returns-in-Some-false-clause-step
+returns-in-Some-false-clause-step g c o log h =
+    let waiting = waits o log c.args.self.now c.args.ticket h cc in
+    taken_back o log _ c.args.self.now _ c.args.ticket c.take_back.result h waiting
+    (λ m closed is. rw is refl) (λ m closed is blocked_ told. rw is (blocked_, told ∙ closed_as o log _ h))
+    c.take_back.ensures.returned c.take_back.ensures.absent c.take_back.ensures.either

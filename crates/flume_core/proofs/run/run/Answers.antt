@@ -1,0 +1,29 @@
+-- What a list of steps leaves.
+use Rattle.std.proofs.Common.{rules}
+use Rattle.flume_core.proofs.Lists.{none_done, one_more, all_done, headline}
+use Rattle.flume_core.proofs.run.run.Goals as goal
+
+pub returns-clause-steps : goal.returns-clause-steps
+returns-clause-steps g c o log h =
+    let now = c.loop-step in
+    all_done c.args.chan.now now.chan c.args.steps.items now.rest.items now.replies.items now.invariant.done (search rules) o log h
+
+pub returns-clause-headline : goal.returns-clause-headline
+returns-clause-headline g c o log h = headline o _ _ (returns-clause-steps g c o log h)
+
+pub loop-step-init : goal.loop-step-init
+loop-step-init g c = record {
+  done = rw (c.from_vec-rest.ensures.items, c.reserve.ensures.items, c.new-replies.ensures.items)
+      (none_done c.args.chan.now c.args.steps.items);
+  counted = search rules;
+  room = search rules;
+}
+
+pub loop-step-preserved : goal.loop-step-preserved
+loop-step-preserved g c = record {
+  done = rw c.push_reserved.ensures.items
+      (one_more c.args.chan.now c.loop-step.chan c.step.new.self c.args.steps.items c.pop_front.new.self.items c.loop-step.replies.items
+      c.in-Some.step c.step.result (rw c.in-Some.ensures.items at c.loop-step.invariant.done) c.step.ensures.step);
+  counted = search rules;
+  room = search rules;
+}

@@ -1,0 +1,46 @@
+-- What a contract sees of a line of messages.
+use Rattle.std.specs.Prelude.{◌≡◌, ◌≢◌, ℕ, List, [], ◌∷◌, ◌++◌, refl}
+use Rattle.std.specs.List.{All}
+use Rattle.std.specs.Coded.{Coded, code_by, coded×, coded_ℕ, coded_list}
+
+-- a message whose sender blocks under this ticket
+pub record Blocked (T : Type 0) : Type 0 where
+  pub ticket : ℕ
+  pub message : T
+
+-- what a contract sees of a line: the queued messages, and behind them the blocked ones
+pub record Messages (T : Type 0) : Type 0 where
+  pub queued : List T
+  pub blocked : List (Blocked T)
+
+-- a blocked message is stored as the pair of its fields
+abbrev pub blocked_code : {T : Type 0} → Coded T → Coded (Blocked T)
+blocked_code {T} code =
+    code_by (ℕ × T) (coded× coded_ℕ code) (λ b. (b.ticket, b.message))
+    (λ p. record { ticket = p.0; message = p.1 }) (λ _. refl)
+
+-- a line is stored as the pair of its lists
+abbrev pub messages_code : {T : Type 0} → Coded T → Coded (Messages T)
+messages_code {T} code =
+    code_by
+    (List T × List (Blocked T))
+    (coded× (coded_list code) (coded_list (blocked_code code)))
+    (λ l. (l.queued, l.blocked))
+    (λ p. record { queued = p.0; blocked = p.1 })
+    (λ _. refl)
+
+module _ {T : Type 0} where
+  -- the first blocked message, which has this ticket, joins the queue
+  pub record Admits (old new : Messages T) (ticket : ℕ) : Type 0 where
+    pub message : T
+    pub leaves : old.blocked ≡ record { ticket = ticket; message = message } ∷ new.blocked
+    pub joins : new.queued ≡ old.queued ++ message ∷ []
+
+  -- the first blocked message with this ticket, which is this one, leaves
+  pub record TakesBack (old new : Messages T) (ticket : ℕ) (message : T) : Type 0 where
+    pub before : List (Blocked T)
+    pub after : List (Blocked T)
+    pub found : old.blocked ≡ before ++ record { ticket = ticket; message = message } ∷ after
+    pub first : All (λ b. b.ticket ≢ ticket) before
+    pub rest : new.blocked ≡ before ++ after
+    pub same : new.queued ≡ old.queued

@@ -1,0 +1,123 @@
+-- What a script of steps is, line by line, and the text of each reply.
+use Rattle.std.specs.Prelude.{◌≡◌, ℕ, ◌+◌, ◌^◌, ◌<◌, ◌⊎◌, true, false, List, [], ◌∷◌, ◌++◌, length}
+use Rattle.std.specs.Prelude.{Option, Some, None, codes}
+use Rattle.std.specs.List.{AllZip}
+use Rattle.std.specs.Fmt.{decimal}
+use Rattle.std.specs.Str.Parse.{IsNumeral, digits_value}
+use Rattle.flume_core.specs.declared.step.Step.{Step}
+use Rattle.flume_core.specs.declared.step.Step.TheVariants.{TrySend, Send, PollSend, WithdrawSend}
+use Rattle.flume_core.specs.declared.step.Step.TheVariants.{TryRecv, CloneSender, CloneReceiver}
+use Rattle.flume_core.specs.declared.step.Step.TheVariants.{DropSender, DropReceiver, Len, IsEmpty}
+use Rattle.flume_core.specs.declared.step.Step.TheVariants.{IsFull, Capacity, SenderCount}
+use Rattle.flume_core.specs.declared.step.Step.TheVariants.{ReceiverCount, IsDisconnected}
+use Rattle.flume_core.specs.declared.step.Reply.{Reply}
+use Rattle.flume_core.specs.declared.step.Reply.TheVariants.{Sent, Full, Closed, NoMemory, Spent}
+use Rattle.flume_core.specs.declared.step.Reply.TheVariants.{Pending, Accepted, Waiting, Returned}
+use Rattle.flume_core.specs.declared.step.Reply.TheVariants.{NoTicket, Got, Empty, Ended, Done}
+use Rattle.flume_core.specs.declared.step.Reply.TheVariants.{NoEnd, CountFull, Number, Truth}
+use Rattle.flume_core.specs.declared.step.Reply.TheVariants.{Capacity as Bound}
+
+-- the line is this word, which ends in a space, and then the decimal digits of a number of 64 bits
+pub record IsCall (line word : List ℕ) (number : ℕ) : Type 0 where
+  pub digits : List ℕ
+  pub line_is : line ≡ word ++ digits
+  pub numeral : IsNumeral 10 digits
+  pub value : digits_value 10 digits ≡ number
+  pub fits : number < 2 ^ 64
+
+-- the line opens a channel of this capacity
+abbrev pub IsOpeningLine : List ℕ → Option ℕ → Type 0
+IsOpeningLine line None = line ≡ codes "unbounded"
+IsOpeningLine line (Some capacity) = IsCall line (codes "bounded ") capacity
+
+-- the line is this step
+abbrev pub IsStepLine : List ℕ → Step ℕ → Type 0
+IsStepLine line (TrySend message) = IsCall line (codes "try_send ") message
+IsStepLine line (Send message) = IsCall line (codes "send ") message
+IsStepLine line (PollSend ticket) = IsCall line (codes "poll_send ") ticket
+IsStepLine line (WithdrawSend ticket) = IsCall line (codes "withdraw_send ") ticket
+IsStepLine line TryRecv = line ≡ codes "try_recv"
+IsStepLine line CloneSender = line ≡ codes "clone_sender"
+IsStepLine line CloneReceiver = line ≡ codes "clone_receiver"
+IsStepLine line DropSender = line ≡ codes "drop_sender"
+IsStepLine line DropReceiver = line ≡ codes "drop_receiver"
+IsStepLine line Len = line ≡ codes "len"
+IsStepLine line IsEmpty = line ≡ codes "is_empty"
+IsStepLine line IsFull = line ≡ codes "is_full"
+IsStepLine line Capacity = line ≡ codes "capacity"
+IsStepLine line SenderCount = line ≡ codes "sender_count"
+IsStepLine line ReceiverCount = line ≡ codes "receiver_count"
+IsStepLine line IsDisconnected = line ≡ codes "is_disconnected"
+
+-- the lines are an opening line, and then one line for each of these steps
+pub record IsScript (lines : List (List ℕ)) (capacity : Option ℕ) (steps : List (Step ℕ))
+    : Type 0 where
+  pub first : List ℕ
+  pub rest : List (List ℕ)
+  pub lines_are : lines ≡ first ∷ rest
+  pub opens : IsOpeningLine first capacity
+  pub steps_are : AllZip IsStepLine rest steps
+
+-- the line is no step
+abbrev pub IsNoStep : List ℕ → Type 0
+IsNoStep line = (step : Step ℕ) → ¬ IsStepLine line step
+
+-- the line opens no channel
+abbrev pub IsNoOpening : List ℕ → Type 0
+IsNoOpening line = (capacity : Option ℕ) → ¬ IsOpeningLine line capacity
+
+-- of these lines, each meant as a step, so many are steps, and the next one isn't
+pub record StepsUpTo (lines : List (List ℕ)) (place : ℕ) : Type 0 where
+  pub before : List (List ℕ)
+  pub steps : List (Step ℕ)
+  pub line : List ℕ
+  pub later : List (List ℕ)
+  pub parts : lines ≡ before ++ line ∷ later
+  pub right : AllZip IsStepLine before steps
+  pub wrong : IsNoStep line
+  pub place_is : length before ≡ place
+
+-- the first wrong line has this number, counted from 1; where there is no line, the first is wrong
+abbrev pub IsFirstWrong : List (List ℕ) → ℕ → Type 0
+IsFirstWrong [] number = number ≡ 1
+IsFirstWrong (first ∷ rest) number =
+    (IsNoOpening first × (number ≡ 1))
+    ⊎ ((capacity : Option ℕ) × IsOpeningLine first capacity
+    × (place : ℕ) × StepsUpTo rest place × (number ≡ place + 2))
+
+-- what is printed for a wrong line
+abbrev pub wrong_text : ℕ → List ℕ
+wrong_text number = codes "line " ++ decimal number ++ codes ": not a step" ++ 10 ∷ []
+
+-- the text of a reply
+abbrev pub reply_text : Reply ℕ → List ℕ
+reply_text (Sent None) = codes "sent"
+reply_text (Sent (Some ticket)) = codes "sent filled " ++ decimal ticket
+reply_text (Full message) = codes "full " ++ decimal message
+reply_text (Closed message) = codes "closed " ++ decimal message
+reply_text (NoMemory None) = codes "nomemory"
+reply_text (NoMemory (Some message)) = codes "nomemory " ++ decimal message
+reply_text (Spent None) = codes "spent"
+reply_text (Spent (Some message)) = codes "spent " ++ decimal message
+reply_text (Pending ticket) = codes "pending " ++ decimal ticket
+reply_text Accepted = codes "accepted"
+reply_text Waiting = codes "waiting"
+reply_text (Returned message false) = codes "returned " ++ decimal message
+reply_text (Returned message true) = codes "returned " ++ decimal message ++ codes " closed"
+reply_text NoTicket = codes "noticket"
+reply_text (Got message) = codes "got " ++ decimal message
+reply_text Empty = codes "empty"
+reply_text Ended = codes "ended"
+reply_text Done = codes "done"
+reply_text NoEnd = codes "noend"
+reply_text CountFull = codes "countfull"
+reply_text (Number number) = decimal number
+reply_text (Truth true) = codes "true"
+reply_text (Truth false) = codes "false"
+reply_text (Bound None) = codes "none"
+reply_text (Bound (Some capacity)) = decimal capacity
+
+-- the texts of the replies, each ended by a line feed
+abbrev pub reply_texts : List (Reply ℕ) → List ℕ
+reply_texts [] = []
+reply_texts (reply ∷ replies) = reply_text reply ++ 10 ∷ reply_texts replies

@@ -1,0 +1,130 @@
+//! The state of a channel, and the steps that change it.
+ghost use Rattle.std.specs.Prelude.{◌≡◌, ◌∷◌, [], length, IsTrue, ◌↔◌};
+ghost use Rattle.flume_core.specs.Log.{Log, Opening};
+ghost use Rattle.flume_core.specs.Limits.{IsOpen, HasRoom};
+ghost use Rattle.flume_core.specs.State.{State, state_code, opened, StandsFor};
+ghost use Rattle.flume_core.specs.State.{IsRefusal};
+
+mod ends;
+mod queries;
+mod receive;
+mod send;
+
+use crate::line::Line;
+use crate::sends::Sends;
+use crate::step::{Reply, Step};
+use std::alloc::{Allocator, Global};
+use std::marker::Model;
+
+/// A channel without its lock: many senders and many receivers of messages of type `T`, as one
+/// value whose owner makes each step. `S` is the signal that a blocked send leaves.
+#[derive(Drop)]
+pub struct Chan<T, S, A: Allocator = Global> {
+    capacity: Option<usize>,
+    line: Line<T, A>,
+    sends: Sends<S, A>,
+    next: u64,
+    senders: usize,
+    receivers: usize,
+}
+
+impl<T, S, A: Allocator> Model for Chan<T, S, A> {
+    ghost Value = { State T S };
+
+    ghost view = { λ chan. record {
+      capacity = chan.capacity;
+      queue = chan.line.queued;
+      blocked = chan.line.blocked;
+      sends = chan.sends;
+      next = chan.next;
+      senders = chan.senders;
+      receivers = chan.receivers;
+    } };
+
+    ghost coded = { state_code T.code S.code };
+}
+
+impl<T: Drop, S: Drop, A: Allocator + Copy> Chan<T, S, A> {
+    /// A channel with one sender, one receiver and no message, whose first ticket is 1. Its queue
+    /// holds as many messages as `capacity` says, or as many as memory holds where that is `None`.
+    /// Takes no memory.
+    ///
+    /// ```
+    /// let mut chan: Chan<u64, ()> = Chan::new(alloc, Some(1));
+    /// chan.try_send(1);                  // Sent { filled: None }
+    /// chan.try_send(2);                  // Full(2)
+    /// ```
+    pub fn new(alloc: A, capacity: Option<usize>) -> Self
+        ensures state { result ≡ opened (record { capacity = capacity; first = 1 }) }
+        ensures stands { StandsFor (record { capacity = capacity; first = 1 }) [] result }
+    {
+        Chan::starting_at(alloc, capacity, 1)
+    }
+
+    /// The same with `ticket` as its first ticket. Takes no memory.
+    ///
+    /// ```
+    /// let mut chan: Chan<u64, ()> = Chan::starting_at(alloc, Some(0), 5);
+    /// chan.send(7, ());                  // Pending(5)
+    /// ```
+    pub fn starting_at(alloc: A, capacity: Option<usize>, ticket: u64) -> Self
+        ensures state { result ≡ opened (record { capacity = capacity; first = ticket }) }
+        ensures stands { StandsFor (record { capacity = capacity; first = ticket }) [] result }
+    {
+        Chan {
+            capacity,
+            line: Line::new(alloc),
+            sends: Sends::new(alloc),
+            next: ticket,
+            senders: 1,
+            receivers: 1,
+        }
+    }
+
+    pub(super) fn is_open(&self) -> bool
+        ensures open { IsTrue result ↔ IsOpen self.now.senders self.now.receivers }
+    {
+        self.senders > 0 && self.receivers > 0
+    }
+
+    pub(super) fn has_room(&self) -> bool
+        ensures room { IsTrue result ↔ HasRoom self.now.capacity (length self.now.queue) }
+    {
+        match self.capacity {
+            None => true,
+            Some(capacity) => self.line.queued_len() < capacity,
+        }
+    }
+}
+
+impl<T: Drop, A: Allocator + Copy> Chan<T, (), A> {
+    /// Does one step: the call of the same name, with its reply.
+    ///
+    /// ```
+    /// chan.step(Step::TrySend(42));      // what chan.try_send(42) answers
+    /// ```
+    pub fn step(&mut self, step: Step<T>) -> Reply<T>
+        ensures step { (opening : Opening) (log : Log T) → StandsFor opening log self.old
+            → StandsFor opening ((step, result) ∷ log) self.new }
+        ensures unchanged { IsRefusal result → self.new ≡ self.old }
+    {
+        match step {
+            Step::TrySend(message) => self.try_send(message),
+            Step::Send(message) => self.send(message, ()),
+            Step::PollSend(ticket) => self.poll_send(ticket, None),
+            Step::WithdrawSend(ticket) => self.withdraw_send(ticket),
+            Step::TryRecv => self.try_recv(),
+            Step::CloneSender => self.clone_sender(),
+            Step::CloneReceiver => self.clone_receiver(),
+            Step::DropSender => self.drop_sender(),
+            Step::DropReceiver => self.drop_receiver(),
+            Step::Len => self.len(),
+            Step::IsEmpty => self.is_empty(),
+            Step::IsFull => self.is_full(),
+            Step::Capacity => self.capacity(),
+            Step::SenderCount => self.sender_count(),
+            Step::ReceiverCount => self.receiver_count(),
+            Step::IsDisconnected => self.is_disconnected(),
+        }
+    }
+}

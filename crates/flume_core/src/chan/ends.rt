@@ -1,0 +1,123 @@
+//! The steps by which ends come and go.
+ghost use Rattle.std.specs.Prelude.{not, ◌≡◌, ◌+◌, ◌-◌, ◌<◌, ◌↔◌, ◌∷◌};
+ghost use Rattle.flume_core.specs.Log.{Log, Opening};
+ghost use Rattle.flume_core.specs.Limits.{is_closed, most};
+ghost use Rattle.flume_core.specs.Effects.{after_leaving, all_due};
+ghost use Rattle.flume_core.specs.State.{State, StandsFor, IsRefusal};
+
+use super::Chan;
+use crate::line::Line;
+use crate::sends::Sends;
+use crate::step::{Reply, Step};
+use std::alloc::Allocator;
+
+impl<T: Drop, S: Drop, A: Allocator + Copy> Chan<T, S, A> {
+    /// One more sender. `NoEnd`: none is left, and a closed channel never opens again. `CountFull`:
+    /// no more can be counted. Both leave the channel as it was. Takes no memory.
+    pub fn clone_sender(&mut self) -> Reply<T>
+        ensures step { (opening : Opening) (log : Log T) → StandsFor opening log self.old
+            → StandsFor opening ((Step.CloneSender, result) ∷ log) self.new }
+        ensures no_end { (result ≡ Reply.NoEnd) ↔ (self.old.senders ≡ 0) }
+        ensures count_full { (result ≡ Reply.CountFull) ↔ (self.old.senders ≡ most) }
+        ensures done { result ≡ Reply.Done
+            → self.new ≡ record self.old { senders = self.old.senders + 1 } }
+        ensures unchanged { IsRefusal result → self.new ≡ self.old }
+    {
+        match self.senders {
+            0 => Reply::NoEnd,
+            usize::MAX => Reply::CountFull,
+            senders => {
+                self.senders = senders + 1;
+                Reply::Done
+            }
+        }
+    }
+
+    /// One more receiver; as `clone_sender`.
+    pub fn clone_receiver(&mut self) -> Reply<T>
+        ensures step { (opening : Opening) (log : Log T) → StandsFor opening log self.old
+            → StandsFor opening ((Step.CloneReceiver, result) ∷ log) self.new }
+        ensures no_end { (result ≡ Reply.NoEnd) ↔ (self.old.receivers ≡ 0) }
+        ensures count_full { (result ≡ Reply.CountFull) ↔ (self.old.receivers ≡ most) }
+        ensures done { result ≡ Reply.Done
+            → self.new ≡ record self.old { receivers = self.old.receivers + 1 } }
+        ensures unchanged { IsRefusal result → self.new ≡ self.old }
+    {
+        match self.receivers {
+            0 => Reply::NoEnd,
+            usize::MAX => Reply::CountFull,
+            receivers => {
+                self.receivers = receivers + 1;
+                Reply::Done
+            }
+        }
+    }
+
+    /// One sender leaves. `NoEnd`: there is none left, and the channel is as it was. Where it was
+    /// the last one, every blocked send is to be told. Once both ends are gone, the messages left
+    /// are dropped and every ticket is spent. Takes no memory.
+    pub fn drop_sender(&mut self) -> Reply<T>
+        ensures step { (opening : Opening) (log : Log T) → StandsFor opening log self.old
+            → StandsFor opening ((Step.DropSender, result) ∷ log) self.new }
+        ensures done { (result ≡ Reply.Done) ↔ (0 < self.old.senders) }
+        ensures no_end { (result ≡ Reply.NoEnd) ↔ (self.old.senders ≡ 0) }
+        ensures left { 0 < self.old.senders → self.new
+            ≡ after_leaving (not (is_closed self.old.senders self.old.receivers))
+            (record self.old { senders = self.old.senders - 1 }) }
+        ensures unchanged { IsRefusal result → self.new ≡ self.old }
+    {
+        if self.senders == 0 {
+            return Reply::NoEnd;
+        }
+        let was_open = self.is_open();
+        self.senders -= 1;
+        self.settle(was_open);
+        Reply::Done
+    }
+
+    /// One receiver leaves; as `drop_sender`.
+    pub fn drop_receiver(&mut self) -> Reply<T>
+        ensures step { (opening : Opening) (log : Log T) → StandsFor opening log self.old
+            → StandsFor opening ((Step.DropReceiver, result) ∷ log) self.new }
+        ensures done { (result ≡ Reply.Done) ↔ (0 < self.old.receivers) }
+        ensures no_end { (result ≡ Reply.NoEnd) ↔ (self.old.receivers ≡ 0) }
+        ensures left { 0 < self.old.receivers → self.new
+            ≡ after_leaving (not (is_closed self.old.senders self.old.receivers))
+            (record self.old { receivers = self.old.receivers - 1 }) }
+        ensures unchanged { IsRefusal result → self.new ≡ self.old }
+    {
+        if self.receivers == 0 {
+            return Reply::NoEnd;
+        }
+        let was_open = self.is_open();
+        self.receivers -= 1;
+        self.settle(was_open);
+        Reply::Done
+    }
+
+    // What an end that left leaves behind: nothing once both ends are gone; and where it closed the
+    // channel, all blocked sends are to be told.
+    fn settle(&mut self, was_open: bool)
+        ensures settled { self.new ≡ after_leaving was_open self.old }
+    {
+        if self.senders == 0 && self.receivers == 0 {
+            self.line.clear();
+            self.sends.clear();
+            return;
+        }
+        if was_open && !self.is_open() {
+            mark_blocked_due(&self.line, &mut self.sends);
+        }
+    }
+}
+
+// Marks the send of each blocked message due.
+fn mark_blocked_due<T, S: Drop, A: Allocator + Copy>(line: &Line<T, A>, sends: &mut Sends<S, A>)
+    ensures marked { sends.new ≡ all_due line.now.blocked sends.old }
+{
+    for place in 0..line.blocked_len() {
+        if let Some(ticket) = line.ticket_at(place) {
+            sends.mark_due(ticket);
+        }
+    }
+}

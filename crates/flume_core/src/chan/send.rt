@@ -1,0 +1,205 @@
+//! The steps of senders: offers, and what becomes of those that blocked.
+ghost use Rattle.std.specs.Prelude.{◌≡◌, ◌≢◌, ℕ, ◌+◌, ◌<◌, ◌≤◌, ◌↔◌, ◌⊎◌, Bool, ◌∷◌, ◌++◌, []};
+ghost use Rattle.std.specs.Prelude.{length, Option, Some, None, true, false};
+ghost use Rattle.std.specs.FinMap.{get, insert, remove};
+ghost use Rattle.flume_core.specs.Log.{Log, Opening};
+ghost use Rattle.flume_core.specs.Limits.{IsOpen, IsClosed, IsAtCapacity, most};
+ghost use Rattle.flume_core.specs.Sends.{blocked};
+ghost use Rattle.flume_core.specs.Effects.{resignalled, Returns};
+ghost use Rattle.std.specs.List.{All};
+ghost use Rattle.std.specs.Option.{option_map};
+ghost use Rattle.flume_core.specs.State.{State, StandsFor, HoldsIfRefused, IsRefusal};
+
+use super::Chan;
+use crate::step::{Reply, Step};
+use std::alloc::Allocator;
+
+impl<T: Drop, S: Drop, A: Allocator + Copy> Chan<T, S, A> {
+    /// Offers a message without waiting. `Sent`: it stands at the queue's end. `Full`: the queue is
+    /// at its capacity. `Closed`: all senders or all receivers are gone. `NoMemory`: the queue
+    /// couldn't grow. The last three hand the message back and leave the channel as it was.
+    ///
+    /// ```
+    /// chan.try_send(7);                  // Sent { filled: None }
+    /// chan.drop_receiver();              // Done
+    /// chan.try_send(8);                  // Closed(8)
+    /// ```
+    pub fn try_send(&mut self, message: T) -> Reply<T>
+        ensures step { (opening : Opening) (log : Log T) → StandsFor opening log self.old
+            → StandsFor opening ((Step.TrySend message, result) ∷ log) self.new }
+        ensures closed { (result ≡ Reply.Closed message)
+            ↔ IsClosed self.old.senders self.old.receivers }
+        ensures full { (result ≡ Reply.Full message)
+            ↔ IsOpen self.old.senders self.old.receivers
+            × IsAtCapacity self.old.capacity (length self.old.queue) }
+        ensures returned { HoldsIfRefused message result }
+        ensures sent { result ≡ Reply.Sent None
+            → self.new ≡ record self.old { queue = self.old.queue ++ message ∷ [] } }
+        ensures never_blocks { (ticket : ℕ) → result ≢ Reply.Pending ticket }
+        ensures never_spent { (back : Option T) → result ≢ Reply.Spent back }
+        ensures unchanged { IsRefusal result → self.new ≡ self.old }
+    {
+        if !self.is_open() {
+            return Reply::Closed(message);
+        }
+        if !self.has_room() {
+            return Reply::Full(message);
+        }
+        if let Err(back) = self.line.push_queued(message) {
+            return Reply::NoMemory(Some(back));
+        }
+        Reply::Sent { filled: None }
+    }
+
+    /// Offers a message, and blocks where the queue is at its capacity. `Sent` as `try_send`.
+    /// `Pending`: the message stands behind the queue under this ticket, with the signal. `Closed`
+    /// as `try_send`. `Spent`: the greatest ticket was reached. `NoMemory`: no room for message or
+    /// ticket. The last three hand the message back and leave the channel as it was.
+    ///
+    /// ```
+    /// let mut chan: Chan<u64, u32> = Chan::new(alloc, Some(0));
+    /// chan.send(7, 10);                  // Pending(1), with the signal 10
+    /// chan.try_recv();                   // Got(7)
+    /// chan.poll_send(1, None);           // Accepted
+    /// ```
+    pub fn send(&mut self, message: T, signal: S) -> Reply<T>
+        ensures step { (opening : Opening) (log : Log T) → StandsFor opening log self.old
+            → StandsFor opening ((Step.Send message, result) ∷ log) self.new }
+        ensures closed { (result ≡ Reply.Closed message)
+            ↔ IsClosed self.old.senders self.old.receivers }
+        ensures spent { (result ≡ Reply.Spent (Some message))
+            ↔ IsOpen self.old.senders self.old.receivers
+            × IsAtCapacity self.old.capacity (length self.old.queue) × (most ≤ self.old.next) }
+        ensures sent { result ≡ Reply.Sent None
+            → self.new ≡ record self.old { queue = self.old.queue ++ message ∷ [] } }
+        ensures pending { result ≡ Reply.Pending self.old.next → self.new ≡ record self.old {
+          blocked = self.old.blocked
+              ++ record { ticket = self.old.next; message = message } ∷ [];
+          sends = insert self.old.sends self.old.next (blocked signal);
+          next = self.old.next + 1;
+        } }
+        ensures returned { HoldsIfRefused message result }
+        ensures unchanged { IsRefusal result → self.new ≡ self.old }
+    {
+        let message = match self.try_send(message) {
+            Reply::Full(message) => message,
+            reply => return reply,
+        };
+        let ticket = self.next;
+        if ticket == u64::MAX {
+            return Reply::Spent(Some(message));
+        }
+        if let Err(back) = self.line.push_blocked(ticket, message) {
+            return Reply::NoMemory(Some(back));
+        }
+        if self.sends.block(ticket, signal).is_err() {
+            return Reply::NoMemory(self.line.pop_blocked());
+        }
+        self.next = ticket + 1;
+        Reply::Pending(ticket)
+    }
+}
+
+impl<T: Drop, S: Drop, A: Allocator + Copy> Chan<T, S, A> {
+    /// Asks how the blocked send with this ticket stands. `Accepted`: its message was taken in, and
+    /// the ticket is spent. `Waiting`: it is still blocked; a signal given here replaces the one
+    /// that the send left. `Returned`: the channel is closed, the message comes back, and the
+    /// ticket is spent. `NoTicket`: no live send has this ticket, and nothing changes. Takes no
+    /// memory.
+    pub fn poll_send(&mut self, ticket: u64, signal: Option<S>) -> Reply<T>
+        ensures step { (opening : Opening) (log : Log T) → StandsFor opening log self.old
+            → StandsFor opening ((Step.PollSend ticket, result) ∷ log) self.new }
+        ensures no_ticket { get self.old.sends ticket ≡ None → result ≡ Reply.NoTicket }
+        ensures accepted { (result ≡ Reply.Accepted)
+            ↔ (option_map (λ send. send.accepted) (get self.old.sends ticket) ≡ Some true) }
+        ensures spent { result ≡ Reply.Accepted
+            → self.new ≡ record self.old { sends = remove self.old.sends ticket } }
+        ensures returned { (message : T) (closed : Bool) → result ≡ Reply.Returned message closed
+            → Returns self.old self.new ticket message closed }
+        ensures waiting { (result ≡ Reply.Waiting)
+            ↔ (option_map (λ send. send.accepted) (get self.old.sends ticket) ≡ Some false)
+            × IsOpen self.old.senders self.old.receivers }
+        ensures never_refused { (back : Option T) → result ≢ Reply.NoMemory back }
+        ensures replaced { result ≡ Reply.Waiting
+            → self.new ≡ record self.old { sends = resignalled self.old.sends ticket signal } }
+        ensures unchanged { IsRefusal result → self.new ≡ self.old }
+    {
+        match self.status(ticket) {
+            None => Reply::NoTicket,
+            Some(true) => self.learn(ticket),
+            Some(false) if !self.is_open() => self.take_back(ticket),
+            Some(false) => {
+                self.replace_signal(ticket, signal);
+                Reply::Waiting
+            }
+        }
+    }
+
+    /// Takes back the message of the blocked send with this ticket. `Returned`: it comes back, with
+    /// whether the channel is closed. `Accepted`: it was taken in before. Either way the ticket is
+    /// spent. `NoTicket`: no live send has this ticket, and nothing changes. Takes no memory.
+    pub fn withdraw_send(&mut self, ticket: u64) -> Reply<T>
+        ensures step { (opening : Opening) (log : Log T) → StandsFor opening log self.old
+            → StandsFor opening ((Step.WithdrawSend ticket, result) ∷ log) self.new }
+        ensures no_ticket { get self.old.sends ticket ≡ None → result ≡ Reply.NoTicket }
+        ensures accepted { (result ≡ Reply.Accepted)
+            ↔ (option_map (λ send. send.accepted) (get self.old.sends ticket) ≡ Some true) }
+        ensures spent { result ≡ Reply.Accepted
+            → self.new ≡ record self.old { sends = remove self.old.sends ticket } }
+        ensures returned { (message : T) (closed : Bool) → result ≡ Reply.Returned message closed
+            → Returns self.old self.new ticket message closed }
+        ensures never_refused { (back : Option T) → result ≢ Reply.NoMemory back }
+        ensures unchanged { IsRefusal result → self.new ≡ self.old }
+    {
+        match self.status(ticket) {
+            None => Reply::NoTicket,
+            Some(true) => self.learn(ticket),
+            Some(false) => self.take_back(ticket),
+        }
+    }
+
+    // Whether the live send with this ticket was accepted.
+    fn status(&self, ticket: u64) -> Option<bool>
+        ensures status { result ≡ option_map (λ send. send.accepted) (get self.now.sends ticket) }
+    {
+        self.sends.accepted(ticket)
+    }
+
+    // Tells a sender that its message was taken in.
+    fn learn(&mut self, ticket: u64) -> Reply<T>
+        ensures accepted { result ≡ Reply.Accepted }
+        ensures spent { self.new ≡ record self.old { sends = remove self.old.sends ticket } }
+    {
+        self.sends.spend(ticket);
+        Reply::Accepted
+    }
+
+    // Gives a sender its blocked message back. In each state that a log leads to there is one.
+    fn take_back(&mut self, ticket: u64) -> Reply<T>
+        ensures returned { (message : T) (closed : Bool) → result ≡ Reply.Returned message closed
+            → Returns self.old self.new ticket message closed }
+        ensures absent { result ≡ Reply.NoTicket
+            → All (λ b. b.ticket ≢ ticket) self.old.blocked }
+        ensures either { (result ≡ Reply.NoTicket)
+            ⊎ ((message : T) × (closed : Bool) × (result ≡ Reply.Returned message closed)) }
+        ensures unchanged { IsRefusal result → self.new ≡ self.old }
+    {
+        let closed = !self.is_open();
+        match self.line.withdraw(ticket) {
+            Some(message) => {
+                self.sends.spend(ticket);
+                Reply::Returned { message, closed }
+            }
+            None => Reply::NoTicket,
+        }
+    }
+
+    fn replace_signal(&mut self, ticket: u64, signal: Option<S>)
+        ensures replaced { self.new
+            ≡ record self.old { sends = resignalled self.old.sends ticket signal } }
+    {
+        if let Some(signal) = signal {
+            self.sends.set_signal(ticket, signal);
+        }
+    }
+}

@@ -1,0 +1,142 @@
+//! Laws of the definitions. These functions do nothing: each contract is a law.
+ghost use Rattle.std.specs.Prelude.{◌∷◌, Some, None};
+ghost use Rattle.flume_core.specs.Log.{Log, Opening};
+ghost use Rattle.flume_core.specs.Channel.{IsRun};
+ghost use Rattle.flume_core.specs.declared.step.Step.{Step};
+ghost use Rattle.flume_core.specs.declared.step.Reply.{Reply};
+ghost use Rattle.flume_core.specs.Laws.{InOrder, TicketsRise, HandedOutStay, LiveAreKept};
+ghost use Rattle.flume_core.specs.Laws.{AcceptedBelowBlocked, BlockedAtCapacity};
+ghost use Rattle.flume_core.specs.Rows.{Runs, one_message, filled, outlived, no_capacity};
+ghost use Rattle.flume_core.specs.Rows.{both_gone};
+ghost use Rattle.flume_core.specs.NearMisses.{wrong_message, newer_first, handed_out_twice};
+ghost use Rattle.flume_core.specs.NearMisses.{empty_while_queued, ended_while_queued};
+ghost use Rattle.flume_core.specs.NearMisses.{ended_while_open, full_below_capacity};
+ghost use Rattle.flume_core.specs.NearMisses.{sent_at_capacity, sent_while_closed};
+ghost use Rattle.flume_core.specs.NearMisses.{closed_while_open};
+ghost use Rattle.flume_core.specs.NearMisses.{another_returned, done_at_zero, no_end_at_one};
+ghost use Rattle.flume_core.specs.NearMisses.{left_when_over, one_off, refused_receive};
+ghost use Rattle.flume_core.specs.BlockedRows.{taken_in_when_asked, blocked_comes_back};
+ghost use Rattle.flume_core.specs.BlockedRows.{withdrawn_from_middle, withdrawn_too_late};
+ghost use Rattle.flume_core.specs.BlockedRows.{blocked_outlived, senders_still_come};
+ghost use Rattle.flume_core.specs.BlockedRows.{tickets_all_spent, asked_how_it_stands};
+ghost use Rattle.flume_core.specs.BlockedNearMisses.{returned_after_accepted};
+ghost use Rattle.flume_core.specs.BlockedNearMisses.{accepted_while_blocked, accepted_twice};
+ghost use Rattle.flume_core.specs.BlockedNearMisses.{waiting_while_closed, returned_while_open};
+ghost use Rattle.flume_core.specs.BlockedNearMisses.{another_withdrawn, open_told_when_closed};
+ghost use Rattle.flume_core.specs.BlockedNearMisses.{ticket_issued_twice, ticket_issued_again};
+ghost use Rattle.flume_core.specs.BlockedNearMisses.{no_ticket_while_live, waiting_without_ticket};
+ghost use Rattle.flume_core.specs.BlockedNearMisses.{ticket_outlives_both, blocked_below_capacity};
+ghost use Rattle.flume_core.specs.BlockedNearMisses.{none_moved_in, two_moved_in, later_moved_in};
+ghost use Rattle.flume_core.specs.BlockedNearMisses.{withdrawn_handed_out, sent_past_capacity};
+ghost use Rattle.flume_core.specs.BlockedNearMisses.{pending_below_capacity, pending_while_closed};
+ghost use Rattle.flume_core.specs.BlockedNearMisses.{spent_too_early, sender_after_last};
+ghost use Rattle.flume_core.specs.BlockedNearMisses.{receiver_after_last, count_full_at_one};
+ghost use Rattle.flume_core.specs.BlockedNearMisses.{senders_one_off, receivers_one_off};
+ghost use Rattle.flume_core.specs.BlockedNearMisses.{full_denied, empty_with_message};
+ghost use Rattle.flume_core.specs.BlockedNearMisses.{disconnected_while_open, capacity_one_off};
+
+/// Of each run, the messages handed out are the kept offers, in order.
+pub fn hands_out_in_order<T>()
+    ensures law { (opening : Opening) (log : Log T) → IsRun opening log → InOrder log }
+{}
+
+/// Of each run, the tickets of the offers rise: each is issued once.
+pub fn tickets_rise<T>()
+    ensures law { (opening : Opening) (log : Log T) → IsRun opening log → TicketsRise opening log }
+{}
+
+/// In each run, no step moves the place of a message that was handed out: a withdrawal takes out
+/// one that wasn't.
+pub fn withdrawals_move_nothing_handed_out<T>()
+    ensures law { (opening : Opening) (p : Step T × Reply T) (past : Log T)
+        → IsRun opening (p ∷ past) → HandedOutStay p past }
+{}
+
+/// Of each run, a live ticket's offer is kept, and where its message was taken in, it was offered
+/// before all that are blocked.
+pub fn accepted_tickets_are_below_blocked_ones<T>()
+    ensures kept { (opening : Opening) (log : Log T) → IsRun opening log → LiveAreKept log }
+    ensures below { (opening : Opening) (log : Log T)
+        → IsRun opening log → AcceptedBelowBlocked opening log }
+{}
+
+/// Of each run, a sender is blocked only where the queue is at or past the capacity.
+pub fn senders_block_only_at_capacity<T>()
+    ensures law { (opening : Opening) (log : Log T)
+        → IsRun opening log → BlockedAtCapacity opening log }
+{}
+
+/// Worked rows are runs.
+pub fn rows_are_runs()
+    ensures one_message { Runs None one_message }
+    ensures filled { Runs (Some 2) filled }
+    ensures outlived { Runs None outlived }
+    ensures no_capacity { Runs (Some 0) no_capacity }
+    ensures both_gone { Runs None both_gone }
+{}
+
+/// Logs that miss a run in one place are no runs.
+pub fn near_misses_are_no_runs()
+    ensures wrong_message { ¬ Runs None wrong_message }
+    ensures newer_first { ¬ Runs None newer_first }
+    ensures handed_out_twice { ¬ Runs None handed_out_twice }
+    ensures empty_while_queued { ¬ Runs None empty_while_queued }
+    ensures ended_while_queued { ¬ Runs None ended_while_queued }
+    ensures ended_while_open { ¬ Runs None ended_while_open }
+    ensures full_below_capacity { ¬ Runs (Some 2) full_below_capacity }
+    ensures sent_at_capacity { ¬ Runs (Some 2) sent_at_capacity }
+    ensures sent_while_closed { ¬ Runs None sent_while_closed }
+    ensures closed_while_open { ¬ Runs None closed_while_open }
+    ensures another_returned { ¬ Runs None another_returned }
+    ensures done_at_zero { ¬ Runs None done_at_zero }
+    ensures no_end_at_one { ¬ Runs None no_end_at_one }
+    ensures left_when_over { ¬ Runs None left_when_over }
+    ensures one_off { ¬ Runs None one_off }
+    ensures refused_receive { ¬ Runs None refused_receive }
+{}
+
+/// Worked rows of blocked sends, of ends and of queries are runs.
+pub fn blocked_rows_are_runs()
+    ensures taken_in_when_asked { Runs (Some 0) taken_in_when_asked }
+    ensures blocked_comes_back { Runs (Some 1) blocked_comes_back }
+    ensures withdrawn_from_middle { Runs (Some 1) withdrawn_from_middle }
+    ensures withdrawn_too_late { Runs (Some 1) withdrawn_too_late }
+    ensures blocked_outlived { Runs (Some 0) blocked_outlived }
+    ensures senders_still_come { Runs None senders_still_come }
+    ensures tickets_all_spent { Runs (Some 1) tickets_all_spent }
+    ensures asked_how_it_stands { Runs (Some 2) asked_how_it_stands }
+{}
+
+/// Logs of blocked sends, of ends and of queries that miss a run in one place are no runs.
+pub fn blocked_near_misses_are_no_runs()
+    ensures returned_after_accepted { ¬ Runs (Some 1) returned_after_accepted }
+    ensures accepted_while_blocked { ¬ Runs (Some 1) accepted_while_blocked }
+    ensures accepted_twice { ¬ Runs (Some 0) accepted_twice }
+    ensures waiting_while_closed { ¬ Runs (Some 1) waiting_while_closed }
+    ensures returned_while_open { ¬ Runs (Some 0) returned_while_open }
+    ensures another_withdrawn { ¬ Runs (Some 0) another_withdrawn }
+    ensures open_told_when_closed { ¬ Runs (Some 0) open_told_when_closed }
+    ensures ticket_issued_twice { ¬ Runs (Some 0) ticket_issued_twice }
+    ensures ticket_issued_again { ¬ Runs (Some 0) ticket_issued_again }
+    ensures no_ticket_while_live { ¬ Runs (Some 0) no_ticket_while_live }
+    ensures waiting_without_ticket { ¬ Runs (Some 0) waiting_without_ticket }
+    ensures ticket_outlives_both { ¬ Runs (Some 0) ticket_outlives_both }
+    ensures blocked_below_capacity { ¬ Runs (Some 1) blocked_below_capacity }
+    ensures none_moved_in { ¬ Runs (Some 1) none_moved_in }
+    ensures two_moved_in { ¬ Runs (Some 1) two_moved_in }
+    ensures later_moved_in { ¬ Runs (Some 0) later_moved_in }
+    ensures withdrawn_handed_out { ¬ Runs (Some 0) withdrawn_handed_out }
+    ensures sent_past_capacity { ¬ Runs (Some 1) sent_past_capacity }
+    ensures pending_below_capacity { ¬ Runs (Some 1) pending_below_capacity }
+    ensures pending_while_closed { ¬ Runs (Some 1) pending_while_closed }
+    ensures spent_too_early { ¬ Runs (Some 0) spent_too_early }
+    ensures sender_after_last { ¬ Runs (Some 1) sender_after_last }
+    ensures receiver_after_last { ¬ Runs (Some 1) receiver_after_last }
+    ensures count_full_at_one { ¬ Runs (Some 1) count_full_at_one }
+    ensures senders_one_off { ¬ Runs (Some 1) senders_one_off }
+    ensures receivers_one_off { ¬ Runs (Some 1) receivers_one_off }
+    ensures full_denied { ¬ Runs (Some 1) full_denied }
+    ensures empty_with_message { ¬ Runs (Some 1) empty_with_message }
+    ensures disconnected_while_open { ¬ Runs (Some 1) disconnected_while_open }
+    ensures capacity_one_off { ¬ Runs (Some 1) capacity_one_off }
+{}

@@ -1,0 +1,191 @@
+//! The line of a channel: its queued messages, and behind them those whose senders block.
+ghost use Rattle.std.specs.Prelude.{◌≡◌, ◌≢◌, ◌+◌, ◌<◌, ◌≤◌, ◌==◌, ◌↔◌, List, [], ◌∷◌, ◌++◌};
+ghost use Rattle.std.specs.Prelude.{length, Some};
+ghost use Rattle.std.specs.Prelude.{IsTrue, IfNone, IfSome, IfErr, OnOk, OnErr};
+ghost use Rattle.std.specs.Prelude.{slice_get, option_map};
+ghost use Rattle.std.specs.List.{All, position, slice_range};
+ghost use Rattle.flume_core.specs.Messages.{Admits, Blocked, TakesBack};
+
+use std::alloc::Allocator;
+use std::collections::VecDeque;
+use std::marker::Model;
+
+/// The messages of a channel: the queued ones, and behind them those of blocked sends.
+#[derive(Drop)]
+pub(crate) struct Line<T, A: Allocator> {
+    // Every message, the front first.
+    entries: VecDeque<Entry<T>, A>,
+    // How many entries at the front are queued.
+    queued: usize,
+}
+
+// A message, and the ticket of the send that blocked with it, or 0 where none did.
+#[derive(Drop)]
+struct Entry<T> {
+    ticket: u64,
+    message: T,
+}
+
+impl<T, A: Allocator> Model for Line<T, A> {
+    ghost use Rattle.std.specs.Prelude.{◌≤◌, length};
+    ghost use Rattle.flume_core.specs.Messages.{Messages, messages_code};
+
+    ghost Value = { Messages T };
+
+    ghost coded = { messages_code T.code };
+
+    ghost use Rattle.flume_core.specs.LineEntry.{line_of};
+
+    ghost view = { λ s. line_of s.entries.items s.queued };
+
+    ghost invariant = { λ s. s.queued ≤ length s.entries.items };
+}
+
+// How far past `from` the first entry with this ticket is.
+fn place_of<T, A: Allocator>(
+    entries: &VecDeque<Entry<T>, A>,
+    from: usize,
+    ticket: u64,
+) -> Option<usize>
+    requires within { from ≤ length entries.now.items }
+    ensures first { result
+        ≡ position (λ e. e.ticket == ticket)
+        (slice_range entries.now.items from (length entries.now.items)) }
+{
+    entries
+        .range(from..)
+        .position(|entry| entry.ticket == ticket)
+}
+
+impl<T, A: Allocator> Line<T, A> {
+    /// A line with no messages, which takes no memory.
+    pub(crate) fn new(alloc: A) -> Self
+        ensures empty { result ≡ record { queued = []; blocked = [] } }
+    {
+        Line {
+            entries: VecDeque::new(alloc),
+            queued: 0,
+        }
+    }
+
+    /// How many messages are queued.
+    pub(crate) fn queued_len(&self) -> usize
+        ensures len { result ≡ length self.now.queued }
+    {
+        self.queued
+    }
+
+    /// How many messages are blocked.
+    pub(crate) fn blocked_len(&self) -> usize
+        ensures len { result ≡ length self.now.blocked }
+    {
+        self.entries.len() - self.queued
+    }
+
+    /// Queues a message behind the other queued ones. With no memory left, it comes back. Nothing
+    /// moves where no message is blocked.
+    #[tactic(auto, using(crate::proofs::LineLemmas::queued_push))]
+    pub(crate) fn push_queued(&mut self, message: T) -> Result<(), T>
+        ensures pushed { OnOk result (self.new
+            ≡ record self.old { queued = self.old.queued ++ message ∷ [] }) }
+        ensures returned { IfErr result (λ back. back ≡ message) }
+        ensures unchanged { OnErr result (self.new ≡ self.old) }
+    {
+        match self
+            .entries
+            .insert(self.queued, Entry { ticket: 0, message })
+        {
+            Ok(()) => {
+                self.queued += 1;
+                Ok(())
+            }
+            Err(failed) => Err(failed.value.message),
+        }
+    }
+
+    /// Puts a message behind all others, as one that blocks. With no memory left, it comes back.
+    pub(crate) fn push_blocked(&mut self, ticket: u64, message: T) -> Result<(), T>
+        ensures pushed { OnOk result (self.new ≡ record self.old {
+          blocked = self.old.blocked ++ record { ticket = ticket; message = message } ∷ [];
+        }) }
+        ensures returned { IfErr result (λ back. back ≡ message) }
+        ensures unchanged { OnErr result (self.new ≡ self.old) }
+    {
+        match self.entries.push_back(Entry { ticket, message }) {
+            Ok(()) => Ok(()),
+            Err(failed) => Err(failed.value.message),
+        }
+    }
+
+    /// Takes the last blocked message back.
+    pub(crate) fn pop_blocked(&mut self) -> Option<T>
+        ensures popped { (before : List (Blocked T)) (last : Blocked T)
+            → self.old.blocked ≡ before ++ last ∷ []
+            → (result ≡ Some last.message) × (self.new ≡ record self.old { blocked = before }) }
+    {
+        if self.queued == self.entries.len() {
+            return None;
+        }
+        let entry = self.entries.pop_back()?;
+        Some(entry.message)
+    }
+
+    /// Lets the first blocked message into the queue, and returns its ticket.
+    #[tactic(auto, using(crate::proofs::LineLemmas::admits_next))]
+    pub(crate) fn admit(&mut self) -> Option<u64>
+        ensures admitted { IfSome result (λ ticket. Admits self.old self.new ticket) }
+        ensures none_blocked { IfNone result (self.old.blocked ≡ []) }
+        ensures unchanged { IfNone result (self.new ≡ self.old) }
+    {
+        let ticket = self.entries.get(self.queued)?.ticket;
+        self.queued += 1;
+        Some(ticket)
+    }
+
+    /// Takes the message at the front of the queue.
+    pub(crate) fn take_queued(&mut self) -> Option<T>
+        ensures taken { IfSome result (λ m.
+            self.old ≡ record self.new { queued = m ∷ self.new.queued }) }
+        ensures none_queued { IfNone result (self.old.queued ≡ []) }
+        ensures unchanged { IfNone result (self.new ≡ self.old) }
+    {
+        if self.queued == 0 {
+            return None;
+        }
+        let entry = self.entries.pop_front()?;
+        self.queued -= 1;
+        Some(entry.message)
+    }
+
+    /// The ticket of the blocked message at this place.
+    pub(crate) fn ticket_at(&self, place: usize) -> Option<u64>
+        ensures ticket { result ≡ option_map (λ b. b.ticket) (slice_get self.now.blocked place) }
+    {
+        if self.entries.len() - self.queued <= place {
+            return None;
+        }
+        Some(self.entries[self.queued + place].ticket)
+    }
+
+    /// Takes out the first blocked message with this ticket.
+    #[tactic(auto, using(crate::proofs::LineLemmas::withdraws_remove))]
+    pub(crate) fn withdraw(&mut self, ticket: u64) -> Option<T>
+        ensures taken { IfSome result (λ m. TakesBack self.old self.new ticket m) }
+        ensures absent { IfNone result (All (λ b. b.ticket ≢ ticket) self.old.blocked) }
+        ensures unchanged { IfNone result (self.new ≡ self.old) }
+    {
+        let place = place_of(&self.entries, self.queued, ticket)?;
+        let entry = self.entries.remove(self.queued + place)?;
+        Some(entry.message)
+    }
+
+    /// Drops every message.
+    pub(crate) fn clear(&mut self)
+    where
+        T: Drop,
+        ensures empty { self.new ≡ record { queued = []; blocked = [] } }
+    {
+        self.entries.clear();
+        self.queued = 0;
+    }
+}

@@ -1,0 +1,44 @@
+//! Lists of steps.
+ghost use Rattle.std.specs.Prelude.{◌≡◌, vec_len, IfOk, IfErr, OnErr};
+ghost use Rattle.flume_core.specs.Log.{Log, Opening, after};
+ghost use Rattle.flume_core.specs.State.{StandsFor};
+ghost use Rattle.flume_core.specs.Headline.{Headline};
+
+use crate::chan::Chan;
+use crate::step::{Reply, Step};
+use std::alloc::Allocator;
+use std::collections::VecDeque;
+
+/// Does the steps one after the other and answers one reply a step, in order. Room for the replies
+/// is made first: refused for want of memory, all steps come back and nothing was done.
+///
+/// ```
+/// let mut chan: Chan<u64, ()> = Chan::new(alloc, None);
+/// let steps = vec![in alloc; Step::TrySend(1), Step::TryRecv]?;
+/// run(alloc, &mut chan, steps);      // Ok([Sent { filled: None }, Got(1)])
+/// ```
+pub fn run<T: Drop, A: Allocator + Copy>(
+    alloc: A,
+    chan: &mut Chan<T, (), A>,
+    steps: Vec<Step<T>, A>,
+) -> Result<Vec<Reply<T>, A>, Vec<Step<T>, A>>
+    ensures steps { IfOk result (λ replies. (opening : Opening) (log : Log T)
+        → StandsFor opening log chan.old
+        → StandsFor opening (after log steps.items replies.items) chan.new) }
+    ensures headline { IfOk result (λ replies. (opening : Opening) (log : Log T)
+        → StandsFor opening log chan.old
+        → Headline opening (after log steps.items replies.items) chan.new) }
+    ensures one_each { IfOk result (λ replies. vec_len replies ≡ vec_len steps) }
+    ensures returned { IfErr result (λ back. back.items ≡ steps.items) }
+    ensures unchanged { OnErr result (chan.new ≡ chan.old) }
+{
+    let mut replies = Vec::new(alloc);
+    if replies.reserve(steps.len()).is_err() {
+        return Err(steps);
+    }
+    let mut rest = VecDeque::from_vec(steps);
+    while let Some(step) = rest.pop_front() {
+        replies.push_reserved(chan.step(step));
+    }
+    Ok(replies)
+}

@@ -1,0 +1,82 @@
+//! What a party may ask of a channel, and what it may be answered.
+
+/// One step of one party, with the message that it hands in.
+#[derive(Clone, Debug, PartialEq, Eq, Drop)]
+pub enum Step<T> {
+    /// Offer a message, without waiting.
+    TrySend(T),
+    /// Offer a message, and block where it isn't taken in at once.
+    Send(T),
+    /// Ask how the blocked send with this ticket stands.
+    PollSend(u64),
+    /// Take back the message of the blocked send with this ticket.
+    WithdrawSend(u64),
+    /// Ask for the message at the front, without waiting.
+    TryRecv,
+    /// One more sender.
+    CloneSender,
+    /// One more receiver.
+    CloneReceiver,
+    /// One sender leaves.
+    DropSender,
+    /// One receiver leaves.
+    DropReceiver,
+    /// Ask how many messages are queued.
+    Len,
+    /// Ask whether no message is queued.
+    IsEmpty,
+    /// Ask whether the queue is at or past its capacity.
+    IsFull,
+    /// Ask for the capacity.
+    Capacity,
+    /// Ask how many senders live.
+    SenderCount,
+    /// Ask how many receivers live.
+    ReceiverCount,
+    /// Ask whether the channel is closed.
+    IsDisconnected,
+}
+
+/// What the channel answers to a step.
+#[derive(Clone, Debug, PartialEq, Eq, Drop)]
+pub enum Reply<T> {
+    /// The message was taken in, and went to the receiver with ticket `filled` if one waited.
+    Sent { filled: Option<u64> },
+    /// The queue is at its capacity: the message comes back.
+    Full(T),
+    /// An end is gone: the message comes back.
+    Closed(T),
+    /// Memory was wanted and refused: nothing was done, and the message of a send comes back.
+    NoMemory(Option<T>),
+    /// Every ticket was issued: nothing was done, and the message of a send comes back.
+    Spent(Option<T>),
+    /// The message is blocked under this ticket.
+    Pending(u64),
+    /// The message of the blocked send was taken in; its ticket is spent.
+    Accepted,
+    /// The message of the blocked send is still blocked.
+    Waiting,
+    /// The message of the blocked send comes back, and its ticket is spent; `closed` says whether
+    /// the channel is closed.
+    Returned { message: T, closed: bool },
+    /// No live ticket of this kind has this number.
+    NoTicket,
+    /// The message at the front.
+    Got(T),
+    /// The channel is open and has no message.
+    Empty,
+    /// The channel is closed and has no message.
+    Ended,
+    /// Done as asked.
+    Done,
+    /// There is no such end left.
+    NoEnd,
+    /// There are as many such ends as can be counted.
+    CountFull,
+    /// A number, as asked.
+    Number(usize),
+    /// A truth value, as asked.
+    Truth(bool),
+    /// The capacity, or none of an unbounded channel.
+    Capacity(Option<usize>),
+}

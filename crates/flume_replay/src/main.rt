@@ -1,0 +1,50 @@
+//! Replays what flume 0.12.0 answered to scripts, file by file, and says how many agree.
+#![tactic(auto)]
+
+use flume_core::error::NoMemory;
+use flume_core::script::run_script;
+use std::alloc::Global;
+use std::{fs, io};
+
+fn main(rt: HostRuntime) -> io::Result<()> {
+    replay(&rt, "plain")?;
+    replay(&rt, "blocked")
+}
+
+/// Replays one file of scripts: comments, and then blocks of a line `= number`, the script, a line
+/// `-`, and the replies.
+fn replay(rt: &HostRuntime, name: &str) -> io::Result<()> {
+    let path = format!(in rt.alloc(); "{name}.txt")?;
+    let text = fs::read_to_string(rt, path.as_str())?;
+    let mut all = 0u64;
+    let mut agree = 0u64;
+    let mut first = None;
+    for block in text.as_str().split("\n= ").skip(1) {
+        all = all.saturating_add(1);
+        if agrees(rt.alloc(), block)? {
+            agree = agree.saturating_add(1);
+        } else {
+            first = first.or(block.lines().next());
+        }
+    }
+    match first {
+        None => println!(rt; "{name}: {agree} of {all} agree"),
+        Some(number) => println!(rt; "{name}: {agree} of {all} agree, {number} is the first other"),
+    }
+}
+
+/// Whether the script of a block prints the replies of the block.
+fn agrees(alloc: Global, block: &str) -> io::Result<bool> {
+    let Some((_number, script_and_replies)) = block.split_once("\n") else {
+        return Ok(false);
+    };
+    let Some((script, replies)) = script_and_replies.split_once("\n-\n") else {
+        return Ok(false);
+    };
+    match run_script(alloc, script.as_bytes()) {
+        Ok(run) => Ok(
+            run.status == 0 && run.text.trim_ascii_end() == replies.as_bytes().trim_ascii_end(),
+        ),
+        Err(NoMemory) => Err(io::Error::from(io::ErrorKind::OutOfMemory)),
+    }
+}
