@@ -1,6 +1,6 @@
 //! Calls on a channel that no script makes: greatest tickets, signals, and what is due.
 use flume_core::chan::Chan;
-use flume_core::step::Reply;
+use flume_core::step::{Kind, Reply};
 use std::test::Fail;
 
 // A ticket one below the greatest number, and so the last one that is issued.
@@ -10,6 +10,7 @@ const LAST: u64 = u64::MAX - 1;
 fn the_greatest_ticket_is_never_issued(rt: HostRuntime) {
     let mut chan: Chan<u64, ()> = Chan::starting_at(rt.alloc(), Some(0), u64::MAX);
     assert_eq!(rt; chan.send(7, ()), Reply::Spent(Some(7)));
+    assert_eq!(rt; chan.recv(Kind::Block, ()), Reply::Spent(None));
     assert_eq!(rt; chan.len(), Reply::Number(0));
 }
 
@@ -37,6 +38,44 @@ fn an_accepted_send_is_due_once_with_its_last_signal(rt: HostRuntime) {
     assert_eq!(rt; chan.next_due(), Some(1));
     assert_eq!(rt; chan.signal(1).copied(), Some(12));
     assert_eq!(rt; chan.next_due(), None);
+}
+
+#[test]
+fn a_woken_receiver_is_due_once_with_its_last_signal(rt: HostRuntime) {
+    let mut chan: Chan<u64, u32> = Chan::new(rt.alloc(), None);
+    assert_eq!(rt; chan.recv(Kind::Plain, 10), Reply::Parked(1));
+    assert_eq!(rt; chan.recv(Kind::Block, 11), Reply::Parked(2));
+    assert_eq!(rt; chan.next_due(), None);
+    assert_eq!(rt; chan.send(5, 12), Reply::Sent { filled: None });
+    assert_eq!(rt; chan.next_due(), Some(1));
+    assert_eq!(rt; chan.signal(1).copied(), Some(10));
+    assert_eq!(rt; chan.next_due(), None);
+    assert_eq!(rt; chan.try_recv(), Reply::Got(5));
+    assert_eq!(rt; chan.poll(1, Some(13)), Reply::Waiting);
+    assert_eq!(rt; chan.next_due(), None);
+    assert_eq!(rt; chan.signal(1).copied(), Some(13));
+    assert_eq!(rt; chan.signal(2).copied(), Some(11));
+}
+
+#[test]
+fn a_filled_receiver_is_due_once_with_its_signal(rt: HostRuntime) {
+    let mut chan: Chan<u64, u32> = Chan::new(rt.alloc(), None);
+    assert_eq!(rt; chan.recv(Kind::Stream, 10), Reply::Parked(1));
+    assert_eq!(rt; chan.recv(Kind::Block, 11), Reply::Parked(2));
+    assert_eq!(rt; chan.poll(1, None), Reply::Waiting);
+    assert_eq!(rt;
+        chan.withdraw(1),
+        Reply::Gone {
+            closed: false,
+            filled: None
+        }
+    );
+    assert_eq!(rt; chan.signal(1).copied(), None);
+    assert_eq!(rt; chan.send(5, 12), Reply::Sent { filled: Some(2) });
+    assert_eq!(rt; chan.next_due(), Some(2));
+    assert_eq!(rt; chan.signal(2).copied(), Some(11));
+    assert_eq!(rt; chan.next_due(), None);
+    assert_eq!(rt; chan.poll(2, None), Reply::Got(5));
 }
 
 #[test]

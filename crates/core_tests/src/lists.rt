@@ -2,133 +2,155 @@
 use flume_core::chan::Chan;
 use flume_core::run::run;
 use flume_core::step::{Reply, Step};
+use std::alloc::Global;
 use std::test::Fail;
 
 const SENT: Reply<u64> = Reply::Sent { filled: None };
 
-// A capacity, steps, and their replies.
-type Row = (Option<usize>, &'static [Step<u64>], &'static [Reply<u64>]);
-
-const ROWS: [Row; 7] = [
-    (
-        None,
-        &[
-            Step::TryRecv,
-            Step::TrySend(42),
-            Step::TryRecv,
-            Step::TryRecv,
-        ],
-        &[Reply::Empty, SENT, Reply::Got(42), Reply::Empty],
-    ),
-    (
-        Some(2),
-        &[
-            Step::TrySend(1),
-            Step::TrySend(2),
-            Step::TrySend(3),
-            Step::TryRecv,
-            Step::Len,
-        ],
-        &[SENT, SENT, Reply::Full(3), Reply::Got(1), Reply::Number(1)],
-    ),
-    (
-        None,
-        &[
-            Step::TrySend(1),
-            Step::DropSender,
-            Step::TryRecv,
-            Step::TryRecv,
-        ],
-        &[SENT, Reply::Done, Reply::Got(1), Reply::Ended],
-    ),
-    (
-        Some(0),
-        &[Step::Len, Step::TrySend(1), Step::TryRecv],
-        &[Reply::Number(0), Reply::Full(1), Reply::Empty],
-    ),
-    (
-        None,
-        &[
-            Step::TrySend(1),
-            Step::DropReceiver,
-            Step::DropSender,
-            Step::Len,
-            Step::TryRecv,
-            Step::DropReceiver,
-        ],
-        &[
-            SENT,
-            Reply::Done,
-            Reply::Done,
-            Reply::Number(0),
-            Reply::Ended,
-            Reply::NoEnd,
-        ],
-    ),
-    // A channel of capacity 0 takes a message in when it is asked for; a ticket is told of it once.
-    (
-        Some(0),
-        &[
-            Step::TrySend(7),
-            Step::Send(7),
-            Step::Len,
-            Step::TryRecv,
-            Step::PollSend(1),
-            Step::PollSend(1),
-        ],
-        &[
-            Reply::Full(7),
-            Reply::Pending(1),
-            Reply::Number(0),
-            Reply::Got(7),
-            Reply::Accepted,
-            Reply::NoTicket,
-        ],
-    ),
-    // A message withdrawn from the middle leaves the order of the others as it was.
-    (
-        Some(1),
-        &[
-            Step::Send(1),
-            Step::Send(2),
-            Step::Send(3),
-            Step::Send(4),
-            Step::WithdrawSend(2),
-            Step::TryRecv,
-            Step::TryRecv,
-            Step::TryRecv,
-            Step::TryRecv,
-            Step::PollSend(1),
-            Step::PollSend(3),
-        ],
-        &[
-            SENT,
-            Reply::Pending(1),
-            Reply::Pending(2),
-            Reply::Pending(3),
-            Reply::Returned {
-                message: 3,
-                closed: false,
-            },
-            Reply::Got(1),
-            Reply::Got(2),
-            Reply::Got(4),
-            Reply::Empty,
-            Reply::Accepted,
-            Reply::Accepted,
-        ],
-    ),
-];
+// The replies to the steps on a new channel of this capacity.
+fn answers(
+    alloc: Global,
+    capacity: Option<usize>,
+    steps: &[Step<u64>],
+) -> Result<Vec<Reply<u64>>, Fail> {
+    let mut chan: Chan<u64, ()> = Chan::new(alloc, capacity);
+    let replies = run(alloc, &mut chan, steps.to_vec(alloc)?);
+    Ok(replies.ok().ok_or("out of memory")?)
+}
 
 #[test]
-fn a_list_of_steps_has_one_reply_each(rt: HostRuntime) -> Result<(), Fail> {
-    for (capacity, steps, replies) in ROWS {
-        let mut chan: Chan<u64, ()> = Chan::new(rt.alloc(), capacity);
-        match run(rt.alloc(), &mut chan, steps.to_vec(rt.alloc())?) {
-            Ok(answered) => assert_eq!(rt; answered.as_slice(), replies),
-            Err(back) => assert_eq!(rt; back.len(), 0, "out of memory"),
-        }
-    }
+fn a_message_sent_is_got_once(rt: HostRuntime) -> Result<(), Fail> {
+    let steps = [
+        Step::TryRecv,
+        Step::TrySend(42),
+        Step::TryRecv,
+        Step::TryRecv,
+    ];
+    let wanted = [Reply::Empty, SENT, Reply::Got(42), Reply::Empty];
+    let replies = answers(rt.alloc(), None, &steps)?;
+    assert_eq!(rt; replies.as_slice(), wanted.as_slice());
+    Ok(())
+}
+
+#[test]
+fn a_full_queue_hands_the_message_back(rt: HostRuntime) -> Result<(), Fail> {
+    let steps = [
+        Step::TrySend(1),
+        Step::TrySend(2),
+        Step::TrySend(3),
+        Step::TryRecv,
+        Step::Len,
+    ];
+    let wanted = [SENT, SENT, Reply::Full(3), Reply::Got(1), Reply::Number(1)];
+    let replies = answers(rt.alloc(), Some(2), &steps)?;
+    assert_eq!(rt; replies.as_slice(), wanted.as_slice());
+    Ok(())
+}
+
+#[test]
+fn queued_messages_outlive_the_last_sender(rt: HostRuntime) -> Result<(), Fail> {
+    let steps = [
+        Step::TrySend(1),
+        Step::DropSender,
+        Step::TryRecv,
+        Step::TryRecv,
+    ];
+    let wanted = [SENT, Reply::Done, Reply::Got(1), Reply::Ended];
+    let replies = answers(rt.alloc(), None, &steps)?;
+    assert_eq!(rt; replies.as_slice(), wanted.as_slice());
+    Ok(())
+}
+
+#[test]
+fn a_channel_of_capacity_0_queues_nothing_unasked(rt: HostRuntime) -> Result<(), Fail> {
+    let steps = [Step::Len, Step::TrySend(1), Step::TryRecv];
+    let wanted = [Reply::Number(0), Reply::Full(1), Reply::Empty];
+    let replies = answers(rt.alloc(), Some(0), &steps)?;
+    assert_eq!(rt; replies.as_slice(), wanted.as_slice());
+    Ok(())
+}
+
+#[test]
+fn nothing_is_left_where_both_ends_are_gone(rt: HostRuntime) -> Result<(), Fail> {
+    let steps = [
+        Step::TrySend(1),
+        Step::DropReceiver,
+        Step::DropSender,
+        Step::Len,
+        Step::TryRecv,
+        Step::DropReceiver,
+    ];
+    let wanted = [
+        SENT,
+        Reply::Done,
+        Reply::Done,
+        Reply::Number(0),
+        Reply::Ended,
+        Reply::NoEnd,
+    ];
+    let replies = answers(rt.alloc(), None, &steps)?;
+    assert_eq!(rt; replies.as_slice(), wanted.as_slice());
+    Ok(())
+}
+
+#[test]
+fn a_ticket_is_told_of_its_message_once(rt: HostRuntime) -> Result<(), Fail> {
+    let steps = [
+        Step::TrySend(7),
+        Step::Send(7),
+        Step::Len,
+        Step::TryRecv,
+        Step::PollSend(1),
+        Step::PollSend(1),
+    ];
+    let wanted = [
+        Reply::Full(7),
+        Reply::Pending(1),
+        Reply::Number(0),
+        Reply::Got(7),
+        Reply::Accepted,
+        Reply::NoTicket,
+    ];
+    let replies = answers(rt.alloc(), Some(0), &steps)?;
+    assert_eq!(rt; replies.as_slice(), wanted.as_slice());
+    Ok(())
+}
+
+#[test]
+fn a_message_withdrawn_from_the_middle_leaves_the_others_in_order(
+    rt: HostRuntime,
+) -> Result<(), Fail> {
+    let steps = [
+        Step::Send(1),
+        Step::Send(2),
+        Step::Send(3),
+        Step::Send(4),
+        Step::WithdrawSend(2),
+        Step::TryRecv,
+        Step::TryRecv,
+        Step::TryRecv,
+        Step::TryRecv,
+        Step::PollSend(1),
+        Step::PollSend(3),
+    ];
+    let wanted = [
+        SENT,
+        Reply::Pending(1),
+        Reply::Pending(2),
+        Reply::Pending(3),
+        Reply::Returned {
+            message: 3,
+            closed: false,
+        },
+        Reply::Got(1),
+        Reply::Got(2),
+        Reply::Got(4),
+        Reply::Empty,
+        Reply::Accepted,
+        Reply::Accepted,
+    ];
+    let replies = answers(rt.alloc(), Some(1), &steps)?;
+    assert_eq!(rt; replies.as_slice(), wanted.as_slice());
     Ok(())
 }
 

@@ -32,7 +32,7 @@ const RIGHT: [(&str, &str); 7] = [
 ];
 
 // The same, where a sender blocks or asks after its blocked send.
-const BLOCKED: [(&str, &str); 8] = [
+const BLOCKED: [(&str, &str); 9] = [
     // A channel of capacity 0 takes a message in when it is asked for; a ticket is told of it once.
     (
         "bounded 0\ntry_send 7\nsend 7\nlen\ntry_recv\npoll_send 1\npoll_send 1\n",
@@ -77,6 +77,13 @@ const BLOCKED: [(&str, &str); 8] = [
         "sent\npending 1\npending 2\npending 3\nreturned 2\nwaiting\ngot 1\n\
             accepted\nwaiting\n",
     ),
+    // In a closed channel a withdrawal from the middle leaves the order of the others as it was.
+    (
+        "bounded 1\nsend 1\nsend 2\nsend 3\nsend 4\ndrop_receiver\nwithdraw_send 2\ntry_recv\n\
+            poll_send 1\ntry_recv\npoll_send 3\n",
+        "sent\npending 1\npending 2\npending 3\ndone\nreturned 3 closed\ngot 1\n\
+            accepted\ngot 2\naccepted\n",
+    ),
 ];
 
 // The same, where ends come and go or the channel is asked how it stands.
@@ -101,6 +108,130 @@ const ENDS_AND_QUERIES: [(&str, &str); 5] = [
     ("unbounded\ncapacity\nis_full\n", "none\nfalse\n"),
     // A channel of capacity 0 is full and empty at once.
     ("bounded 0\nis_full\nis_empty\n", "true\ntrue\n"),
+];
+
+// The same, where receivers park.
+const PARKED: [(&str, &str); 15] = [
+    // A drained queue lets the blocked message in.
+    (
+        "bounded 1\ntry_send 1\nsend 2\ndrain\ntry_send 3\ntry_recv\npoll_send 1\n",
+        "sent\npending 1\ndrained 1\nfull 3\ngot 2\naccepted\n",
+    ),
+    // A wake round fills the first receiver that blocks, with the front of the queue.
+    (
+        "unbounded\nrecv plain\nrecv block\nsend 1\nsend 2\npoll 2\npoll 1\n",
+        "parked 1\nparked 2\nsent\nsent filled 2\ngot 1\ngot 2\n",
+    ),
+    // A waiting receiver lets a message in past the capacity.
+    (
+        "bounded 0\nrecv plain\nrecv arm\ntry_send 1\ntry_send 2\ntry_send 3\nlen\nis_full\n\
+            poll 2\npoll 1\n",
+        "parked 1\nparked 2\nsent\nsent\nfull 3\n2\ntrue\ngot 1\ngot 2\n",
+    ),
+    // A wake round wakes streams and goes on.
+    (
+        "unbounded\nrecv stream\nrecv stream\nrecv block\nsend 5\nlen\npoll 1\npoll 3\n",
+        "parked 1\nparked 2\nparked 3\nsent filled 3\n0\nwaiting\ngot 5\n",
+    ),
+    // A stream that leaves passes its wake on, here to nobody.
+    (
+        "unbounded\nrecv stream\nsend 5\nsend 6\nwithdraw 1\ntry_recv\ntry_recv\ntry_recv\n",
+        "parked 1\nsent\nsent\ngone\ngot 5\ngot 6\nempty\n",
+    ),
+    // The wake that is passed on fills a receiver.
+    (
+        "unbounded\nrecv plain\nrecv block\nsend 5\nwithdraw 1\npoll 2\n",
+        "parked 1\nparked 2\nsent\ngone filled 2\ngot 5\n",
+    ),
+    // Closing wakes nobody's message away: the filled one keeps its message, and the other ends.
+    (
+        "unbounded\nrecv plain\nrecv block\nsend 9\ndrop_sender\npoll 2\npoll 1\n",
+        "parked 1\nparked 2\nsent\ndone\ngot 9\nended\n",
+    ),
+    // A receiver that blocks takes the front with it as it leaves.
+    (
+        "unbounded\nrecv plain\nrecv block\nsend 5\nwithdraw 2\npoll 1\n",
+        "parked 1\nparked 2\nsent\ngot 5\nwaiting\n",
+    ),
+    // The ticket of a send is no receiver's.
+    (
+        "bounded 0\nsend 7\npoll 1\nwithdraw 1\npoll_send 1\nwithdraw_send 1\npoll_send 1\n\
+            poll_send 9\n",
+        "pending 1\nnoticket\nnoticket\nwaiting\nreturned 7\nnoticket\nnoticket\n",
+    ),
+    // Drained messages, though more than the capacity, let one blocked message in.
+    (
+        "bounded 1\nrecv plain\nrecv plain\nsend 1\nsend 2\nsend 3\ndrain\nlen\npoll_send 3\n\
+            poll 1\npoll 2\n",
+        "parked 1\nparked 2\nsent\nsent\npending 3\ndrained 1 2\n1\naccepted\ngot 3\nwaiting\n",
+    ),
+    // A queue past its capacity lets no blocked message in until it is below it.
+    (
+        "bounded 1\nrecv plain\nrecv plain\nsend 1\nsend 2\nsend 3\ntry_recv\npoll_send 3\n\
+            try_recv\npoll_send 3\n",
+        "parked 1\nparked 2\nsent\nsent\npending 3\ngot 1\nwaiting\ngot 2\naccepted\n",
+    ),
+    // A receiver that wasn't woken takes the front as well.
+    (
+        "unbounded\nrecv plain\nrecv plain\nsend 5\npoll 2\npoll 1\n",
+        "parked 1\nparked 2\nsent\ngot 5\nwaiting\n",
+    ),
+    // A receiver that ended has no ticket.
+    (
+        "unbounded\nrecv stream\ndrop_sender\npoll 1\npoll 1\n",
+        "parked 1\ndone\nended\nnoticket\n",
+    ),
+    // A receiver that leaves tells that the channel is closed.
+    (
+        "bounded 0\nrecv block\ndrop_receiver\nwithdraw 1\n",
+        "parked 1\ndone\ngone closed\n",
+    ),
+    // All kinds at once.
+    (
+        "bounded 1\nrecv stream\nrecv plain\nrecv block\nsend 1\nsend 2\nsend 3\ntry_send 4\n\
+            poll 2\nwithdraw 1\npoll 3\ntry_recv\npoll_send 4\nlen\n",
+        "parked 1\nparked 2\nparked 3\nsent\nsent filled 3\npending 4\nfull 4\ngot 2\ngone\n\
+            got 1\ngot 3\naccepted\n0\n",
+    ),
+];
+
+// The same, where wakes are passed on or a receiver waits again.
+const WAKES: [(&str, &str); 7] = [
+    // A wake round ends at a plain receiver, and who wasn't woken passes no wake on.
+    (
+        "unbounded\nrecv plain\nrecv block\nrecv plain\ntry_send 1\nwithdraw 3\n",
+        "parked 1\nparked 2\nparked 3\nsent\ngone\n",
+    ),
+    // Who leaves passes no wake on where nothing is queued.
+    (
+        "bounded 0\nrecv plain\ntry_send 1\ntry_recv\nrecv plain\nwithdraw 1\ntry_send 2\n",
+        "parked 1\nsent\ngot 1\nparked 2\ngone\nsent\n",
+    ),
+    // Who waits again stands behind all others.
+    (
+        "unbounded\nrecv plain\ntry_send 1\ntry_recv\nrecv block\npoll 1\ntry_send 2\n",
+        "parked 1\nsent\ngot 1\nparked 2\nwaiting\nsent filled 2\n",
+    ),
+    // The closing of a channel wakes who blocks.
+    (
+        "unbounded\nrecv block\nrecv block\ndrop_sender\npoll 2\n",
+        "parked 1\nparked 2\ndone\nended\n",
+    ),
+    // Who blocks is filled in order.
+    (
+        "unbounded\nrecv block\nrecv block\ntry_send 1\ntry_send 2\n",
+        "parked 1\nparked 2\nsent filled 1\nsent filled 2\n",
+    ),
+    // The same behind a plain one, which is woken.
+    (
+        "unbounded\nrecv plain\nrecv block\nrecv block\ntry_send 1\ntry_send 2\ntry_send 3\n",
+        "parked 1\nparked 2\nparked 3\nsent\nsent filled 2\nsent filled 3\n",
+    ),
+    // Who was woken takes the front of a closed channel.
+    (
+        "unbounded\nrecv plain\ntry_send 1\ndrop_sender\npoll 1\n",
+        "parked 1\nsent\ndone\ngot 1\n",
+    ),
 ];
 
 // A script with a wrong line, and the number of the first one.
@@ -139,6 +270,26 @@ fn a_script_of_blocked_sends_prints_its_replies(rt: HostRuntime) -> Result<(), F
 #[test]
 fn a_script_of_ends_and_queries_prints_its_replies(rt: HostRuntime) -> Result<(), Fail> {
     for (input, text) in ENDS_AND_QUERIES {
+        let script = run_script(rt.alloc(), input.as_bytes())?;
+        assert_eq!(rt; script.text.as_slice(), text.as_bytes(), "of {input:?}");
+        assert_eq!(rt; script.status, 0, "of {input:?}");
+    }
+    Ok(())
+}
+
+#[test]
+fn a_script_of_parked_receivers_prints_its_replies(rt: HostRuntime) -> Result<(), Fail> {
+    for (input, text) in PARKED {
+        let script = run_script(rt.alloc(), input.as_bytes())?;
+        assert_eq!(rt; script.text.as_slice(), text.as_bytes(), "of {input:?}");
+        assert_eq!(rt; script.status, 0, "of {input:?}");
+    }
+    Ok(())
+}
+
+#[test]
+fn a_script_of_wakes_prints_its_replies(rt: HostRuntime) -> Result<(), Fail> {
+    for (input, text) in WAKES {
         let script = run_script(rt.alloc(), input.as_bytes())?;
         assert_eq!(rt; script.text.as_slice(), text.as_bytes(), "of {input:?}");
         assert_eq!(rt; script.status, 0, "of {input:?}");

@@ -4,9 +4,12 @@ use Rattle.std.proofs.lemmas.List.{append-nil}
 use Rattle.std.proofs.Math.Seq.{take-append_seam, drop-append_seam}
 use Rattle.flume_core.specs.declared.step.Step.{Step}
 use Rattle.flume_core.specs.declared.step.Reply.{Reply}
-use Rattle.flume_core.specs.Log.{Log, Opening, Offer, after, kept, hand_outs, is_over}
+use Rattle.flume_core.specs.Log.{Log, Opening, Offer}
+use Rattle.flume_core.specs.Offers.{after, kept, hand_outs}
+use Rattle.flume_core.specs.Counts.{is_over}
 use Rattle.flume_core.specs.Line.{line, boundary, messages}
-use Rattle.flume_core.specs.State.{State, offers_of, StandsFor}
+use Rattle.flume_core.specs.State.{State, offers_of}
+use Rattle.flume_core.specs.StandsFor.{StandsFor}
 use Rattle.flume_core.specs.Headline.{Headline}
 use Rattle.flume_core.proofs.Runs.{in_order}
 use Rattle.flume_core.proofs.Views.{queued_length, line_messages}
@@ -17,43 +20,43 @@ front_nil : {X : Type 0} (xs ys : List X) → xs ++ ys ≡ [] → xs ≡ []
 front_nil [] ys e = refl
 front_nil (x ∷ xs) ys e = cc
 
-module _ {T S : Type 0} where
+module _ {T A S : Type 0} where
   -- of these steps, those before the rest were done and had these replies, whatever the log before
-  abbrev pub DoneUpTo : State T S → State T S → List (Step T) → List (Step T) → List (Reply T) → Type 0
+  abbrev pub DoneUpTo : State T S → State T S → List (Step T) → List (Step T) → List (Reply T A) → Type 0
   DoneUpTo old now steps rest replies =
-      (o : Opening) (log : Log T) → StandsFor o log old
-      → (past : Log T) × StandsFor o past now
-      × ((later : List (Reply T)) → after past rest later ≡ after log steps (replies ++ later))
+      (o : Opening) (log : Log T A) → StandsFor o log old
+      → (past : Log T A) × StandsFor o past now
+      × ((later : List (Reply T A)) → after past rest later ≡ after log steps (replies ++ later))
 
   -- none is done yet
   pub none_done : (s : State T S) (steps : List (Step T)) → DoneUpTo s s steps steps []
   none_done s steps o log h = (log, h, λ later. refl)
 
   -- one more is done
-  pub one_more : (old now next : State T S) (steps rest : List (Step T)) (replies : List (Reply T)) (step : Step T) (reply : Reply T)
+  pub one_more : (old now next : State T S) (steps rest : List (Step T)) (replies : List (Reply T A)) (step : Step T) (reply : Reply T A)
       → DoneUpTo old now steps (step ∷ rest) replies
-      → ((o : Opening) (log : Log T) → StandsFor o log now → StandsFor o ((step, reply) ∷ log) next)
+      → ((o : Opening) (log : Log T A) → StandsFor o log now → StandsFor o ((step, reply) ∷ log) next)
       → DoneUpTo old next steps rest (replies ++ reply ∷ [])
   one_more old now next steps rest replies step reply done moves o log h =
       let so_far = done o log h in
       ((step, reply) ∷ so_far.0, moves o so_far.0 so_far.1, λ later. rw append_assoc (so_far.2 (reply ∷ later)))
 
   -- all are done
-  pub all_done : (old now : State T S) (steps rest : List (Step T)) (replies : List (Reply T)) → DoneUpTo old now steps rest replies
-      → rest ≡ [] → (o : Opening) (log : Log T) → StandsFor o log old → StandsFor o (after log steps replies) now
+  pub all_done : (old now : State T S) (steps rest : List (Step T)) (replies : List (Reply T A)) → DoneUpTo old now steps rest replies
+      → rest ≡ [] → (o : Opening) (log : Log T A) → StandsFor o log old → StandsFor o (after log steps replies) now
   all_done old now steps rest replies done none o log h =
       let so_far = done o log h in
       let same : so_far.0 ≡ after log steps replies = rw (none, append-nil) at (so_far.2 []) in
-      let P : Log T → Type 0 = λ past. StandsFor o past now in
+      let P : Log T A → Type 0 = λ past. StandsFor o past now in
       subst P same so_far.1
 
   -- while an end is there, the queued and the blocked offers are the kept ones that weren't handed out
-  left_is : (o : Opening) (log : Log T) (s : State T S) (h : StandsFor o log s) → is_over log ≡ false
+  left_is : (o : Opening) (log : Log T A) (s : State T S) (h : StandsFor o log s) → is_over log ≡ false
       → h.queued ++ offers_of s.blocked ≡ drop (hand_outs log) (kept log)
   left_is o log s h open_ = sym h.line_is ∙ rw open_ refl
 
   -- the queue is the kept offers from the hand-outs on, up to the boundary
-  queue_is_next : (o : Opening) (log : Log T) (s : State T S) → StandsFor o log s
+  queue_is_next : (o : Opening) (log : Log T A) (s : State T S) → StandsFor o log s
       → s.queue ≡ messages (take (boundary o log) (drop (hand_outs log) (kept log)))
   queue_is_next o log s h = go (is_over log) refl
     where
@@ -69,13 +72,13 @@ module _ {T S : Type 0} where
           rw (sym (left_is o log s h open_), ← h.boundary_is, ← queued_length h, take-append_seam h.queued (offers_of s.blocked)) h.queue_is
 
   -- the blocked messages are the rest of them, while an end is there
-  blocked_are_rest : (o : Opening) (log : Log T) (s : State T S) → StandsFor o log s → is_over log ≡ false
+  blocked_are_rest : (o : Opening) (log : Log T A) (s : State T S) → StandsFor o log s → is_over log ≡ false
       → offers_of s.blocked ≡ drop (boundary o log) (drop (hand_outs log) (kept log))
   blocked_are_rest o log s h open_ =
       rw (sym (left_is o log s h open_), ← h.boundary_is, ← queued_length h, drop-append_seam h.queued (offers_of s.blocked)) refl
 
   -- what stands for a log has the headline
-  pub headline : (o : Opening) (log : Log T) (s : State T S) → StandsFor o log s → Headline o log s
+  pub headline : (o : Opening) (log : Log T A) (s : State T S) → StandsFor o log s → Headline o log s
   headline o log s h = record {
     replies_lawful = h.run;
     in_order = in_order o log h.run;

@@ -11,8 +11,9 @@ use Rattle.flume_core.specs.Log.{Log, Opening}
 use Rattle.flume_core.specs.Line.{line, is_live}
 use Rattle.flume_core.specs.Channel.{has_ticket}
 use Rattle.flume_core.specs.Messages.{Blocked}
-use Rattle.flume_core.specs.Sends.{blocked as blocked_send, changed, accepted_now}
-use Rattle.flume_core.specs.State.{State, StandsFor, offers_of}
+use Rattle.flume_core.specs.Sends.{SendMap, blocked as blocked_send, changed, accepted_now}
+use Rattle.flume_core.specs.State.{State, offers_of}
+use Rattle.flume_core.specs.StandsFor.{StandsFor}
 use Rattle.flume_core.proofs.Tickets.{has_ticket-append}
 use Rattle.flume_core.proofs.LineSteps.{apart_in_line}
 use Rattle.flume_core.proofs.SendsLaws.{get-insert_same, get-insert_other, get-remove_same, get-remove_other, get-changed_same}
@@ -50,8 +51,33 @@ module _ {T : Type 0} where
       ∙ ap (λ b. has_ticket t (offers_of before) || (b || has_ticket t (offers_of later))) e)
 
 module _ {T S : Type 0} where
+  -- the marks of these sends once the first of the blocked messages has moved in
+  pub marks_moved_in : (sends : SendMap S) (live : ℕ → Bool) (b : Blocked T) (later : List (Blocked T))
+      → ((q : ℕ) → mark sends q ≡ status (live q) (has_ticket q (offers_of (b ∷ later))))
+      → has_ticket b.ticket (offers_of later) ≡ false
+      → (q : ℕ) → mark (changed sends b.ticket accepted_now) q ≡ status (live q) (has_ticket q (offers_of later))
+  marks_moved_in sends live b later marks gone q = ⊎_elim here there (cases_eq q b.ticket)
+    where
+      Claim : Type 0
+      Claim = mark (changed sends b.ticket accepted_now) q ≡ status (live q) (has_ticket q (offers_of later))
+
+      here : q ≡ b.ticket → Claim
+      here e =
+          ap (mark (changed sends b.ticket accepted_now)) e
+          ∙ ap (option_map (λ x. x.accepted)) (get-changed_same sends b.ticket accepted_now)
+          ∙ accepted_mark (get sends b.ticket) (live b.ticket) _ (has_ticket b.ticket (offers_of later)) (marks b.ticket) gone
+          ∙ ap (λ c. status c (has_ticket b.ticket (offers_of later))) (and-true (live b.ticket))
+          ∙ sym (ap (λ k. status (live k) (has_ticket k (offers_of later))) e)
+
+      there : q ≢ b.ticket → Claim
+      there ne =
+          let other : eqb b.ticket q ≡ false = ne_eqb b.ticket q (λ e. ne (sym e)) in
+          ap (option_map (λ x. x.accepted)) (get-changed_other sends b.ticket accepted_now q ne) ∙ marks q
+          ∙ ap (λ c. status (live q) (c || has_ticket q (offers_of later))) other
+
+module _ {T A S : Type 0} where
   -- the marks once a send's ticket is spent
-  pub marks_removed : {o : Opening} {past : Log T} {old : State T S} → StandsFor o past old → (t q : ℕ) (waits : Bool)
+  pub marks_removed : {o : Opening} {past : Log T A} {old : State T S} → StandsFor o past old → (t q : ℕ) (waits : Bool)
       → (eqb t q ≡ false → waits ≡ has_ticket q (offers_of old.blocked))
       → mark (remove old.sends t) q ≡ status (false || (is_live past q && not (eqb t q))) waits
   marks_removed {o} {past} {old} h t q waits same = ⊎_elim here there (cases_eq q t)
@@ -72,7 +98,7 @@ module _ {T S : Type 0} where
           ∙ ap (status (is_live past q)) (same other))
 
   -- the marks once a send has blocked under the next ticket
-  pub marks_inserted : {o : Opening} {past : Log T} {old : State T S} → StandsFor o past old → (m : T) (signal : S) (q : ℕ)
+  pub marks_inserted : {o : Opening} {past : Log T A} {old : State T S} → StandsFor o past old → (m : T) (signal : S) (q : ℕ)
       → mark (insert old.sends old.next (blocked_send signal)) q
       ≡ status (eqb old.next q || (is_live past q && not false))
       (has_ticket q (offers_of (old.blocked ++ record { ticket = old.next; message = m } ∷ [])))
@@ -101,28 +127,13 @@ module _ {T S : Type 0} where
           (has_push q old.blocked _ ∙ ap (λ b. has_ticket q (offers_of old.blocked) || (b || false)) other ∙ or-false _))
 
   -- the marks once the first blocked message has moved in
-  pub marks_admitted : (o : Opening) (past : Log T) (old : State T S) (b : Blocked T) (later : List (Blocked T)) → StandsFor o past old
+  pub marks_admitted : (o : Opening) (past : Log T A) (old : State T S) (b : Blocked T) (later : List (Blocked T)) → StandsFor o past old
       → old.blocked ≡ b ∷ later → (q : ℕ)
       → mark (changed old.sends b.ticket accepted_now) q ≡ status (is_live past q && true) (has_ticket q (offers_of later))
-  marks_admitted o past old b later h at q = ⊎_elim here there (cases_eq q b.ticket)
-    where
-      Claim : Type 0
-      Claim = mark (changed old.sends b.ticket accepted_now) q ≡ status (is_live past q && true) (has_ticket q (offers_of later))
-
-      here : q ≡ b.ticket → Claim
-      here e =
-          let place : line past ≡ h.queued ++ ([] ++ record { message = b.message; ticket = Some b.ticket } ∷ offers_of later) =
-          h.line_is ∙ ap (λ l. h.queued ++ offers_of l) at in
-          let gone = (apart_in_line o past h.run h.queued [] (offers_of later) b.ticket b.message place).1 in
-          ap (mark (changed old.sends b.ticket accepted_now)) e
-          ∙ ap (option_map (λ x. x.accepted)) (get-changed_same old.sends b.ticket accepted_now)
-          ∙ accepted_mark (get old.sends b.ticket) (is_live past b.ticket) _ (has_ticket b.ticket (offers_of later))
-          (status_is h b.ticket) gone
-          ∙ sym (ap (λ k. status (is_live past k && true) (has_ticket k (offers_of later))) e)
-
-      there : q ≢ b.ticket → Claim
-      there ne =
-          let other : eqb b.ticket q ≡ false = ne_eqb b.ticket q (λ e. ne (sym e)) in
-          ap (option_map (λ x. x.accepted)) (get-changed_other old.sends b.ticket accepted_now q ne) ∙ status_is h q
-          ∙ ap (status (is_live past q)) (ap (λ l. has_ticket q (offers_of l)) at ∙ ap (λ c. c || has_ticket q (offers_of later)) other)
-          ∙ sym (ap (λ c. status c (has_ticket q (offers_of later))) (and-true (is_live past q)))
+  marks_admitted o past old b later h at q =
+      let place : line past ≡ h.queued ++ ([] ++ record { message = b.message; ticket = Some b.ticket } ∷ offers_of later) =
+      h.line_is ∙ ap (λ l. h.queued ++ offers_of l) at in
+      let gone = (apart_in_line o past h.run h.queued [] (offers_of later) b.ticket b.message place).1 in
+      marks_moved_in old.sends (is_live past) b later
+      (λ k. status_is h k ∙ ap (λ l. status (is_live past k) (has_ticket k (offers_of l))) at) gone q
+      ∙ sym (ap (λ c. status c (has_ticket q (offers_of later))) (and-true (is_live past q)))

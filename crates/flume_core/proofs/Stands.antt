@@ -1,18 +1,26 @@
 -- What a step has to leave of a state for it to stand for the log with that step added.
-use Rattle.std.proofs.Common.{◌≡◌, ℕ, ◌+◌, ◌<◌, Bool, true, false, not, ◌&&◌, ◌||◌, eqb, List, [], ◌∷◌, ◌++◌, length, drop, None, refl, sym}
-use Rattle.std.proofs.Common.{◌∙◌, ap, subst, arith, ne_eqb}
+use Rattle.std.proofs.Common.{◌≡◌, ℕ, ◌+◌, ◌<◌, Bool, true, false, not, ◌&&◌, ◌||◌, eqb, List, [], ◌∷◌, ◌++◌, length, drop, map, max, None}
+use Rattle.std.proofs.Common.{refl, sym}
+use Rattle.std.proofs.Common.{◌∙◌, ap, ap₂, subst, arith, ne_eqb}
 use Rattle.std.proofs.Math.Bool.{and-true}
 use Rattle.std.proofs.lemmas.Bool.{cond-true, cond-false}
 use Rattle.std.proofs.lemmas.List.{drop_at, length-map}
 use Rattle.flume_core.specs.declared.step.Step.{Step}
 use Rattle.flume_core.specs.declared.step.Reply.{Reply}
-use Rattle.flume_core.specs.Log.{Log, Opening, Offer, Change, change, senders, receivers, senders_after, receivers_after, is_over}
-use Rattle.flume_core.specs.Line.{line, boundary, boundary_after, blocked, messages, issued, next_ticket, issues, spends, is_live}
-use Rattle.flume_core.specs.Channel.{IsReply, channel, has_ticket}
-use Rattle.flume_core.specs.State.{State, StandsFor, offers_of}
+use Rattle.flume_core.specs.Log.{Log, Opening, Offer, Change, change}
+use Rattle.flume_core.specs.Counts.{senders, receivers, senders_after, receivers_after, is_over}
+use Rattle.flume_core.specs.Line.{line, boundary, queue, boundary_after, blocked, messages, issued, next_ticket, issues, spends, is_live}
+use Rattle.flume_core.specs.Channel.{channel, has_ticket}
+use Rattle.flume_core.specs.Replies.{IsReply, IsRun}
+use Rattle.flume_core.specs.Entries.{waiting_count}
+use Rattle.flume_core.specs.Parked.{entries, entries_after, is_shut}
+use Rattle.flume_core.proofs.EntryShape.{told_filled}
+use Rattle.flume_core.proofs.Bare.{bare_waiting}
+use Rattle.flume_core.specs.State.{State, offers_of, bare}
+use Rattle.flume_core.specs.StandsFor.{StandsFor}
 use Rattle.flume_core.proofs.Fits.{Fits, fits}
 use Rattle.flume_core.proofs.LineSteps.{line_over}
-use Rattle.flume_core.proofs.Views.{mark, status}
+use Rattle.flume_core.proofs.Views.{mark, status, queue_at_log}
 
 -- what a ticket is, after a change that neither issues nor spends it
 pub still_live : (issued_ live spent : Bool) → issued_ ≡ false → spent ≡ false → (issued_ || (live && not spent)) ≡ live
@@ -32,39 +40,43 @@ module _ {T : Type 0} where
   abbrev live_by : Change T → ℕ → Bool → Bool
   live_by done t live = issues done t || (live && not (spends done t))
 
+module _ {T A : Type 0} where
   -- the change after a lawful reply fits what stands before it
-  pub fits_as : (o : Opening) (past : Log T) (p : Step T × Reply T) (done : Change T) → IsReply (channel o past) p.0 p.1
-      → change past p.0 p.1 ≡ done → Fits (channel o past) done
-  fits_as o past p done reply e = subst (Fits (channel o past)) e (fits (channel o past) past p.0 p.1 reply)
+  pub fits_as : (o : Opening) (past : Log T A) (p : Step T × Reply T A) (done : Change T) → IsRun o past
+      → IsReply (channel o past) p.0 p.1 → change past p.0 p.1 ≡ done → Fits (channel o past) done
+  fits_as o past p done run reply e =
+      subst (Fits (channel o past)) e (fits o past p.0 p.1 (told_filled o past run) reply)
 
   -- an open channel isn't over
-  pub open_not_over : (past : Log T) → 0 < senders past + receivers past → is_over past ≡ false
+  pub open_not_over : (past : Log T A) → 0 < senders past + receivers past → is_over past ≡ false
   open_not_over past h = ne_eqb _ 0 (λ e. omega arith)
 
   -- once over, no ticket is live
-  pub none_live : (log : Log T) (t : ℕ) → is_over log ≡ true → is_live log t ≡ false
+  pub none_live : (log : Log T A) (t : ℕ) → is_over log ≡ true → is_live log t ≡ false
   none_live [] t over = refl
   none_live (p ∷ past) t over = ap (λ b. not b && live_by (change past p.0 p.1) t (is_live past t)) over
 
   -- so while one is live, the channel isn't over
-  pub live_not_over : (log : Log T) (t : ℕ) → is_live log t ≡ true → is_over log ≡ false
+  pub live_not_over : (log : Log T A) (t : ℕ) → is_live log t ≡ true → is_over log ≡ false
   live_not_over log t live =
       elim (is_over log) as (λ b. is_over log ≡ b → b ≡ false)
       [ true ↦ λ over. absurd (let none = none_live log t over in let no : ⊥ = cc in no) | false ↦ λ e. refl ] refl
 
   -- a change that leaves the ends alone leaves open or over what was
-  pub over_same : (past : Log T) (p : Step T × Reply T) (done : Change T) → change past p.0 p.1 ≡ done
+  pub over_same : (past : Log T A) (p : Step T × Reply T A) (done : Change T) → change past p.0 p.1 ≡ done
       → eqb (senders_after (senders past) done + receivers_after (receivers past) done) 0 ≡ is_over past → is_over (p ∷ past) ≡ is_over past
   over_same past p done e same = ap (λ d. eqb (senders_after (senders past) d + receivers_after (receivers past) d) 0) e ∙ same
 
   -- which tickets are live while the channel isn't over
-  pub live_open : (past : Log T) (p : Step T × Reply T) (done : Change T) (t : ℕ) → change past p.0 p.1 ≡ done → is_over (p ∷ past) ≡ false
+  pub live_open : (past : Log T A) (p : Step T × Reply T A) (done : Change T) (t : ℕ) → change past p.0 p.1 ≡ done → is_over
+      (p ∷ past) ≡ false
       → is_live (p ∷ past) t ≡ (issues done t || (is_live past t && not (spends done t)))
   live_open past p done t e open_ =
       ap (λ b. not b && live_by (change past p.0 p.1) t (is_live past t)) open_ ∙ ap (λ d. live_by d t (is_live past t)) e
 
 -- what a step has to leave of a state for it to stand for the longer log, while the channel isn't over
-pub record Leaves {T S : Type 0} (o : Opening) (past : Log T) (p : Step T × Reply T) (done : Change T) (old new : State T S) : Type 0 where
+pub record LeftBy {T A S : Type 0} (o : Opening) (past : Log T A) (p : Step T × Reply T A) (done : Change T)
+    (old new : State T S) : Type 0 where
   pub capacity_kept : new.capacity ≡ old.capacity
   pub queued : List (Offer T)
   pub line_is : line (p ∷ past) ≡ queued ++ offers_of new.blocked
@@ -72,52 +84,63 @@ pub record Leaves {T S : Type 0} (o : Opening) (past : Log T) (p : Step T × Rep
   pub length_is : length new.queue ≡ boundary_after o.capacity (length (line (p ∷ past))) (length old.queue) done
   pub marks : (t : ℕ) → mark new.sends t
       ≡ status (issues done t || (is_live past t && not (spends done t))) (has_ticket t (offers_of new.blocked))
+  pub entries_are : map bare new.entries
+      ≡ entries_after old.queue (not (is_shut past) && is_shut (p ∷ past)) (map bare old.entries) done
+  pub peak_is : new.peak ≡ max old.peak (waiting_count new.entries)
   pub next_is : new.next ≡ old.next + issued done
   pub senders_are : new.senders ≡ senders_after old.senders done
   pub receivers_are : new.receivers ≡ receivers_after old.receivers done
 
-module _ {T S : Type 0} where
+module _ {T A S : Type 0} where
   -- a state equal to one that stands for a log
-  pub stands_as : (o : Opening) (log : Log T) (s u : State T S) → s ≡ u → StandsFor o log u → StandsFor o log s
+  pub stands_as : (o : Opening) (log : Log T A) (s u : State T S) → s ≡ u → StandsFor o log u → StandsFor o log s
   stands_as o log s u e h = subst (λ (x : State T S). StandsFor o log x) (sym e) h
 
   -- what such a step leaves stands for the longer log
-  pub stands_open : (o : Opening) (past : Log T) (p : Step T × Reply T) (done : Change T) (old new : State T S) → StandsFor o past old
-      → IsReply (channel o past) p.0 p.1 → change past p.0 p.1 ≡ done → is_over (p ∷ past) ≡ false → Leaves o past p done old new
+  pub stands_open : (o : Opening) (past : Log T A) (p : Step T × Reply T A) (done : Change T) (old new : State T S) → StandsFor o past old
+      → IsReply (channel o past) p.0 p.1 → change past p.0 p.1 ≡ done → is_over (p ∷ past) ≡ false → LeftBy o past p done old new
       → StandsFor o (p ∷ past) new
-  stands_open o past p done old new h reply e open_ leaves =
+  stands_open o past p done old new h reply e open_ by =
+      let closes = not (is_shut past) && is_shut (p ∷ past) in
       let counted : length new.queue ≡ boundary o (p ∷ past) =
-      leaves.length_is ∙ ap (λ n. boundary_after o.capacity (length (line (p ∷ past))) n done) h.boundary_is
+      by.length_is ∙ ap (λ n. boundary_after o.capacity (length (line (p ∷ past))) n done) h.boundary_is
       ∙ sym (cond-false (is_over (p ∷ past)) 0 _ open_ ∙ ap (boundary_after o.capacity (length (line (p ∷ past))) (boundary o past)) e) in
       let waiting : blocked o (p ∷ past) ≡ offers_of new.blocked =
-      ap (drop (boundary o (p ∷ past))) leaves.line_is
-      ∙ drop_at leaves.queued (offers_of new.blocked) (boundary o (p ∷ past))
-      (sym (ap length leaves.queue_is ∙ length-map leaves.queued (λ offer. offer.message)) ∙ counted) in
+      ap (drop (boundary o (p ∷ past))) by.line_is
+      ∙ drop_at by.queued (offers_of new.blocked) (boundary o (p ∷ past))
+      (sym (ap length by.queue_is ∙ length-map by.queued (λ offer. offer.message)) ∙ counted) in
+      let entered : map bare new.entries ≡ entries o (p ∷ past) =
+      by.entries_are ∙ sym (cond-false (is_over (p ∷ past)) [] _ open_
+      ∙ ap (entries_after (queue o past) closes (entries o past)) e
+      ∙ ap₂ (λ q es. entries_after q closes es done) (queue_at_log h) (sym h.entries_are)) in
       record {
         run = (reply, h.run);
-        capacity_is = leaves.capacity_kept ∙ h.capacity_is;
-        queued = leaves.queued;
-        line_is = leaves.line_is;
-        queue_is = leaves.queue_is;
+        capacity_is = by.capacity_kept ∙ h.capacity_is;
+        queued = by.queued;
+        line_is = by.line_is;
+        queue_is = by.queue_is;
         boundary_is = counted;
-        sends_are = λ t. leaves.marks t
+        sends_are = λ t. by.marks t
             ∙ sym (ap (λ b. status b (has_ticket t (blocked o (p ∷ past)))) (live_open past p done t e open_)
             ∙ ap (λ l. status (issues done t || (is_live past t && not (spends done t))) (has_ticket t l)) waiting);
-        next_is = leaves.next_is ∙ ap (λ n. n + issued done) h.next_is ∙ sym (ap (λ d. next_ticket o past + issued d) e);
-        senders_are = leaves.senders_are ∙ ap (λ n. senders_after n done) h.senders_are ∙ sym (ap (senders_after (senders past)) e);
-        receivers_are = leaves.receivers_are ∙ ap (λ n. receivers_after n done) h.receivers_are
+        entries_are = entered;
+        peak_is = by.peak_is ∙ ap₂ max h.peak_is (sym (bare_waiting new.entries) ∙ ap waiting_count entered);
+        next_is = by.next_is ∙ ap (λ n. n + issued done) h.next_is ∙ sym (ap (λ d. next_ticket o past + issued d) e);
+        senders_are = by.senders_are ∙ ap (λ n. senders_after n done) h.senders_are ∙ sym (ap (senders_after (senders past)) e);
+        receivers_are = by.receivers_are ∙ ap (λ n. receivers_after n done) h.receivers_are
             ∙ sym (ap (receivers_after (receivers past)) e);
       }
 
   -- once over, what has no message and no ticket left stands for the log
-  pub stands_over : (o : Opening) (past : Log T) (p : Step T × Reply T) (done : Change T) (old new : State T S) → StandsFor o past old
+  pub stands_over : (o : Opening) (past : Log T A) (p : Step T × Reply T A) (done : Change T) (old new : State T S) → StandsFor o past old
       → IsReply (channel o past) p.0 p.1 → change past p.0 p.1 ≡ done → is_over (p ∷ past) ≡ true
       → new.capacity ≡ old.capacity → new.queue ≡ [] → new.blocked ≡ []
-      → ((t : ℕ) → mark new.sends t ≡ None)
+      → ((t : ℕ) → mark new.sends t ≡ None) → new.entries ≡ [] → new.peak ≡ old.peak
       → new.next ≡ old.next + issued done → new.senders ≡ senders_after old.senders done
       → new.receivers ≡ receivers_after old.receivers done
       → StandsFor o (p ∷ past) new
-  stands_over o past p done old new h reply e over same_capacity no_queue no_blocked no_sends next senders_ receivers_ =
+  stands_over o past p done old new h reply e over same_capacity no_queue no_blocked no_sends no_entries same_peak next senders_
+      receivers_ =
       record {
         run = (reply, h.run);
         capacity_is = same_capacity ∙ h.capacity_is;
@@ -126,6 +149,10 @@ module _ {T S : Type 0} where
         queue_is = no_queue;
         boundary_is = ap length no_queue ∙ sym (cond-true (is_over (p ∷ past)) 0 _ over);
         sends_are = λ t. no_sends t ∙ sym (ap (λ b. status b (has_ticket t (blocked o (p ∷ past)))) (none_live (p ∷ past) t over));
+        entries_are = ap (map bare) no_entries ∙ sym (cond-true (is_over (p ∷ past)) [] _ over);
+        peak_is =
+            let none : waiting_count (entries o (p ∷ past)) ≡ 0 = ap waiting_count (cond-true (is_over (p ∷ past)) [] _ over) in
+            same_peak ∙ h.peak_is ∙ omega arith;
         next_is = next ∙ ap (λ n. n + issued done) h.next_is ∙ sym (ap (λ d. next_ticket o past + issued d) e);
         senders_are = senders_ ∙ ap (λ n. senders_after n done) h.senders_are ∙ sym (ap (senders_after (senders past)) e);
         receivers_are = receivers_ ∙ ap (λ n. receivers_after n done) h.receivers_are

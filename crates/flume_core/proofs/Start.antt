@@ -2,13 +2,14 @@
 use Rattle.std.proofs.Common.{◌≡◌, [], refl, sym, subst}
 use Rattle.std.specs.FinMap.{get-empty}
 use Rattle.flume_core.specs.Log.{Opening}
-use Rattle.flume_core.specs.State.{State, opened, StandsFor}
+use Rattle.flume_core.specs.State.{State, opened}
+use Rattle.flume_core.specs.StandsFor.{StandsFor}
 
-module _ {T S : Type 0} where
+module _ {T A S : Type 0} where
   -- it stands for the empty log
-  pub stands_at_start : (o : Opening) (s : State T S) → s ≡ opened o → StandsFor o [] s
+  pub stands_at_start : (o : Opening) (s : State T S) → s ≡ opened o → StandsFor {A = A} o [] s
   stands_at_start o s e =
-      let P : State T S → Type 0 = λ x. StandsFor o [] x in
+      let P : State T S → Type 0 = λ x. StandsFor {A = A} o [] x in
       subst P (sym e) record {
         run = tt;
         capacity_is = refl;
@@ -17,6 +18,8 @@ module _ {T S : Type 0} where
         queue_is = refl;
         boundary_is = refl;
         sends_are = λ t. rw get-empty refl;
+        entries_are = refl;
+        peak_is = refl;
         next_is = refl;
         senders_are = refl;
         receivers_are = refl;

@@ -1,20 +1,29 @@
 -- A message handed out: what that leaves stands for the log with that step added.
 use Rattle.std.proofs.Common.{◌≡◌, ℕ, ◌+◌, ◌-◌, ◌<◌, ◌≤◌, Bool, true, false, not, ◌&&◌, if◌then◌else◌, ◌⊎◌, inl, inr, ⊎_elim, nat_le, List}
-use Rattle.std.proofs.Common.{[], ◌∷◌, ◌++◌, length, suc, max, Option, Some, None, refl, sym, ◌∙◌, ap, subst, arith, length-append}
+use Rattle.std.proofs.Common.{[], ◌∷◌, ◌++◌, length, map, suc, max, Option, Some, None, refl, sym, ◌∙◌, ap, subst, arith, length-append}
 use Rattle.std.proofs.Common.{append_assoc}
 use Rattle.std.proofs.Math.Bool.{and-true}
 use Rattle.std.proofs.lemmas.Bool.{leb-true, leb-false, le-leb}
 use Rattle.std.proofs.lemmas.List.{length-map, map_push, length_push}
 use Rattle.flume_core.specs.declared.step.Step.{Step}
 use Rattle.flume_core.specs.declared.step.Reply.{Reply}
-use Rattle.flume_core.specs.Log.{Log, Opening, Offer, Takes, capped, change, is_over}
+use Rattle.flume_core.specs.Log.{Log, Opening, Offer, Takes, capped, change}
+use Rattle.flume_core.specs.Counts.{is_over}
 use Rattle.flume_core.specs.Line.{line, messages, is_live}
-use Rattle.flume_core.specs.Channel.{IsReply, channel, has_ticket}
+use Rattle.flume_core.specs.Channel.{channel, has_ticket}
+use Rattle.flume_core.specs.Replies.{IsReply}
 use Rattle.flume_core.specs.Limits.{HasRoom, IsAtCapacity, is_full}
 use Rattle.flume_core.specs.Messages.{Blocked}
 use Rattle.flume_core.specs.Sends.{changed, accepted_now}
-use Rattle.flume_core.specs.State.{State, StandsFor, offers_of}
-use Rattle.flume_core.specs.Effects.{admitted, admitted_from, refilled, fronted, fronted_from}
+use Rattle.flume_core.specs.State.{State, offers_of, bare}
+use Rattle.flume_core.specs.StandsFor.{StandsFor}
+use Rattle.flume_core.specs.Effects.{admitted, admitted_from, refilled, fronted, fronted_from, taken as taken_state}
+use Rattle.flume_core.specs.declared.entries.Entry.{Entry}
+use Rattle.flume_core.specs.Entries.{waiting_count, without}
+use Rattle.flume_core.specs.Parked.{entries_after, is_shut}
+use Rattle.flume_core.proofs.Bare.{bare_without}
+use Rattle.flume_core.proofs.WaitingCounts.{fewer_without}
+use Rattle.flume_core.proofs.Moves.{peak_kept}
 use Rattle.flume_core.proofs.Parts.{front_at, open_at}
 use Rattle.flume_core.proofs.LineSteps.{line_takes}
 use Rattle.flume_core.proofs.Views.{mark, status, status_is, queued_length, at_capacity, nil_by}
@@ -34,7 +43,7 @@ one_more None n long lt room full = absurd full
 one_more (Some c) n long lt room full = omega arith
 
 -- what the test of a full queue means
-full_or_room : (cap : Option ℕ) (n : ℕ) → ((is_full cap n ≡ true) × IsAtCapacity cap n) ⊎ ((is_full cap n ≡ false) × HasRoom cap n)
+pub full_or_room : (cap : Option ℕ) (n : ℕ) → ((is_full cap n ≡ true) × IsAtCapacity cap n) ⊎ ((is_full cap n ≡ false) × HasRoom cap n)
 full_or_room None n = inr (refl, tt)
 full_or_room (Some c) n = by_case (nat_le c n) refl
   where
@@ -43,26 +52,50 @@ full_or_room (Some c) n = by_case (nat_le c n) refl
     by_case false e = inr (e, leb-false c n e)
 
 -- a full queue is known as such
-full_known : (cap : Option ℕ) (n : ℕ) → IsAtCapacity cap n → is_full cap n ≡ true
+pub full_known : (cap : Option ℕ) (n : ℕ) → IsAtCapacity cap n → is_full cap n ≡ true
 full_known None n h = absurd h
 full_known (Some c) n h = le-leb c n h
 
+module _ {T N : Type 0} where
+  -- the entries without that of the receiver that took a message, if it was parked
+  abbrev pub released : Option ℕ → List (Entry T N) → List (Entry T N)
+  released None es = es
+  released (Some t) es = without t es
+
+  -- no more wait
+  released_fewer : (receiver : Option ℕ) (es : List (Entry T N)) → waiting_count (released receiver es) ≤ waiting_count es
+  released_fewer None es = omega arith
+  released_fewer (Some t) es = fewer_without t es
+
+  -- as a log knows them
+  released_bare : (receiver : Option ℕ) (es : List (Entry T N)) (m : T) (queue : List T) (closes : Bool)
+      → map bare (released receiver es) ≡ entries_after queue closes (map bare es) (Takes m receiver)
+  released_bare None es m queue closes = refl
+  released_bare (Some t) es m queue closes = bare_without t es
+
 module _ {T S : Type 0} where
+  -- the state without the receiver that took a message, if it was parked
+  abbrev pub freed : Option ℕ → State T S → State T S
+  freed receiver s = record s { entries = released receiver s.entries }
+
+module _ {T A S : Type 0} where
   -- the front of the line leaves
-  taken : (o : Opening) (past : Log T) (p : Step T × Reply T) (old new : State T S) (m : T) (x : Offer T) (queued : List (Offer T))
-      → StandsFor o past old → IsReply (channel o past) p.0 p.1 → change past p.0 p.1 ≡ Takes m
+  taken : (o : Opening) (past : Log T A) (p : Step T × Reply T A) (old new : State T S) (m : T) (receiver : Option ℕ) (x : Offer T)
+      (queued : List (Offer T))
+      → StandsFor o past old → IsReply (channel o past) p.0 p.1 → change past p.0 p.1 ≡ Takes m receiver
       → line past ≡ x ∷ (queued ++ offers_of new.blocked) → new.queue ≡ messages queued
       → length new.queue ≡ max (length old.queue - 1) (capped old.capacity (length queued + length new.blocked))
       → ((t : ℕ) → mark new.sends t ≡ status (is_live past t && true) (has_ticket t (offers_of new.blocked)))
       → new.capacity ≡ old.capacity → new.next ≡ old.next → new.senders ≡ old.senders → new.receivers ≡ old.receivers
-      → StandsFor o (p ∷ past) new
-  taken o past p old new m x queued h reply e at queue long marks same_capacity same_next same_senders same_receivers =
+      → new.entries ≡ released receiver old.entries → new.peak ≡ old.peak → StandsFor o (p ∷ past) new
+  taken o past p old new m receiver x queued h reply e at queue long marks same_capacity same_next same_senders same_receivers left_parked
+      same_peak =
       let open_ : is_over past ≡ false = open_at past [] (queued ++ offers_of new.blocked) x at in
       let left : line (p ∷ past) ≡ queued ++ offers_of new.blocked =
-      line_takes o past p m x (queued ++ offers_of new.blocked) h.run e open_ at in
+      line_takes o past p m receiver x (queued ++ offers_of new.blocked) h.run e open_ at in
       let many : length (line (p ∷ past)) ≡ length queued + length new.blocked =
       ap length left ∙ length-append queued _ ∙ ap (λ n. length queued + n) (length-map new.blocked _) in
-      stands_open o past p (Takes m) old new h reply e (over_same past p (Takes m) e refl ∙ open_) record {
+      stands_open o past p (Takes m receiver) old new h reply e (over_same past p (Takes m receiver) e refl ∙ open_) record {
         capacity_kept = same_capacity;
         queued = queued;
         line_is = left;
@@ -70,13 +103,16 @@ module _ {T S : Type 0} where
         length_is = long ∙ ap (λ c. max (length old.queue - 1) (capped c (length queued + length new.blocked))) h.capacity_is
             ∙ ap (λ n. max (length old.queue - 1) (capped o.capacity n)) (sym many);
         marks = marks;
+        entries_are = ap (map bare) left_parked ∙ released_bare receiver old.entries m old.queue (not (is_shut past) && is_shut (p ∷ past));
+        peak_is = same_peak ∙ peak_kept h new.entries
+            (let fewer = released_fewer receiver old.entries in let same = ap waiting_count left_parked in omega arith);
         next_is = omega arith;
         senders_are = same_senders;
         receivers_are = same_receivers;
       }
 
   -- the offers behind the front one
-  behind : (o : Opening) (past : Log T) (old : State T S) (m : T) (rest : List T) → StandsFor o past old → old.queue ≡ m ∷ rest
+  behind : (o : Opening) (past : Log T A) (old : State T S) (m : T) (rest : List T) → StandsFor o past old → old.queue ≡ m ∷ rest
       → (x : Offer T) × (queued : List (Offer T)) × (line past ≡ x ∷ (queued ++ offers_of old.blocked)) × (rest ≡ messages queued)
   behind o past old m rest h front =
       let at = front_at h.queued m rest (sym h.queue_is ∙ front) in
@@ -84,10 +120,12 @@ module _ {T S : Type 0} where
       (at.0, at.1, h.line_is ∙ ap (λ l. l ++ offers_of old.blocked) at.2, (let tail : rest ≡ messages at.1 = cc in tail))
 
   -- the front message leaves, and no message moves in
-  takes_one : (o : Opening) (past : Log T) (p : Step T × Reply T) (old new : State T S) (m : T) (rest : List T) → StandsFor o past old
-      → IsReply (channel o past) p.0 p.1 → change past p.0 p.1 ≡ Takes m → old.queue ≡ m ∷ rest → new ≡ record old { queue = rest }
+  takes_one : (o : Opening) (past : Log T A) (p : Step T × Reply T A) (old new : State T S) (m : T) (receiver : Option ℕ) (rest : List T)
+      → StandsFor o past old
+      → IsReply (channel o past) p.0 p.1 → change past p.0 p.1 ≡ Takes m receiver → old.queue ≡ m ∷ rest
+      → new ≡ record old { queue = rest; entries = released receiver old.entries }
       → IsAtCapacity old.capacity (length rest) ⊎ (old.blocked ≡ []) → StandsFor o (p ∷ past) new
-  takes_one o past p old new m rest h reply e front is full =
+  takes_one o past p old new m receiver rest h reply e front is full =
       let at = behind o past old m rest h front in
       let n : length rest ≡ length at.1 = ap length at.3 ∙ length-map at.1 _ in
       let was : length old.queue ≡ suc (length rest) = ap length front in
@@ -95,18 +133,24 @@ module _ {T S : Type 0} where
       let keeps : length rest ≡ max (length rest) (capped old.capacity all) =
       stays_queued old.capacity (length rest) all (omega arith)
       (⊎_elim inl (λ none. inr (let no_more : length old.blocked ≡ 0 = ap length none in omega arith)) full) in
-      stands_as o (p ∷ past) new _ is (taken o past p old _ m at.0 at.1 h reply e at.2 at.3
+      stands_as o (p ∷ past) new _ is (taken o past p old _ m receiver at.0 at.1 h reply e at.2 at.3
       (keeps ∙ ap (λ k. max k (capped old.capacity all)) (omega arith))
       (λ t. status_is h t ∙ sym (ap (λ c. status c (has_ticket t (offers_of old.blocked))) (and-true (is_live past t))))
-      refl refl refl refl)
+      refl refl refl refl refl refl)
 
   -- the front message leaves, and the first blocked message moves in
-  takes_and_admits : (o : Opening) (past : Log T) (p : Step T × Reply T) (old new : State T S) (m : T) (rest : List T)
+  takes_and_admits : (o : Opening) (past : Log T A) (p : Step T × Reply T A) (old new : State T S) (m : T) (receiver : Option ℕ)
+      (rest : List T)
       (b : Blocked T) (later : List (Blocked T)) → StandsFor o past old
-      → IsReply (channel o past) p.0 p.1 → change past p.0 p.1 ≡ Takes m → old.queue ≡ m ∷ rest → old.blocked ≡ b ∷ later
-      → new ≡ record old { queue = rest ++ b.message ∷ []; blocked = later; sends = changed old.sends b.ticket accepted_now }
+      → IsReply (channel o past) p.0 p.1 → change past p.0 p.1 ≡ Takes m receiver → old.queue ≡ m ∷ rest → old.blocked ≡ b ∷ later
+      → new ≡ record old {
+        queue = rest ++ b.message ∷ [];
+        blocked = later;
+        sends = changed old.sends b.ticket accepted_now;
+        entries = released receiver old.entries;
+      }
       → HasRoom old.capacity (length rest) → StandsFor o (p ∷ past) new
-  takes_and_admits o past p old new m rest b later h reply e front at is room =
+  takes_and_admits o past p old new m receiver rest b later h reply e front at is room =
       let x : Offer T = record { message = b.message; ticket = Some b.ticket } in
       let place = behind o past old m rest h front in
       let n : length rest ≡ length place.1 = ap length place.3 ∙ length-map place.1 _ in
@@ -116,37 +160,44 @@ module _ {T S : Type 0} where
       let full : IsAtCapacity old.capacity (length rest + 1) = subst (IsAtCapacity old.capacity) was (at_capacity h (omega arith)) in
       let push : length (place.1 ++ x ∷ []) ≡ length place.1 + 1 = length_push place.1 x in
       let all = length (place.1 ++ x ∷ []) + length later in
-      stands_as o (p ∷ past) new _ is (taken o past p old _ m place.0 (place.1 ++ x ∷ []) h reply e
+      stands_as o (p ∷ past) new _ is (taken o past p old _ m receiver place.0 (place.1 ++ x ∷ []) h reply e
       (place.2 ∙ ap (λ l. place.0 ∷ (place.1 ++ offers_of l)) at
       ∙ ap (λ l. place.0 ∷ l) (sym (append_assoc place.1 (x ∷ []) (offers_of later))))
       (ap (λ l. l ++ b.message ∷ []) place.3 ∙ sym (map_push _ place.1 x))
       (length_push rest b.message ∙ one_more old.capacity (length rest) all (omega arith) room full
       ∙ ap (λ k. max k (capped old.capacity all)) (omega arith))
-      (marks_admitted o past old b later h at) refl refl refl refl)
+      (marks_admitted o past old b later h at) refl refl refl refl refl refl)
 
   -- nothing is queued, and the first blocked message is handed out
-  takes_direct : (o : Opening) (past : Log T) (p : Step T × Reply T) (old new : State T S) (m : T)
+  takes_direct : (o : Opening) (past : Log T A) (p : Step T × Reply T A) (old new : State T S) (m : T) (receiver : Option ℕ)
       (b : Blocked T) (later : List (Blocked T)) → StandsFor o past old
-      → IsReply (channel o past) p.0 p.1 → change past p.0 p.1 ≡ Takes m → old.queue ≡ [] → old.blocked ≡ b ∷ later
-      → new ≡ record old { queue = []; blocked = later; sends = changed old.sends b.ticket accepted_now } → StandsFor o (p ∷ past) new
-  takes_direct o past p old new m b later h reply e none at is =
+      → IsReply (channel o past) p.0 p.1 → change past p.0 p.1 ≡ Takes m receiver → old.queue ≡ [] → old.blocked ≡ b ∷ later
+      → new ≡ record old {
+        queue = [];
+        blocked = later;
+        sends = changed old.sends b.ticket accepted_now;
+        entries = released receiver old.entries;
+      }
+      → StandsFor o (p ∷ past) new
+  takes_direct o past p old new m receiver b later h reply e none at is =
       let x : Offer T = record { message = b.message; ticket = Some b.ticket } in
       let zero_long : length old.queue ≡ 0 = ap length none in
       let n = queued_length h in
       let no_offer : h.queued ≡ [] = nil_by h.queued (λ some. omega arith) in
       let waits : length old.blocked ≡ suc (length later) = ap length at in
       let full : IsAtCapacity old.capacity 0 = subst (IsAtCapacity old.capacity) zero_long (at_capacity h (omega arith)) in
-      stands_as o (p ∷ past) new _ is (taken o past p old _ m x [] h reply e
+      stands_as o (p ∷ past) new _ is (taken o past p old _ m receiver x [] h reply e
       (h.line_is ∙ ap (λ l. l ++ offers_of old.blocked) no_offer ∙ ap offers_of at) refl
       (stays_queued old.capacity 0 (0 + length later) (omega arith) (inl full)
       ∙ ap (λ k. max k (capped old.capacity (0 + length later))) (omega arith))
-      (marks_admitted o past old b later h at) refl refl refl refl)
+      (marks_admitted o past old b later h at) refl refl refl refl refl refl)
 
   -- a message is handed out, from a queue that isn't empty
-  takes_queued : (o : Opening) (past : Log T) (p : Step T × Reply T) (old new : State T S) (m : T) (rest : List T) → StandsFor o past old
-      → IsReply (channel o past) p.0 p.1 → change past p.0 p.1 ≡ Takes m → old.queue ≡ m ∷ rest
-      → new ≡ refilled (record old { queue = rest }) → StandsFor o (p ∷ past) new
-  takes_queued o past p old new m rest h reply e front is = by_case (full_or_room old.capacity (length rest)) old.blocked refl
+  takes_queued : (o : Opening) (past : Log T A) (p : Step T × Reply T A) (old new : State T S) (m : T) (receiver : Option ℕ) (rest : List T)
+      → StandsFor o past old
+      → IsReply (channel o past) p.0 p.1 → change past p.0 p.1 ≡ Takes m receiver → old.queue ≡ m ∷ rest
+      → new ≡ freed receiver (refilled (record old { queue = rest })) → StandsFor o (p ∷ past) new
+  takes_queued o past p old new m receiver rest h reply e front is = by_case (full_or_room old.capacity (length rest)) old.blocked refl
     where
       left : State T S
       left = record old { queue = rest }
@@ -155,26 +206,29 @@ module _ {T S : Type 0} where
           ⊎ ((is_full old.capacity (length rest) ≡ false) × HasRoom old.capacity (length rest))
           → (xs : List (Blocked T)) → old.blocked ≡ xs → StandsFor o (p ∷ past) new
       by_case (inl full) xs at =
-          let same : new ≡ left = is ∙ ap (λ b. if not b then admitted left else left) full.0 in
-          takes_one o past p old new m rest h reply e front same (inl full.1)
+          let same : new ≡ freed receiver left = is ∙ ap (λ b. freed receiver (if not b then admitted left else left)) full.0 in
+          takes_one o past p old new m receiver rest h reply e front same (inl full.1)
       by_case (inr room) [] at =
-          let same : new ≡ left =
-          is ∙ ap (λ b. if not b then admitted left else left) room.0 ∙ ap (λ xs. admitted_from xs left) at in
-          takes_one o past p old new m rest h reply e front same (inr at)
+          let same : new ≡ freed receiver left =
+          is ∙ ap (λ b. freed receiver (if not b then admitted left else left)) room.0
+          ∙ ap (λ xs. freed receiver (admitted_from xs left)) at in
+          takes_one o past p old new m receiver rest h reply e front same (inr at)
       by_case (inr room) (b ∷ later) at =
-          takes_and_admits o past p old new m rest b later h reply e front at
-          (is ∙ ap (λ b. if not b then admitted left else left) room.0 ∙ ap (λ xs. admitted_from xs left) at) room.1
+          takes_and_admits o past p old new m receiver rest b later h reply e front at
+          (is ∙ ap (λ b. freed receiver (if not b then admitted left else left)) room.0
+          ∙ ap (λ xs. freed receiver (admitted_from xs left)) at) room.1
 
   -- a message is handed out
-  pub takes : (o : Opening) (past : Log T) (p : Step T × Reply T) (old new : State T S) (m : T) (rest : List T) → StandsFor o past old
-      → IsReply (channel o past) p.0 p.1 → change past p.0 p.1 ≡ Takes m → (fronted old).queue ≡ m ∷ rest
-      → new ≡ refilled (record (fronted old) { queue = rest }) → StandsFor o (p ∷ past) new
-  takes o past p old new m rest h reply e front is = by_queue old.queue old.blocked refl refl
+  pub takes : (o : Opening) (past : Log T A) (p : Step T × Reply T A) (old new : State T S) (m : T) (receiver : Option ℕ) (rest : List T)
+      → StandsFor o past old
+      → IsReply (channel o past) p.0 p.1 → change past p.0 p.1 ≡ Takes m receiver → (fronted old).queue ≡ m ∷ rest
+      → new ≡ freed receiver (taken_state rest old) → StandsFor o (p ∷ past) new
+  takes o past p old new m receiver rest h reply e front is = by_queue old.queue old.blocked refl refl
     where
       by_queue : (q : List T) (xs : List (Blocked T)) → old.queue ≡ q → old.blocked ≡ xs → StandsFor o (p ∷ past) new
       by_queue (m' ∷ rest') xs queue at =
-          takes_queued o past p old new m rest h reply e (sym (ap (λ q. (fronted_from q old).queue) queue) ∙ front)
-          (is ∙ ap (λ q. refilled (record (fronted_from q old) { queue = rest })) queue)
+          takes_queued o past p old new m receiver rest h reply e (sym (ap (λ q. (fronted_from q old).queue) queue) ∙ front)
+          (is ∙ ap (λ q. freed receiver (refilled (record (fronted_from q old) { queue = rest }))) queue)
       by_queue [] [] queue at =
           let nothing : (admitted_from [] old).queue ≡ m ∷ rest =
           sym (ap (λ q. (fronted_from q old).queue) queue ∙ ap (λ xs. (admitted_from xs old).queue) at) ∙ front in
@@ -188,7 +242,8 @@ module _ {T S : Type 0} where
           let zero_long : length old.queue ≡ 0 = ap length queue in
           let waits : length old.blocked ≡ suc (length later) = ap length at in
           let full : IsAtCapacity old.capacity 0 = subst (IsAtCapacity old.capacity) zero_long (at_capacity h (omega arith)) in
-          takes_direct o past p old new m b later h reply e queue at
-          (is ∙ ap (λ q. refilled (record (fronted_from q old) { queue = rest })) queue
-          ∙ ap (λ xs. refilled (record (admitted_from xs old) { queue = rest })) at ∙ ap (λ r. refilled (left r)) empty
-          ∙ ap (λ c. if not c then admitted (left []) else left []) (full_known old.capacity 0 full))
+          takes_direct o past p old new m receiver b later h reply e queue at
+          (is ∙ ap (λ q. freed receiver (refilled (record (fronted_from q old) { queue = rest }))) queue
+          ∙ ap (λ xs. freed receiver (refilled (record (admitted_from xs old) { queue = rest }))) at
+          ∙ ap (λ r. freed receiver (refilled (left r))) empty
+          ∙ ap (λ c. freed receiver (if not c then admitted (left []) else left [])) (full_known old.capacity 0 full))

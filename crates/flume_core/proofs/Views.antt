@@ -1,20 +1,26 @@
 -- What a state that stands for a log says of the log.
-use Rattle.std.proofs.Common.{◌≡◌, ◌≢◌, ℕ, ◌+◌, ◌<◌, Bool, true, false, not, cond, ⊎_elim, eqb, List, [], ◌∷◌, ◌++◌, length, map, Option}
+use Rattle.std.proofs.Common.{◌≡◌, ◌≢◌, ℕ, ◌+◌, ◌<◌, Bool, true, false, not, cond, ⊎_elim, eqb, List, [], ◌∷◌, ◌++◌, length, map, take, ◌≤◌}
+use Rattle.std.proofs.Common.{Option}
 use Rattle.std.proofs.Common.{Some, None, refl, sym, ◌∙◌, ap, subst₂, arith, eqb-true, length-append}
 use Rattle.std.specs.List.{All}
 use Rattle.std.specs.Option.{option_map}
 use Rattle.std.specs.FinMap.{get}
 use Rattle.std.proofs.lemmas.Bool.{or_cases}
-use Rattle.std.proofs.lemmas.List.{drop_at, length-map, map-append}
+use Rattle.std.proofs.lemmas.List.{drop_at, take_at, length-map, map-append}
 use Rattle.std.proofs.lemmas.List.Elements.{All-head, All-tail}
-use Rattle.flume_core.specs.Log.{Log, Opening, senders, receivers}
-use Rattle.flume_core.specs.Line.{line, capacity, boundary, blocked, messages, is_live}
+use Rattle.flume_core.specs.Log.{Log, Opening}
+use Rattle.flume_core.specs.Counts.{senders, receivers}
+use Rattle.flume_core.specs.Line.{line, capacity, boundary, queue, blocked, messages, is_live}
+use Rattle.flume_core.specs.Entries.{some_wait, waiting_count, entry_of}
+use Rattle.flume_core.specs.Parked.{entries, peak}
 use Rattle.flume_core.specs.Channel.{IsBlocked, channel, has_ticket}
 use Rattle.flume_core.specs.Limits.{HasRoom, IsAtCapacity, IsOpen, IsClosed}
 use Rattle.flume_core.specs.Messages.{Blocked}
 use Rattle.flume_core.specs.Sends.{SendMap}
-use Rattle.flume_core.specs.State.{State, StandsFor, offers_of}
-use Rattle.flume_core.proofs.Runs.{blocked_at_capacity}
+use Rattle.flume_core.specs.State.{State, offers_of, bare}
+use Rattle.flume_core.specs.StandsFor.{StandsFor}
+use Rattle.flume_core.proofs.Runs.{blocked_at_capacity, waits_whole}
+use Rattle.flume_core.proofs.Bare.{bare_some_wait, bare_waiting, bare_entry}
 
 -- a ticket with its mark, if it is live
 abbrev pub status : Bool → Bool → Option Bool
@@ -55,28 +61,35 @@ module _ {T : Type 0} where
       (or_cases (eqb b.ticket t) (has_ticket t (offers_of xs)) h)
 
   -- blocked messages have the messages of their offers
-  offered_messages : (xs : List (Blocked T)) → messages (offers_of xs) ≡ map (λ b. b.message) xs
+  pub offered_messages : (xs : List (Blocked T)) → messages (offers_of xs) ≡ map (λ b. b.message) xs
   offered_messages [] = refl
   offered_messages (b ∷ xs) = ap (λ l. b.message ∷ l) (offered_messages xs)
 
-module _ {T S : Type 0} where
+module _ {T A : Type 0} where
+  -- the peak is at least who waits
+  peak_covers : (o : Opening) (log : Log T A) → waiting_count (entries o log) ≤ peak o log
+  peak_covers o [] = omega arith
+  peak_covers o (p ∷ past) = omega arith
+
+module _ {T A S : Type 0} where
   -- as many offers are queued as messages
-  pub queued_length : {o : Opening} {log : Log T} {s : State T S} (h : StandsFor o log s) → length h.queued ≡ length s.queue
+  pub queued_length : {o : Opening} {log : Log T A} {s : State T S} (h : StandsFor o log s) → length h.queued ≡ length s.queue
   queued_length {o} {log} {s} h = sym (ap length h.queue_is ∙ length-map h.queued (λ offer. offer.message))
 
   -- the blocked offers
-  pub blocked_is : {o : Opening} {log : Log T} {s : State T S} → StandsFor o log s → blocked o log ≡ offers_of s.blocked
+  pub blocked_is : {o : Opening} {log : Log T A} {s : State T S} → StandsFor o log s → blocked o log ≡ offers_of s.blocked
   blocked_is {o} {log} {s} h = rw h.line_is (drop_at h.queued (offers_of s.blocked) (boundary o log) (queued_length h ∙ h.boundary_is))
 
   -- the messages of the line
-  pub line_messages : {o : Opening} {log : Log T} {s : State T S} → StandsFor o log s
+  pub line_messages : {o : Opening} {log : Log T A} {s : State T S} → StandsFor o log s
       → messages (line log) ≡ s.queue ++ map (λ b. b.message) s.blocked
   line_messages {o} {log} {s} h =
       ap messages h.line_is ∙ map-append _ h.queued (offers_of s.blocked)
       ∙ ap (λ l. l ++ messages (offers_of s.blocked)) (sym h.queue_is) ∙ ap (λ l. s.queue ++ l) (offered_messages s.blocked)
 
   -- how long the line is
-  pub line_length : {o : Opening} {log : Log T} {s : State T S} → StandsFor o log s → length (line log) ≡ length s.queue + length s.blocked
+  pub line_length : {o : Opening} {log : Log T A} {s : State T S} → StandsFor o log s → length
+      (line log) ≡ length s.queue + length s.blocked
   line_length {o} {log} {s} h =
       let sum : length (line log) ≡ length h.queued + length (offers_of s.blocked) =
       ap length h.line_is ∙ length-append h.queued (offers_of s.blocked) in
@@ -85,45 +98,90 @@ module _ {T S : Type 0} where
       omega arith
 
   -- how each ticket stands
-  pub status_is : {o : Opening} {log : Log T} {s : State T S} → StandsFor o log s → (t : ℕ)
+  pub status_is : {o : Opening} {log : Log T A} {s : State T S} → StandsFor o log s → (t : ℕ)
       → mark s.sends t ≡ status (is_live log t) (has_ticket t (offers_of s.blocked))
   status_is {o} {log} {s} h t = h.sends_are t ∙ ap (λ l. status (is_live log t) (has_ticket t l)) (blocked_is h)
 
   -- where a message is blocked, the queue is at capacity
-  pub at_capacity : {o : Opening} {log : Log T} {s : State T S} → StandsFor o log s → 0 < length s.blocked
+  pub at_capacity : {o : Opening} {log : Log T A} {s : State T S} → StandsFor o log s → 0 < length s.blocked
       → IsAtCapacity s.capacity (length s.queue)
   at_capacity {o} {log} {s} h some =
       let long = line_length h in
       let n = h.boundary_is in
       rw (h.capacity_is, h.boundary_is) (blocked_at_capacity o log h.run (omega arith))
 
+  -- the queued messages
+  pub queue_at_log : {o : Opening} {log : Log T A} {s : State T S} → StandsFor o log s → queue o log ≡ s.queue
+  queue_at_log {o} {log} {s} h =
+      ap (λ l. messages (take (boundary o log) l)) h.line_is
+      ∙ ap messages (take_at h.queued (offers_of s.blocked) (boundary o log) (queued_length h ∙ h.boundary_is)) ∙ sym h.queue_is
+
+  -- where a message is queued, the log queues one
+  pub some_queued : {o : Opening} {log : Log T A} {s : State T S} → StandsFor o log s → s.queue ≢ [] → 0 < boundary o log
+  some_queued {o} {log} {s} h some = go s.queue refl
+    where
+      go : (q : List T) → s.queue ≡ q → 0 < boundary o log
+      go [] e = absurd (some e)
+      go (m ∷ q) e = let long = ap length e in let n = h.boundary_is in omega arith
+
+  -- whether some receiver waits
+  pub waiting_at_log : {o : Opening} {log : Log T A} {s : State T S} → StandsFor o log s → some_wait (entries o log) ≡ some_wait s.entries
+  waiting_at_log {o} {log} {s} h = ap some_wait (sym h.entries_are) ∙ bare_some_wait s.entries
+
+  -- the entry with a ticket
+  pub entry_at_log : {o : Opening} {log : Log T A} {s : State T S} → StandsFor o log s → (t : ℕ)
+      → entry_of t (entries o log) ≡ option_map bare (entry_of t s.entries)
+  entry_at_log {o} {log} {s} h t = ap (entry_of t) (sym h.entries_are) ∙ bare_entry t s.entries
+
+  -- no more wait than the peak says
+  pub waiting_within : {o : Opening} {log : Log T A} {s : State T S} → StandsFor o log s → waiting_count s.entries ≤ s.peak
+  waiting_within {o} {log} {s} h =
+      let a : waiting_count s.entries ≡ waiting_count (entries o log) = sym (bare_waiting s.entries) ∙ ap waiting_count h.entries_are in
+      let b = h.peak_is in
+      let c = peak_covers o log in
+      omega arith
+
+  -- while a receiver waits, none is blocked
+  pub none_blocked_waiting : {o : Opening} {log : Log T A} {s : State T S} → StandsFor o log s → some_wait s.entries ≡ true → s.blocked ≡ []
+  none_blocked_waiting {o} {log} {s} h some =
+      let long = line_length h in
+      let n = h.boundary_is in
+      let whole = waits_whole o log h.run (waiting_at_log h ∙ some) in
+      nil_by s.blocked (λ more. omega arith)
+
   -- where the queue has room, none is blocked
-  pub none_blocked : {o : Opening} {log : Log T} {s : State T S} → StandsFor o log s → HasRoom s.capacity (length s.queue) → s.blocked ≡ []
+  pub none_blocked : {o : Opening} {log : Log T A} {s : State T S} → StandsFor o log s → HasRoom s.capacity (length s.queue)
+      → s.blocked ≡ []
   none_blocked {o} {log} {s} h room =
       nil_by s.blocked (λ some. room_or_full s.capacity (length s.queue) room (at_capacity h some))
 
   -- a blocked message of a live ticket
-  pub is_blocked : {o : Opening} {log : Log T} {s : State T S} → StandsFor o log s → (t : ℕ) (m : T) (before later : List (Blocked T))
+  pub is_blocked : {o : Opening} {log : Log T A} {s : State T S} → StandsFor o log s → (t : ℕ) (m : T) (before later : List (Blocked T))
       → s.blocked ≡ before ++ record { ticket = t; message = m } ∷ later → is_live log t ≡ true → IsBlocked (channel o log) t m
   is_blocked {o} {log} {s} h t m before later e live =
       (live, offers_of before, offers_of later, blocked_is h ∙ ap offers_of e ∙ map-append _ before _)
 
   -- an open state has an open log
-  pub open_at_log : {o : Opening} {log : Log T} {s : State T S} → StandsFor o log s
+  pub open_at_log : {o : Opening} {log : Log T A} {s : State T S} → StandsFor o log s
       → IsOpen s.senders s.receivers → IsOpen (senders log) (receivers log)
   open_at_log {o} {log} {s} h is = let a = h.senders_are in let b = h.receivers_are in subst₂ IsOpen a b is
 
   -- a closed state has a closed log
-  pub closed_at_log : {o : Opening} {log : Log T} {s : State T S} → StandsFor o log s
+  pub closed_at_log : {o : Opening} {log : Log T A} {s : State T S} → StandsFor o log s
       → IsClosed s.senders s.receivers → IsClosed (senders log) (receivers log)
   closed_at_log {o} {log} {s} h is = subst₂ IsClosed h.senders_are h.receivers_are is
 
+  -- a queue with room has room in the log
+  pub room_at_log : {o : Opening} {log : Log T A} {s : State T S} → StandsFor o log s
+      → HasRoom s.capacity (length s.queue) → HasRoom (capacity o log) (boundary o log)
+  room_at_log {o} {log} {s} h is = subst₂ HasRoom h.capacity_is h.boundary_is is
+
   -- and the converse
-  pub room_at_state : {o : Opening} {log : Log T} {s : State T S} → StandsFor o log s
+  pub room_at_state : {o : Opening} {log : Log T A} {s : State T S} → StandsFor o log s
       → HasRoom (capacity o log) (boundary o log) → HasRoom s.capacity (length s.queue)
   room_at_state {o} {log} {s} h is = subst₂ HasRoom (sym h.capacity_is) (sym h.boundary_is) is
 
   -- a queue at capacity is at capacity in the log
-  pub full_at_log : {o : Opening} {log : Log T} {s : State T S} → StandsFor o log s
+  pub full_at_log : {o : Opening} {log : Log T A} {s : State T S} → StandsFor o log s
       → IsAtCapacity s.capacity (length s.queue) → IsAtCapacity (capacity o log) (boundary o log)
   full_at_log {o} {log} {s} h is = subst₂ IsAtCapacity h.capacity_is h.boundary_is is

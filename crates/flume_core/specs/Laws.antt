@@ -4,8 +4,9 @@ use Rattle.std.specs.Prelude.{None}
 use Rattle.std.specs.List.{All, slice_get}
 use Rattle.flume_core.specs.declared.step.Step.{Step}
 use Rattle.flume_core.specs.declared.step.Reply.{Reply}
-use Rattle.flume_core.specs.Log.{Log, Opening, Offer, HandOut, Shown, offers, kept, handed_out}
-use Rattle.flume_core.specs.Log.{hand_outs}
+use Rattle.flume_core.specs.Log.{Log, Opening, Offer, HandOut, Shown, FilledIn}
+use Rattle.flume_core.specs.Offers.{offers, kept, handed_out}
+use Rattle.flume_core.specs.Offers.{hand_outs}
 use Rattle.flume_core.specs.Line.{line, capacity, boundary, blocked, next_ticket, is_live}
 use Rattle.flume_core.specs.Channel.{has_ticket}
 use Rattle.flume_core.specs.Limits.{IsAtCapacity}
@@ -21,44 +22,48 @@ IsEarlier (Some t) (Some u) = t < u
 IsEarlier _ _ = Unit {0}
 
 module _ {T : Type 0} where
-  -- the hand-out is of this message
+  -- the hand-out is of this message, where its reply shows one; of a fill only the place is claimed
   abbrev pub IsOf : HandOut T → T → Type 0
   IsOf (Shown shown) message = shown ≡ message
+  IsOf (FilledIn ticket) message = Unit {0}
 
+module _ {T A : Type 0} where
   -- the j-th message handed out is the message of the j-th offer that wasn't withdrawn
-  abbrev pub InOrder : Log T → Type 0
+  abbrev pub InOrder : Log T A → Type 0
   InOrder log =
       (j : ℕ) (given : HandOut T) → slice_get (handed_out log) j ≡ Some given
       → (offer : Offer T) × (slice_get (kept log) j ≡ Some offer) × IsOf given offer.message
 
+module _ {T : Type 0} where
   -- the ticket of each of these offers is below those of the later ones, and below the bound
   abbrev pub Rising : ℕ → List (Offer T) → Type 0
   Rising bound [] = Unit {0}
   Rising bound (x ∷ xs) =
       IsBelow bound x.ticket × All (λ later. IsEarlier x.ticket later.ticket) xs × Rising bound xs
 
+module _ {T A : Type 0} where
   -- tickets are issued once: those of the offers rise, and all are below the next one
-  abbrev pub TicketsRise : Opening → Log T → Type 0
+  abbrev pub TicketsRise : Opening → Log T A → Type 0
   TicketsRise opening log = Rising (next_ticket opening log) (offers log)
 
   -- a sender is blocked only where the queue is at capacity
-  abbrev pub BlockedAtCapacity : Opening → Log T → Type 0
+  abbrev pub BlockedAtCapacity : Opening → Log T A → Type 0
   BlockedAtCapacity opening log =
       boundary opening log < length (line log)
       → IsAtCapacity (capacity opening log) (boundary opening log)
 
   -- one more step, a withdrawal or any other, leaves the messages handed out the same offers, each
   -- at its place
-  abbrev pub HandedOutStay : Step T × Reply T → Log T → Type 0
+  abbrev pub HandedOutStay : Step T × Reply T A → Log T A → Type 0
   HandedOutStay p past =
       take (hand_outs past) (kept (p ∷ past)) ≡ take (hand_outs past) (kept past)
 
   -- a live ticket's offer was not withdrawn
-  abbrev pub LiveAreKept : Log T → Type 0
+  abbrev pub LiveAreKept : Log T A → Type 0
   LiveAreKept log = (t : ℕ) → is_live log t ≡ true → has_ticket t (kept log) ≡ true
 
   -- a live ticket whose message was taken in is below that of each blocked message
-  abbrev pub AcceptedBelowBlocked : Opening → Log T → Type 0
+  abbrev pub AcceptedBelowBlocked : Opening → Log T A → Type 0
   AcceptedBelowBlocked opening log =
       (t u : ℕ) → is_live log t ≡ true → has_ticket t (blocked opening log) ≡ false
       → has_ticket u (blocked opening log) ≡ true → t < u

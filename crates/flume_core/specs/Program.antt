@@ -3,15 +3,16 @@ use Rattle.std.specs.Prelude.{◌≡◌, ℕ, ◌⊎◌, List, [], length, Optio
 use Rattle.std.specs.Str.Lines.{lines}
 use Rattle.flume_core.specs.declared.step.Step.{Step}
 use Rattle.flume_core.specs.declared.step.Reply.{Reply}
-use Rattle.flume_core.specs.Log.{after}
-use Rattle.flume_core.specs.Channel.{IsRun}
-use Rattle.flume_core.specs.Script.{IsScript, IsFirstWrong, wrong_text, reply_texts}
+use Rattle.flume_core.specs.Offers.{after}
+use Rattle.flume_core.specs.Replies.{IsRun}
+use Rattle.flume_core.specs.Script.{IsScript, IsFirstWrong, wrong_text}
+use Rattle.flume_core.specs.ReplyTexts.{reply_texts}
 
 -- each line is right: the text is the replies of a run of the steps on a new channel
-pub record Answers (input text : List ℕ) (status : ℕ) : Type 0 where
+pub record Answers (A : Type 0) (input text : List ℕ) (status : ℕ) : Type 0 where
   pub capacity : Option ℕ
   pub steps : List (Step ℕ)
-  pub replies : List (Reply ℕ)
+  pub replies : List (Reply ℕ A)
   pub reads : IsScript (lines input) capacity steps
   pub one_each : length replies ≡ length steps
   pub run : IsRun (record { capacity = capacity; first = 1 }) (after [] steps replies)
@@ -26,5 +27,5 @@ pub record Refuses (input text : List ℕ) (status : ℕ) : Type 0 where
   pub status_is : status ≡ 2
 
 -- of these bytes this text is printed, with this status
-abbrev pub Prints : List ℕ → List ℕ → ℕ → Type 0
-Prints input text status = Answers input text status ⊎ Refuses input text status
+abbrev pub Prints : Type 0 → List ℕ → List ℕ → ℕ → Type 0
+Prints A input text status = Answers A input text status ⊎ Refuses input text status

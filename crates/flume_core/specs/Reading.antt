@@ -1,8 +1,8 @@
 -- What is said of a script that was read.
 use Rattle.std.specs.Prelude.{ℕ, List}
 use Rattle.std.specs.Str.Lines.{lines}
-use Rattle.flume_core.specs.declared.script.Reading.{Reading}
-use Rattle.flume_core.specs.declared.script.Reading.TheVariants.{Right, Wrong}
+use Rattle.flume_core.specs.declared.script.reading.Reading.{Reading}
+use Rattle.flume_core.specs.declared.script.reading.Reading.TheVariants.{Right, Wrong}
 use Rattle.flume_core.specs.Script.{IsScript, IsFirstWrong}
 
 -- the bytes are a script of this capacity and these steps, or this line of them is the first wrong

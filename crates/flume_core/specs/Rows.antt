@@ -7,14 +7,14 @@ use Rattle.flume_core.specs.declared.step.Reply.{Reply}
 use Rattle.flume_core.specs.declared.step.Reply.TheVariants.{Sent, Full, Got, Empty, Ended, Done}
 use Rattle.flume_core.specs.declared.step.Reply.TheVariants.{NoEnd, Number}
 use Rattle.flume_core.specs.Log.{Log}
-use Rattle.flume_core.specs.Channel.{IsRun}
+use Rattle.flume_core.specs.Replies.{IsRun}
 
 -- steps of numbers with their replies, the first one first
 abbrev pub Row : Type 0
-Row = List (Step ℕ × Reply ℕ)
+Row = List (Step ℕ × Reply ℕ (Unit {0}))
 
 -- a row as a log, the newest first
-abbrev pub as_log : Log ℕ → Row → Log ℕ
+abbrev pub as_log : Log ℕ (Unit {0}) → Row → Log ℕ (Unit {0})
 as_log log [] = log
 as_log log (p ∷ row) = as_log (p ∷ log) row
 

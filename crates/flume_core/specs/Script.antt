@@ -1,21 +1,18 @@
--- What a script of steps is, line by line, and the text of each reply.
-use Rattle.std.specs.Prelude.{◌≡◌, ℕ, ◌+◌, ◌^◌, ◌<◌, ◌⊎◌, true, false, List, [], ◌∷◌, ◌++◌, length}
+-- What a script of steps is, line by line.
+use Rattle.std.specs.Prelude.{◌≡◌, ℕ, ◌+◌, ◌^◌, ◌<◌, ◌⊎◌, List, [], ◌∷◌, ◌++◌, length}
 use Rattle.std.specs.Prelude.{Option, Some, None, codes}
 use Rattle.std.specs.List.{AllZip}
 use Rattle.std.specs.Fmt.{decimal}
 use Rattle.std.specs.Str.Parse.{IsNumeral, digits_value}
+use Rattle.flume_core.specs.declared.step.Kind.{Kind}
+use Rattle.flume_core.specs.declared.step.Kind.TheVariants.{Block, Plain, Stream, Arm}
 use Rattle.flume_core.specs.declared.step.Step.{Step}
 use Rattle.flume_core.specs.declared.step.Step.TheVariants.{TrySend, Send, PollSend, WithdrawSend}
-use Rattle.flume_core.specs.declared.step.Step.TheVariants.{TryRecv, CloneSender, CloneReceiver}
+use Rattle.flume_core.specs.declared.step.Step.TheVariants.{TryRecv, Recv, Poll, Withdraw, Drain}
+use Rattle.flume_core.specs.declared.step.Step.TheVariants.{CloneSender, CloneReceiver}
 use Rattle.flume_core.specs.declared.step.Step.TheVariants.{DropSender, DropReceiver, Len, IsEmpty}
 use Rattle.flume_core.specs.declared.step.Step.TheVariants.{IsFull, Capacity, SenderCount}
 use Rattle.flume_core.specs.declared.step.Step.TheVariants.{ReceiverCount, IsDisconnected}
-use Rattle.flume_core.specs.declared.step.Reply.{Reply}
-use Rattle.flume_core.specs.declared.step.Reply.TheVariants.{Sent, Full, Closed, NoMemory, Spent}
-use Rattle.flume_core.specs.declared.step.Reply.TheVariants.{Pending, Accepted, Waiting, Returned}
-use Rattle.flume_core.specs.declared.step.Reply.TheVariants.{NoTicket, Got, Empty, Ended, Done}
-use Rattle.flume_core.specs.declared.step.Reply.TheVariants.{NoEnd, CountFull, Number, Truth}
-use Rattle.flume_core.specs.declared.step.Reply.TheVariants.{Capacity as Bound}
 
 -- the line is this word, which ends in a space, and then the decimal digits of a number of 64 bits
 pub record IsCall (line word : List ℕ) (number : ℕ) : Type 0 where
@@ -30,6 +27,13 @@ abbrev pub IsOpeningLine : List ℕ → Option ℕ → Type 0
 IsOpeningLine line None = line ≡ codes "unbounded"
 IsOpeningLine line (Some capacity) = IsCall line (codes "bounded ") capacity
 
+-- the name of a kind of receiver
+abbrev pub kind_name : Kind → List ℕ
+kind_name Block = codes "block"
+kind_name Plain = codes "plain"
+kind_name Stream = codes "stream"
+kind_name Arm = codes "arm"
+
 -- the line is this step
 abbrev pub IsStepLine : List ℕ → Step ℕ → Type 0
 IsStepLine line (TrySend message) = IsCall line (codes "try_send ") message
@@ -37,6 +41,10 @@ IsStepLine line (Send message) = IsCall line (codes "send ") message
 IsStepLine line (PollSend ticket) = IsCall line (codes "poll_send ") ticket
 IsStepLine line (WithdrawSend ticket) = IsCall line (codes "withdraw_send ") ticket
 IsStepLine line TryRecv = line ≡ codes "try_recv"
+IsStepLine line (Recv kind) = line ≡ codes "recv " ++ kind_name kind
+IsStepLine line (Poll ticket) = IsCall line (codes "poll ") ticket
+IsStepLine line (Withdraw ticket) = IsCall line (codes "withdraw ") ticket
+IsStepLine line Drain = line ≡ codes "drain"
 IsStepLine line CloneSender = line ≡ codes "clone_sender"
 IsStepLine line CloneReceiver = line ≡ codes "clone_receiver"
 IsStepLine line DropSender = line ≡ codes "drop_sender"
@@ -88,36 +96,3 @@ IsFirstWrong (first ∷ rest) number =
 -- what is printed for a wrong line
 abbrev pub wrong_text : ℕ → List ℕ
 wrong_text number = codes "line " ++ decimal number ++ codes ": not a step" ++ 10 ∷ []
-
--- the text of a reply
-abbrev pub reply_text : Reply ℕ → List ℕ
-reply_text (Sent None) = codes "sent"
-reply_text (Sent (Some ticket)) = codes "sent filled " ++ decimal ticket
-reply_text (Full message) = codes "full " ++ decimal message
-reply_text (Closed message) = codes "closed " ++ decimal message
-reply_text (NoMemory None) = codes "nomemory"
-reply_text (NoMemory (Some message)) = codes "nomemory " ++ decimal message
-reply_text (Spent None) = codes "spent"
-reply_text (Spent (Some message)) = codes "spent " ++ decimal message
-reply_text (Pending ticket) = codes "pending " ++ decimal ticket
-reply_text Accepted = codes "accepted"
-reply_text Waiting = codes "waiting"
-reply_text (Returned message false) = codes "returned " ++ decimal message
-reply_text (Returned message true) = codes "returned " ++ decimal message ++ codes " closed"
-reply_text NoTicket = codes "noticket"
-reply_text (Got message) = codes "got " ++ decimal message
-reply_text Empty = codes "empty"
-reply_text Ended = codes "ended"
-reply_text Done = codes "done"
-reply_text NoEnd = codes "noend"
-reply_text CountFull = codes "countfull"
-reply_text (Number number) = decimal number
-reply_text (Truth true) = codes "true"
-reply_text (Truth false) = codes "false"
-reply_text (Bound None) = codes "none"
-reply_text (Bound (Some capacity)) = decimal capacity
-
--- the texts of the replies, each ended by a line feed
-abbrev pub reply_texts : List (Reply ℕ) → List ℕ
-reply_texts [] = []
-reply_texts (reply ∷ replies) = reply_text reply ++ 10 ∷ reply_texts replies

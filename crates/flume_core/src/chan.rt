@@ -1,15 +1,18 @@
 //! The state of a channel, and the steps that change it.
 ghost use Rattle.std.specs.Prelude.{◌≡◌, ◌∷◌, [], length, IsTrue, ◌↔◌};
-ghost use Rattle.flume_core.specs.Log.{Log, Opening};
+ghost use Rattle.flume_core.specs.Log.{Log, Opening, opens};
 ghost use Rattle.flume_core.specs.Limits.{IsOpen, HasRoom};
-ghost use Rattle.flume_core.specs.State.{State, state_code, opened, StandsFor};
-ghost use Rattle.flume_core.specs.State.{IsRefusal};
+ghost use Rattle.flume_core.specs.State.{State, state_code, opened};
+ghost use Rattle.flume_core.specs.StandsFor.{StandsFor};
+ghost use Rattle.flume_core.specs.StandsFor.{IsRefusalOf};
 
 mod ends;
+mod parked;
 mod queries;
 mod receive;
 mod send;
 
+use crate::entries::Entries;
 use crate::line::Line;
 use crate::sends::Sends;
 use crate::step::{Reply, Step};
@@ -17,13 +20,16 @@ use std::alloc::{Allocator, Global};
 use std::marker::Model;
 
 /// A channel without its lock: many senders and many receivers of messages of type `T`, as one
-/// value whose owner makes each step. `S` is the signal that a blocked send leaves.
+/// value whose owner makes each step. `S` is the signal that a blocked send or a parked receiver
+/// leaves.
 #[derive(Drop)]
 pub struct Chan<T, S, A: Allocator = Global> {
     capacity: Option<usize>,
     line: Line<T, A>,
     sends: Sends<S, A>,
+    entries: Entries<T, S, A>,
     next: u64,
+    peak: usize,
     senders: usize,
     receivers: usize,
 }
@@ -36,7 +42,9 @@ impl<T, S, A: Allocator> Model for Chan<T, S, A> {
       queue = chan.line.queued;
       blocked = chan.line.blocked;
       sends = chan.sends;
+      entries = chan.entries;
       next = chan.next;
+      peak = chan.peak;
       senders = chan.senders;
       receivers = chan.receivers;
     } };
@@ -55,8 +63,8 @@ impl<T: Drop, S: Drop, A: Allocator + Copy> Chan<T, S, A> {
     /// chan.try_send(2);                  // Full(2)
     /// ```
     pub fn new(alloc: A, capacity: Option<usize>) -> Self
-        ensures state { result ≡ opened (record { capacity = capacity; first = 1 }) }
-        ensures stands { StandsFor (record { capacity = capacity; first = 1 }) [] result }
+        ensures state { result ≡ opened (opens capacity 1) }
+        ensures stands { StandsFor {A = A} (opens capacity 1) [] result }
     {
         Chan::starting_at(alloc, capacity, 1)
     }
@@ -68,14 +76,16 @@ impl<T: Drop, S: Drop, A: Allocator + Copy> Chan<T, S, A> {
     /// chan.send(7, ());                  // Pending(5)
     /// ```
     pub fn starting_at(alloc: A, capacity: Option<usize>, ticket: u64) -> Self
-        ensures state { result ≡ opened (record { capacity = capacity; first = ticket }) }
-        ensures stands { StandsFor (record { capacity = capacity; first = ticket }) [] result }
+        ensures state { result ≡ opened (opens capacity ticket) }
+        ensures stands { StandsFor {A = A} (opens capacity ticket) [] result }
     {
         Chan {
             capacity,
             line: Line::new(alloc),
             sends: Sends::new(alloc),
+            entries: Entries::new(alloc),
             next: ticket,
+            peak: 0,
             senders: 1,
             receivers: 1,
         }
@@ -103,10 +113,10 @@ impl<T: Drop, A: Allocator + Copy> Chan<T, (), A> {
     /// ```
     /// chan.step(Step::TrySend(42));      // what chan.try_send(42) answers
     /// ```
-    pub fn step(&mut self, step: Step<T>) -> Reply<T>
-        ensures step { (opening : Opening) (log : Log T) → StandsFor opening log self.old
+    pub fn step(&mut self, step: Step<T>) -> Reply<T, A>
+        ensures step { (opening : Opening) (log : Log T A) → StandsFor opening log self.old
             → StandsFor opening ((step, result) ∷ log) self.new }
-        ensures unchanged { IsRefusal result → self.new ≡ self.old }
+        ensures unchanged { IsRefusalOf step result → self.new ≡ self.old }
     {
         match step {
             Step::TrySend(message) => self.try_send(message),
@@ -114,6 +124,10 @@ impl<T: Drop, A: Allocator + Copy> Chan<T, (), A> {
             Step::PollSend(ticket) => self.poll_send(ticket, None),
             Step::WithdrawSend(ticket) => self.withdraw_send(ticket),
             Step::TryRecv => self.try_recv(),
+            Step::Recv(kind) => self.recv(kind, ()),
+            Step::Poll(ticket) => self.poll(ticket, None),
+            Step::Withdraw(ticket) => self.withdraw(ticket),
+            Step::Drain => self.drain(),
             Step::CloneSender => self.clone_sender(),
             Step::CloneReceiver => self.clone_receiver(),
             Step::DropSender => self.drop_sender(),

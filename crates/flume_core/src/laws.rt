@@ -1,7 +1,7 @@
 //! Laws of the definitions. These functions do nothing: each contract is a law.
-ghost use Rattle.std.specs.Prelude.{◌∷◌, Some, None};
+ghost use Rattle.std.specs.Prelude.{◌≡◌, [], ◌∷◌, Some, None};
 ghost use Rattle.flume_core.specs.Log.{Log, Opening};
-ghost use Rattle.flume_core.specs.Channel.{IsRun};
+ghost use Rattle.flume_core.specs.Replies.{IsRun};
 ghost use Rattle.flume_core.specs.declared.step.Step.{Step};
 ghost use Rattle.flume_core.specs.declared.step.Reply.{Reply};
 ghost use Rattle.flume_core.specs.Laws.{InOrder, TicketsRise, HandedOutStay, LiveAreKept};
@@ -34,35 +34,69 @@ ghost use Rattle.flume_core.specs.BlockedNearMisses.{receiver_after_last, count_
 ghost use Rattle.flume_core.specs.BlockedNearMisses.{senders_one_off, receivers_one_off};
 ghost use Rattle.flume_core.specs.BlockedNearMisses.{full_denied, empty_with_message};
 ghost use Rattle.flume_core.specs.BlockedNearMisses.{disconnected_while_open, capacity_one_off};
+ghost use Rattle.flume_core.specs.ParkedRows.{Numbers, RunsWithoutTickets, drain_lets_blocked_in};
+ghost use Rattle.flume_core.specs.ParkedRows.{drain_past_capacity, filled_with_front};
+ghost use Rattle.flume_core.specs.ParkedRows.{queued_past_capacity, streams_let_round_go_on};
+ghost use Rattle.flume_core.specs.ParkedRows.{leaves_with_none, wake_passed_on, closing_wakes_all};
+ghost use Rattle.flume_core.specs.ParkedRows.{leaves_with_front, tickets_of_a_side};
+ghost use Rattle.flume_core.specs.ParkedRows.{none_let_in_past_capacity, asks_unwoken, ended_once};
+ghost use Rattle.flume_core.specs.ParkedRows.{gone_closed, none_parked_when_over};
+ghost use Rattle.flume_core.specs.ParkedRows.{waits_again_behind, three_kinds, tickets_spent};
+ghost use Rattle.flume_core.specs.ParkedNearMisses.{IsNearMiss, drain_lets_none_in};
+ghost use Rattle.flume_core.specs.ParkedNearMisses.{drained_another};
+ghost use Rattle.flume_core.specs.ParkedNearMisses.{refused_drain, filled_with_newest, wake_lost};
+ghost use Rattle.flume_core.specs.ParkedNearMisses.{waiting_passes_on, waits_while_queued};
+ghost use Rattle.flume_core.specs.ParkedNearMisses.{unwoken_block_takes, told_end_while_queued};
+ghost use Rattle.flume_core.specs.ParkedNearMisses.{told_end_while_open, waits_while_closed};
+ghost use Rattle.flume_core.specs.ParkedNearMisses.{ended_twice, collected_twice, message_lost};
+ghost use Rattle.flume_core.specs.ParkedNearMisses.{front_left, front_taken_along};
+ghost use Rattle.flume_core.specs.ParkedNearMisses.{gone_from_closed_as_open, parked_while_queued};
+ghost use Rattle.flume_core.specs.ParkedNearMisses.{parked_while_blocked, parked_while_closed};
+ghost use Rattle.flume_core.specs.ParkedNearMisses.{parked_under_one_ticket, ticket_of_other_side};
+ghost use Rattle.flume_core.specs.ParkedNearMisses.{parked_unknown, parked_when_over};
+ghost use Rattle.flume_core.specs.ParkedNearMisses.{let_in_past_capacity, greatest_ticket_parked};
+ghost use Rattle.flume_core.specs.WakeNearMisses.{refused_send_wakes, refused_send_removes};
+ghost use Rattle.flume_core.specs.WakeNearMisses.{full_while_waiting, send_wakes_none};
+ghost use Rattle.flume_core.specs.WakeNearMisses.{send_wakes_all, goes_on_after_plain};
+ghost use Rattle.flume_core.specs.WakeNearMisses.{goes_on_after_arm, goes_on_after_block};
+ghost use Rattle.flume_core.specs.WakeNearMisses.{ends_at_stream, ends_at_woken, filled_again};
+ghost use Rattle.flume_core.specs.WakeNearMisses.{last_filled, plain_filled, filled_and_queued};
+ghost use Rattle.flume_core.specs.WakeNearMisses.{asking_loses_place, again_before_others};
+ghost use Rattle.flume_core.specs.WakeNearMisses.{passed_on_for_nothing, closing_wakes_first};
+
+pub mod waits;
+
+use std::alloc::Allocator;
 
 /// Of each run, the messages handed out are the kept offers, in order.
-pub fn hands_out_in_order<T>()
-    ensures law { (opening : Opening) (log : Log T) → IsRun opening log → InOrder log }
+pub fn hands_out_in_order<T, A: Allocator>()
+    ensures law { (opening : Opening) (log : Log T A) → IsRun opening log → InOrder log }
 {}
 
 /// Of each run, the tickets of the offers rise: each is issued once.
-pub fn tickets_rise<T>()
-    ensures law { (opening : Opening) (log : Log T) → IsRun opening log → TicketsRise opening log }
+pub fn tickets_rise<T, A: Allocator>()
+    ensures law { (opening : Opening) (log : Log T A)
+        → IsRun opening log → TicketsRise opening log }
 {}
 
 /// In each run, no step moves the place of a message that was handed out: a withdrawal takes out
 /// one that wasn't.
-pub fn withdrawals_move_nothing_handed_out<T>()
-    ensures law { (opening : Opening) (p : Step T × Reply T) (past : Log T)
+pub fn withdrawals_move_nothing_handed_out<T, A: Allocator>()
+    ensures law { (opening : Opening) (p : Step T × Reply T A) (past : Log T A)
         → IsRun opening (p ∷ past) → HandedOutStay p past }
 {}
 
 /// Of each run, a live ticket's offer is kept, and where its message was taken in, it was offered
 /// before all that are blocked.
-pub fn accepted_tickets_are_below_blocked_ones<T>()
-    ensures kept { (opening : Opening) (log : Log T) → IsRun opening log → LiveAreKept log }
-    ensures below { (opening : Opening) (log : Log T)
+pub fn accepted_tickets_are_below_blocked_ones<T, A: Allocator>()
+    ensures kept { (opening : Opening) (log : Log T A) → IsRun opening log → LiveAreKept log }
+    ensures below { (opening : Opening) (log : Log T A)
         → IsRun opening log → AcceptedBelowBlocked opening log }
 {}
 
 /// Of each run, a sender is blocked only where the queue is at or past the capacity.
-pub fn senders_block_only_at_capacity<T>()
-    ensures law { (opening : Opening) (log : Log T)
+pub fn senders_block_only_at_capacity<T, A: Allocator>()
+    ensures law { (opening : Opening) (log : Log T A)
         → IsRun opening log → BlockedAtCapacity opening log }
 {}
 
@@ -139,4 +173,84 @@ pub fn blocked_near_misses_are_no_runs()
     ensures empty_with_message { ¬ Runs (Some 1) empty_with_message }
     ensures disconnected_while_open { ¬ Runs (Some 1) disconnected_while_open }
     ensures capacity_one_off { ¬ Runs (Some 1) capacity_one_off }
+{}
+
+/// Worked rows of receivers that park, are woken, and leave are runs.
+pub fn parked_rows_are_runs()
+    ensures some_list { (list : Numbers) × (list.items ≡ 1 ∷ 2 ∷ []) }
+    ensures drain_lets_blocked_in { (list : Numbers) → list.items ≡ 1 ∷ []
+        → Runs (Some 1) (drain_lets_blocked_in list) }
+    ensures drain_past_capacity { (list : Numbers) → list.items ≡ 1 ∷ 2 ∷ []
+        → Runs (Some 1) (drain_past_capacity list) }
+    ensures filled_with_front { Runs None filled_with_front }
+    ensures queued_past_capacity { Runs (Some 0) queued_past_capacity }
+    ensures streams_let_round_go_on { Runs None streams_let_round_go_on }
+    ensures leaves_with_none { Runs None leaves_with_none }
+    ensures wake_passed_on { Runs None wake_passed_on }
+    ensures closing_wakes_all { Runs None closing_wakes_all }
+    ensures leaves_with_front { Runs None leaves_with_front }
+    ensures tickets_of_a_side { Runs (Some 0) tickets_of_a_side }
+    ensures none_let_in_past_capacity { Runs (Some 1) none_let_in_past_capacity }
+    ensures asks_unwoken { Runs None asks_unwoken }
+    ensures ended_once { Runs None ended_once }
+    ensures gone_closed { Runs (Some 0) gone_closed }
+    ensures none_parked_when_over { Runs None none_parked_when_over }
+    ensures waits_again_behind { Runs None waits_again_behind }
+    ensures three_kinds { Runs (Some 1) three_kinds }
+    ensures tickets_spent { RunsWithoutTickets tickets_spent }
+{}
+
+/// Logs of receivers that park, ask and leave, and of drains, are runs but for their last
+/// reply.
+pub fn parked_near_misses_are_no_runs()
+    ensures drain_lets_none_in { (list : Numbers) → list.items ≡ 1 ∷ []
+        → IsNearMiss (Some 1) (drain_lets_none_in list) }
+    ensures drained_another { (list : Numbers) → list.items ≡ 2 ∷ 1 ∷ []
+        → IsNearMiss None (drained_another list) }
+    ensures refused_drain { IsNearMiss None refused_drain }
+    ensures filled_with_newest { IsNearMiss None filled_with_newest }
+    ensures wake_lost { IsNearMiss None wake_lost }
+    ensures waiting_passes_on { IsNearMiss None waiting_passes_on }
+    ensures waits_while_queued { IsNearMiss None waits_while_queued }
+    ensures unwoken_block_takes { IsNearMiss None unwoken_block_takes }
+    ensures told_end_while_queued { IsNearMiss None told_end_while_queued }
+    ensures told_end_while_open { IsNearMiss None told_end_while_open }
+    ensures waits_while_closed { IsNearMiss None waits_while_closed }
+    ensures ended_twice { IsNearMiss None ended_twice }
+    ensures collected_twice { IsNearMiss None collected_twice }
+    ensures message_lost { IsNearMiss None message_lost }
+    ensures front_left { IsNearMiss None front_left }
+    ensures front_taken_along { IsNearMiss None front_taken_along }
+    ensures gone_from_closed_as_open { IsNearMiss (Some 0) gone_from_closed_as_open }
+    ensures parked_while_queued { IsNearMiss None parked_while_queued }
+    ensures parked_while_blocked { IsNearMiss (Some 0) parked_while_blocked }
+    ensures parked_while_closed { IsNearMiss None parked_while_closed }
+    ensures parked_under_one_ticket { IsNearMiss None parked_under_one_ticket }
+    ensures ticket_of_other_side { IsNearMiss (Some 0) ticket_of_other_side }
+    ensures parked_unknown { IsNearMiss None parked_unknown }
+    ensures parked_when_over { IsNearMiss None parked_when_over }
+    ensures let_in_past_capacity { IsNearMiss (Some 1) let_in_past_capacity }
+    ensures greatest_ticket_parked { ¬ RunsWithoutTickets greatest_ticket_parked }
+{}
+
+/// Logs of wake rounds are runs but for their last reply.
+pub fn wake_near_misses_are_no_runs()
+    ensures refused_send_wakes { IsNearMiss (Some 0) refused_send_wakes }
+    ensures refused_send_removes { IsNearMiss (Some 0) refused_send_removes }
+    ensures full_while_waiting { IsNearMiss (Some 0) full_while_waiting }
+    ensures send_wakes_none { IsNearMiss (Some 0) send_wakes_none }
+    ensures send_wakes_all { IsNearMiss (Some 0) send_wakes_all }
+    ensures goes_on_after_plain { IsNearMiss None goes_on_after_plain }
+    ensures goes_on_after_arm { IsNearMiss None goes_on_after_arm }
+    ensures goes_on_after_block { IsNearMiss (Some 0) goes_on_after_block }
+    ensures ends_at_stream { IsNearMiss None ends_at_stream }
+    ensures ends_at_woken { IsNearMiss None ends_at_woken }
+    ensures filled_again { IsNearMiss None filled_again }
+    ensures last_filled { IsNearMiss None last_filled }
+    ensures plain_filled { IsNearMiss None plain_filled }
+    ensures filled_and_queued { IsNearMiss None filled_and_queued }
+    ensures asking_loses_place { IsNearMiss None asking_loses_place }
+    ensures again_before_others { IsNearMiss None again_before_others }
+    ensures passed_on_for_nothing { IsNearMiss (Some 0) passed_on_for_nothing }
+    ensures closing_wakes_first { IsNearMiss None closing_wakes_first }
 {}

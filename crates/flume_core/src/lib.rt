@@ -2,9 +2,11 @@
 #![tactic(auto)]
 
 pub mod chan;
+mod entries;
 pub mod error;
 pub mod laws;
 mod line;
+pub mod reached;
 pub mod run;
 pub mod script;
 mod sends;

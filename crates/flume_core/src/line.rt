@@ -1,12 +1,12 @@
 //! The line of a channel: its queued messages, and behind them those whose senders block.
 ghost use Rattle.std.specs.Prelude.{◌≡◌, ◌≢◌, ◌+◌, ◌<◌, ◌≤◌, ◌==◌, ◌↔◌, List, [], ◌∷◌, ◌++◌};
 ghost use Rattle.std.specs.Prelude.{length, Some};
-ghost use Rattle.std.specs.Prelude.{IsTrue, IfNone, IfSome, IfErr, OnOk, OnErr};
+ghost use Rattle.std.specs.Prelude.{IsTrue, IfNone, IfSome, IfOk, IfErr, OnOk, OnErr};
 ghost use Rattle.std.specs.Prelude.{slice_get, option_map};
 ghost use Rattle.std.specs.List.{All, position, slice_range};
 ghost use Rattle.flume_core.specs.Messages.{Admits, Blocked, TakesBack};
 
-use std::alloc::Allocator;
+use std::alloc::{AllocError, Allocator};
 use std::collections::VecDeque;
 use std::marker::Model;
 
@@ -14,14 +14,14 @@ use std::marker::Model;
 #[derive(Drop)]
 pub(crate) struct Line<T, A: Allocator> {
     // Every message, the front first.
-    entries: VecDeque<Entry<T>, A>,
+    entries: VecDeque<LineEntry<T>, A>,
     // How many entries at the front are queued.
     queued: usize,
 }
 
 // A message, and the ticket of the send that blocked with it, or 0 where none did.
 #[derive(Drop)]
-struct Entry<T> {
+struct LineEntry<T> {
     ticket: u64,
     message: T,
 }
@@ -43,7 +43,7 @@ impl<T, A: Allocator> Model for Line<T, A> {
 
 // How far past `from` the first entry with this ticket is.
 fn place_of<T, A: Allocator>(
-    entries: &VecDeque<Entry<T>, A>,
+    entries: &VecDeque<LineEntry<T>, A>,
     from: usize,
     ticket: u64,
 ) -> Option<usize>
@@ -57,7 +57,7 @@ fn place_of<T, A: Allocator>(
         .position(|entry| entry.ticket == ticket)
 }
 
-impl<T, A: Allocator> Line<T, A> {
+impl<T, A: Allocator + Copy> Line<T, A> {
     /// A line with no messages, which takes no memory.
     pub(crate) fn new(alloc: A) -> Self
         ensures empty { result ≡ record { queued = []; blocked = [] } }
@@ -93,7 +93,7 @@ impl<T, A: Allocator> Line<T, A> {
     {
         match self
             .entries
-            .insert(self.queued, Entry { ticket: 0, message })
+            .insert(self.queued, LineEntry { ticket: 0, message })
         {
             Ok(()) => {
                 self.queued += 1;
@@ -111,7 +111,7 @@ impl<T, A: Allocator> Line<T, A> {
         ensures returned { IfErr result (λ back. back ≡ message) }
         ensures unchanged { OnErr result (self.new ≡ self.old) }
     {
-        match self.entries.push_back(Entry { ticket, message }) {
+        match self.entries.push_back(LineEntry { ticket, message }) {
             Ok(()) => Ok(()),
             Err(failed) => Err(failed.value.message),
         }
@@ -155,6 +155,22 @@ impl<T, A: Allocator> Line<T, A> {
         let entry = self.entries.pop_front()?;
         self.queued -= 1;
         Some(entry.message)
+    }
+
+    /// Takes all queued messages. With no memory left for their list, nothing changes.
+    pub(crate) fn drain_queued(&mut self) -> Result<Vec<T, A>, AllocError>
+    where
+        T: Drop,
+        ensures drained { IfOk result (λ list. list.items ≡ self.old.queued) }
+        ensures left { OnOk result (self.new ≡ record self.old { queued = [] }) }
+        ensures none_queued { OnErr result (self.old.queued ≢ []) }
+        ensures unchanged { OnErr result (self.new ≡ self.old) }
+    {
+        let mut list = Vec::with_capacity(*self.entries.allocator(), self.queued)?;
+        while let Some(message) = self.take_queued() {
+            list.push_reserved(message);
+        }
+        Ok(list)
     }
 
     /// The ticket of the blocked message at this place.

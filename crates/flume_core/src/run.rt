@@ -1,7 +1,8 @@
 //! Lists of steps.
 ghost use Rattle.std.specs.Prelude.{◌≡◌, vec_len, IfOk, IfErr, OnErr};
-ghost use Rattle.flume_core.specs.Log.{Log, Opening, after};
-ghost use Rattle.flume_core.specs.State.{StandsFor};
+ghost use Rattle.flume_core.specs.Log.{Log, Opening};
+ghost use Rattle.flume_core.specs.Offers.{after};
+ghost use Rattle.flume_core.specs.StandsFor.{StandsFor};
 ghost use Rattle.flume_core.specs.Headline.{Headline};
 
 use crate::chan::Chan;
@@ -21,21 +22,20 @@ pub fn run<T: Drop, A: Allocator + Copy>(
     alloc: A,
     chan: &mut Chan<T, (), A>,
     steps: Vec<Step<T>, A>,
-) -> Result<Vec<Reply<T>, A>, Vec<Step<T>, A>>
-    ensures steps { IfOk result (λ replies. (opening : Opening) (log : Log T)
+) -> Result<Vec<Reply<T, A>, A>, Vec<Step<T>, A>>
+    ensures steps { IfOk result (λ replies. (opening : Opening) (log : Log T A)
         → StandsFor opening log chan.old
         → StandsFor opening (after log steps.items replies.items) chan.new) }
-    ensures headline { IfOk result (λ replies. (opening : Opening) (log : Log T)
+    ensures headline { IfOk result (λ replies. (opening : Opening) (log : Log T A)
         → StandsFor opening log chan.old
         → Headline opening (after log steps.items replies.items) chan.new) }
     ensures one_each { IfOk result (λ replies. vec_len replies ≡ vec_len steps) }
     ensures returned { IfErr result (λ back. back.items ≡ steps.items) }
     ensures unchanged { OnErr result (chan.new ≡ chan.old) }
 {
-    let mut replies = Vec::new(alloc);
-    if replies.reserve(steps.len()).is_err() {
+    let Ok(mut replies) = Vec::with_capacity(alloc, steps.len()) else {
         return Err(steps);
-    }
+    };
     let mut rest = VecDeque::from_vec(steps);
     while let Some(step) = rest.pop_front() {
         replies.push_reserved(chan.step(step));

@@ -1,5 +1,20 @@
 //! What a party may ask of a channel, and what it may be answered.
 
+use std::alloc::{Allocator, Global};
+
+/// How a parked receiver receives, and so how a wake round treats it.
+#[derive(Clone, Copy, Debug, PartialEq, Eq, Drop)]
+pub enum Kind {
+    /// It sleeps until it is handed a message: a wake round fills it with the front of the queue.
+    Block,
+    /// A future of one message: a wake round wakes it and ends.
+    Plain,
+    /// A stream of messages: a wake round wakes it and goes on.
+    Stream,
+    /// An arm of a selector: a wake round wakes it and ends.
+    Arm,
+}
+
 /// One step of one party, with the message that it hands in.
 #[derive(Clone, Debug, PartialEq, Eq, Drop)]
 pub enum Step<T> {
@@ -13,6 +28,14 @@ pub enum Step<T> {
     WithdrawSend(u64),
     /// Ask for the message at the front, without waiting.
     TryRecv,
+    /// Ask for the message at the front, and park where there is none.
+    Recv(Kind),
+    /// Ask again, as the receiver parked under this ticket.
+    Poll(u64),
+    /// Leave, as the receiver parked under this ticket.
+    Withdraw(u64),
+    /// Ask for all queued messages.
+    Drain,
     /// One more sender.
     CloneSender,
     /// One more receiver.
@@ -37,9 +60,9 @@ pub enum Step<T> {
     IsDisconnected,
 }
 
-/// What the channel answers to a step.
+/// What the channel answers to a step. `A` is the allocator of a drained list.
 #[derive(Clone, Debug, PartialEq, Eq, Drop)]
-pub enum Reply<T> {
+pub enum Reply<T, A: Allocator = Global> {
     /// The message was taken in, and went to the receiver with ticket `filled` if one waited.
     Sent { filled: Option<u64> },
     /// The queue is at its capacity: the message comes back.
@@ -54,7 +77,7 @@ pub enum Reply<T> {
     Pending(u64),
     /// The message of the blocked send was taken in; its ticket is spent.
     Accepted,
-    /// The message of the blocked send is still blocked.
+    /// The message of the blocked send is still blocked, or the parked receiver waits on.
     Waiting,
     /// The message of the blocked send comes back, and its ticket is spent; `closed` says whether
     /// the channel is closed.
@@ -67,6 +90,13 @@ pub enum Reply<T> {
     Empty,
     /// The channel is closed and has no message.
     Ended,
+    /// The receiver is parked under this ticket.
+    Parked(u64),
+    /// The parked receiver is gone, with no message; `closed` says whether the channel is closed.
+    /// The wake that it passed on filled the receiver with ticket `filled`, if it filled one.
+    Gone { closed: bool, filled: Option<u64> },
+    /// All messages that were queued, in order.
+    Drained(Vec<T, A>),
     /// Done as asked.
     Done,
     /// There is no such end left.

@@ -8,7 +8,8 @@ use std::{fs, io};
 
 fn main(rt: HostRuntime) -> io::Result<()> {
     replay(&rt, "plain")?;
-    replay(&rt, "blocked")
+    replay(&rt, "blocked")?;
+    replay(&rt, "parked")
 }
 
 /// Replays one file of scripts: comments, and then blocks of a line `= number`, the script, a line

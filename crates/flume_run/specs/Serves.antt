@@ -11,9 +11,9 @@ abbrev pub memory_text : List ℕ
 memory_text = codes "out of memory" ++ 10 ∷ []
 
 -- for these bytes, where this was written before, so much is written in all, with this status: what
--- the script prints, or that memory was wanted
-abbrev pub Serves : List ℕ → List ℕ → Option (List ℕ) → ℕ → Type 0
-Serves bytes before written status =
-    ((text : List ℕ) × (good : ℕ) × Prints bytes text good
+-- the script prints, or that memory was wanted; A is the allocator of the lists in replies
+abbrev pub Serves : Type 0 → List ℕ → List ℕ → Option (List ℕ) → ℕ → Type 0
+Serves A bytes before written status =
+    ((text : List ℕ) × (good : ℕ) × Prints A bytes text good
     × Finishes (before ++ text) good written status)
     ⊎ Finishes (before ++ memory_text) 3 written status

@@ -23,7 +23,7 @@ fn main(rt: HostRuntime) -> ExitCode {
 fn serve<A: Allocator + Copy, R: Read, W: Write>(alloc: A, input: &mut R, output: &mut W) -> u8
     ensures served { (bytes before : List ℕ) → R.remaining input.old ≡ Some bytes
         → W.contents output.old ≡ Some before
-        → Serves bytes before (W.contents output.new) result }
+        → Serves A bytes before (W.contents output.new) result }
 {
     let mut bytes = Vec::new(alloc);
     if let Err(fault) = input.read_to_end(&mut bytes) {

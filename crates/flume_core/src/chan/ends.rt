@@ -3,7 +3,8 @@ ghost use Rattle.std.specs.Prelude.{not, ◌≡◌, ◌+◌, ◌-◌, ◌<◌, �
 ghost use Rattle.flume_core.specs.Log.{Log, Opening};
 ghost use Rattle.flume_core.specs.Limits.{is_closed, most};
 ghost use Rattle.flume_core.specs.Effects.{after_leaving, all_due};
-ghost use Rattle.flume_core.specs.State.{State, StandsFor, IsRefusal};
+ghost use Rattle.flume_core.specs.State.{State};
+ghost use Rattle.flume_core.specs.StandsFor.{StandsFor, IsRefusal};
 
 use super::Chan;
 use crate::line::Line;
@@ -14,8 +15,8 @@ use std::alloc::Allocator;
 impl<T: Drop, S: Drop, A: Allocator + Copy> Chan<T, S, A> {
     /// One more sender. `NoEnd`: none is left, and a closed channel never opens again. `CountFull`:
     /// no more can be counted. Both leave the channel as it was. Takes no memory.
-    pub fn clone_sender(&mut self) -> Reply<T>
-        ensures step { (opening : Opening) (log : Log T) → StandsFor opening log self.old
+    pub fn clone_sender(&mut self) -> Reply<T, A>
+        ensures step { (opening : Opening) (log : Log T A) → StandsFor opening log self.old
             → StandsFor opening ((Step.CloneSender, result) ∷ log) self.new }
         ensures no_end { (result ≡ Reply.NoEnd) ↔ (self.old.senders ≡ 0) }
         ensures count_full { (result ≡ Reply.CountFull) ↔ (self.old.senders ≡ most) }
@@ -34,8 +35,8 @@ impl<T: Drop, S: Drop, A: Allocator + Copy> Chan<T, S, A> {
     }
 
     /// One more receiver; as `clone_sender`.
-    pub fn clone_receiver(&mut self) -> Reply<T>
-        ensures step { (opening : Opening) (log : Log T) → StandsFor opening log self.old
+    pub fn clone_receiver(&mut self) -> Reply<T, A>
+        ensures step { (opening : Opening) (log : Log T A) → StandsFor opening log self.old
             → StandsFor opening ((Step.CloneReceiver, result) ∷ log) self.new }
         ensures no_end { (result ≡ Reply.NoEnd) ↔ (self.old.receivers ≡ 0) }
         ensures count_full { (result ≡ Reply.CountFull) ↔ (self.old.receivers ≡ most) }
@@ -54,10 +55,11 @@ impl<T: Drop, S: Drop, A: Allocator + Copy> Chan<T, S, A> {
     }
 
     /// One sender leaves. `NoEnd`: there is none left, and the channel is as it was. Where it was
-    /// the last one, every blocked send is to be told. Once both ends are gone, the messages left
-    /// are dropped and every ticket is spent. Takes no memory.
-    pub fn drop_sender(&mut self) -> Reply<T>
-        ensures step { (opening : Opening) (log : Log T) → StandsFor opening log self.old
+    /// the last one, every waiting receiver is woken, and every blocked send is to be told. Once
+    /// both ends are gone, the messages left are dropped and every ticket is spent. Takes no
+    /// memory.
+    pub fn drop_sender(&mut self) -> Reply<T, A>
+        ensures step { (opening : Opening) (log : Log T A) → StandsFor opening log self.old
             → StandsFor opening ((Step.DropSender, result) ∷ log) self.new }
         ensures done { (result ≡ Reply.Done) ↔ (0 < self.old.senders) }
         ensures no_end { (result ≡ Reply.NoEnd) ↔ (self.old.senders ≡ 0) }
@@ -76,8 +78,8 @@ impl<T: Drop, S: Drop, A: Allocator + Copy> Chan<T, S, A> {
     }
 
     /// One receiver leaves; as `drop_sender`.
-    pub fn drop_receiver(&mut self) -> Reply<T>
-        ensures step { (opening : Opening) (log : Log T) → StandsFor opening log self.old
+    pub fn drop_receiver(&mut self) -> Reply<T, A>
+        ensures step { (opening : Opening) (log : Log T A) → StandsFor opening log self.old
             → StandsFor opening ((Step.DropReceiver, result) ∷ log) self.new }
         ensures done { (result ≡ Reply.Done) ↔ (0 < self.old.receivers) }
         ensures no_end { (result ≡ Reply.NoEnd) ↔ (self.old.receivers ≡ 0) }
@@ -96,16 +98,18 @@ impl<T: Drop, S: Drop, A: Allocator + Copy> Chan<T, S, A> {
     }
 
     // What an end that left leaves behind: nothing once both ends are gone; and where it closed the
-    // channel, all blocked sends are to be told.
+    // channel, all that wait are woken, and all blocked sends are to be told.
     fn settle(&mut self, was_open: bool)
         ensures settled { self.new ≡ after_leaving was_open self.old }
     {
         if self.senders == 0 && self.receivers == 0 {
             self.line.clear();
             self.sends.clear();
+            self.entries.clear();
             return;
         }
         if was_open && !self.is_open() {
+            self.entries.wake_all();
             mark_blocked_due(&self.line, &mut self.sends);
         }
     }

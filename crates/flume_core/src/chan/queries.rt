@@ -1,11 +1,13 @@
 //! The queries, each a step that changes nothing, and what is due.
 ghost use Rattle.std.specs.Prelude.{◌≡◌, ◌==◌, ◌∷◌, length, IfNone, IfSome, true};
-ghost use Rattle.std.specs.Option.{option_copied, option_map};
-ghost use Rattle.std.specs.FinMap.{get};
+ghost use Rattle.std.specs.Option.{option_copied};
 ghost use Rattle.flume_core.specs.Log.{Log, Opening};
 ghost use Rattle.flume_core.specs.Limits.{is_closed, is_full};
-ghost use Rattle.flume_core.specs.Sends.{changed, is_due, told, NoneDue};
-ghost use Rattle.flume_core.specs.State.{State, StandsFor};
+ghost use Rattle.flume_core.specs.Sends.{NoneDue};
+ghost use Rattle.flume_core.specs.Waits.{NoneDueIn};
+ghost use Rattle.flume_core.specs.Told.{Names, signal_of};
+ghost use Rattle.flume_core.specs.State.{State};
+ghost use Rattle.flume_core.specs.StandsFor.{StandsFor};
 
 use super::Chan;
 use crate::step::{Reply, Step};
@@ -13,8 +15,8 @@ use std::alloc::Allocator;
 
 impl<T: Drop, S: Drop, A: Allocator + Copy> Chan<T, S, A> {
     /// How many messages are queued, as a `Number`. Takes no memory.
-    pub fn len(&self) -> Reply<T>
-        ensures step { (opening : Opening) (log : Log T) → StandsFor opening log self.now
+    pub fn len(&self) -> Reply<T, A>
+        ensures step { (opening : Opening) (log : Log T A) → StandsFor opening log self.now
             → StandsFor opening ((Step.Len, result) ∷ log) self.now }
         ensures number { result ≡ Reply.Number (length self.now.queue) }
     {
@@ -22,8 +24,8 @@ impl<T: Drop, S: Drop, A: Allocator + Copy> Chan<T, S, A> {
     }
 
     /// Whether no message is queued, as a `Truth`. Takes no memory.
-    pub fn is_empty(&self) -> Reply<T>
-        ensures step { (opening : Opening) (log : Log T) → StandsFor opening log self.now
+    pub fn is_empty(&self) -> Reply<T, A>
+        ensures step { (opening : Opening) (log : Log T A) → StandsFor opening log self.now
             → StandsFor opening ((Step.IsEmpty, result) ∷ log) self.now }
         ensures truth { result ≡ Reply.Truth (length self.now.queue == 0) }
     {
@@ -32,8 +34,8 @@ impl<T: Drop, S: Drop, A: Allocator + Copy> Chan<T, S, A> {
 
     /// Whether the channel is bounded and its queue at or past its capacity, as a `Truth`. Takes no
     /// memory.
-    pub fn is_full(&self) -> Reply<T>
-        ensures step { (opening : Opening) (log : Log T) → StandsFor opening log self.now
+    pub fn is_full(&self) -> Reply<T, A>
+        ensures step { (opening : Opening) (log : Log T A) → StandsFor opening log self.now
             → StandsFor opening ((Step.IsFull, result) ∷ log) self.now }
         ensures truth { result ≡ Reply.Truth (is_full self.now.capacity (length self.now.queue)) }
     {
@@ -41,8 +43,8 @@ impl<T: Drop, S: Drop, A: Allocator + Copy> Chan<T, S, A> {
     }
 
     /// The capacity, or none of an unbounded channel. Takes no memory.
-    pub fn capacity(&self) -> Reply<T>
-        ensures step { (opening : Opening) (log : Log T) → StandsFor opening log self.now
+    pub fn capacity(&self) -> Reply<T, A>
+        ensures step { (opening : Opening) (log : Log T A) → StandsFor opening log self.now
             → StandsFor opening ((Step.Capacity, result) ∷ log) self.now }
         ensures capacity { result ≡ Reply.Capacity self.now.capacity }
     {
@@ -50,8 +52,8 @@ impl<T: Drop, S: Drop, A: Allocator + Copy> Chan<T, S, A> {
     }
 
     /// How many senders live, as a `Number`. Takes no memory.
-    pub fn sender_count(&self) -> Reply<T>
-        ensures step { (opening : Opening) (log : Log T) → StandsFor opening log self.now
+    pub fn sender_count(&self) -> Reply<T, A>
+        ensures step { (opening : Opening) (log : Log T A) → StandsFor opening log self.now
             → StandsFor opening ((Step.SenderCount, result) ∷ log) self.now }
         ensures number { result ≡ Reply.Number self.now.senders }
     {
@@ -59,8 +61,8 @@ impl<T: Drop, S: Drop, A: Allocator + Copy> Chan<T, S, A> {
     }
 
     /// How many receivers live, as a `Number`. Takes no memory.
-    pub fn receiver_count(&self) -> Reply<T>
-        ensures step { (opening : Opening) (log : Log T) → StandsFor opening log self.now
+    pub fn receiver_count(&self) -> Reply<T, A>
+        ensures step { (opening : Opening) (log : Log T A) → StandsFor opening log self.now
             → StandsFor opening ((Step.ReceiverCount, result) ∷ log) self.now }
         ensures number { result ≡ Reply.Number self.now.receivers }
     {
@@ -68,8 +70,8 @@ impl<T: Drop, S: Drop, A: Allocator + Copy> Chan<T, S, A> {
     }
 
     /// Whether all senders or all receivers are gone, as a `Truth`. Takes no memory.
-    pub fn is_disconnected(&self) -> Reply<T>
-        ensures step { (opening : Opening) (log : Log T) → StandsFor opening log self.now
+    pub fn is_disconnected(&self) -> Reply<T, A>
+        ensures step { (opening : Opening) (log : Log T A) → StandsFor opening log self.now
             → StandsFor opening ((Step.IsDisconnected, result) ∷ log) self.now }
         ensures truth { result ≡ Reply.Truth (is_closed self.now.senders self.now.receivers) }
     {
@@ -77,25 +79,29 @@ impl<T: Drop, S: Drop, A: Allocator + Copy> Chan<T, S, A> {
     }
 
     /// A ticket that is due: its send was accepted, or found blocked by the step that closed the
-    /// channel, and it wasn't named since. It isn't due then; all else is as it was. `None` exactly
-    /// where no ticket is due. No step of its own, and no memory.
+    /// channel, or its receiver was woken or filled, and it wasn't named since. It isn't due then;
+    /// all else is as it was. `None` exactly where no ticket is due. No step of its own, and no
+    /// memory.
     pub fn next_due(&mut self) -> Option<u64>
-        ensures was_due { IfSome result (λ ticket. is_due self.old.sends ticket ≡ true) }
-        ensures named { IfSome result (λ ticket. self.new
-            ≡ record self.old { sends = changed self.old.sends ticket told }) }
-        ensures none { IfNone result (NoneDue self.old.sends) }
+        ensures named { IfSome result (λ ticket. Names self.old self.new ticket) }
+        ensures none { IfNone result (NoneDue self.old.sends × NoneDueIn self.old.entries) }
         ensures unchanged { IfNone result (self.new ≡ self.old) }
-        ensures stands { (opening : Opening) (log : Log T) → StandsFor opening log self.old
+        ensures stands { (opening : Opening) (log : Log T A) → StandsFor opening log self.old
             → StandsFor opening log self.new }
     {
-        self.sends.next_due()
+        if let Some(ticket) = self.sends.next_due() {
+            return Some(ticket);
+        }
+        self.entries.next_due()
     }
 
     /// The signal that the live ticket left last, or `None` where the ticket isn't live. No memory.
     pub fn signal(&self, ticket: u64) -> Option<&S>
-        ensures signal { option_copied result
-            ≡ option_map (λ send. send.signal) (get self.now.sends ticket) }
+        ensures signal { option_copied result ≡ signal_of self.now ticket }
     {
-        self.sends.signal(ticket)
+        if let Some(signal) = self.sends.signal(ticket) {
+            return Some(signal);
+        }
+        self.entries.signal(ticket)
     }
 }

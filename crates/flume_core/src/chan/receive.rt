@@ -1,12 +1,16 @@
 //! The steps of receivers.
-ghost use Rattle.std.specs.Prelude.{◌≡◌, ◌≢◌, ◌↔◌, List, [], ◌∷◌, IfNone, IfSome, Option};
+ghost use Rattle.std.specs.Prelude.{◌≡◌, ◌≢◌, ◌<◌, ◌≤◌, ◌↔◌, ℕ, List, [], ◌∷◌, IfNone, IfSome};
+ghost use Rattle.std.specs.Prelude.{Option};
+ghost use Rattle.std.specs.Prelude.{None, Vec};
 ghost use Rattle.flume_core.specs.Log.{Log, Opening};
-ghost use Rattle.flume_core.specs.Limits.{IsOpen, IsClosed};
-ghost use Rattle.flume_core.specs.Effects.{admitted, fronted, refilled};
-ghost use Rattle.flume_core.specs.State.{State, StandsFor, IsRefusal};
+ghost use Rattle.flume_core.specs.Limits.{IsOpen, IsClosed, most};
+ghost use Rattle.flume_core.specs.Effects.{admitted, fronted, refilled, taken, filled_up};
+ghost use Rattle.flume_core.specs.Effects.{waiting_so, Begins};
+ghost use Rattle.flume_core.specs.State.{State};
+ghost use Rattle.flume_core.specs.StandsFor.{StandsFor, IsRefusal};
 
 use super::Chan;
-use crate::step::{Reply, Step};
+use crate::step::{Kind, Reply, Step};
 use std::alloc::Allocator;
 
 impl<T: Drop, S: Drop, A: Allocator + Copy> Chan<T, S, A> {
@@ -19,17 +23,19 @@ impl<T: Drop, S: Drop, A: Allocator + Copy> Chan<T, S, A> {
     /// chan.try_recv();                   // Got(42)
     /// chan.try_recv();                   // Empty
     /// ```
-    pub fn try_recv(&mut self) -> Reply<T>
-        ensures step { (opening : Opening) (log : Log T) → StandsFor opening log self.old
+    pub fn try_recv(&mut self) -> Reply<T, A>
+        ensures step { (opening : Opening) (log : Log T A) → StandsFor opening log self.old
             → StandsFor opening ((Step.TryRecv, result) ∷ log) self.new }
         ensures got { (message : T) (rest : List T) → (fronted self.old).queue ≡ message ∷ rest
             → (result ≡ Reply.Got message)
-            × (self.new ≡ refilled (record (fronted self.old) { queue = rest })) }
+            × (self.new ≡ taken rest self.old) }
         ensures ended { (result ≡ Reply.Ended)
             ↔ ((fronted self.old).queue ≡ []) × IsClosed self.old.senders self.old.receivers }
         ensures empty { (result ≡ Reply.Empty)
             ↔ ((fronted self.old).queue ≡ []) × IsOpen self.old.senders self.old.receivers }
         ensures never_refused { (back : Option T) → result ≢ Reply.NoMemory back }
+        ensures never_spent { (back : Option T) → result ≢ Reply.Spent back }
+        ensures never_parks { (ticket : ℕ) → result ≢ Reply.Parked ticket }
         ensures unchanged { IsRefusal result → self.new ≡ self.old }
     {
         match self.take_front() {
@@ -39,12 +45,82 @@ impl<T: Drop, S: Drop, A: Allocator + Copy> Chan<T, S, A> {
         }
     }
 
+    /// Asks for the message at the front as `try_recv` does, and parks in place of `Empty`.
+    /// `Parked`: the receiver waits behind all others under this ticket, with the signal. `Spent`:
+    /// the greatest ticket was reached. `NoMemory`: there was no room to park. The last two leave
+    /// the channel as it was.
+    ///
+    /// ```
+    /// let mut chan: Chan<u64, u32> = Chan::new(alloc, None);
+    /// chan.recv(Kind::Block, 10);        // Parked(1), with the signal 10
+    /// chan.try_send(7);                  // Sent { filled: Some(1) }
+    /// chan.poll(1, None);                // Got(7)
+    /// ```
+    pub fn recv(&mut self, kind: Kind, signal: S) -> Reply<T, A>
+        ensures step { (opening : Opening) (log : Log T A) → StandsFor opening log self.old
+            → StandsFor opening ((Step.Recv kind, result) ∷ log) self.new }
+        ensures got { (message : T) (rest : List T) → (fronted self.old).queue ≡ message ∷ rest
+            → (result ≡ Reply.Got message) × (self.new ≡ taken rest self.old) }
+        ensures ended { (result ≡ Reply.Ended)
+            ↔ ((fronted self.old).queue ≡ []) × IsClosed self.old.senders self.old.receivers }
+        ensures spent { (result ≡ Reply.Spent None)
+            ↔ ((fronted self.old).queue ≡ []) × IsOpen self.old.senders self.old.receivers
+            × (most ≤ self.old.next) }
+        ensures parked { (ticket : ℕ) → result ≡ Reply.Parked ticket
+            → Begins self.old self.new ticket kind signal }
+        ensures refused { (back : Option T) → result ≡ Reply.NoMemory back
+            → ((fronted self.old).queue ≡ []) × IsOpen self.old.senders self.old.receivers
+            × (self.old.next < most) × (back ≡ None) }
+        ensures unchanged { IsRefusal result → self.new ≡ self.old }
+    {
+        match self.try_recv() {
+            Reply::Empty => {}
+            reply => return reply,
+        }
+        let ticket = self.next;
+        if ticket == u64::MAX {
+            return Reply::Spent(None);
+        }
+        if self.entries.park(ticket, kind, signal).is_err() {
+            return Reply::NoMemory(None);
+        }
+        self.next = ticket + 1;
+        self.count_waiting();
+        Reply::Parked(ticket)
+    }
+
+    /// Hands out all queued messages, and then lets blocked ones in, in order, while the queue has
+    /// room; their tickets are accepted. `Drained`: the messages, in order. `NoMemory`: some are
+    /// queued and there was no room for their list; the channel is as it was.
+    ///
+    /// ```
+    /// chan.try_send(1);
+    /// chan.try_send(2);
+    /// chan.drain();                      // Drained([1, 2])
+    /// ```
+    pub fn drain(&mut self) -> Reply<T, A>
+        ensures step { (opening : Opening) (log : Log T A) → StandsFor opening log self.old
+            → StandsFor opening ((Step.Drain, result) ∷ log) self.new }
+        ensures drained { (list : Vec T A) → result ≡ Reply.Drained list
+            → (list.items ≡ self.old.queue)
+            × (self.new ≡ filled_up (record self.old { queue = [] })) }
+        ensures refused { (back : Option T) → result ≡ Reply.NoMemory back
+            → (self.old.queue ≢ []) × (back ≡ None) }
+        ensures unchanged { IsRefusal result → self.new ≡ self.old }
+    {
+        let Ok(list) = self.line.drain_queued() else {
+            return Reply::NoMemory(None);
+        };
+        self.fill_up();
+        Reply::Drained(list)
+    }
+
     // Hands out the message at the front. It takes no memory: a blocked message stands in the line
     // already, and moves in where it stands.
-    fn take_front(&mut self) -> Option<T>
+    pub(super) fn take_front(&mut self) -> Option<T>
         ensures some { IfSome result (λ message. (rest : List T)
             × ((fronted self.old).queue ≡ message ∷ rest)
-            × (self.new ≡ refilled (record (fronted self.old) { queue = rest }))) }
+            × (self.new ≡ taken rest self.old)) }
         ensures none { IfNone result ((fronted self.old).queue ≡ []) }
         ensures unchanged { IfNone result (self.new ≡ self.old) }
     {
@@ -79,5 +155,24 @@ impl<T: Drop, S: Drop, A: Allocator + Copy> Chan<T, S, A> {
         if let Some(ticket) = self.line.admit() {
             self.sends.accept(ticket);
         }
+    }
+
+    // Lets blocked messages into the queue while it has room.
+    fn fill_up(&mut self)
+        ensures filled { self.new ≡ filled_up self.old }
+    {
+        while self.line.blocked_len() > 0 {
+            if !self.has_room() {
+                return;
+            }
+            self.admit();
+        }
+    }
+
+    // Keeps the most that waited at once.
+    pub(super) fn count_waiting(&mut self)
+        ensures counted { self.new ≡ waiting_so self.old.entries self.old }
+    {
+        self.peak = self.peak.max(self.entries.waiting());
     }
 }

@@ -5,36 +5,41 @@ ghost use Rattle.std.specs.FinMap.{get, insert, remove};
 ghost use Rattle.flume_core.specs.Log.{Log, Opening};
 ghost use Rattle.flume_core.specs.Limits.{IsOpen, IsClosed, IsAtCapacity, most};
 ghost use Rattle.flume_core.specs.Sends.{blocked};
-ghost use Rattle.flume_core.specs.Effects.{resignalled, Returns};
+ghost use Rattle.flume_core.specs.Entries.{some_wait};
+ghost use Rattle.flume_core.specs.Effects.{resignalled, Joins, Returns};
 ghost use Rattle.std.specs.List.{All};
 ghost use Rattle.std.specs.Option.{option_map};
-ghost use Rattle.flume_core.specs.State.{State, StandsFor, HoldsIfRefused, IsRefusal};
+ghost use Rattle.flume_core.specs.State.{State};
+ghost use Rattle.flume_core.specs.StandsFor.{StandsFor, HoldsIfRefused, IsRefusal};
 
 use super::Chan;
 use crate::step::{Reply, Step};
 use std::alloc::Allocator;
 
 impl<T: Drop, S: Drop, A: Allocator + Copy> Chan<T, S, A> {
-    /// Offers a message without waiting. `Sent`: it stands at the queue's end. `Full`: the queue is
-    /// at its capacity. `Closed`: all senders or all receivers are gone. `NoMemory`: the queue
-    /// couldn't grow. The last three hand the message back and leave the channel as it was.
+    /// Offers a message without waiting. `Sent`: it stands at the queue's end, at any capacity
+    /// where a receiver waits, and then a wake round follows: it wakes streams up to the first
+    /// receiver that is none, and wakes that one, or where it blocks hands it the front of the
+    /// queue and names its ticket. `Full`: no receiver waits, and the queue is at its capacity.
+    /// `Closed`: all senders or all receivers are gone. `NoMemory`: the queue couldn't grow. The
+    /// last three hand the message back and leave the channel as it was.
     ///
     /// ```
     /// chan.try_send(7);                  // Sent { filled: None }
     /// chan.drop_receiver();              // Done
     /// chan.try_send(8);                  // Closed(8)
     /// ```
-    pub fn try_send(&mut self, message: T) -> Reply<T>
-        ensures step { (opening : Opening) (log : Log T) → StandsFor opening log self.old
+    pub fn try_send(&mut self, message: T) -> Reply<T, A>
+        ensures step { (opening : Opening) (log : Log T A) → StandsFor opening log self.old
             → StandsFor opening ((Step.TrySend message, result) ∷ log) self.new }
         ensures closed { (result ≡ Reply.Closed message)
             ↔ IsClosed self.old.senders self.old.receivers }
         ensures full { (result ≡ Reply.Full message)
-            ↔ IsOpen self.old.senders self.old.receivers
+            ↔ IsOpen self.old.senders self.old.receivers × (some_wait self.old.entries ≡ false)
             × IsAtCapacity self.old.capacity (length self.old.queue) }
         ensures returned { HoldsIfRefused message result }
-        ensures sent { result ≡ Reply.Sent None
-            → self.new ≡ record self.old { queue = self.old.queue ++ message ∷ [] } }
+        ensures sent { (filled : Option ℕ) → result ≡ Reply.Sent filled
+            → Joins self.old self.new message filled }
         ensures never_blocks { (ticket : ℕ) → result ≢ Reply.Pending ticket }
         ensures never_spent { (back : Option T) → result ≢ Reply.Spent back }
         ensures unchanged { IsRefusal result → self.new ≡ self.old }
@@ -42,13 +47,14 @@ impl<T: Drop, S: Drop, A: Allocator + Copy> Chan<T, S, A> {
         if !self.is_open() {
             return Reply::Closed(message);
         }
-        if !self.has_room() {
+        if !self.entries.some_wait() && !self.has_room() {
             return Reply::Full(message);
         }
         if let Err(back) = self.line.push_queued(message) {
             return Reply::NoMemory(Some(back));
         }
-        Reply::Sent { filled: None }
+        let filled = self.wake();
+        Reply::Sent { filled }
     }
 
     /// Offers a message, and blocks where the queue is at its capacity. `Sent` as `try_send`.
@@ -62,16 +68,16 @@ impl<T: Drop, S: Drop, A: Allocator + Copy> Chan<T, S, A> {
     /// chan.try_recv();                   // Got(7)
     /// chan.poll_send(1, None);           // Accepted
     /// ```
-    pub fn send(&mut self, message: T, signal: S) -> Reply<T>
-        ensures step { (opening : Opening) (log : Log T) → StandsFor opening log self.old
+    pub fn send(&mut self, message: T, signal: S) -> Reply<T, A>
+        ensures step { (opening : Opening) (log : Log T A) → StandsFor opening log self.old
             → StandsFor opening ((Step.Send message, result) ∷ log) self.new }
         ensures closed { (result ≡ Reply.Closed message)
             ↔ IsClosed self.old.senders self.old.receivers }
         ensures spent { (result ≡ Reply.Spent (Some message))
-            ↔ IsOpen self.old.senders self.old.receivers
+            ↔ IsOpen self.old.senders self.old.receivers × (some_wait self.old.entries ≡ false)
             × IsAtCapacity self.old.capacity (length self.old.queue) × (most ≤ self.old.next) }
-        ensures sent { result ≡ Reply.Sent None
-            → self.new ≡ record self.old { queue = self.old.queue ++ message ∷ [] } }
+        ensures sent { (filled : Option ℕ) → result ≡ Reply.Sent filled
+            → Joins self.old self.new message filled }
         ensures pending { result ≡ Reply.Pending self.old.next → self.new ≡ record self.old {
           blocked = self.old.blocked
               ++ record { ticket = self.old.next; message = message } ∷ [];
@@ -106,8 +112,8 @@ impl<T: Drop, S: Drop, A: Allocator + Copy> Chan<T, S, A> {
     /// that the send left. `Returned`: the channel is closed, the message comes back, and the
     /// ticket is spent. `NoTicket`: no live send has this ticket, and nothing changes. Takes no
     /// memory.
-    pub fn poll_send(&mut self, ticket: u64, signal: Option<S>) -> Reply<T>
-        ensures step { (opening : Opening) (log : Log T) → StandsFor opening log self.old
+    pub fn poll_send(&mut self, ticket: u64, signal: Option<S>) -> Reply<T, A>
+        ensures step { (opening : Opening) (log : Log T A) → StandsFor opening log self.old
             → StandsFor opening ((Step.PollSend ticket, result) ∷ log) self.new }
         ensures no_ticket { get self.old.sends ticket ≡ None → result ≡ Reply.NoTicket }
         ensures accepted { (result ≡ Reply.Accepted)
@@ -138,8 +144,8 @@ impl<T: Drop, S: Drop, A: Allocator + Copy> Chan<T, S, A> {
     /// Takes back the message of the blocked send with this ticket. `Returned`: it comes back, with
     /// whether the channel is closed. `Accepted`: it was taken in before. Either way the ticket is
     /// spent. `NoTicket`: no live send has this ticket, and nothing changes. Takes no memory.
-    pub fn withdraw_send(&mut self, ticket: u64) -> Reply<T>
-        ensures step { (opening : Opening) (log : Log T) → StandsFor opening log self.old
+    pub fn withdraw_send(&mut self, ticket: u64) -> Reply<T, A>
+        ensures step { (opening : Opening) (log : Log T A) → StandsFor opening log self.old
             → StandsFor opening ((Step.WithdrawSend ticket, result) ∷ log) self.new }
         ensures no_ticket { get self.old.sends ticket ≡ None → result ≡ Reply.NoTicket }
         ensures accepted { (result ≡ Reply.Accepted)
@@ -166,7 +172,7 @@ impl<T: Drop, S: Drop, A: Allocator + Copy> Chan<T, S, A> {
     }
 
     // Tells a sender that its message was taken in.
-    fn learn(&mut self, ticket: u64) -> Reply<T>
+    fn learn(&mut self, ticket: u64) -> Reply<T, A>
         ensures accepted { result ≡ Reply.Accepted }
         ensures spent { self.new ≡ record self.old { sends = remove self.old.sends ticket } }
     {
@@ -175,7 +181,7 @@ impl<T: Drop, S: Drop, A: Allocator + Copy> Chan<T, S, A> {
     }
 
     // Gives a sender its blocked message back. In each state that a log leads to there is one.
-    fn take_back(&mut self, ticket: u64) -> Reply<T>
+    fn take_back(&mut self, ticket: u64) -> Reply<T, A>
         ensures returned { (message : T) (closed : Bool) → result ≡ Reply.Returned message closed
             → Returns self.old self.new ticket message closed }
         ensures absent { result ≡ Reply.NoTicket

@@ -1,9 +1,10 @@
 //! Readings and texts on concrete bytes.
 use super::*;
+use crate::step::{Kind, Reply};
 use std::test::Fail;
 
 // (input, the number of the first wrong line or 0, how many steps)
-const READINGS: [(&[u8], usize, usize); 51] = [
+const READINGS: [(&[u8], usize, usize); 70] = [
     (b"", 1, 0),
     (b"\n", 1, 0),
     (b"unbounded", 0, 0),
@@ -59,6 +60,25 @@ const READINGS: [(&[u8], usize, usize); 51] = [
     (b"unbounded\nsender_counts\n", 2, 0),
     (b"unbounded\nreceiver count\n", 2, 0),
     (b"unbounded\nis_disconnected\x00\n", 2, 0),
+    (b"unbounded\nrecv block\n", 0, 1),
+    (b"unbounded\nrecv plain\r\nrecv stream\nrecv arm", 0, 3),
+    (b"unbounded\npoll 5\n", 0, 1),
+    (b"unbounded\nwithdraw 18446744073709551615\n", 0, 1),
+    (b"unbounded\ndrain\n", 0, 1),
+    (b"unbounded\nrecv\n", 2, 0),
+    (b"unbounded\nrecv \n", 2, 0),
+    (b"unbounded\nrecv  plain\n", 2, 0),
+    (b"unbounded\nrecv plain \n", 2, 0),
+    (b"unbounded\nrecv Plain\n", 2, 0),
+    (b"unbounded\nrecv 5\n", 2, 0),
+    (b"unbounded\nrecvplain\n", 2, 0),
+    (b"unbounded\nplain\n", 2, 0),
+    (b"unbounded\npoll\n", 2, 0),
+    (b"unbounded\npoll plain\n", 2, 0),
+    (b"unbounded\npoll 18446744073709551616\n", 2, 0),
+    (b"unbounded\nwithdraw -5\n", 2, 0),
+    (b"unbounded\ndrain 5\n", 2, 0),
+    (b"unbounded\nlen\ntry_recv plain\n", 3, 0),
 ];
 
 #[test]
@@ -90,6 +110,7 @@ fn reads_values(rt: HostRuntime) -> Result<(), Fail> {
 #[test]
 fn reads_each_step(rt: HostRuntime) -> Result<(), Fail> {
     let input = b"unbounded\ntry_send 1\nsend 2\npoll_send 3\nwithdraw_send 4\ntry_recv\n\
+        recv block\nrecv plain\nrecv stream\nrecv arm\npoll 5\nwithdraw 6\ndrain\n\
         clone_sender\nclone_receiver\ndrop_sender\ndrop_receiver\nlen\nis_empty\nis_full\n\
         capacity\nsender_count\nreceiver_count\nis_disconnected\n";
     let wanted = [
@@ -98,6 +119,13 @@ fn reads_each_step(rt: HostRuntime) -> Result<(), Fail> {
         Step::PollSend(3),
         Step::WithdrawSend(4),
         Step::TryRecv,
+        Step::Recv(Kind::Block),
+        Step::Recv(Kind::Plain),
+        Step::Recv(Kind::Stream),
+        Step::Recv(Kind::Arm),
+        Step::Poll(5),
+        Step::Withdraw(6),
+        Step::Drain,
         Step::CloneSender,
         Step::CloneReceiver,
         Step::DropSender,
@@ -162,5 +190,35 @@ fn writes(rt: HostRuntime) -> Result<(), Fail> {
     assert_eq!(rt; text.as_slice(), wanted.as_slice());
     let text = write_wrong(rt.alloc(), 120)?;
     assert_eq!(rt; text.as_slice(), b"line 120: not a step\n".as_slice());
+    Ok(())
+}
+
+#[test]
+fn writes_replies_to_parked_receivers(rt: HostRuntime) -> Result<(), Fail> {
+    let replies = [
+        Reply::Parked(6),
+        Reply::Gone {
+            closed: false,
+            filled: None,
+        },
+        Reply::Gone {
+            closed: true,
+            filled: None,
+        },
+        Reply::Gone {
+            closed: false,
+            filled: Some(18),
+        },
+        Reply::Gone {
+            closed: true,
+            filled: Some(0),
+        },
+        Reply::Drained(Vec::new(rt.alloc())),
+        Reply::Drained(vec![in rt.alloc(); 7, 10, u64::MAX]?),
+    ];
+    let text = write_replies(rt.alloc(), &replies)?;
+    let wanted = b"parked 6\ngone\ngone closed\ngone filled 18\ngone closed filled 0\n\
+        drained\ndrained 7 10 18446744073709551615\n";
+    assert_eq!(rt; text.as_slice(), wanted.as_slice());
     Ok(())
 }

@@ -1,5 +1,5 @@
 -- What a list of steps leaves.
-use Rattle.std.proofs.Common.{rules}
+use Rattle.std.proofs.Common.{◌≡◌, [], rules}
 use Rattle.flume_core.proofs.Lists.{none_done, one_more, all_done, headline}
 use Rattle.flume_core.proofs.run.run.Goals as goal
 
@@ -13,7 +13,7 @@ returns-clause-headline g c o log h = headline o _ _ (returns-clause-steps g c o
 
 pub loop-step-init : goal.loop-step-init
 loop-step-init g c = record {
-  done = rw (c.from_vec-rest.ensures.items, c.reserve.ensures.items, c.new-replies.ensures.items)
+  done = rw (c.from_vec-rest.ensures.items, (let none : c.in-Ok.replies.items ≡ [] = search rules in none))
       (none_done c.args.chan.now c.args.steps.items);
   counted = search rules;
   room = search rules;

@@ -1,15 +1,12 @@
 -- An end that is not there, and one that leaves.
-use Rattle.std.proofs.Common.{not, refl, rules}
-use Rattle.flume_core.specs.Limits.{is_closed}
+use Rattle.std.proofs.Common.{refl, rules}
 use Rattle.flume_core.specs.Log.{ReceiverLeaves}
 use Rattle.flume_core.proofs.Moves.{still}
-use Rattle.flume_core.proofs.Answering.{leaves}
+use Rattle.flume_core.proofs.Closing.{leaves}
 use Rattle.flume_core.proofs.chan.Chan.drop_receiver.Goals as goal
 
 pub returns-then-self-eq0-clause-step : goal.returns-then-self-eq0-clause-step
 returns-then-self-eq0-clause-step g c o log h = still o log _ _ _ h (search rules) refl refl
 
 pub returns-clause-step : goal.returns-clause-step
-returns-clause-step g c o log h =
-    leaves o log _ ReceiverLeaves (not (is_closed c.args.self.now.senders c.args.self.now.receivers))
-    c.args.self.now _ h (search rules) refl refl (search rules)
+returns-clause-step g c o log h = leaves o log _ ReceiverLeaves c.args.self.now _ h (search rules) refl refl (search rules)

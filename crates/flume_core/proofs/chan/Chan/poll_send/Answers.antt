@@ -4,7 +4,8 @@ use Rattle.flume_core.specs.Limits.{IsClosed}
 use Rattle.flume_core.specs.Effects.{resignalled}
 use Rattle.flume_core.proofs.Moves.{still, still_signal, accepts}
 use Rattle.flume_core.proofs.Views.{open_at_log, closed_at_log}
-use Rattle.flume_core.proofs.Answering.{unknown, known, waits, taken_back, same_marks_signal, closed_where}
+use Rattle.flume_core.proofs.Answering.{unknown, known, waits, taken_back, closed_where}
+use Rattle.flume_core.proofs.Telling.{same_marks_signal}
 use Rattle.flume_core.proofs.chan.Chan.poll_send.Goals as goal
 
 pub returns-in-None-clause-step : goal.returns-in-None-clause-step

@@ -3,8 +3,8 @@ use Rattle.std.proofs.Common.{◌≡◌, ◌<◌, refl, ap, ◌∙◌, rules, ar
 use Rattle.flume_core.specs.declared.step.Reply.TheVariants.{Full}
 use Rattle.flume_core.specs.Limits.{most}
 use Rattle.flume_core.proofs.Moves.{blocks}
-use Rattle.flume_core.proofs.Views.{open_at_log, full_at_log}
-use Rattle.flume_core.proofs.Answering.{send_as_try}
+use Rattle.flume_core.proofs.Answering.{takes_none_in}
+use Rattle.flume_core.proofs.AsTries.{send_as_try}
 use Rattle.flume_core.proofs.chan.Chan.send.Goals as goal
 
 pub returns-in_default-clause-step : goal.returns-in_default-clause-step
@@ -17,7 +17,7 @@ returns-in_default-clause-closed g c = c.try_send.ensures.closed
 pub returns-in_default-clause-spent : goal.returns-in_default-clause-spent
 returns-in_default-clause-spent g c = (
   (λ is. absurd (c.try_send.ensures.never_spent _ is)),
-  (λ at. absurd (c.in_default.not-Full _ (c.try_send.ensures.full.1 (at.0, at.1)))),
+  (λ at. absurd (c.in_default.not-Full _ (c.try_send.ensures.full.1 (at.0, at.1, at.2)))),
 )
 
 pub returns-clause-step : goal.returns-clause-step
@@ -27,5 +27,5 @@ returns-clause-step g c o log h =
     let found = c.in-Full.ensures.full.0 (ap Full c.in-Full.ensures.returned) in
     let some_left : c.args.self.now.next < most = rw (← next) (search rules) in
     blocks o log _ c.args.self.now _ c.args.message c.args.signal h
-    ((open_at_log h found.0, full_at_log h found.1), omega (arith, h.next_is, some_left), next ∙ h.next_is)
+    (takes_none_in h found.0 found.1 found.2, omega (arith, h.next_is, some_left), next ∙ h.next_is)
     (rw next refl) (search rules)

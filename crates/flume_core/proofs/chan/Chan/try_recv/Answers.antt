@@ -1,5 +1,5 @@
 -- The front is handed out, or nothing is found.
-use Rattle.std.proofs.Common.{◌≡◌, [], refl, rules}
+use Rattle.std.proofs.Common.{◌≡◌, [], None, refl, rules}
 use Rattle.flume_core.specs.Effects.{fronted}
 use Rattle.flume_core.proofs.Moves.{still}
 use Rattle.flume_core.proofs.Takes.{takes}
@@ -10,7 +10,7 @@ use Rattle.flume_core.proofs.chan.Chan.try_recv.Goals as goal
 pub returns-in-Some-clause-step : goal.returns-in-Some-clause-step
 returns-in-Some-clause-step g c o log h =
     let taken = c.in-Some.ensures.some in
-    takes o log _ c.args.self.now c.take_front.new.self c.in-Some.message taken.0 h
+    takes o log _ c.args.self.now c.take_front.new.self c.in-Some.message None taken.0 h
     (front_line o log c.args.self.now c.in-Some.message taken.0 h taken.1) refl taken.1 taken.2
 
 pub returns-in-None-clause-step : goal.returns-in-None-clause-step

@@ -1,0 +1,169 @@
+-- How a parked receiver may be answered, by its kind and its mark.
+use Rattle.std.proofs.Common.{◌≡◌, ◌≢◌, ℕ, Bool, true, false, ◌&&◌, [], Option, Some, None, refl, ◌∙◌, ap}
+use Rattle.std.proofs.Common.{◌⊎◌, inl, inr}
+use Rattle.flume_core.specs.declared.step.Kind.{Kind}
+use Rattle.flume_core.specs.declared.step.Kind.TheVariants.{Block, Plain, Stream, Arm}
+use Rattle.flume_core.specs.declared.step.Reply.TheVariants.{Got, Ended, Waiting as WaitsOn, Gone}
+use Rattle.flume_core.specs.declared.entries.Mark.{Mark}
+use Rattle.flume_core.specs.declared.entries.Mark.TheVariants.{Waiting, Woken, Filled}
+use Rattle.flume_core.specs.declared.entries.Standing.{Standing}
+use Rattle.flume_core.specs.declared.entries.Standing.TheVariants.{Filled as IsFilled, BlockWaiting, BlockWoken}
+use Rattle.flume_core.specs.declared.entries.Standing.TheVariants.{Waiting as Waits, Woken as IsWoken}
+use Rattle.flume_core.specs.Limits.{IsOpen, IsClosed, is_closed}
+use Rattle.flume_core.specs.Entries.{is_woken, is_filled, left_fills}
+use Rattle.flume_core.specs.Channel.{Channel, IsFront}
+use Rattle.flume_core.specs.Asking.{IsPolledMark, IsGoneMark}
+use Rattle.flume_core.specs.WaitLaws.{is_block}
+use Rattle.flume_core.specs.Waits.{standing_as, looks, blocks}
+
+-- one that neither is filled nor blocks as it waits looks
+pub looks_else : (st : Standing) → st ≢ IsFilled → st ≢ BlockWaiting → looks (Some st) ≡ true
+looks_else IsFilled a b = absurd (a refl)
+looks_else BlockWaiting a b = absurd (b refl)
+looks_else BlockWoken a b = refl
+looks_else Waits a b = refl
+looks_else IsWoken a b = refl
+
+-- one that neither is filled nor of another kind blocks
+pub blocks_else : (st : Standing) → st ≢ IsFilled → st ≢ Waits → st ≢ IsWoken → blocks (Some st) ≡ true
+blocks_else IsFilled a b c = absurd (a refl)
+blocks_else Waits a b c = absurd (b refl)
+blocks_else IsWoken a b c = absurd (c refl)
+blocks_else BlockWaiting a b c = refl
+blocks_else BlockWoken a b c = refl
+
+module _ {T : Type 0} where
+  -- one that looks isn't filled
+  pub looks_unfilled : (k : Kind) (mark : Mark T) → looks (Some (standing_as k mark)) ≡ true → is_filled mark ≡ false
+  looks_unfilled k (Filled m) e = absurd (let none : ⊥ = cc in none)
+  looks_unfilled k Waiting e = refl
+  looks_unfilled k Woken e = refl
+
+  -- nor is one that blocks as it waits or was woken
+  pub blocks_unfilled : (k : Kind) (mark : Mark T) → blocks (Some (standing_as k mark)) ≡ true → is_filled mark ≡ false
+  blocks_unfilled k (Filled m) e = absurd (let none : ⊥ = cc in none)
+  blocks_unfilled k Waiting e = refl
+  blocks_unfilled k Woken e = refl
+
+  -- one that stands so that it looks isn't filled
+  pub unfilled_as : (k : Kind) (mark : Mark T) (st : Standing) → standing_as k mark ≡ st → looks (Some st) ≡ true → is_filled mark ≡ false
+  unfilled_as k mark st e looking = looks_unfilled k mark (ap (λ x. looks (Some x)) e ∙ looking)
+
+  -- one of another kind that isn't filled
+  pub other_parts : (k : Kind) (mark : Mark T) → (standing_as k mark ≡ Waits) ⊎ (standing_as k mark ≡ IsWoken)
+      → (blocks (Some (standing_as k mark)) ≡ false) × (is_filled mark ≡ false)
+  other_parts k mark (inl e) = (ap (λ x. blocks (Some x)) e, unfilled_as k mark Waits e refl)
+  other_parts k mark (inr e) = (ap (λ x. blocks (Some x)) e, unfilled_as k mark IsWoken e refl)
+
+  -- one that stands filled is filled with a message
+  pub filled_with : (k : Kind) (mark : Mark T) → standing_as k mark ≡ IsFilled → (m : T) × (mark ≡ Filled m)
+  filled_with k (Filled m) e = (m, refl)
+  filled_with Block Waiting e = absurd (let none : ⊥ = cc in none)
+  filled_with Plain Waiting e = absurd (let none : ⊥ = cc in none)
+  filled_with Stream Waiting e = absurd (let none : ⊥ = cc in none)
+  filled_with Arm Waiting e = absurd (let none : ⊥ = cc in none)
+  filled_with Block Woken e = absurd (let none : ⊥ = cc in none)
+  filled_with Plain Woken e = absurd (let none : ⊥ = cc in none)
+  filled_with Stream Woken e = absurd (let none : ⊥ = cc in none)
+  filled_with Arm Woken e = absurd (let none : ⊥ = cc in none)
+
+module _ {T : Type 0} (A : Type 0) where
+  -- a filled one gets its message, asking or leaving
+  pub polled_collected : (c : Channel T) (k : Kind) (mark : Mark T) (m : T) → mark ≡ Filled m → IsPolledMark {A = A} c k mark (Got m)
+  polled_collected c k mark m e = rw e refl
+
+  pub gone_collected : (c : Channel T) (t : ℕ) (k : Kind) (mark : Mark T) (m : T) → mark ≡ Filled m → IsGoneMark {A = A} c t k mark (Got m)
+  gone_collected c t k mark m e = rw e refl
+
+  -- one that looks may get the front
+  pub polled_got : (c : Channel T) (k : Kind) (mark : Mark T) (m : T) → looks (Some (standing_as k mark)) ≡ true → IsFront c m
+      → IsPolledMark {A = A} c k mark (Got m)
+  polled_got c k (Filled x) m e front = absurd (let none : ⊥ = cc in none)
+  polled_got c Block Waiting m e front = absurd (let none : ⊥ = cc in none)
+  polled_got c Block Woken m e front = front
+  polled_got c Plain Waiting m e front = front
+  polled_got c Plain Woken m e front = front
+  polled_got c Stream Waiting m e front = front
+  polled_got c Stream Woken m e front = front
+  polled_got c Arm Waiting m e front = front
+  polled_got c Arm Woken m e front = front
+
+  -- or be told of the end
+  pub polled_ended : (c : Channel T) (k : Kind) (mark : Mark T) → looks (Some (standing_as k mark)) ≡ true → c.line ≡ []
+      → IsClosed c.senders c.receivers → IsPolledMark {A = A} c k mark Ended
+  polled_ended c k (Filled x) e none closed = absurd (let no : ⊥ = cc in no)
+  polled_ended c Block Waiting e none closed = absurd (let no : ⊥ = cc in no)
+  polled_ended c Block Woken e none closed = none
+  polled_ended c Plain Waiting e none closed = (none, closed)
+  polled_ended c Plain Woken e none closed = (none, closed)
+  polled_ended c Stream Waiting e none closed = (none, closed)
+  polled_ended c Stream Woken e none closed = (none, closed)
+  polled_ended c Arm Waiting e none closed = (none, closed)
+  polled_ended c Arm Woken e none closed = (none, closed)
+
+  -- or wait on, where it wasn't woken as one that blocks
+  pub polled_waits : (c : Channel T) (k : Kind) (mark : Mark T) → looks (Some (standing_as k mark)) ≡ true → c.line ≡ []
+      → IsOpen c.senders c.receivers → (is_block k && is_woken mark) ≡ false → IsPolledMark {A = A} c k mark WaitsOn
+  polled_waits c k (Filled x) e none open_ other = absurd (let no : ⊥ = cc in no)
+  polled_waits c Block Waiting e none open_ other = absurd (let no : ⊥ = cc in no)
+  polled_waits c Block Woken e none open_ other = absurd (let no : ⊥ = cc in no)
+  polled_waits c Plain Waiting e none open_ other = (none, open_)
+  polled_waits c Plain Woken e none open_ other = (none, open_)
+  polled_waits c Stream Waiting e none open_ other = (none, open_)
+  polled_waits c Stream Woken e none open_ other = (none, open_)
+  polled_waits c Arm Waiting e none open_ other = (none, open_)
+  polled_waits c Arm Woken e none open_ other = (none, open_)
+
+  -- one that blocks and waits waits on
+  pub polled_blocked : (c : Channel T) (k : Kind) (mark : Mark T) → standing_as k mark ≡ BlockWaiting
+      → IsPolledMark {A = A} c k mark WaitsOn
+  polled_blocked c k (Filled x) e = absurd (let no : ⊥ = cc in no)
+  polled_blocked c Block Waiting e = tt
+  polled_blocked c Block Woken e = absurd (let no : ⊥ = cc in no)
+  polled_blocked c Plain Waiting e = absurd (let no : ⊥ = cc in no)
+  polled_blocked c Plain Woken e = absurd (let no : ⊥ = cc in no)
+  polled_blocked c Stream Waiting e = absurd (let no : ⊥ = cc in no)
+  polled_blocked c Stream Woken e = absurd (let no : ⊥ = cc in no)
+  polled_blocked c Arm Waiting e = absurd (let no : ⊥ = cc in no)
+  polled_blocked c Arm Woken e = absurd (let no : ⊥ = cc in no)
+
+  -- one that blocks may leave with the front
+  pub gone_got : (c : Channel T) (t : ℕ) (k : Kind) (mark : Mark T) (m : T) → blocks (Some (standing_as k mark)) ≡ true → IsFront c m
+      → IsGoneMark {A = A} c t k mark (Got m)
+  gone_got c t k (Filled x) m e front = absurd (let none : ⊥ = cc in none)
+  gone_got c t Block Waiting m e front = front
+  gone_got c t Block Woken m e front = front
+  gone_got c t Plain Waiting m e front = absurd (let none : ⊥ = cc in none)
+  gone_got c t Plain Woken m e front = absurd (let none : ⊥ = cc in none)
+  gone_got c t Stream Waiting m e front = absurd (let none : ⊥ = cc in none)
+  gone_got c t Stream Woken m e front = absurd (let none : ⊥ = cc in none)
+  gone_got c t Arm Waiting m e front = absurd (let none : ⊥ = cc in none)
+  gone_got c t Arm Woken m e front = absurd (let none : ⊥ = cc in none)
+
+  -- or with none
+  pub gone_none : (c : Channel T) (t : ℕ) (k : Kind) (mark : Mark T) (closed : Bool) → blocks (Some (standing_as k mark)) ≡ true
+      → c.line ≡ []
+      → closed ≡ is_closed c.senders c.receivers → IsGoneMark {A = A} c t k mark (Gone closed None)
+  gone_none c t k (Filled x) closed e none is = absurd (let no : ⊥ = cc in no)
+  gone_none c t Block Waiting closed e none is = (none, is, refl)
+  gone_none c t Block Woken closed e none is = (none, is, refl)
+  gone_none c t Plain Waiting closed e none is = absurd (let no : ⊥ = cc in no)
+  gone_none c t Plain Woken closed e none is = absurd (let no : ⊥ = cc in no)
+  gone_none c t Stream Waiting closed e none is = absurd (let no : ⊥ = cc in no)
+  gone_none c t Stream Woken closed e none is = absurd (let no : ⊥ = cc in no)
+  gone_none c t Arm Waiting closed e none is = absurd (let no : ⊥ = cc in no)
+  gone_none c t Arm Woken closed e none is = absurd (let no : ⊥ = cc in no)
+
+  -- one of another kind leaves with none, and passes its wake on
+  pub gone_other : (c : Channel T) (t : ℕ) (k : Kind) (mark : Mark T) (closed : Bool) (filled : Option ℕ)
+      → blocks (Some (standing_as k mark)) ≡ false → is_filled mark ≡ false → closed ≡ is_closed c.senders c.receivers
+      → filled ≡ left_fills t c.queue c.entries → IsGoneMark {A = A} c t k mark (Gone closed filled)
+  gone_other c t k (Filled x) closed filled e empty is fills = absurd (let no : ⊥ = cc in no)
+  gone_other c t Block Waiting closed filled e empty is fills = absurd (let no : ⊥ = cc in no)
+  gone_other c t Block Woken closed filled e empty is fills = absurd (let no : ⊥ = cc in no)
+  gone_other c t Plain Waiting closed filled e empty is fills = (is, fills)
+  gone_other c t Plain Woken closed filled e empty is fills = (is, fills)
+  gone_other c t Stream Waiting closed filled e empty is fills = (is, fills)
+  gone_other c t Stream Woken closed filled e empty is fills = (is, fills)
+  gone_other c t Arm Waiting closed filled e empty is fills = (is, fills)
+  gone_other c t Arm Woken closed filled e empty is fills = (is, fills)

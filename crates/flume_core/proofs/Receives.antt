@@ -1,0 +1,186 @@
+-- What each step of a parked receiver leaves stands for the log with that step added.
+use Rattle.std.proofs.Common.{◌≡◌, ℕ, ◌+◌, ◌≤◌, Bool, true, false, List, [], ◌∷◌, ◌++◌, length, drop, Option, Some, None}
+use Rattle.std.proofs.Common.{refl, sym, ◌∙◌, ap, arith}
+use Rattle.std.proofs.lemmas.List.{map_push, length-drop, drop-append-le, drop-map}
+use Rattle.flume_core.specs.declared.step.Kind.{Kind}
+use Rattle.flume_core.specs.declared.step.Step.{Step}
+use Rattle.flume_core.specs.declared.step.Reply.{Reply}
+use Rattle.flume_core.specs.declared.entries.Entry.{Entry}
+use Rattle.flume_core.specs.declared.entries.Notice.{Notice}
+use Rattle.flume_core.specs.Log.{Log, Opening, Parks, Asks, Collects, Leaves, change}
+use Rattle.flume_core.specs.Counts.{is_over}
+use Rattle.flume_core.specs.Line.{is_live, how_many}
+use Rattle.flume_core.specs.Channel.{channel, has_ticket}
+use Rattle.flume_core.specs.Replies.{IsReply, IsRun}
+use Rattle.flume_core.specs.Entries.{entry_of, without, again, left, left_fills, passes_on, round_for, round_for_fills}
+use Rattle.flume_core.specs.Parked.{LogEntry, entries}
+use Rattle.flume_core.specs.Waits.{tell_now, begins, noticed}
+use Rattle.flume_core.specs.State.{State, offers_of, bare}
+use Rattle.flume_core.specs.StandsFor.{StandsFor}
+use Rattle.flume_core.specs.Effects.{unfilled, unparked, departed, waiting_so}
+use Rattle.flume_core.proofs.Kept.{keeps_line}
+use Rattle.flume_core.proofs.LineSteps.{line_stays, line_leaves}
+use Rattle.flume_core.proofs.WaitingOpen.{nothing_once_over}
+use Rattle.flume_core.proofs.WaitingCounts.{fewer_without, fewer_left}
+use Rattle.flume_core.proofs.Bare.{bare_without, bare_again, bare_noticed, bare_left}
+use Rattle.flume_core.proofs.Views.{status, status_is, queued_length}
+use Rattle.flume_core.proofs.Stands.{stands_as, stands_open, fits_as, open_not_over, over_same, still_live}
+use Rattle.flume_core.proofs.Moves.{peak_kept, unfilled_is, one_at_most}
+
+-- a round fills at most as many receivers as messages are queued
+fills_within : {X N : Type 0} (queue : List X) (es : List (Entry X N)) → how_many (round_for_fills queue es) ≤ length queue
+fills_within [] es = omega arith
+fills_within (m ∷ queue) es = let one = one_at_most (round_for_fills (m ∷ queue) es) in omega arith
+
+module _ {T N : Type 0} where
+  -- so does the wake of one that leaves
+  left_within : (t : ℕ) (queue : List T) (es : List (Entry T N)) → how_many (left_fills t queue es) ≤ length queue
+  left_within t queue es = by_case (passes_on (entry_of t es)) refl
+    where
+      by_case : (b : Bool) → passes_on (entry_of t es) ≡ b → how_many (left_fills t queue es) ≤ length queue
+      by_case true passes = rw passes (fills_within queue (without t es))
+      by_case false stays = rw stays (omega arith)
+
+module _ {T S : Type 0} where
+  -- what a receiver that leaves with no message leaves
+  departed_is : (t : ℕ) (s : State T S) → departed t s ≡ record s {
+    queue = unfilled (left_fills t s.queue s.entries) s.queue;
+    entries = left tell_now t s.queue s.entries;
+  }
+  departed_is t s = by_case (passes_on (entry_of t s.entries)) refl
+    where
+      by_case : (b : Bool) → passes_on (entry_of t s.entries) ≡ b → departed t s ≡ record s {
+        queue = unfilled (left_fills t s.queue s.entries) s.queue;
+        entries = left tell_now t s.queue s.entries;
+      }
+      by_case true passes = rw passes refl
+      by_case false stays = rw stays refl
+
+  -- where nothing is queued, no wake is passed on
+  pub departed_empty : (t : ℕ) (s : State T S) → s.queue ≡ [] → departed t s ≡ unparked t s
+  departed_empty t s none = by_case (passes_on (entry_of t s.entries)) refl
+    where
+      by_case : (b : Bool) → passes_on (entry_of t s.entries) ≡ b → departed t s ≡ unparked t s
+      by_case true passes =
+          rw passes (ap (λ q. record (unparked t s) {
+            queue = unfilled (round_for_fills q (without t s.entries)) q;
+            entries = round_for tell_now q (without t s.entries);
+          }) none
+          ∙ sym (ap (λ q. record (unparked t s) { queue = q }) none))
+      by_case false stays = rw stays refl
+
+module _ {T A : Type 0} where
+  -- while somebody is parked, an end is there
+  pub entry_not_over : (o : Opening) (log : Log T A) (t : ℕ) (e : LogEntry T) → IsRun o log
+      → entry_of t (entries o log) ≡ Some e → is_over log ≡ false
+  entry_not_over o log t e run found = by_case (is_over log) refl
+    where
+      by_case : (b : Bool) → is_over log ≡ b → is_over log ≡ false
+      by_case false open_ = open_
+      by_case true over =
+          let none : entries o log ≡ [] = (nothing_once_over o log run over).1 in
+          absurd (let absent : None ≡ Some e = sym (ap (entry_of t) none) ∙ found in let no : ⊥ = cc in no)
+
+module _ {T A S : Type 0} where
+  -- a receiver parks
+  pub parks : (o : Opening) (past : Log T A) (p : Step T × Reply T A) (old new : State T S) (kind : Kind) (signal : S)
+      → StandsFor o past old
+      → IsReply (channel o past) p.0 p.1 → change past p.0 p.1 ≡ Parks old.next kind
+      → new ≡ waiting_so (old.entries ++ begins old.next kind signal ∷ []) (record old { next = old.next + 1 })
+      → StandsFor o (p ∷ past) new
+  parks o past p old new kind signal h reply e is =
+      let fit = fits_as o past p (Parks old.next kind) h.run reply e in
+      let open_ : is_over past ≡ false = open_not_over past (let is_open = fit.1 in omega arith) in
+      let still_open = over_same past p (Parks old.next kind) e refl ∙ open_ in
+      stands_as o (p ∷ past) new _ is (stands_open o past p (Parks old.next kind) old _ h reply e still_open record {
+        capacity_kept = refl;
+        queued = h.queued;
+        line_is = line_stays o past p h.run (ap keeps_line e) open_ still_open ∙ h.line_is;
+        queue_is = h.queue_is;
+        length_is = refl;
+        marks = λ t. status_is h t
+            ∙ sym (ap (λ b. status b (has_ticket t (offers_of old.blocked))) (still_live false (is_live past t) false refl refl));
+        entries_are = map_push bare old.entries (begins old.next kind signal);
+        peak_is = refl;
+        next_is = refl;
+        senders_are = refl;
+        receivers_are = refl;
+      })
+
+  -- a receiver waits on, or again behind all others
+  pub asks : (o : Opening) (past : Log T A) (p : Step T × Reply T A) (old new : State T S) (t : ℕ) (f : Notice S → Notice S)
+      → StandsFor o past old
+      → IsReply (channel o past) p.0 p.1 → change past p.0 p.1 ≡ Asks t
+      → new ≡ waiting_so (again t (noticed f t old.entries)) old → StandsFor o (p ∷ past) new
+  asks o past p old new t f h reply e is =
+      let fit = fits_as o past p (Asks t) h.run reply e in
+      let open_ : is_over past ≡ false = entry_not_over o past t fit.0 h.run fit.1 in
+      let still_open = over_same past p (Asks t) e refl ∙ open_ in
+      stands_as o (p ∷ past) new _ is (stands_open o past p (Asks t) old _ h reply e still_open record {
+        capacity_kept = refl;
+        queued = h.queued;
+        line_is = line_stays o past p h.run (ap keeps_line e) open_ still_open ∙ h.line_is;
+        queue_is = h.queue_is;
+        length_is = refl;
+        marks = λ q. status_is h q
+            ∙ sym (ap (λ b. status b (has_ticket q (offers_of old.blocked))) (still_live false (is_live past q) false refl refl));
+        entries_are = bare_again t (noticed f t old.entries) ∙ ap (again t) (bare_noticed f t old.entries);
+        peak_is = refl;
+        next_is = omega arith;
+        senders_are = refl;
+        receivers_are = refl;
+      })
+
+  -- a filled receiver leaves with its message
+  pub collects : (o : Opening) (past : Log T A) (p : Step T × Reply T A) (old new : State T S) (t : ℕ) → StandsFor o past old
+      → IsReply (channel o past) p.0 p.1 → change past p.0 p.1 ≡ Collects t → new ≡ unparked t old → StandsFor o (p ∷ past) new
+  collects o past p old new t h reply e is =
+      let fit = fits_as o past p (Collects t) h.run reply e in
+      let open_ : is_over past ≡ false = entry_not_over o past t fit.0 h.run fit.2 in
+      let still_open = over_same past p (Collects t) e refl ∙ open_ in
+      stands_as o (p ∷ past) new _ is (stands_open o past p (Collects t) old _ h reply e still_open record {
+        capacity_kept = refl;
+        queued = h.queued;
+        line_is = line_stays o past p h.run (ap keeps_line e) open_ still_open ∙ h.line_is;
+        queue_is = h.queue_is;
+        length_is = refl;
+        marks = λ q. status_is h q
+            ∙ sym (ap (λ b. status b (has_ticket q (offers_of old.blocked))) (still_live false (is_live past q) false refl refl));
+        entries_are = bare_without t old.entries;
+        peak_is = peak_kept h _ (fewer_without t old.entries);
+        next_is = omega arith;
+        senders_are = refl;
+        receivers_are = refl;
+      })
+
+  -- a receiver leaves with no message, and its wake is passed on
+  pub departs : (o : Opening) (past : Log T A) (p : Step T × Reply T A) (old new : State T S) (t : ℕ) (filled : Option ℕ)
+      → StandsFor o past old
+      → IsReply (channel o past) p.0 p.1 → change past p.0 p.1 ≡ Leaves t filled → filled ≡ left_fills t old.queue old.entries
+      → new ≡ departed t old → StandsFor o (p ∷ past) new
+  departs o past p old new t filled h reply e fills is =
+      let fit = fits_as o past p (Leaves t filled) h.run reply e in
+      let open_ : is_over past ≡ false = entry_not_over o past t fit.0.entry h.run fit.0.found in
+      let still_open = over_same past p (Leaves t filled) e refl ∙ open_ in
+      let n = how_many filled in
+      let few : n ≤ length h.queued =
+      let long = queued_length h in
+      let within : how_many (left_fills t old.queue old.entries) ≤ length old.queue = left_within t old.queue old.entries in
+      let same : n ≡ how_many (left_fills t old.queue old.entries) = ap how_many fills in omega arith in
+      let rest : unfilled (left_fills t old.queue old.entries) old.queue ≡ drop n old.queue =
+      ap (λ f. unfilled f old.queue) (sym fills) ∙ unfilled_is filled old.queue in
+      stands_as o (p ∷ past) new _ (is ∙ departed_is t old) (stands_open o past p (Leaves t filled) old _ h reply e still_open record {
+        capacity_kept = refl;
+        queued = drop n h.queued;
+        line_is = line_leaves o past p t filled h.run e open_ ∙ ap (drop n) h.line_is
+            ∙ drop-append-le n h.queued (offers_of old.blocked) few;
+        queue_is = rest ∙ ap (drop n) h.queue_is ∙ drop-map (λ offer. offer.message) n h.queued;
+        length_is = ap length rest ∙ length-drop n old.queue;
+        marks = λ q. status_is h q
+            ∙ sym (ap (λ b. status b (has_ticket q (offers_of old.blocked))) (still_live false (is_live past q) false refl refl));
+        entries_are = bare_left tell_now t old.queue old.entries;
+        peak_is = peak_kept h _ (fewer_left tell_now t old.queue old.entries);
+        next_is = omega arith;
+        senders_are = refl;
+        receivers_are = refl;
+      })

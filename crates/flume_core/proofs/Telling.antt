@@ -1,0 +1,85 @@
+-- Signals, and what is due, are no matter of the log: it stands where they change.
+use Rattle.std.proofs.Common.{◌≡◌, ℕ, Bool, true, false, List, [], ◌∷◌}
+use Rattle.std.proofs.Common.{map, Option}
+use Rattle.std.proofs.Common.{Some}
+use Rattle.std.proofs.Common.{None, IfSome, IfNone, refl, sym, ◌∙◌, ap, subst, eqb, eqb-true}
+use Rattle.std.proofs.lemmas.Bool.{eqb-false}
+use Rattle.std.proofs.lemmas.List.{map-append}
+use Rattle.std.specs.Option.{option_map}
+use Rattle.std.specs.FinMap.{get}
+use Rattle.flume_core.specs.declared.sends.LiveSend.{LiveSend}
+use Rattle.flume_core.specs.Log.{Log, Opening}
+use Rattle.flume_core.specs.Messages.{Blocked}
+use Rattle.flume_core.specs.Sends.{SendMap, changed, with_signal, told, due_now}
+use Rattle.flume_core.specs.State.{State, bare}
+use Rattle.flume_core.specs.StandsFor.{StandsFor}
+use Rattle.flume_core.specs.Waits.{Entries, Tells}
+use Rattle.flume_core.specs.Effects.{resignalled, all_due}
+use Rattle.flume_core.proofs.Views.{mark, SameMarks}
+use Rattle.flume_core.proofs.SendsLaws.{get-changed_same, get-changed_other}
+
+module _ {S : Type 0} where
+  -- a change of a send that keeps its mark
+  mark_kept : (f : LiveSend S → LiveSend S) → ((x : LiveSend S) → (f x).accepted ≡ x.accepted)
+      → (found : Option (LiveSend S))
+      → option_map (λ x. x.accepted) (option_map f found) ≡ option_map (λ x. x.accepted) found
+  mark_kept f keeps None = refl
+  mark_kept f keeps (Some x) = ap (λ (b : Bool). Some b) (keeps x)
+
+  -- keeps all marks
+  pub same_marks_changed : (m : SendMap S) (k : ℕ) (f : LiveSend S → LiveSend S) → ((x : LiveSend S) → (f x).accepted ≡ x.accepted)
+      → SameMarks (changed m k f) m
+  same_marks_changed m k f keeps t = go (eqb t k) refl
+    where
+      go : (b : Bool) → eqb t k ≡ b → mark (changed m k f) t ≡ mark m t
+      go true e =
+          let same : t ≡ k = eqb-true t k e in
+          rw (same, get-changed_same m k f) (mark_kept f keeps (get m k))
+      go false e = rw (get-changed_other m k f t (eqb-false t k e)) refl
+
+  -- so does a replaced signal
+  pub same_marks_signal : (m : SendMap S) (k : ℕ) (signal : Option S) → SameMarks (resignalled m k signal) m
+  same_marks_signal m k None t = refl
+  same_marks_signal m k (Some signal) t = same_marks_changed m k (with_signal signal) (λ x. refl) t
+
+  -- naming what is due keeps all marks
+  pub same_marks_told : (m n : SendMap S) (named : Option ℕ) → IfSome named (λ t. n ≡ changed m t told) → IfNone named (n ≡ m)
+      → SameMarks n m
+  same_marks_told m n None some none t = rw none refl
+  same_marks_told m n (Some k) some none t = rw some (same_marks_changed m k told (λ x. refl) t)
+
+module _ {T S : Type 0} where
+  -- and so do all marks of what is due
+  pub same_marks_due : (some : List (Blocked T)) (m : SendMap S) → SameMarks (all_due some m) m
+  same_marks_due [] m t = refl
+  same_marks_due (b ∷ some) m t =
+      same_marks_due some (changed m b.ticket due_now) t ∙ same_marks_changed m b.ticket due_now (λ x. refl) t
+
+module _ {T S : Type 0} where
+  -- telling one receiver changes nothing that a log knows
+  pub told_bare : (old new : Entries T S) (named : Option ℕ) → IfSome named (λ t. Tells old new t) → IfNone named (new ≡ old)
+      → map bare new ≡ map bare old
+  told_bare old new None some none = ap (map bare) none
+  told_bare old new (Some t) some none =
+      ap (map bare) some.told ∙ map-append bare some.before _ ∙ sym (ap (map bare) some.found ∙ map-append bare some.before _)
+
+module _ {T A S : Type 0} where
+  -- what a log knows of a state doesn't change where no mark does
+  pub stands_told : (o : Opening) (log : Log T A) (old new : State T S) (m : SendMap S) (es : Entries T S) → StandsFor o log old
+      → new ≡ record old { sends = m; entries = es } → SameMarks m old.sends → map bare es ≡ map bare old.entries → StandsFor o log new
+  stands_told o log old new m es h e marks same =
+      let P : State T S → Type 0 = λ s. StandsFor o log s in
+      subst P (sym e) record {
+        run = h.run;
+        capacity_is = h.capacity_is;
+        queued = h.queued;
+        line_is = h.line_is;
+        queue_is = h.queue_is;
+        boundary_is = h.boundary_is;
+        sends_are = λ t. marks t ∙ h.sends_are t;
+        entries_are = same ∙ h.entries_are;
+        peak_is = h.peak_is;
+        next_is = h.next_is;
+        senders_are = h.senders_are;
+        receivers_are = h.receivers_are;
+      }

@@ -1,0 +1,14 @@
+-- All queued messages are handed out, and blocked ones move in.
+use Rattle.std.proofs.Common.{◌≡◌, refl, ◌∙◌, sym, rules}
+use Rattle.flume_core.proofs.Views.{queue_at_log, some_queued}
+use Rattle.flume_core.proofs.Moves.{still}
+use Rattle.flume_core.proofs.Drains.{drains}
+use Rattle.flume_core.proofs.chan.Chan.drain.Goals as goal
+
+pub returns-in_default-clause-step : goal.returns-in_default-clause-step
+returns-in_default-clause-step g c o log h = still o log _ c.args.self.now _ h (some_queued h (search rules), refl) refl (search rules)
+
+pub returns-clause-step : goal.returns-clause-step
+returns-clause-step g c o log h =
+    let list : c.in-Ok.list.items ≡ c.args.self.now.queue = search rules in
+    drains o log _ c.args.self.now _ c.in-Ok.list.items h (list ∙ sym (queue_at_log h)) refl (search rules)

@@ -1,0 +1,81 @@
+-- How a parked receiver is answered that asks again.
+use Rattle.std.proofs.Common.{◌≡◌, true, [], Some, refl, rules}
+use Rattle.flume_core.specs.Limits.{IsOpen, IsClosed}
+use Rattle.flume_core.specs.Waits.{standing, looks, waits_on}
+use Rattle.flume_core.specs.Effects.{fronted}
+use Rattle.flume_core.proofs.Answering.{closed_where}
+use Rattle.flume_core.proofs.Asked.{poll_none, poll_collects, poll_waits, poll_takes, poll_waits_on, poll_ends}
+use Rattle.flume_core.proofs.AskedMarks.{looks_else}
+use Rattle.flume_core.proofs.chan.Chan.poll.Goals as goal
+
+pub returns-in_default-clause-step : goal.returns-in_default-clause-step
+returns-in_default-clause-step g c o log h = poll_none o log c.args.self.now _ c.args.ticket h (search rules) refl
+
+pub returns-in-Filled-clause-step : goal.returns-in-Filled-clause-step
+returns-in-Filled-clause-step g c o log h =
+    poll_collects o log c.args.self.now _ c.args.ticket c.collect.result h (search rules) c.collect.ensures.got (search rules)
+
+pub returns-in-BlockWaiting-clause-step : goal.returns-in-BlockWaiting-clause-step
+returns-in-BlockWaiting-clause-step g c o log h =
+    poll_waits o log c.args.self.now _ c.args.ticket (waits_on c.args.signal) h (search rules) (search rules)
+
+pub returns-in-Some-take_front : goal.returns-in-Some-take_front
+returns-in-Some-take_front g c =
+    let st = c.in-Some.standing in
+    let is : standing c.args.ticket c.args.self.now.entries ≡ Some st = search rules in
+    let looking : looks (Some st) ≡ true = looks_else st c.in_default-standing.not-Filled c.in_default-standing.not-BlockWaiting in
+    let front = c.in-Some-take_front.ensures.some in
+    record {
+      step = λ o log h. poll_takes o log c.args.self.now _ c.args.ticket st c.in-Some-take_front.message front.0 h is looking front.1
+          (search rules);
+      no_ticket = search (rules, is);
+      collected = search (rules, is, looking);
+      got = search (rules, is, front);
+      ended = search (rules, is, front);
+      waiting = search (rules, is, front);
+      left = search rules;
+      waits = search rules;
+      never_refused = search rules;
+      unchanged = search rules;
+    }
+
+pub returns-then-is_open : goal.returns-then-is_open
+returns-then-is_open g c =
+    let st = c.in-Some.standing in
+    let is : standing c.args.ticket c.args.self.now.entries ≡ Some st = search rules in
+    let looking : looks (Some st) ≡ true = looks_else st c.in_default-standing.not-Filled c.in_default-standing.not-BlockWaiting in
+    let none : (fronted c.args.self.now).queue ≡ [] = search rules in
+    let open_ : IsOpen c.args.self.now.senders c.args.self.now.receivers = search rules in
+    record {
+      step = λ o log h. poll_waits_on o log c.args.self.now _ c.args.ticket st (waits_on c.args.signal) h is looking none open_
+          (search rules);
+      no_ticket = search (rules, is);
+      collected = search (rules, is, looking);
+      got = search (rules, none);
+      ended = search (rules, open_);
+      waiting = search (rules, is, looking, none, open_);
+      left = search rules;
+      waits = search rules;
+      never_refused = search rules;
+      unchanged = search rules;
+    }
+
+pub returns : goal.returns
+returns g c =
+    let st = c.in-Some.standing in
+    let is : standing c.args.ticket c.args.self.now.entries ≡ Some st = search rules in
+    let looking : looks (Some st) ≡ true = looks_else st c.in_default-standing.not-Filled c.in_default-standing.not-BlockWaiting in
+    let none : (fronted c.args.self.now).queue ≡ [] = search rules in
+    let closed : IsClosed c.args.self.now.senders c.args.self.now.receivers = closed_where _ _ (search rules) in
+    record {
+      step = λ o log h. poll_ends o log c.args.self.now _ c.args.ticket st h is looking none closed (search rules);
+      no_ticket = search (rules, is);
+      collected = search (rules, is, looking);
+      got = search (rules, none);
+      ended = search (rules, is, looking, none, closed);
+      waiting = search (rules, is, closed);
+      left = search rules;
+      waits = search rules;
+      never_refused = search rules;
+      unchanged = search rules;
+    }

@@ -1,0 +1,22 @@
+-- A receive that does not park, and one that does.
+use Rattle.std.proofs.Common.{◌≡◌, ◌<◌, refl, ap, ◌∙◌, rules, arith}
+use Rattle.flume_core.specs.Limits.{most}
+use Rattle.flume_core.proofs.Receives.{parks}
+use Rattle.flume_core.proofs.Views.{open_at_log}
+use Rattle.flume_core.proofs.Answering.{empty_line}
+use Rattle.flume_core.proofs.AsTries.{recv_as_try}
+use Rattle.flume_core.proofs.chan.Chan.recv.Goals as goal
+
+pub returns-in_default-clause-step : goal.returns-in_default-clause-step
+returns-in_default-clause-step g c o log h =
+    recv_as_try o log c.args.kind c.try_recv.result _ (c.try_recv.ensures.step o log h) c.in_default.not-Empty
+
+pub returns-clause-step : goal.returns-clause-step
+returns-clause-step g c o log h =
+    let same = c.self.view_is ∙ c.in-Empty.ensures.unchanged tt in
+    let next : c.self.inside.next ≡ c.args.self.now.next = ap (λ s. s.next) same in
+    let found = c.in-Empty.ensures.empty.0 refl in
+    let some_left : c.args.self.now.next < most = rw (← next) (search rules) in
+    parks o log _ c.args.self.now _ c.args.kind c.args.signal h
+    (empty_line o log c.args.self.now h found.0, open_at_log h found.1, omega (arith, h.next_is, some_left), next ∙ h.next_is)
+    (rw next refl) (search rules)

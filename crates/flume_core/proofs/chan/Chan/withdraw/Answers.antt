@@ -1,0 +1,36 @@
+-- How a parked receiver is answered that leaves.
+use Rattle.std.proofs.Common.{refl, rules, inl, inr}
+use Rattle.flume_core.specs.declared.entries.Standing.TheVariants.{Waiting, Woken}
+use Rattle.flume_core.proofs.Asked.{withdraw_none, withdraw_collects, withdraw_takes, withdraw_leaves, withdraw_passes}
+use Rattle.flume_core.proofs.AskedMarks.{blocks_else}
+use Rattle.flume_core.proofs.chan.Chan.withdraw.Goals as goal
+
+pub returns-in_default-clause-step : goal.returns-in_default-clause-step
+returns-in_default-clause-step g c o log h = withdraw_none o log c.args.self.now _ c.args.ticket h (search rules) refl
+
+pub returns-in-Filled-clause-step : goal.returns-in-Filled-clause-step
+returns-in-Filled-clause-step g c o log h =
+    withdraw_collects o log c.args.self.now _ c.args.ticket c.collect.result h (search rules) c.collect.ensures.got (search rules)
+
+pub returns-in-Waiting-clause-step : goal.returns-in-Waiting-clause-step
+returns-in-Waiting-clause-step g c o log h =
+    rw c.pass_on.ensures.gone
+    (withdraw_passes o log c.args.self.now _ c.args.ticket Waiting _ _ h (search rules) (inl refl) refl refl (search rules))
+
+pub returns-in-Woken-clause-step : goal.returns-in-Woken-clause-step
+returns-in-Woken-clause-step g c o log h =
+    rw c.pass_on-in-Woken.ensures.gone
+    (withdraw_passes o log c.args.self.now _ c.args.ticket Woken _ _ h (search rules) (inr refl) refl refl (search rules))
+
+pub returns-in-Some-front-clause-step : goal.returns-in-Some-front-clause-step
+returns-in-Some-front-clause-step g c o log h =
+    let else_ = c.in_default-standing in
+    let front = c.in-Some-front.ensures.some in
+    withdraw_takes o log c.args.self.now _ c.args.ticket c.in-Some.standing c.in-Some-front.message front.0 h (search rules)
+    (blocks_else c.in-Some.standing else_.not-Filled else_.not-Waiting else_.not-Woken) front.1 (search rules)
+
+pub returns-clause-step : goal.returns-clause-step
+returns-clause-step g c o log h =
+    let else_ = c.in_default-standing in
+    withdraw_leaves o log c.args.self.now _ c.args.ticket c.in-Some.standing _ h (search rules)
+    (blocks_else c.in-Some.standing else_.not-Filled else_.not-Waiting else_.not-Woken) (search rules) (search rules) (search rules)

@@ -1,0 +1,73 @@
+-- What holds of the state of a channel that some run led to.
+use Rattle.std.specs.Prelude.{◌≡◌, ℕ, ◌+◌, ◌<◌, ◌≤◌, Bool, true, false, [], length}
+use Rattle.std.specs.Prelude.{Option, Some, None}
+use Rattle.std.specs.List.{All}
+use Rattle.std.specs.Option.{option_map}
+use Rattle.std.specs.FinMap.{get}
+use Rattle.flume_core.specs.Limits.{IsAtCapacity, IsOpen, IsClosed}
+use Rattle.flume_core.specs.Entries.{some_wait, waiting_count, woken_count, entry_of}
+use Rattle.flume_core.specs.Laws.{Rising}
+use Rattle.flume_core.specs.WaitLaws.{IsWithin, Apart, block_woken}
+use Rattle.flume_core.specs.State.{State, offers_of}
+
+module _ {T S : Type 0} where
+  -- how a send ticket stands: none where it isn't live, else whether its message was accepted
+  abbrev pub accepted_at : State T S → ℕ → Option Bool
+  accepted_at s t = option_map (λ send. send.accepted) (get s.sends t)
+
+  -- a sender is blocked only where the channel has a capacity and the queue is at or past it, and
+  -- only while no receiver waits
+  abbrev pub SendersBlockAtCapacity : State T S → Type 0
+  SendersBlockAtCapacity s =
+      0 < length s.blocked
+      → IsAtCapacity s.capacity (length s.queue) × (some_wait s.entries ≡ false)
+
+  -- a receiver waits only while the channel is open and no sender is blocked
+  abbrev pub ReceiversWaitWhileOpen : State T S → Type 0
+  ReceiversWaitWhileOpen s =
+      some_wait s.entries ≡ true → IsOpen s.senders s.receivers × (s.blocked ≡ [])
+
+  -- while a receiver waits, at least as many stand woken as messages are queued
+  abbrev pub WokenCoverQueued : State T S → Type 0
+  WokenCoverQueued s = some_wait s.entries ≡ true → length s.queue ≤ woken_count s.entries
+
+  -- the queued messages and the waiting receivers are together at most the greater of the capacity
+  -- and the peak
+  abbrev pub QueuedAndWaitingAreBounded : State T S → Type 0
+  QueuedAndWaitingAreBounded s =
+      IsWithin s.capacity s.peak (length s.queue + waiting_count s.entries)
+
+  -- the tickets of parked receivers are below the next one, and each is another
+  abbrev pub ReceiverTicketsApart : State T S → Type 0
+  ReceiverTicketsApart s = Apart s.next s.entries
+
+  -- the ticket of a live send is below the next one, and no parked receiver has it
+  abbrev pub SendTicketsApart : State T S → Type 0
+  SendTicketsApart s =
+      (t : ℕ) (accepted : Bool) → accepted_at s t ≡ Some accepted
+      → (t < s.next) × (entry_of t s.entries ≡ None)
+
+  -- the tickets of blocked messages rise, and are below the next one
+  abbrev pub BlockedTicketsRise : State T S → Type 0
+  BlockedTicketsRise s = Rising s.next (offers_of s.blocked)
+
+  -- each blocked message is that of a live send, which wasn't accepted
+  abbrev pub BlockedSendsAreLive : State T S → Type 0
+  BlockedSendsAreLive s = All (λ b. accepted_at s b.ticket ≡ Some false) s.blocked
+
+  -- a live send that was accepted has a ticket below that of each blocked message
+  abbrev pub AcceptedBeforeBlocked : State T S → Type 0
+  AcceptedBeforeBlocked s =
+      (t : ℕ) → accepted_at s t ≡ Some true → All (λ b. t < b.ticket) s.blocked
+
+  -- once all senders and all receivers are gone, no message and no ticket is left
+  abbrev pub EmptyOnceOver : State T S → Type 0
+  EmptyOnceOver s =
+      s.senders + s.receivers ≡ 0
+      → (s.queue ≡ []) × (s.blocked ≡ []) × (s.entries ≡ []) × ((t : ℕ) → get s.sends t ≡ None)
+
+  -- a receiver that blocks stands woken only in a closed channel, and only where no sender is
+  -- blocked
+  abbrev pub BlockingWokenByClosing : State T S → Type 0
+  BlockingWokenByClosing s =
+      block_woken s.entries ≡ true → IsClosed s.senders s.receivers × (s.blocked ≡ [])

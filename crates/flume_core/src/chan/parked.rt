@@ -1,0 +1,172 @@
+//! The steps of parked receivers, and wake rounds.
+ghost use Rattle.std.specs.Prelude.{◌≡◌, ◌≢◌, ◌↔◌, ◌⊎◌, ℕ, Bool, true, List, [], ◌∷◌, Option, Some};
+ghost use Rattle.std.specs.Prelude.{None};
+ghost use Rattle.flume_core.specs.Log.{Log, Opening};
+ghost use Rattle.flume_core.specs.Limits.{IsOpen, IsClosed, is_closed};
+ghost use Rattle.flume_core.specs.Entries.{entry_of, again, passes_on, left_fills};
+ghost use Rattle.flume_core.specs.Entries.{round_for_fills};
+ghost use Rattle.flume_core.specs.Waits.{standing, looks, blocks, held_by, noticed, waits_on};
+ghost use Rattle.flume_core.specs.declared.entries.Standing.TheVariants.{BlockWaiting, Filled};
+ghost use Rattle.flume_core.specs.Effects.{fronted, taken, unparked, departed, rounded};
+ghost use Rattle.flume_core.specs.Effects.{waiting_so, Departs};
+ghost use Rattle.flume_core.specs.State.{State};
+ghost use Rattle.flume_core.specs.StandsFor.{StandsFor, IsRefusalOf};
+
+use super::Chan;
+use crate::entries::Standing;
+use crate::step::{Reply, Step};
+use std::alloc::Allocator;
+
+impl<T: Drop, S: Drop, A: Allocator + Copy> Chan<T, S, A> {
+    /// Asks again, as the parked receiver with this ticket. `Got`: the message that filled it, or
+    /// else the front of the line, where it doesn't block or was woken. `Ended`: there is none, and
+    /// the channel is closed. After both the ticket is spent. `Waiting`: it waits on; one that was
+    /// woken goes behind all others, one that waits keeps its place; a signal given here replaces
+    /// the one that it left. `NoTicket`: nobody is parked under this ticket, and nothing changes.
+    /// Takes no memory.
+    ///
+    /// ```
+    /// let mut chan: Chan<u64, u32> = Chan::new(alloc, None);
+    /// chan.recv(Kind::Plain, 10);        // Parked(1)
+    /// chan.poll(1, Some(11));            // Waiting, with the signal 11 from here on
+    /// ```
+    pub fn poll(&mut self, ticket: u64, signal: Option<S>) -> Reply<T, A>
+        ensures step { (opening : Opening) (log : Log T A) → StandsFor opening log self.old
+            → StandsFor opening ((Step.Poll ticket, result) ∷ log) self.new }
+        ensures no_ticket { (result ≡ Reply.NoTicket)
+            ↔ (entry_of ticket self.old.entries ≡ None) }
+        ensures collected { (message : T)
+            → held_by (entry_of ticket self.old.entries) ≡ Some message
+            → (result ≡ Reply.Got message) × (self.new ≡ unparked ticket self.old) }
+        ensures got { (message : T) (rest : List T)
+            → looks (standing ticket self.old.entries) ≡ true
+            → (fronted self.old).queue ≡ message ∷ rest
+            → (result ≡ Reply.Got message) × (self.new ≡ unparked ticket (taken rest self.old)) }
+        ensures ended { (result ≡ Reply.Ended) ↔ (looks (standing ticket self.old.entries) ≡ true)
+            × ((fronted self.old).queue ≡ []) × IsClosed self.old.senders self.old.receivers }
+        ensures waiting { (result ≡ Reply.Waiting)
+            ↔ (standing ticket self.old.entries ≡ Some BlockWaiting)
+            ⊎ ((looks (standing ticket self.old.entries) ≡ true)
+            × ((fronted self.old).queue ≡ []) × IsOpen self.old.senders self.old.receivers) }
+        ensures left { result ≡ Reply.Ended → self.new ≡ unparked ticket self.old }
+        ensures waits { result ≡ Reply.Waiting → self.new ≡ waiting_so
+            (again ticket (noticed (waits_on signal) ticket self.old.entries)) self.old }
+        ensures never_refused { (back : Option T) → result ≢ Reply.NoMemory back }
+        ensures unchanged { IsRefusalOf (Step.Poll ticket) result → self.new ≡ self.old }
+    {
+        let Some(standing) = self.entries.standing(ticket) else {
+            return Reply::NoTicket;
+        };
+        match standing {
+            Standing::Filled => return self.collect(ticket),
+            Standing::BlockWaiting => {
+                self.wait_on(ticket, signal);
+                return Reply::Waiting;
+            }
+            _ => {}
+        }
+        if let Some(message) = self.take_front() {
+            self.entries.remove(ticket);
+            return Reply::Got(message);
+        }
+        if self.is_open() {
+            self.wait_on(ticket, signal);
+            return Reply::Waiting;
+        }
+        self.entries.remove(ticket);
+        Reply::Ended
+    }
+
+    /// Leaves, as the parked receiver with this ticket, which is spent. `Got`: the message that
+    /// filled it, or where it blocks, the front of the line. `Gone`: it leaves with no message; one
+    /// that was woken passes its wake on: a wake round follows where a message is queued.
+    /// `NoTicket`: nobody is parked under this ticket, and nothing changes. Takes no memory.
+    ///
+    /// ```
+    /// let mut chan: Chan<u64, u32> = Chan::new(alloc, None);
+    /// chan.recv(Kind::Plain, 10);        // Parked(1)
+    /// chan.recv(Kind::Block, 11);        // Parked(2)
+    /// chan.try_send(5);                  // Sent { filled: None }: the first one is woken
+    /// chan.withdraw(1);                  // Gone { closed: false, filled: Some(2) }
+    /// ```
+    pub fn withdraw(&mut self, ticket: u64) -> Reply<T, A>
+        ensures step { (opening : Opening) (log : Log T A) → StandsFor opening log self.old
+            → StandsFor opening ((Step.Withdraw ticket, result) ∷ log) self.new }
+        ensures no_ticket { (result ≡ Reply.NoTicket)
+            ↔ (entry_of ticket self.old.entries ≡ None) }
+        ensures collected { (message : T)
+            → held_by (entry_of ticket self.old.entries) ≡ Some message
+            → (result ≡ Reply.Got message) × (self.new ≡ unparked ticket self.old) }
+        ensures got { (message : T) (rest : List T)
+            → blocks (standing ticket self.old.entries) ≡ true
+            → (fronted self.old).queue ≡ message ∷ rest
+            → (result ≡ Reply.Got message) × (self.new ≡ unparked ticket (taken rest self.old)) }
+        ensures gone { (closed : Bool) (filled : Option ℕ) → result ≡ Reply.Gone closed filled
+            → Departs self.old self.new ticket closed filled }
+        ensures never_refused { (back : Option T) → result ≢ Reply.NoMemory back }
+        ensures unchanged { IsRefusalOf (Step.Withdraw ticket) result → self.new ≡ self.old }
+    {
+        let Some(standing) = self.entries.standing(ticket) else {
+            return Reply::NoTicket;
+        };
+        match standing {
+            Standing::Filled => return self.collect(ticket),
+            Standing::Waiting => return self.pass_on(ticket, false),
+            Standing::Woken => return self.pass_on(ticket, true),
+            _ => {}
+        }
+        let front = self.take_front();
+        self.entries.remove(ticket);
+        if let Some(message) = front {
+            return Reply::Got(message);
+        }
+        let closed = !self.is_open();
+        Reply::Gone {
+            closed,
+            filled: None,
+        }
+    }
+
+    // A wake round, and the ticket that it filled, if it filled one.
+    pub(super) fn wake(&mut self) -> Option<u64>
+        ensures fills { result ≡ round_for_fills self.old.queue self.old.entries }
+        ensures rounded { self.new ≡ rounded self.old }
+    {
+        self.entries.wake(&mut self.line)
+    }
+
+    // Hands a filled receiver its message.
+    fn collect(&mut self, ticket: u64) -> Reply<T, A>
+        requires filled { standing ticket self.old.entries ≡ Some Filled }
+        ensures got { (message : T) × (held_by (entry_of ticket self.old.entries) ≡ Some message)
+            × (result ≡ Reply.Got message) }
+        ensures left { self.new ≡ unparked ticket self.old }
+    {
+        match self.entries.remove(ticket) {
+            Some(message) => Reply::Got(message),
+            None => Reply::NoTicket,
+        }
+    }
+
+    // The receiver waits on, or again.
+    fn wait_on(&mut self, ticket: u64, signal: Option<S>)
+        ensures waits { self.new ≡ waiting_so
+            (again ticket (noticed (waits_on signal) ticket self.old.entries)) self.old }
+    {
+        self.entries.wait_on(ticket, signal);
+        self.count_waiting();
+    }
+
+    // A receiver that doesn't block leaves, and passes its wake on where it was woken.
+    fn pass_on(&mut self, ticket: u64, woken: bool) -> Reply<T, A>
+        requires woken { woken ≡ passes_on (entry_of ticket self.old.entries) }
+        ensures gone { result ≡ Reply.Gone (is_closed self.old.senders self.old.receivers)
+            (left_fills ticket self.old.queue self.old.entries) }
+        ensures left { self.new ≡ departed ticket self.old }
+    {
+        self.entries.remove(ticket);
+        let closed = !self.is_open();
+        let filled = if woken { self.wake() } else { None };
+        Reply::Gone { closed, filled }
+    }
+}
