@@ -7,15 +7,42 @@ use std::test::Fail;
 
 const SENT: Reply<u64> = Reply::Sent { filled: None };
 
-// The replies to the steps on a new channel of this capacity.
+// A message that can't be copied.
+#[derive(Debug, PartialEq, Eq, Drop)]
+struct Parcel(u64);
+
+// The replies to the steps on this channel.
+fn replies_of(
+    alloc: Global,
+    chan: &mut Chan<u64, ()>,
+    steps: &[Step<u64>],
+) -> Result<Vec<Reply<u64>>, Fail> {
+    let replies = run(alloc, chan, steps.to_vec(alloc)?);
+    Ok(replies.ok().ok_or("out of memory")?)
+}
+
+// The same on a new channel of this capacity.
 fn answers(
     alloc: Global,
     capacity: Option<usize>,
     steps: &[Step<u64>],
 ) -> Result<Vec<Reply<u64>>, Fail> {
     let mut chan: Chan<u64, ()> = Chan::new(alloc, capacity);
-    let replies = run(alloc, &mut chan, steps.to_vec(alloc)?);
-    Ok(replies.ok().ok_or("out of memory")?)
+    replies_of(alloc, &mut chan, steps)
+}
+
+// Whether the steps on a new channel of this capacity are answered so.
+fn is_answered(
+    alloc: Global,
+    capacity: Option<usize>,
+    steps: Vec<Step<Parcel>>,
+    wanted: &[Reply<Parcel>],
+) -> bool {
+    let mut chan: Chan<Parcel, ()> = Chan::new(alloc, capacity);
+    match run(alloc, &mut chan, steps) {
+        Ok(replies) => replies.as_slice() == wanted,
+        Err(_) => false,
+    }
 }
 
 #[test]
@@ -157,82 +184,71 @@ fn a_message_withdrawn_from_the_middle_leaves_the_others_in_order(
 #[test]
 fn a_second_list_goes_on_where_the_first_ended(rt: HostRuntime) -> Result<(), Fail> {
     let mut chan: Chan<u64, ()> = Chan::new(rt.alloc(), Some(1));
-    let first = vec![in rt.alloc(); Step::TrySend(1), Step::TrySend(2)]?;
-    let replies = run(rt.alloc(), &mut chan, first)
-        .ok()
-        .ok_or("out of memory")?;
-    assert_eq!(rt; replies.as_slice(), [SENT, Reply::Full(2)].as_slice());
-    let second = vec![in rt.alloc(); Step::TryRecv, Step::TrySend(3), Step::Len]?;
-    let replies = run(rt.alloc(), &mut chan, second)
-        .ok()
-        .ok_or("out of memory")?;
-    assert_eq!(rt;
-        replies.as_slice(),
-        [Reply::Got(1), SENT, Reply::Number(1)].as_slice()
-    );
+    let first = replies_of(rt.alloc(), &mut chan, &[Step::TrySend(1), Step::TrySend(2)])?;
+    assert_eq!(rt; first.as_slice(), [SENT, Reply::Full(2)].as_slice());
+    let steps = [Step::TryRecv, Step::TrySend(3), Step::Len];
+    let second = replies_of(rt.alloc(), &mut chan, &steps)?;
+    let wanted = [Reply::Got(1), SENT, Reply::Number(1)];
+    assert_eq!(rt; second.as_slice(), wanted.as_slice());
     Ok(())
 }
 
 #[test]
-fn messages_may_be_texts(rt: HostRuntime) -> Result<(), Fail> {
-    let mut chan: Chan<String, ()> = Chan::new(rt.alloc(), Some(1));
+fn messages_need_not_be_copied(rt: HostRuntime) -> Result<(), Fail> {
     let steps = vec![in rt.alloc();
-        Step::TrySend("one".to_string(rt.alloc())?),
-        Step::TrySend("two".to_string(rt.alloc())?),
+        Step::TrySend(Parcel(1)),
+        Step::TrySend(Parcel(2)),
         Step::TryRecv,
         Step::TryRecv,
         Step::DropSender,
         Step::TryRecv,
     ]?;
-    let replies = run(rt.alloc(), &mut chan, steps)
-        .ok()
-        .ok_or("out of memory")?;
     let wanted = [
         Reply::Sent { filled: None },
-        Reply::Full("two".to_string(rt.alloc())?),
-        Reply::Got("one".to_string(rt.alloc())?),
+        Reply::Full(Parcel(2)),
+        Reply::Got(Parcel(1)),
         Reply::Empty,
         Reply::Done,
         Reply::Ended,
     ];
-    assert_eq!(rt; replies.as_slice(), wanted.as_slice());
+    assert!(rt; is_answered(rt.alloc(), Some(1), steps, &wanted));
     Ok(())
 }
 
 #[test]
-fn blocked_messages_may_be_texts(rt: HostRuntime) -> Result<(), Fail> {
-    let mut chan: Chan<String, ()> = Chan::new(rt.alloc(), Some(1));
+fn blocked_messages_need_not_be_copied(rt: HostRuntime) -> Result<(), Fail> {
     let steps = vec![in rt.alloc();
-        Step::Send("one".to_string(rt.alloc())?),
-        Step::Send("two".to_string(rt.alloc())?),
+        Step::Send(Parcel(1)),
+        Step::Send(Parcel(2)),
         Step::DropReceiver,
         Step::PollSend(1),
         Step::IsDisconnected,
     ]?;
-    let replies = run(rt.alloc(), &mut chan, steps)
-        .ok()
-        .ok_or("out of memory")?;
     let wanted = [
         Reply::Sent { filled: None },
         Reply::Pending(1),
         Reply::Done,
         Reply::Returned {
-            message: "two".to_string(rt.alloc())?,
+            message: Parcel(2),
             closed: true,
         },
         Reply::Truth(true),
     ];
-    assert_eq!(rt; replies.as_slice(), wanted.as_slice());
+    assert!(rt; is_answered(rt.alloc(), Some(1), steps, &wanted));
     Ok(())
 }
 
 #[test]
-fn a_refused_message_comes_back(rt: HostRuntime) -> Result<(), Fail> {
+fn a_refused_text_comes_back(rt: HostRuntime) -> Result<(), Fail> {
     let mut chan: Chan<String, ()> = Chan::new(rt.alloc(), Some(0));
-    let full = chan.try_send("one".to_string(rt.alloc())?);
-    assert_eq!(rt; full, Reply::Full("one".to_string(rt.alloc())?));
+    let Reply::Full(text) = chan.try_send("one".to_string(rt.alloc())?) else {
+        return Err("it wasn't full".into());
+    };
+    assert_eq!(rt; text.as_str(), "one");
     assert_eq!(rt; chan.drop_receiver(), Reply::Done);
-    let closed = chan.try_send("two".to_string(rt.alloc())?);
-    assert_eq!(rt; closed, Reply::Closed("two".to_string(rt.alloc())?));
+    let Reply::Closed(text) = chan.try_send(text) else {
+        return Err("it wasn't closed".into());
+    };
+    assert_eq!(rt; text.as_str(), "one");
     Ok(())
 }

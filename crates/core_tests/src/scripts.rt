@@ -1,5 +1,5 @@
 //! Scripts, with the bytes that they print and the status that they end with.
-use flume_core::script::run_script;
+use flume_script::run_script;
 use std::test::Fail;
 
 // The steps after the opening line, and the replies: each script is right.

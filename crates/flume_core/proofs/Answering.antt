@@ -6,26 +6,26 @@ use Rattle.std.proofs.Common.{None, refl, sym, ◌∙◌, ap, arith}
 use Rattle.std.specs.List.{All}
 use Rattle.std.specs.Option.{option_map}
 use Rattle.std.specs.FinMap.{get}
-use Rattle.flume_core.specs.declared.step.Step.{Step}
-use Rattle.flume_core.specs.declared.step.Reply.{Reply}
-use Rattle.flume_core.specs.declared.step.Reply.TheVariants.{Returned, NoTicket}
-use Rattle.flume_core.specs.Log.{Log, Opening, Withdraws}
-use Rattle.flume_core.specs.Log.{change}
-use Rattle.flume_core.specs.Counts.{senders, receivers}
-use Rattle.flume_core.specs.Line.{line, blocked, is_live, messages}
-use Rattle.flume_core.specs.Channel.{TakesIn, TakesNoneIn, has_ticket, IsAccepted, IsWaiting, IsBlocked, channel}
-use Rattle.flume_core.specs.Replies.{IsReply}
-use Rattle.flume_core.specs.Limits.{is_closed}
-use Rattle.flume_core.specs.Limits.{IsOpen, IsClosed, HasRoom, IsAtCapacity}
-use Rattle.flume_core.specs.Messages.{Blocked}
+use Rattle.flume_model.specs.declared.step.Step.{Step}
+use Rattle.flume_model.specs.declared.step.Reply.{Reply}
+use Rattle.flume_model.specs.declared.step.Reply.TheVariants.{Returned, NoTicket}
+use Rattle.flume_model.specs.Log.{Log, Opening, Withdraws}
+use Rattle.flume_model.specs.Log.{change}
+use Rattle.flume_model.specs.Counts.{senders, receivers}
+use Rattle.flume_model.specs.Line.{line, blocked, is_live, messages}
+use Rattle.flume_model.specs.Channel.{TakesIn, TakesNoneIn, has_ticket, IsAccepted, IsWaiting, IsBlocked, channel}
+use Rattle.flume_model.specs.Replies.{IsReply}
+use Rattle.flume_model.specs.Limits.{is_closed}
+use Rattle.flume_model.specs.Limits.{IsOpen, IsClosed, HasRoom, IsAtCapacity}
+use Rattle.flume_lists.specs.Messages.{Blocked}
 use Rattle.flume_core.specs.State.{State}
 use Rattle.flume_core.specs.StandsFor.{StandsFor}
-use Rattle.flume_core.specs.Entries.{some_wait, round_fills, round_for_fills}
-use Rattle.flume_core.specs.Parked.{entries}
+use Rattle.flume_model.specs.Entries.{some_wait, round_fills, round_for_fills}
+use Rattle.flume_model.specs.Parked.{entries}
 use Rattle.flume_core.proofs.Bare.{bare_fills}
 use Rattle.flume_core.specs.Effects.{fronted, Returns}
 use Rattle.flume_core.proofs.Views.{open_at_log, full_at_log, room_at_log, waiting_at_log}
-use Rattle.flume_core.proofs.Views.{none_blocked_if_absent, is_blocked, line_messages, blocked_is}
+use Rattle.flume_core.proofs.Views.{live_by, none_blocked_if_absent, is_blocked, line_messages, blocked_is}
 use Rattle.flume_core.proofs.Moves.{withdraws}
 
 -- what is not open is closed
@@ -54,22 +54,12 @@ module _ {T A S : Type 0} where
   -- one that it has as accepted is accepted
   pub known : (o : Opening) (log : Log T A) (s : State T S) (t : ℕ) → StandsFor o log s
       → option_map (λ x. x.accepted) (get s.sends t) ≡ Some true → IsAccepted (channel o log) t
-  known o log s t h e = go (is_live log t) (has_ticket t (blocked o log)) (sym (h.sends_are t) ∙ e)
-    where
-      go : (b c : Bool) → cond b (Some (not c)) None ≡ Some true → (b ≡ true) × (c ≡ false)
-      go true true e = (refl, cc)
-      go true false e = (refl, refl)
-      go false c e = (cc, cc)
+  known o log s t h e = live_by (is_live log t) (has_ticket t (blocked o log)) true (sym (h.sends_are t) ∙ e)
 
   -- one that it has as not accepted waits
   pub waits : (o : Opening) (log : Log T A) (s : State T S) (t : ℕ) → StandsFor o log s
       → option_map (λ x. x.accepted) (get s.sends t) ≡ Some false → IsWaiting (channel o log) t
-  waits o log s t h e = go (is_live log t) (has_ticket t (blocked o log)) (sym (h.sends_are t) ∙ e)
-    where
-      go : (b c : Bool) → cond b (Some (not c)) None ≡ Some false → (b ≡ true) × (c ≡ true)
-      go true true e = (refl, refl)
-      go true false e = (refl, cc)
-      go false c e = (cc, cc)
+  waits o log s t h e = live_by (is_live log t) (has_ticket t (blocked o log)) false (sym (h.sends_are t) ∙ e)
 
 module _ {T A S : Type 0} where
   -- a send that waits gets its message back, and it is answered so

@@ -3,33 +3,34 @@ use Rattle.std.proofs.Common.{◌≡◌, ℕ, Bool, true, false, ◌&&◌, eqb, 
 use Rattle.std.proofs.Common.{◌⊎◌, inl, inr, ⊎_elim}
 use Rattle.std.specs.Option.{option_map}
 use Rattle.std.proofs.lemmas.Bool.{or_left, or_right}
-use Rattle.flume_core.specs.declared.step.Step.TheVariants.{Poll, Withdraw}
-use Rattle.flume_core.specs.declared.step.Reply.{Reply}
-use Rattle.flume_core.specs.declared.step.Reply.TheVariants.{NoTicket, Got, Ended, Waiting as WaitsOn, Gone}
-use Rattle.flume_core.specs.declared.entries.Entry.{Entry}
-use Rattle.flume_core.specs.declared.entries.Mark.TheVariants.{Filled}
-use Rattle.flume_core.specs.declared.entries.Notice.{Notice}
-use Rattle.flume_core.specs.declared.entries.Standing.{Standing}
-use Rattle.flume_core.specs.declared.entries.Standing.TheVariants.{Filled as IsFilled, BlockWaiting}
-use Rattle.flume_core.specs.declared.entries.Standing.TheVariants.{Waiting as Waits, Woken as IsWoken}
-use Rattle.flume_core.specs.Log.{Log, Opening, was_filled}
-use Rattle.flume_core.specs.Counts.{senders, receivers}
-use Rattle.flume_core.specs.Limits.{IsOpen, IsClosed, is_closed}
-use Rattle.flume_core.specs.Line.{queue}
-use Rattle.flume_core.specs.Entries.{is_woken, is_filled, entry_of, again, left_fills}
-use Rattle.flume_core.specs.Parked.{LogEntry, entries}
-use Rattle.flume_core.specs.Channel.{channel}
-use Rattle.flume_core.specs.WaitLaws.{is_block, block_woken}
-use Rattle.flume_core.specs.Waits.{standing_of, standing, looks, blocks, held_by, held_in, noticed}
+use Rattle.flume_model.specs.declared.step.Step.TheVariants.{Poll, Withdraw}
+use Rattle.flume_model.specs.declared.step.Reply.{Reply}
+use Rattle.flume_model.specs.declared.step.Reply.TheVariants.{NoTicket, Got, Ended, Waiting as WaitsOn, Gone}
+use Rattle.flume_model.specs.declared.entry.Entry.{Entry}
+use Rattle.flume_model.specs.declared.entry.Mark.TheVariants.{Filled}
+use Rattle.flume_lists.specs.declared.entries.Notice.{Notice}
+use Rattle.flume_lists.specs.declared.entries.Standing.{Standing}
+use Rattle.flume_lists.specs.declared.entries.Standing.TheVariants.{Filled as IsFilled, BlockWaiting}
+use Rattle.flume_lists.specs.declared.entries.Standing.TheVariants.{Waiting as Waits, Woken as IsWoken}
+use Rattle.flume_model.specs.Log.{Log, Opening, was_filled}
+use Rattle.flume_model.specs.Counts.{senders, receivers}
+use Rattle.flume_model.specs.Limits.{IsOpen, IsClosed, is_closed}
+use Rattle.flume_model.specs.Line.{queue}
+use Rattle.flume_model.specs.Entries.{is_woken, is_filled, entry_of, again, left_fills}
+use Rattle.flume_model.specs.Parked.{LogEntry, entries}
+use Rattle.flume_model.specs.Channel.{channel}
+use Rattle.flume_model.specs.WaitLaws.{is_block, block_woken}
+use Rattle.flume_lists.specs.Waits.{standing_of, standing, looks, blocks, noticed}
+use Rattle.flume_model.specs.Entries.{held_by, held_in}
 use Rattle.flume_core.specs.State.{State, bare}
 use Rattle.flume_core.specs.StandsFor.{StandsFor}
 use Rattle.flume_core.specs.Effects.{fronted, taken, unparked, departed, waiting_so}
-use Rattle.flume_core.proofs.Fits.{fills_none}
-use Rattle.flume_core.proofs.EntryShape.{told_filled}
-use Rattle.flume_core.proofs.WokenBlocks.{woken_block_while_closed}
+use Rattle.flume_model.proofs.Fits.{fills_none}
+use Rattle.flume_model.proofs.EntryShape.{told_filled}
+use Rattle.flume_model.proofs.WokenBlocks.{woken_block_while_closed}
 use Rattle.flume_core.proofs.Bare.{bare_left_fills}
-use Rattle.flume_core.proofs.Views.{entry_at_log, queue_at_log, open_at_log, closed_at_log}
-use Rattle.flume_core.proofs.Moves.{still}
+use Rattle.flume_core.proofs.Views.{entry_at_log, queue_at_log, open_at_log, closed_at_log, none_mapped}
+use Rattle.flume_core.proofs.Keeping.{still}
 use Rattle.flume_core.proofs.Takes.{takes}
 use Rattle.flume_core.proofs.Receives.{asks, collects, departs, departed_empty}
 use Rattle.flume_core.proofs.Answering.{empty_line, front_line, fronted_empty, closed_as}
@@ -53,12 +54,7 @@ module _ {T : Type 0} where
       by_case false f rest = or_right _ _ (rest (simp f at found) woken)
 
 module _ {T S : Type 0} where
-  -- where none stands, there is no entry
-  none_found : (found : Option (Entry T (Notice S))) → option_map standing_of found ≡ None → found ≡ None
-  none_found None e = refl
-  none_found (Some x) e = absurd (let no : ⊥ = cc in no)
-
-  -- and where one stands, there is
+  -- where one stands, there is an entry
   one_found : (found : Option (Entry T (Notice S))) (st : Standing) → option_map standing_of found ≡ Some st
       → (e : Entry T (Notice S)) × (found ≡ Some e) × (standing_of e ≡ st)
   one_found None st e = absurd (let no : ⊥ = cc in no)
@@ -79,13 +75,13 @@ module _ {T A S : Type 0} where
   pub poll_none : (o : Opening) (log : Log T A) (s new : State T S) (t : ℕ) → StandsFor o log s
       → standing t s.entries ≡ None → new ≡ s → StandsFor o ((Poll t, NoTicket) ∷ log) new
   poll_none o log s new t h none is =
-      let found = none_found (entry_of t s.entries) none in
+      let found = none_mapped standing_of (entry_of t s.entries) none in
       still o log _ s new h (rw (entry_at_log h t, found) tt) refl is
 
   pub withdraw_none : (o : Opening) (log : Log T A) (s new : State T S) (t : ℕ) → StandsFor o log s
       → standing t s.entries ≡ None → new ≡ s → StandsFor o ((Withdraw t, NoTicket) ∷ log) new
   withdraw_none o log s new t h none is =
-      let found = none_found (entry_of t s.entries) none in
+      let found = none_mapped standing_of (entry_of t s.entries) none in
       still o log _ s new h (rw (entry_at_log h t, found) tt) refl is
 
   -- a filled one gets its message

@@ -1,20 +1,20 @@
 -- How a parked receiver may be answered, by its kind and its mark.
 use Rattle.std.proofs.Common.{◌≡◌, ◌≢◌, ℕ, Bool, true, false, ◌&&◌, [], Option, Some, None, refl, ◌∙◌, ap}
 use Rattle.std.proofs.Common.{◌⊎◌, inl, inr}
-use Rattle.flume_core.specs.declared.step.Kind.{Kind}
-use Rattle.flume_core.specs.declared.step.Kind.TheVariants.{Block, Plain, Stream, Arm}
-use Rattle.flume_core.specs.declared.step.Reply.TheVariants.{Got, Ended, Waiting as WaitsOn, Gone}
-use Rattle.flume_core.specs.declared.entries.Mark.{Mark}
-use Rattle.flume_core.specs.declared.entries.Mark.TheVariants.{Waiting, Woken, Filled}
-use Rattle.flume_core.specs.declared.entries.Standing.{Standing}
-use Rattle.flume_core.specs.declared.entries.Standing.TheVariants.{Filled as IsFilled, BlockWaiting, BlockWoken}
-use Rattle.flume_core.specs.declared.entries.Standing.TheVariants.{Waiting as Waits, Woken as IsWoken}
-use Rattle.flume_core.specs.Limits.{IsOpen, IsClosed, is_closed}
-use Rattle.flume_core.specs.Entries.{is_woken, is_filled, left_fills}
-use Rattle.flume_core.specs.Channel.{Channel, IsFront}
-use Rattle.flume_core.specs.Asking.{IsPolledMark, IsGoneMark}
-use Rattle.flume_core.specs.WaitLaws.{is_block}
-use Rattle.flume_core.specs.Waits.{standing_as, looks, blocks}
+use Rattle.flume_model.specs.declared.step.Kind.{Kind}
+use Rattle.flume_model.specs.declared.step.Kind.TheVariants.{Block}
+use Rattle.flume_model.specs.declared.step.Reply.TheVariants.{Got, Ended, Waiting as WaitsOn, Gone}
+use Rattle.flume_model.specs.declared.entry.Mark.{Mark}
+use Rattle.flume_model.specs.declared.entry.Mark.TheVariants.{Waiting, Woken, Filled}
+use Rattle.flume_lists.specs.declared.entries.Standing.{Standing}
+use Rattle.flume_lists.specs.declared.entries.Standing.TheVariants.{Filled as IsFilled, BlockWaiting, BlockWoken}
+use Rattle.flume_lists.specs.declared.entries.Standing.TheVariants.{Waiting as Waits, Woken as IsWoken}
+use Rattle.flume_model.specs.Limits.{IsOpen, IsClosed, is_closed}
+use Rattle.flume_model.specs.Entries.{is_woken, is_filled, left_fills}
+use Rattle.flume_model.specs.Channel.{Channel, IsFront}
+use Rattle.flume_model.specs.Asking.{IsPolledMark, IsGoneMark}
+use Rattle.flume_model.specs.WaitLaws.{is_block}
+use Rattle.flume_lists.specs.Waits.{standing_as, looks, blocks}
 
 -- one that neither is filled nor blocks as it waits looks
 pub looks_else : (st : Standing) → st ≢ IsFilled → st ≢ BlockWaiting → looks (Some st) ≡ true
@@ -59,13 +59,8 @@ module _ {T : Type 0} where
   pub filled_with : (k : Kind) (mark : Mark T) → standing_as k mark ≡ IsFilled → (m : T) × (mark ≡ Filled m)
   filled_with k (Filled m) e = (m, refl)
   filled_with Block Waiting e = absurd (let none : ⊥ = cc in none)
-  filled_with Plain Waiting e = absurd (let none : ⊥ = cc in none)
-  filled_with Stream Waiting e = absurd (let none : ⊥ = cc in none)
-  filled_with Arm Waiting e = absurd (let none : ⊥ = cc in none)
   filled_with Block Woken e = absurd (let none : ⊥ = cc in none)
-  filled_with Plain Woken e = absurd (let none : ⊥ = cc in none)
-  filled_with Stream Woken e = absurd (let none : ⊥ = cc in none)
-  filled_with Arm Woken e = absurd (let none : ⊥ = cc in none)
+  filled_with _ _ e = absurd (let none : ⊥ = cc in none)
 
 module _ {T : Type 0} (A : Type 0) where
   -- a filled one gets its message, asking or leaving
@@ -81,12 +76,7 @@ module _ {T : Type 0} (A : Type 0) where
   polled_got c k (Filled x) m e front = absurd (let none : ⊥ = cc in none)
   polled_got c Block Waiting m e front = absurd (let none : ⊥ = cc in none)
   polled_got c Block Woken m e front = front
-  polled_got c Plain Waiting m e front = front
-  polled_got c Plain Woken m e front = front
-  polled_got c Stream Waiting m e front = front
-  polled_got c Stream Woken m e front = front
-  polled_got c Arm Waiting m e front = front
-  polled_got c Arm Woken m e front = front
+  polled_got c _ _ m e front = front
 
   -- or be told of the end
   pub polled_ended : (c : Channel T) (k : Kind) (mark : Mark T) → looks (Some (standing_as k mark)) ≡ true → c.line ≡ []
@@ -94,12 +84,7 @@ module _ {T : Type 0} (A : Type 0) where
   polled_ended c k (Filled x) e none closed = absurd (let no : ⊥ = cc in no)
   polled_ended c Block Waiting e none closed = absurd (let no : ⊥ = cc in no)
   polled_ended c Block Woken e none closed = none
-  polled_ended c Plain Waiting e none closed = (none, closed)
-  polled_ended c Plain Woken e none closed = (none, closed)
-  polled_ended c Stream Waiting e none closed = (none, closed)
-  polled_ended c Stream Woken e none closed = (none, closed)
-  polled_ended c Arm Waiting e none closed = (none, closed)
-  polled_ended c Arm Woken e none closed = (none, closed)
+  polled_ended c _ _ e none closed = (none, closed)
 
   -- or wait on, where it wasn't woken as one that blocks
   pub polled_waits : (c : Channel T) (k : Kind) (mark : Mark T) → looks (Some (standing_as k mark)) ≡ true → c.line ≡ []
@@ -107,12 +92,7 @@ module _ {T : Type 0} (A : Type 0) where
   polled_waits c k (Filled x) e none open_ other = absurd (let no : ⊥ = cc in no)
   polled_waits c Block Waiting e none open_ other = absurd (let no : ⊥ = cc in no)
   polled_waits c Block Woken e none open_ other = absurd (let no : ⊥ = cc in no)
-  polled_waits c Plain Waiting e none open_ other = (none, open_)
-  polled_waits c Plain Woken e none open_ other = (none, open_)
-  polled_waits c Stream Waiting e none open_ other = (none, open_)
-  polled_waits c Stream Woken e none open_ other = (none, open_)
-  polled_waits c Arm Waiting e none open_ other = (none, open_)
-  polled_waits c Arm Woken e none open_ other = (none, open_)
+  polled_waits c _ _ e none open_ other = (none, open_)
 
   -- one that blocks and waits waits on
   pub polled_blocked : (c : Channel T) (k : Kind) (mark : Mark T) → standing_as k mark ≡ BlockWaiting
@@ -120,12 +100,7 @@ module _ {T : Type 0} (A : Type 0) where
   polled_blocked c k (Filled x) e = absurd (let no : ⊥ = cc in no)
   polled_blocked c Block Waiting e = tt
   polled_blocked c Block Woken e = absurd (let no : ⊥ = cc in no)
-  polled_blocked c Plain Waiting e = absurd (let no : ⊥ = cc in no)
-  polled_blocked c Plain Woken e = absurd (let no : ⊥ = cc in no)
-  polled_blocked c Stream Waiting e = absurd (let no : ⊥ = cc in no)
-  polled_blocked c Stream Woken e = absurd (let no : ⊥ = cc in no)
-  polled_blocked c Arm Waiting e = absurd (let no : ⊥ = cc in no)
-  polled_blocked c Arm Woken e = absurd (let no : ⊥ = cc in no)
+  polled_blocked c _ _ e = absurd (let no : ⊥ = cc in no)
 
   -- one that blocks may leave with the front
   pub gone_got : (c : Channel T) (t : ℕ) (k : Kind) (mark : Mark T) (m : T) → blocks (Some (standing_as k mark)) ≡ true → IsFront c m
@@ -133,12 +108,7 @@ module _ {T : Type 0} (A : Type 0) where
   gone_got c t k (Filled x) m e front = absurd (let none : ⊥ = cc in none)
   gone_got c t Block Waiting m e front = front
   gone_got c t Block Woken m e front = front
-  gone_got c t Plain Waiting m e front = absurd (let none : ⊥ = cc in none)
-  gone_got c t Plain Woken m e front = absurd (let none : ⊥ = cc in none)
-  gone_got c t Stream Waiting m e front = absurd (let none : ⊥ = cc in none)
-  gone_got c t Stream Woken m e front = absurd (let none : ⊥ = cc in none)
-  gone_got c t Arm Waiting m e front = absurd (let none : ⊥ = cc in none)
-  gone_got c t Arm Woken m e front = absurd (let none : ⊥ = cc in none)
+  gone_got c t _ _ m e front = absurd (let none : ⊥ = cc in none)
 
   -- or with none
   pub gone_none : (c : Channel T) (t : ℕ) (k : Kind) (mark : Mark T) (closed : Bool) → blocks (Some (standing_as k mark)) ≡ true
@@ -147,12 +117,7 @@ module _ {T : Type 0} (A : Type 0) where
   gone_none c t k (Filled x) closed e none is = absurd (let no : ⊥ = cc in no)
   gone_none c t Block Waiting closed e none is = (none, is, refl)
   gone_none c t Block Woken closed e none is = (none, is, refl)
-  gone_none c t Plain Waiting closed e none is = absurd (let no : ⊥ = cc in no)
-  gone_none c t Plain Woken closed e none is = absurd (let no : ⊥ = cc in no)
-  gone_none c t Stream Waiting closed e none is = absurd (let no : ⊥ = cc in no)
-  gone_none c t Stream Woken closed e none is = absurd (let no : ⊥ = cc in no)
-  gone_none c t Arm Waiting closed e none is = absurd (let no : ⊥ = cc in no)
-  gone_none c t Arm Woken closed e none is = absurd (let no : ⊥ = cc in no)
+  gone_none c t _ _ closed e none is = absurd (let no : ⊥ = cc in no)
 
   -- one of another kind leaves with none, and passes its wake on
   pub gone_other : (c : Channel T) (t : ℕ) (k : Kind) (mark : Mark T) (closed : Bool) (filled : Option ℕ)
@@ -161,9 +126,4 @@ module _ {T : Type 0} (A : Type 0) where
   gone_other c t k (Filled x) closed filled e empty is fills = absurd (let no : ⊥ = cc in no)
   gone_other c t Block Waiting closed filled e empty is fills = absurd (let no : ⊥ = cc in no)
   gone_other c t Block Woken closed filled e empty is fills = absurd (let no : ⊥ = cc in no)
-  gone_other c t Plain Waiting closed filled e empty is fills = (is, fills)
-  gone_other c t Plain Woken closed filled e empty is fills = (is, fills)
-  gone_other c t Stream Waiting closed filled e empty is fills = (is, fills)
-  gone_other c t Stream Woken closed filled e empty is fills = (is, fills)
-  gone_other c t Arm Waiting closed filled e empty is fills = (is, fills)
-  gone_other c t Arm Woken closed filled e empty is fills = (is, fills)
+  gone_other c t _ _ closed filled e empty is fills = (is, fills)

@@ -6,24 +6,24 @@ use Rattle.std.proofs.Math.Bool.{or-false}
 use Rattle.std.proofs.Math.Seq.{drop-nil}
 use Rattle.std.proofs.lemmas.Bool.{or_cases, or_from, or_left, or_right, and_from, cond-true, cond-false}
 use Rattle.std.proofs.lemmas.List.{drop-append-le, drop_at, length-map, length-drop}
-use Rattle.flume_core.specs.Log.{Log, Opening, Offer, Change, Queues, Blocks, Accepts, Withdraws, Takes, Drains, Parks, Asks, Collects}
-use Rattle.flume_core.specs.Log.{Leaves, SenderJoins, ReceiverJoins, SenderLeaves, ReceiverLeaves, Stays, capped, change}
-use Rattle.flume_core.specs.Offers.{kept, handed_out}
-use Rattle.flume_core.specs.Counts.{is_over}
-use Rattle.flume_core.specs.Line.{line, boundary, boundary_after, blocked, issues, spends, is_live, how_many, next_ticket}
-use Rattle.flume_core.specs.Entries.{some_wait}
-use Rattle.flume_core.specs.Parked.{entries}
-use Rattle.flume_core.specs.Channel.{IsFront, channel, has_ticket}
-use Rattle.flume_core.specs.Replies.{IsRun}
-use Rattle.flume_core.proofs.Tickets.{has_ticket-append}
-use Rattle.flume_core.proofs.Fits.{Fits, fits, not_over_yet}
-use Rattle.flume_core.proofs.EntryShape.{told_filled}
-use Rattle.flume_core.proofs.Kept.{open_line, line_by, line_is_open, line_more, line_left, line_drained, line_front, line_less, line_same}
-use Rattle.flume_core.proofs.Kept.{keeps_line}
-use Rattle.flume_core.proofs.Parts.{at_most, given_within, front_at}
-use Rattle.flume_core.proofs.Runs.{shape_of}
-use Rattle.flume_core.proofs.LineSteps.{apart_in_line}
-use Rattle.flume_core.proofs.Shape.{long_queued, unlike_true}
+use Rattle.flume_model.specs.Log.{Log, Opening, Offer, Change, Queues, Blocks, Accepts, Withdraws, Takes, Drains, Parks, Asks, Collects}
+use Rattle.flume_model.specs.Log.{Leaves, SenderJoins, ReceiverJoins, SenderLeaves, ReceiverLeaves, Stays, capped, change}
+use Rattle.flume_model.specs.Offers.{kept, handed_out}
+use Rattle.flume_model.specs.Counts.{is_over}
+use Rattle.flume_model.specs.Line.{line, boundary, boundary_after, blocked, issues, spends, is_live, how_many, next_ticket}
+use Rattle.flume_model.specs.Entries.{some_wait}
+use Rattle.flume_model.specs.Parked.{entries}
+use Rattle.flume_model.specs.Channel.{IsFront, channel, has_ticket}
+use Rattle.flume_model.specs.Replies.{IsRun}
+use Rattle.flume_model.proofs.Tickets.{has_ticket-append}
+use Rattle.flume_model.proofs.Fits.{Fits, fits, not_over_yet}
+use Rattle.flume_model.proofs.EntryShape.{told_filled}
+use Rattle.flume_model.proofs.Kept.{open_line, line_by, line_is_open, line_more, line_left, line_drained, line_front, line_less, line_same}
+use Rattle.flume_model.proofs.Kept.{keeps_line}
+use Rattle.flume_model.proofs.Parts.{at_most, given_within, front_at}
+use Rattle.flume_model.proofs.Runs.{shape_of}
+use Rattle.flume_model.proofs.LineSteps.{apart_in_line}
+use Rattle.flume_model.proofs.RoomAfter.{long_queued, unlike_true}
 use Rattle.flume_core.proofs.Views.{nil_by, room_or_full}
 
 module _ {T : Type 0} where

@@ -3,23 +3,24 @@ use Rattle.std.proofs.Common.{◌≡◌, ◌≢◌, ℕ, ◌+◌, ◌<◌, Bool,
 use Rattle.std.proofs.Common.{map}
 use Rattle.std.proofs.Common.{refl, sym, ◌∙◌, ap, arith, eqb, eqb-true}
 use Rattle.std.proofs.lemmas.Bool.{eqb-false}
-use Rattle.flume_core.specs.declared.step.Step.{Step}
-use Rattle.flume_core.specs.declared.step.Reply.{Reply}
-use Rattle.flume_core.specs.Log.{Log, Opening, Change, Queues, Blocks, Accepts, Withdraws, Takes, Drains, Parks, Asks, Collects, Leaves}
-use Rattle.flume_core.specs.Log.{SenderJoins, ReceiverJoins, SenderLeaves, ReceiverLeaves, Stays, change}
-use Rattle.flume_core.specs.Counts.{senders_after, receivers_after}
-use Rattle.flume_core.specs.Channel.{channel}
-use Rattle.flume_core.specs.Replies.{IsReply}
-use Rattle.flume_core.specs.Limits.{is_closed}
+use Rattle.flume_model.specs.declared.step.Step.{Step}
+use Rattle.flume_model.specs.declared.step.Reply.{Reply}
+use Rattle.flume_model.specs.Log.{Log, Opening, Change}
+use Rattle.flume_model.specs.Log.{SenderLeaves, ReceiverLeaves, change}
+use Rattle.flume_model.specs.Counts.{senders_after, receivers_after}
+use Rattle.flume_model.specs.Line.{issued}
+use Rattle.flume_model.specs.Channel.{channel}
+use Rattle.flume_model.specs.Replies.{IsReply}
+use Rattle.flume_model.specs.Limits.{is_closed}
 use Rattle.flume_core.specs.State.{State, bare}
 use Rattle.flume_core.specs.StandsFor.{StandsFor}
-use Rattle.flume_core.specs.Entries.{all_woken}
-use Rattle.flume_core.specs.Parked.{LogEntry, untold, entries_after, is_shut}
-use Rattle.flume_core.specs.Waits.{tell_now}
+use Rattle.flume_model.specs.Entries.{all_woken}
+use Rattle.flume_model.specs.Parked.{LogEntry, untold, entries_after, is_shut}
+use Rattle.flume_lists.specs.Waits.{tell_now}
 use Rattle.flume_core.proofs.Bare.{bare_all_woken}
-use Rattle.flume_core.proofs.WaitingCounts.{fewer_woken}
+use Rattle.flume_model.proofs.WaitingCounts.{fewer_woken}
 use Rattle.flume_core.specs.Effects.{all_due, after_leaving}
-use Rattle.flume_core.proofs.Moves.{counts_ends, counts_open, counts_over}
+use Rattle.flume_core.proofs.Keeping.{moves_none, counts_open, counts_over}
 use Rattle.flume_core.proofs.Telling.{same_marks_due}
 
 -- whether an end leaves by a change
@@ -28,23 +29,17 @@ leaves_end SenderLeaves = true
 leaves_end ReceiverLeaves = true
 leaves_end _ = false
 
--- then it is a change of how many ends live
-leaving_counts : {T : Type 0} (done : Change T) → leaves_end done ≡ true → counts_ends done ≡ true
-leaving_counts SenderLeaves e = refl
-leaving_counts ReceiverLeaves e = refl
-leaving_counts SenderJoins e = refl
-leaving_counts ReceiverJoins e = refl
-leaving_counts (Queues m filled) e = absurd (let no : ⊥ = cc in no)
-leaving_counts (Blocks m t) e = absurd (let no : ⊥ = cc in no)
-leaving_counts (Accepts t) e = absurd (let no : ⊥ = cc in no)
-leaving_counts (Withdraws t) e = absurd (let no : ⊥ = cc in no)
-leaving_counts (Takes m receiver) e = absurd (let no : ⊥ = cc in no)
-leaving_counts (Drains list) e = absurd (let no : ⊥ = cc in no)
-leaving_counts (Parks t kind) e = absurd (let no : ⊥ = cc in no)
-leaving_counts (Asks t) e = absurd (let no : ⊥ = cc in no)
-leaving_counts (Collects t) e = absurd (let no : ⊥ = cc in no)
-leaving_counts (Leaves t filled) e = absurd (let no : ⊥ = cc in no)
-leaving_counts Stays e = absurd (let no : ⊥ = cc in no)
+-- such a change moves no message
+leaving_moves : {T : Type 0} (done : Change T) → leaves_end done ≡ true → moves_none done ≡ true
+leaving_moves SenderLeaves e = refl
+leaving_moves ReceiverLeaves e = refl
+leaving_moves _ e = absurd (let none : ⊥ = cc in none)
+
+-- and it issues no ticket
+leaving_issues : {T : Type 0} (done : Change T) → leaves_end done ≡ true → issued done ≡ 0
+leaving_issues SenderLeaves e = refl
+leaving_issues ReceiverLeaves e = refl
+leaving_issues _ e = absurd (let none : ⊥ = cc in none)
 
 -- and all who wait are woken just where it closes the channel
 entries_leaving : {T : Type 0} (done : Change T) → leaves_end done ≡ true → (queue : List T) (closes : Bool) (es : List (LogEntry T))
@@ -52,19 +47,7 @@ entries_leaving : {T : Type 0} (done : Change T) → leaves_end done ≡ true �
     → closes ≡ b → entries_after queue closes es done ≡ (if b then all_woken untold es else es)
 entries_leaving SenderLeaves e queue closes es b is = ap (λ c. if c then all_woken untold es else es) is
 entries_leaving ReceiverLeaves e queue closes es b is = ap (λ c. if c then all_woken untold es else es) is
-entries_leaving SenderJoins e queue closes es b is = absurd (let no : ⊥ = cc in no)
-entries_leaving ReceiverJoins e queue closes es b is = absurd (let no : ⊥ = cc in no)
-entries_leaving (Queues m filled) e queue closes es b is = absurd (let no : ⊥ = cc in no)
-entries_leaving (Blocks m t) e queue closes es b is = absurd (let no : ⊥ = cc in no)
-entries_leaving (Accepts t) e queue closes es b is = absurd (let no : ⊥ = cc in no)
-entries_leaving (Withdraws t) e queue closes es b is = absurd (let no : ⊥ = cc in no)
-entries_leaving (Takes m receiver) e queue closes es b is = absurd (let no : ⊥ = cc in no)
-entries_leaving (Drains list) e queue closes es b is = absurd (let no : ⊥ = cc in no)
-entries_leaving (Parks t kind) e queue closes es b is = absurd (let no : ⊥ = cc in no)
-entries_leaving (Asks t) e queue closes es b is = absurd (let no : ⊥ = cc in no)
-entries_leaving (Collects t) e queue closes es b is = absurd (let no : ⊥ = cc in no)
-entries_leaving (Leaves t filled) e queue closes es b is = absurd (let no : ⊥ = cc in no)
-entries_leaving Stays e queue closes es b is = absurd (let no : ⊥ = cc in no)
+entries_leaving _ e queue closes es b is = absurd (let none : ⊥ = cc in none)
 
 -- not zero
 above_zero : (n : ℕ) → n ≢ 0 → 0 < n
@@ -98,16 +81,16 @@ module _ {T A S : Type 0} where
       go : (b c : Bool) → eqb (n + m) 0 ≡ b → closes ≡ c → StandsFor o (p ∷ log) new
       go true c over closed =
           let left = rw over at is in
-          counts_over o log p done old new h reply e (leaving_counts done ends) left (eqb-true (n + m) 0 over)
+          counts_over o log p done old new h reply e (leaving_issues done ends) left (eqb-true (n + m) 0 over)
       go false true over closed =
           let left = rw (over, closed) at is in
           counts_open o log p done old new (all_due old.blocked old.sends) (all_woken tell_now old.entries) h reply e
-          (leaving_counts done ends) left (same_marks_due old.blocked old.sends)
+          (leaving_moves done ends) left (same_marks_due old.blocked old.sends)
           (bare_all_woken tell_now old.entries
           ∙ sym (entries_leaving done ends old.queue _ (map bare old.entries) true (sym (closes_as o log p done old h e) ∙ closed)))
-          (fewer_woken tell_now old.entries) (above_zero (n + m) (eqb-false (n + m) 0 over))
+          (fewer_woken tell_now old.entries) (leaving_issues done ends) (above_zero (n + m) (eqb-false (n + m) 0 over))
       go false false over closed =
           let left = rw (over, closed) at is in
-          counts_open o log p done old new old.sends old.entries h reply e (leaving_counts done ends) left (λ t. refl)
+          counts_open o log p done old new old.sends old.entries h reply e (leaving_moves done ends) left (λ t. refl)
           (sym (entries_leaving done ends old.queue _ (map bare old.entries) false (sym (closes_as o log p done old h e) ∙ closed)))
-          (omega arith) (above_zero (n + m) (eqb-false (n + m) 0 over))
+          (omega arith) (leaving_issues done ends) (above_zero (n + m) (eqb-false (n + m) 0 over))

@@ -4,24 +4,24 @@ use Rattle.std.proofs.Common.{length, map, Option, Some, None, refl, sym, ◌∙
 use Rattle.std.proofs.Math.Bool.{and-true}
 use Rattle.std.proofs.lemmas.Bool.{lt-leb}
 use Rattle.std.proofs.lemmas.List.{map-append, length-map, length_push}
-use Rattle.flume_core.specs.declared.step.Step.{Step}
-use Rattle.flume_core.specs.declared.step.Reply.{Reply}
-use Rattle.flume_core.specs.Log.{Log, Opening, Drains, capped, change}
-use Rattle.flume_core.specs.Counts.{is_over}
-use Rattle.flume_core.specs.Line.{line, is_live}
-use Rattle.flume_core.specs.Channel.{channel, has_ticket}
-use Rattle.flume_core.specs.Replies.{IsReply}
-use Rattle.flume_core.specs.Limits.{HasRoom, IsAtCapacity, is_full}
-use Rattle.flume_core.specs.Messages.{Blocked}
-use Rattle.flume_core.specs.Sends.{SendMap, changed, accepted_now}
+use Rattle.flume_model.specs.declared.step.Step.{Step}
+use Rattle.flume_model.specs.declared.step.Reply.{Reply}
+use Rattle.flume_model.specs.Log.{Log, Opening, Drains, capped, change}
+use Rattle.flume_model.specs.Counts.{is_over}
+use Rattle.flume_model.specs.Line.{line, is_live}
+use Rattle.flume_model.specs.Channel.{channel, has_ticket}
+use Rattle.flume_model.specs.Replies.{IsReply}
+use Rattle.flume_model.specs.Limits.{HasRoom, IsAtCapacity, is_full}
+use Rattle.flume_lists.specs.Messages.{Blocked}
+use Rattle.flume_lists.specs.Sends.{SendMap, changed, accepted_now}
 use Rattle.flume_core.specs.State.{State, offers_of}
 use Rattle.flume_core.specs.StandsFor.{StandsFor}
 use Rattle.flume_core.specs.Effects.{filled_up, filled_up_from}
-use Rattle.flume_core.proofs.LineSteps.{line_drains, apart_in_line, line_over}
+use Rattle.flume_model.proofs.LineSteps.{line_drains, apart_in_line, line_over}
 use Rattle.flume_core.proofs.Views.{mark, status, status_is, queued_length, queue_at_log, offered_messages, line_length, nil_by}
 use Rattle.flume_core.proofs.Marks.{marks_moved_in}
 use Rattle.flume_core.proofs.Stands.{stands_as, stands_open, stands_over, fits_as, over_same, none_live}
-use Rattle.flume_core.proofs.Moves.{peak_kept, none_parked}
+use Rattle.flume_core.proofs.Stands.{peak_kept, none_parked}
 use Rattle.flume_core.proofs.Takes.{full_or_room, full_known}
 
 -- so many messages are no more than the capacity

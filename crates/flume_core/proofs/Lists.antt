@@ -2,18 +2,19 @@
 use Rattle.std.proofs.Common.{◌≡◌, Bool, true, false, List, [], ◌∷◌, ◌++◌, map, take, drop, refl, sym, ap, subst, ◌∙◌, append_assoc}
 use Rattle.std.proofs.lemmas.List.{append-nil}
 use Rattle.std.proofs.Math.Seq.{take-append_seam, drop-append_seam}
-use Rattle.flume_core.specs.declared.step.Step.{Step}
-use Rattle.flume_core.specs.declared.step.Reply.{Reply}
-use Rattle.flume_core.specs.Log.{Log, Opening, Offer}
-use Rattle.flume_core.specs.Offers.{after, kept, hand_outs}
-use Rattle.flume_core.specs.Counts.{is_over}
-use Rattle.flume_core.specs.Line.{line, boundary, messages}
+use Rattle.flume_model.specs.declared.step.Step.{Step}
+use Rattle.flume_model.specs.declared.step.Reply.{Reply}
+use Rattle.flume_model.specs.Log.{Log, Opening, Offer}
+use Rattle.flume_model.specs.Offers.{after, kept, hand_outs}
+use Rattle.flume_model.specs.Counts.{is_over}
+use Rattle.flume_model.specs.Line.{line, boundary, messages}
 use Rattle.flume_core.specs.State.{State, offers_of}
 use Rattle.flume_core.specs.StandsFor.{StandsFor}
 use Rattle.flume_core.specs.Headline.{Headline}
-use Rattle.flume_core.proofs.Runs.{in_order}
+use Rattle.flume_model.proofs.FillsOrder.{in_order}
 use Rattle.flume_core.proofs.Views.{queued_length, line_messages}
-use Rattle.flume_core.proofs.LineSteps.{line_over}
+use Rattle.flume_model.proofs.LineSteps.{line_over}
+use Rattle.flume_core.proofs.StateFacts.{woken_cover, queued_bounded}
 
 -- two lists that are nothing together
 front_nil : {X : Type 0} (xs ys : List X) → xs ++ ys ≡ [] → xs ≡ []
@@ -56,9 +57,9 @@ module _ {T A S : Type 0} where
   left_is o log s h open_ = sym h.line_is ∙ rw open_ refl
 
   -- the queue is the kept offers from the hand-outs on, up to the boundary
-  queue_is_next : (o : Opening) (log : Log T A) (s : State T S) → StandsFor o log s
+  queue_is_front : (o : Opening) (log : Log T A) (s : State T S) → StandsFor o log s
       → s.queue ≡ messages (take (boundary o log) (drop (hand_outs log) (kept log)))
-  queue_is_next o log s h = go (is_over log) refl
+  queue_is_front o log s h = go (is_over log) refl
     where
       left : List (Offer T)
       left = drop (hand_outs log) (kept log)
@@ -80,8 +81,10 @@ module _ {T A S : Type 0} where
   -- what stands for a log has the headline
   pub headline : (o : Opening) (log : Log T A) (s : State T S) → StandsFor o log s → Headline o log s
   headline o log s h = record {
-    replies_lawful = h.run;
     in_order = in_order o log h.run;
-    queue_is_next = queue_is_next o log s h;
+    queue_is_front = queue_is_front o log s h;
     blocked_are_rest = blocked_are_rest o log s h;
+    replies_lawful = h.run;
+    woken_cover = woken_cover o log s h;
+    queue_bounded = queued_bounded o log s h;
   }

@@ -1,36 +1,39 @@
 -- What each step of a parked receiver leaves stands for the log with that step added.
-use Rattle.std.proofs.Common.{◌≡◌, ℕ, ◌+◌, ◌≤◌, Bool, true, false, List, [], ◌∷◌, ◌++◌, length, drop, Option, Some, None}
+use Rattle.std.proofs.Common.{◌≡◌, ℕ, ◌+◌, ◌≤◌, Bool, true, false, List, [], ◌∷◌, ◌++◌, length, drop, max, Option, Some, None}
 use Rattle.std.proofs.Common.{refl, sym, ◌∙◌, ap, arith}
 use Rattle.std.proofs.lemmas.List.{map_push, length-drop, drop-append-le, drop-map}
-use Rattle.flume_core.specs.declared.step.Kind.{Kind}
-use Rattle.flume_core.specs.declared.step.Step.{Step}
-use Rattle.flume_core.specs.declared.step.Reply.{Reply}
-use Rattle.flume_core.specs.declared.entries.Entry.{Entry}
-use Rattle.flume_core.specs.declared.entries.Notice.{Notice}
-use Rattle.flume_core.specs.Log.{Log, Opening, Parks, Asks, Collects, Leaves, change}
-use Rattle.flume_core.specs.Counts.{is_over}
-use Rattle.flume_core.specs.Line.{is_live, how_many}
-use Rattle.flume_core.specs.Channel.{channel, has_ticket}
-use Rattle.flume_core.specs.Replies.{IsReply, IsRun}
-use Rattle.flume_core.specs.Entries.{entry_of, without, again, left, left_fills, passes_on, round_for, round_for_fills}
-use Rattle.flume_core.specs.Parked.{LogEntry, entries}
-use Rattle.flume_core.specs.Waits.{tell_now, begins, noticed}
+use Rattle.flume_model.specs.declared.step.Kind.{Kind}
+use Rattle.flume_model.specs.declared.step.Step.{Step}
+use Rattle.flume_model.specs.declared.step.Reply.{Reply}
+use Rattle.flume_model.specs.declared.entry.Entry.{Entry}
+use Rattle.flume_lists.specs.declared.entries.Notice.{Notice}
+use Rattle.flume_model.specs.Log.{Log, Opening, Parks, Asks, Collects, Leaves, change}
+use Rattle.flume_model.specs.Counts.{is_over}
+use Rattle.flume_model.specs.Line.{is_live, how_many}
+use Rattle.flume_model.specs.Channel.{channel, has_ticket}
+use Rattle.flume_model.specs.Replies.{IsReply, IsRun}
+use Rattle.flume_model.specs.Entries.{entry_of, without, again, left, left_fills, passes_on, round_for, round_for_fills, waiting_count}
+use Rattle.flume_model.specs.Parked.{LogEntry, entries}
+use Rattle.flume_lists.specs.Waits.{tell_now, begins, noticed}
 use Rattle.flume_core.specs.State.{State, offers_of, bare}
 use Rattle.flume_core.specs.StandsFor.{StandsFor}
-use Rattle.flume_core.specs.Effects.{unfilled, unparked, departed, waiting_so}
-use Rattle.flume_core.proofs.Kept.{keeps_line}
-use Rattle.flume_core.proofs.LineSteps.{line_stays, line_leaves}
-use Rattle.flume_core.proofs.WaitingOpen.{nothing_once_over}
-use Rattle.flume_core.proofs.WaitingCounts.{fewer_without, fewer_left}
+use Rattle.flume_core.specs.Effects.{unparked, departed, waiting_so}
+use Rattle.flume_lists.specs.Waits.{unfilled}
+use Rattle.flume_model.proofs.LineSteps.{line_leaves}
+use Rattle.flume_model.proofs.WaitingOpen.{nothing_once_over}
+use Rattle.flume_model.proofs.WaitingCounts.{fewer_without, fewer_left}
 use Rattle.flume_core.proofs.Bare.{bare_without, bare_again, bare_noticed, bare_left}
 use Rattle.flume_core.proofs.Views.{status, status_is, queued_length}
 use Rattle.flume_core.proofs.Stands.{stands_as, stands_open, fits_as, open_not_over, over_same, still_live}
-use Rattle.flume_core.proofs.Moves.{peak_kept, unfilled_is, one_at_most}
+use Rattle.flume_model.proofs.Parts.{at_most}
+use Rattle.flume_core.proofs.Stands.{peak_kept}
+use Rattle.flume_core.proofs.Keeping.{keeps_standing}
+use Rattle.flume_core.proofs.Moves.{unfilled_is}
 
 -- a round fills at most as many receivers as messages are queued
 fills_within : {X N : Type 0} (queue : List X) (es : List (Entry X N)) → how_many (round_for_fills queue es) ≤ length queue
 fills_within [] es = omega arith
-fills_within (m ∷ queue) es = let one = one_at_most (round_for_fills (m ∷ queue) es) in omega arith
+fills_within (m ∷ queue) es = let one = at_most (round_for_fills (m ∷ queue) es) in omega arith
 
 module _ {T N : Type 0} where
   -- so does the wake of one that leaves
@@ -90,22 +93,10 @@ module _ {T A S : Type 0} where
       → StandsFor o (p ∷ past) new
   parks o past p old new kind signal h reply e is =
       let fit = fits_as o past p (Parks old.next kind) h.run reply e in
-      let open_ : is_over past ≡ false = open_not_over past (let is_open = fit.1 in omega arith) in
-      let still_open = over_same past p (Parks old.next kind) e refl ∙ open_ in
-      stands_as o (p ∷ past) new _ is (stands_open o past p (Parks old.next kind) old _ h reply e still_open record {
-        capacity_kept = refl;
-        queued = h.queued;
-        line_is = line_stays o past p h.run (ap keeps_line e) open_ still_open ∙ h.line_is;
-        queue_is = h.queue_is;
-        length_is = refl;
-        marks = λ t. status_is h t
-            ∙ sym (ap (λ b. status b (has_ticket t (offers_of old.blocked))) (still_live false (is_live past t) false refl refl));
-        entries_are = map_push bare old.entries (begins old.next kind signal);
-        peak_is = refl;
-        next_is = refl;
-        senders_are = refl;
-        receivers_are = refl;
-      })
+      let es = old.entries ++ begins old.next kind signal ∷ [] in
+      keeps_standing o past p (Parks old.next kind) old new old.sends es (max old.peak (waiting_count es)) (old.next + 1) h reply e refl
+      (over_same past p (Parks old.next kind) e refl ∙ open_not_over past (let is_open = fit.1 in omega arith)) is (λ t. refl)
+      (map_push bare old.entries (begins old.next kind signal)) refl refl
 
   -- a receiver waits on, or again behind all others
   pub asks : (o : Opening) (past : Log T A) (p : Step T × Reply T A) (old new : State T S) (t : ℕ) (f : Notice S → Notice S)
@@ -114,44 +105,20 @@ module _ {T A S : Type 0} where
       → new ≡ waiting_so (again t (noticed f t old.entries)) old → StandsFor o (p ∷ past) new
   asks o past p old new t f h reply e is =
       let fit = fits_as o past p (Asks t) h.run reply e in
-      let open_ : is_over past ≡ false = entry_not_over o past t fit.0 h.run fit.1 in
-      let still_open = over_same past p (Asks t) e refl ∙ open_ in
-      stands_as o (p ∷ past) new _ is (stands_open o past p (Asks t) old _ h reply e still_open record {
-        capacity_kept = refl;
-        queued = h.queued;
-        line_is = line_stays o past p h.run (ap keeps_line e) open_ still_open ∙ h.line_is;
-        queue_is = h.queue_is;
-        length_is = refl;
-        marks = λ q. status_is h q
-            ∙ sym (ap (λ b. status b (has_ticket q (offers_of old.blocked))) (still_live false (is_live past q) false refl refl));
-        entries_are = bare_again t (noticed f t old.entries) ∙ ap (again t) (bare_noticed f t old.entries);
-        peak_is = refl;
-        next_is = omega arith;
-        senders_are = refl;
-        receivers_are = refl;
-      })
+      let es = again t (noticed f t old.entries) in
+      keeps_standing o past p (Asks t) old new old.sends es (max old.peak (waiting_count es)) old.next h reply e refl
+      (over_same past p (Asks t) e refl ∙ entry_not_over o past t fit.0 h.run fit.1) is (λ q. refl)
+      (bare_again t (noticed f t old.entries) ∙ ap (again t) (bare_noticed f t old.entries)) refl (omega arith)
 
   -- a filled receiver leaves with its message
   pub collects : (o : Opening) (past : Log T A) (p : Step T × Reply T A) (old new : State T S) (t : ℕ) → StandsFor o past old
       → IsReply (channel o past) p.0 p.1 → change past p.0 p.1 ≡ Collects t → new ≡ unparked t old → StandsFor o (p ∷ past) new
   collects o past p old new t h reply e is =
       let fit = fits_as o past p (Collects t) h.run reply e in
-      let open_ : is_over past ≡ false = entry_not_over o past t fit.0 h.run fit.2 in
-      let still_open = over_same past p (Collects t) e refl ∙ open_ in
-      stands_as o (p ∷ past) new _ is (stands_open o past p (Collects t) old _ h reply e still_open record {
-        capacity_kept = refl;
-        queued = h.queued;
-        line_is = line_stays o past p h.run (ap keeps_line e) open_ still_open ∙ h.line_is;
-        queue_is = h.queue_is;
-        length_is = refl;
-        marks = λ q. status_is h q
-            ∙ sym (ap (λ b. status b (has_ticket q (offers_of old.blocked))) (still_live false (is_live past q) false refl refl));
-        entries_are = bare_without t old.entries;
-        peak_is = peak_kept h _ (fewer_without t old.entries);
-        next_is = omega arith;
-        senders_are = refl;
-        receivers_are = refl;
-      })
+      let es = without t old.entries in
+      keeps_standing o past p (Collects t) old new old.sends es old.peak old.next h reply e refl
+      (over_same past p (Collects t) e refl ∙ entry_not_over o past t fit.0 h.run fit.2) is (λ q. refl) (bare_without t old.entries)
+      (peak_kept h es (fewer_without t old.entries)) (omega arith)
 
   -- a receiver leaves with no message, and its wake is passed on
   pub departs : (o : Opening) (past : Log T A) (p : Step T × Reply T A) (old new : State T S) (t : ℕ) (filled : Option ℕ)

@@ -1,26 +1,27 @@
 -- What a step has to leave of a state for it to stand for the log with that step added.
-use Rattle.std.proofs.Common.{◌≡◌, ℕ, ◌+◌, ◌<◌, Bool, true, false, not, ◌&&◌, ◌||◌, eqb, List, [], ◌∷◌, ◌++◌, length, drop, map, max, None}
-use Rattle.std.proofs.Common.{refl, sym}
-use Rattle.std.proofs.Common.{◌∙◌, ap, ap₂, subst, arith, ne_eqb}
+use Rattle.std.proofs.Common.{◌≡◌, ℕ, ◌+◌, ◌<◌, ◌≤◌, Bool, true, false, not, ◌&&◌, ◌||◌, eqb, List, [], ◌∷◌, ◌++◌, length, drop, map, max}
+use Rattle.std.proofs.Common.{None, refl, sym, ◌∙◌, ap, ap₂, subst, arith, ne_eqb}
 use Rattle.std.proofs.Math.Bool.{and-true}
 use Rattle.std.proofs.lemmas.Bool.{cond-true, cond-false}
 use Rattle.std.proofs.lemmas.List.{drop_at, length-map}
-use Rattle.flume_core.specs.declared.step.Step.{Step}
-use Rattle.flume_core.specs.declared.step.Reply.{Reply}
-use Rattle.flume_core.specs.Log.{Log, Opening, Offer, Change, change}
-use Rattle.flume_core.specs.Counts.{senders, receivers, senders_after, receivers_after, is_over}
-use Rattle.flume_core.specs.Line.{line, boundary, queue, boundary_after, blocked, messages, issued, next_ticket, issues, spends, is_live}
-use Rattle.flume_core.specs.Channel.{channel, has_ticket}
-use Rattle.flume_core.specs.Replies.{IsReply, IsRun}
-use Rattle.flume_core.specs.Entries.{waiting_count}
-use Rattle.flume_core.specs.Parked.{entries, entries_after, is_shut}
-use Rattle.flume_core.proofs.EntryShape.{told_filled}
+use Rattle.flume_model.specs.declared.step.Step.{Step}
+use Rattle.flume_model.specs.declared.step.Reply.{Reply}
+use Rattle.flume_model.specs.Log.{Log, Opening, Offer, Change, change}
+use Rattle.flume_model.specs.Counts.{senders, receivers, senders_after, receivers_after, is_over}
+use Rattle.flume_model.specs.Line.{line, boundary, queue, boundary_after, blocked, messages, issued, next_ticket, issues, spends, is_live}
+use Rattle.flume_model.specs.Channel.{channel, has_ticket}
+use Rattle.flume_model.specs.Replies.{IsReply, IsRun}
+use Rattle.flume_model.specs.Entries.{waiting_count}
+use Rattle.flume_model.specs.Parked.{entries, entries_after, is_shut}
+use Rattle.flume_model.proofs.EntryShape.{told_filled}
 use Rattle.flume_core.proofs.Bare.{bare_waiting}
+use Rattle.flume_lists.specs.Waits.{Entries}
 use Rattle.flume_core.specs.State.{State, offers_of, bare}
 use Rattle.flume_core.specs.StandsFor.{StandsFor}
-use Rattle.flume_core.proofs.Fits.{Fits, fits}
-use Rattle.flume_core.proofs.LineSteps.{line_over}
-use Rattle.flume_core.proofs.Views.{mark, status, queue_at_log}
+use Rattle.flume_model.proofs.Fits.{Fits, fits}
+use Rattle.flume_model.proofs.LineSteps.{line_over}
+use Rattle.flume_model.proofs.WaitingOpen.{nothing_once_over}
+use Rattle.flume_core.proofs.Views.{mark, status, queue_at_log, waiting_within, nil_mapped}
 
 -- what a ticket is, after a change that neither issues nor spends it
 pub still_live : (issued_ live spent : Bool) → issued_ ≡ false → spent ≡ false → (issued_ || (live && not spent)) ≡ live
@@ -158,3 +159,12 @@ module _ {T A S : Type 0} where
         receivers_are = receivers_ ∙ ap (λ n. receivers_after n done) h.receivers_are
             ∙ sym (ap (receivers_after (receivers past)) e);
       }
+
+  -- where no more wait, the peak stays
+  pub peak_kept : {o : Opening} {log : Log T A} {s : State T S} → StandsFor o log s → (es : Entries T S)
+      → waiting_count es ≤ waiting_count s.entries → s.peak ≡ max s.peak (waiting_count es)
+  peak_kept {o} {log} {s} h es fewer = let within = waiting_within h in omega arith
+
+  -- once over, nobody is parked
+  pub none_parked : {o : Opening} {log : Log T A} {s : State T S} → StandsFor o log s → is_over log ≡ true → s.entries ≡ []
+  none_parked {o} {log} {s} h over = nil_mapped bare s.entries (h.entries_are ∙ (nothing_once_over o log h.run over).1)

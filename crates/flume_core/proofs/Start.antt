@@ -1,7 +1,7 @@
 -- A new channel.
 use Rattle.std.proofs.Common.{◌≡◌, [], refl, sym, subst}
 use Rattle.std.specs.FinMap.{get-empty}
-use Rattle.flume_core.specs.Log.{Opening}
+use Rattle.flume_model.specs.Log.{Opening}
 use Rattle.flume_core.specs.State.{State, opened}
 use Rattle.flume_core.specs.StandsFor.{StandsFor}
 

@@ -1,56 +1,37 @@
 -- What holds of a state that stands for a log.
-use Rattle.std.proofs.Common.{◌≡◌, ℕ, ◌+◌, ◌<◌, ◌≤◌, Bool, true, false, not, List, [], ◌∷◌, ◌++◌, length, map, Option, Some}
-use Rattle.std.proofs.Common.{None, refl, sym, ◌∙◌, ap, ap₂, subst₂, arith, eq-eqb, eqb-true, take, append_assoc, take-append-drop}
+use Rattle.std.proofs.Common.{◌≡◌, ℕ, ◌+◌, ◌<◌, ◌≤◌, Bool, true, false, not, List, [], ◌∷◌, ◌++◌, length, map, Some}
+use Rattle.std.proofs.Common.{refl, sym, ◌∙◌, ap, ap₂, subst₂, arith, eq-eqb, eqb-true, take, append_assoc, take-append-drop}
 use Rattle.std.specs.List.{All}
-use Rattle.std.specs.Option.{option_map}
 use Rattle.std.specs.FinMap.{get}
 use Rattle.std.proofs.lemmas.Bool.{or_left, or_right}
 use Rattle.std.proofs.lemmas.List.Elements.{All-nil, All-cons}
-use Rattle.flume_core.specs.declared.entries.Entry.{Entry}
-use Rattle.flume_core.specs.Log.{Log, Opening, Offer}
-use Rattle.flume_core.specs.Offers.{kept, hand_outs, withdrawn, offers}
-use Rattle.flume_core.specs.Counts.{senders, receivers, is_over}
-use Rattle.flume_core.specs.Line.{blocked, next_ticket, is_live}
-use Rattle.flume_core.specs.Limits.{IsOpen, IsClosed}
-use Rattle.flume_core.specs.Entries.{some_wait, waiting_count, woken_count, entry_of}
-use Rattle.flume_core.specs.Parked.{entries}
-use Rattle.flume_core.specs.Channel.{has_ticket}
-use Rattle.flume_core.specs.Messages.{Blocked}
-use Rattle.flume_core.specs.Laws.{Rising}
-use Rattle.flume_core.specs.WaitLaws.{Apart, block_woken}
+use Rattle.flume_model.specs.declared.entry.Entry.{Entry}
+use Rattle.flume_model.specs.Log.{Log, Opening, Offer}
+use Rattle.flume_model.specs.Offers.{kept, hand_outs, withdrawn, offers}
+use Rattle.flume_model.specs.Counts.{senders, receivers, is_over}
+use Rattle.flume_model.specs.Line.{blocked, next_ticket, is_live}
+use Rattle.flume_model.specs.Limits.{IsOpen, IsClosed}
+use Rattle.flume_model.specs.Entries.{some_wait, waiting_count, woken_count, entry_of}
+use Rattle.flume_model.specs.Parked.{entries}
+use Rattle.flume_model.specs.Channel.{has_ticket}
+use Rattle.flume_lists.specs.Messages.{Blocked}
+use Rattle.flume_model.specs.Laws.{Rising}
+use Rattle.flume_model.specs.WaitLaws.{Apart, block_woken}
 use Rattle.flume_core.specs.State.{State, offers_of, bare}
 use Rattle.flume_core.specs.StandsFor.{StandsFor}
 use Rattle.flume_core.specs.StateFacts.{accepted_at, SendersBlockAtCapacity, ReceiversWaitWhileOpen, WokenCoverQueued}
 use Rattle.flume_core.specs.StateFacts.{QueuedAndWaitingAreBounded, ReceiverTicketsApart, SendTicketsApart, BlockedTicketsRise}
 use Rattle.flume_core.specs.StateFacts.{BlockedSendsAreLive, AcceptedBeforeBlocked, EmptyOnceOver, BlockingWokenByClosing}
 use Rattle.flume_core.proofs.Bare.{bare_waiting, bare_entry}
-use Rattle.flume_core.proofs.Kept.{line_is_open}
-use Rattle.flume_core.proofs.Tickets.{rising_filter}
+use Rattle.flume_model.proofs.Kept.{line_is_open}
+use Rattle.flume_model.proofs.Tickets.{rising_filter}
 use Rattle.flume_core.proofs.BlockedLive.{blocked_are_live}
-use Rattle.flume_core.proofs.Runs.{tickets_rise}
-use Rattle.flume_core.proofs.TicketLaws.{accepted_below_blocked}
-use Rattle.flume_core.proofs.WaitingLaws.{covered, bounded, waits_while_open, woken_block_while_closed, nothing_once_over}
-use Rattle.flume_core.proofs.WaitingLaws.{entries_apart, sides_apart}
+use Rattle.flume_model.proofs.Runs.{tickets_rise}
+use Rattle.flume_model.proofs.TicketLaws.{accepted_below_blocked}
+use Rattle.flume_model.proofs.WaitingLaws.{covered, bounded, waits_while_open, woken_block_while_closed, nothing_once_over}
+use Rattle.flume_model.proofs.WaitingLaws.{entries_apart, sides_apart}
 use Rattle.flume_core.proofs.Views.{at_capacity, none_blocked_waiting, waiting_at_log, entry_at_log, blocked_is, nil_by, status}
-use Rattle.flume_core.proofs.Views.{line_length}
-
--- what isn't there as a log knows it isn't there
-none_mapped : {X Y : Type 0} (f : X → Y) (x : Option X) → option_map f x ≡ None → x ≡ None
-none_mapped f None e = refl
-none_mapped f (Some x) e = absurd (let none : ⊥ = cc in none)
-
--- nothing is mapped to a list only by an empty one
-nil_mapped : {X Y : Type 0} (f : X → Y) (xs : List X) → map f xs ≡ [] → xs ≡ []
-nil_mapped f [] e = refl
-nil_mapped f (x ∷ xs) e = absurd (let none : ⊥ = cc in none)
-
--- a send ticket that has a mark is live
-live_by : (live waits mark : Bool) → status live waits ≡ Some mark → (live ≡ true) × (waits ≡ not mark)
-live_by true true true e = absurd (let none : ⊥ = cc in none)
-live_by true true false e = (refl, refl)
-live_by true false true e = (refl, refl)
-live_by true false false e = absurd (let none : ⊥ = cc in none)
-live_by false waits mark e = absurd (let none : ⊥ = cc in none)
+use Rattle.flume_core.proofs.Views.{line_length, none_mapped, nil_mapped, live_by}
 
 module _ {T N : Type 0} where
   -- how many stand woken

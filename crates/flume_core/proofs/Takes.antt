@@ -5,27 +5,27 @@ use Rattle.std.proofs.Common.{append_assoc}
 use Rattle.std.proofs.Math.Bool.{and-true}
 use Rattle.std.proofs.lemmas.Bool.{leb-true, leb-false, le-leb}
 use Rattle.std.proofs.lemmas.List.{length-map, map_push, length_push}
-use Rattle.flume_core.specs.declared.step.Step.{Step}
-use Rattle.flume_core.specs.declared.step.Reply.{Reply}
-use Rattle.flume_core.specs.Log.{Log, Opening, Offer, Takes, capped, change}
-use Rattle.flume_core.specs.Counts.{is_over}
-use Rattle.flume_core.specs.Line.{line, messages, is_live}
-use Rattle.flume_core.specs.Channel.{channel, has_ticket}
-use Rattle.flume_core.specs.Replies.{IsReply}
-use Rattle.flume_core.specs.Limits.{HasRoom, IsAtCapacity, is_full}
-use Rattle.flume_core.specs.Messages.{Blocked}
-use Rattle.flume_core.specs.Sends.{changed, accepted_now}
+use Rattle.flume_model.specs.declared.step.Step.{Step}
+use Rattle.flume_model.specs.declared.step.Reply.{Reply}
+use Rattle.flume_model.specs.Log.{Log, Opening, Offer, Takes, capped, change}
+use Rattle.flume_model.specs.Counts.{is_over}
+use Rattle.flume_model.specs.Line.{line, messages, is_live}
+use Rattle.flume_model.specs.Channel.{channel, has_ticket}
+use Rattle.flume_model.specs.Replies.{IsReply}
+use Rattle.flume_model.specs.Limits.{HasRoom, IsAtCapacity, is_full}
+use Rattle.flume_lists.specs.Messages.{Blocked}
+use Rattle.flume_lists.specs.Sends.{changed, accepted_now}
 use Rattle.flume_core.specs.State.{State, offers_of, bare}
 use Rattle.flume_core.specs.StandsFor.{StandsFor}
 use Rattle.flume_core.specs.Effects.{admitted, admitted_from, refilled, fronted, fronted_from, taken as taken_state}
-use Rattle.flume_core.specs.declared.entries.Entry.{Entry}
-use Rattle.flume_core.specs.Entries.{waiting_count, without}
-use Rattle.flume_core.specs.Parked.{entries_after, is_shut}
+use Rattle.flume_model.specs.declared.entry.Entry.{Entry}
+use Rattle.flume_model.specs.Entries.{waiting_count, without}
+use Rattle.flume_model.specs.Parked.{entries_after, is_shut}
 use Rattle.flume_core.proofs.Bare.{bare_without}
-use Rattle.flume_core.proofs.WaitingCounts.{fewer_without}
-use Rattle.flume_core.proofs.Moves.{peak_kept}
-use Rattle.flume_core.proofs.Parts.{front_at, open_at}
-use Rattle.flume_core.proofs.LineSteps.{line_takes}
+use Rattle.flume_model.proofs.WaitingCounts.{fewer_without}
+use Rattle.flume_core.proofs.Stands.{peak_kept}
+use Rattle.flume_model.proofs.Parts.{front_at, open_at}
+use Rattle.flume_model.proofs.LineSteps.{line_takes}
 use Rattle.flume_core.proofs.Views.{mark, status, status_is, queued_length, at_capacity, nil_by}
 use Rattle.flume_core.proofs.Marks.{marks_admitted}
 use Rattle.flume_core.proofs.Stands.{stands_as, stands_open, over_same}

@@ -8,23 +8,41 @@ use Rattle.std.specs.FinMap.{get}
 use Rattle.std.proofs.lemmas.Bool.{or_cases}
 use Rattle.std.proofs.lemmas.List.{drop_at, take_at, length-map, map-append}
 use Rattle.std.proofs.lemmas.List.Elements.{All-head, All-tail}
-use Rattle.flume_core.specs.Log.{Log, Opening}
-use Rattle.flume_core.specs.Counts.{senders, receivers}
-use Rattle.flume_core.specs.Line.{line, capacity, boundary, queue, blocked, messages, is_live}
-use Rattle.flume_core.specs.Entries.{some_wait, waiting_count, entry_of}
-use Rattle.flume_core.specs.Parked.{entries, peak}
-use Rattle.flume_core.specs.Channel.{IsBlocked, channel, has_ticket}
-use Rattle.flume_core.specs.Limits.{HasRoom, IsAtCapacity, IsOpen, IsClosed}
-use Rattle.flume_core.specs.Messages.{Blocked}
-use Rattle.flume_core.specs.Sends.{SendMap}
+use Rattle.flume_model.specs.Log.{Log, Opening}
+use Rattle.flume_model.specs.Counts.{senders, receivers}
+use Rattle.flume_model.specs.Line.{line, capacity, boundary, queue, blocked, messages, is_live}
+use Rattle.flume_model.specs.Entries.{some_wait, waiting_count, entry_of}
+use Rattle.flume_model.specs.Parked.{entries, peak}
+use Rattle.flume_model.specs.Channel.{IsBlocked, channel, has_ticket}
+use Rattle.flume_model.specs.Limits.{HasRoom, IsAtCapacity, IsOpen, IsClosed}
+use Rattle.flume_lists.specs.Messages.{Blocked}
+use Rattle.flume_lists.specs.Sends.{SendMap}
 use Rattle.flume_core.specs.State.{State, offers_of, bare}
 use Rattle.flume_core.specs.StandsFor.{StandsFor}
-use Rattle.flume_core.proofs.Runs.{blocked_at_capacity, waits_whole}
+use Rattle.flume_model.proofs.Runs.{blocked_at_capacity, waits_whole}
 use Rattle.flume_core.proofs.Bare.{bare_some_wait, bare_waiting, bare_entry}
+
+-- what isn't there mapped isn't there
+pub none_mapped : {X Y : Type 0} (f : X → Y) (x : Option X) → option_map f x ≡ None → x ≡ None
+none_mapped f None e = refl
+none_mapped f (Some x) e = absurd (let none : ⊥ = cc in none)
+
+-- nothing is mapped to a list only by an empty one
+pub nil_mapped : {X Y : Type 0} (f : X → Y) (xs : List X) → map f xs ≡ [] → xs ≡ []
+nil_mapped f [] e = refl
+nil_mapped f (x ∷ xs) e = absurd (let none : ⊥ = cc in none)
 
 -- a ticket with its mark, if it is live
 abbrev pub status : Bool → Bool → Option Bool
 status live waits = cond live (Some (not waits)) None
+
+-- a send ticket that has a mark is live
+pub live_by : (live waits mark : Bool) → status live waits ≡ Some mark → (live ≡ true) × (waits ≡ not mark)
+live_by true true true e = absurd (let none : ⊥ = cc in none)
+live_by true true false e = (refl, refl)
+live_by true false true e = (refl, refl)
+live_by true false false e = absurd (let none : ⊥ = cc in none)
+live_by false waits mark e = absurd (let none : ⊥ = cc in none)
 
 -- the mark of a ticket in a map: whether its message was accepted
 abbrev pub mark : {S : Type 0} → SendMap S → ℕ → Option Bool

@@ -3,20 +3,14 @@ use Rattle.std.specs.Prelude.{◌≡◌, ◌==◌, ℕ, ◌+◌, Bool, not, ◌&
 use Rattle.std.specs.Prelude.{◌++◌}
 use Rattle.std.specs.Prelude.{length, max, ◌<◌, Option, Some, None}
 use Rattle.std.specs.FinMap.{remove}
-use Rattle.flume_core.specs.Limits.{is_closed, is_full, IsOpen, most}
-use Rattle.flume_core.specs.declared.step.Kind.{Kind}
-use Rattle.flume_core.specs.Messages.{Blocked}
-use Rattle.flume_core.specs.Sends.{SendMap, changed, accepted_now, due_now, with_signal}
-use Rattle.flume_core.specs.Entries.{all_woken, entry_of, without, round_for, round_for_fills}
-use Rattle.flume_core.specs.Entries.{passes_on, left_fills, waiting_count}
-use Rattle.flume_core.specs.Waits.{Entries, begins, tell_now}
+use Rattle.flume_model.specs.Limits.{is_closed, is_full, IsOpen, most}
+use Rattle.flume_model.specs.declared.step.Kind.{Kind}
+use Rattle.flume_lists.specs.Messages.{Blocked}
+use Rattle.flume_lists.specs.Sends.{SendMap, changed, accepted_now, due_now, with_signal}
+use Rattle.flume_model.specs.Entries.{all_woken, entry_of, without, round_for, round_for_fills}
+use Rattle.flume_model.specs.Entries.{passes_on, left_fills, waiting_count}
+use Rattle.flume_lists.specs.Waits.{Entries, begins, tell_now, unfilled}
 use Rattle.flume_core.specs.State.{State, emptied}
-
--- the queue after a wake round: its front is gone where the round filled a receiver
-abbrev pub unfilled : {T : Type 0} → Option ℕ → List T → List T
-unfilled None queue = queue
-unfilled (Some ticket) [] = []
-unfilled (Some ticket) (front ∷ queue) = queue
 
 module _ {S : Type 0} where
   -- the live sends with a signal replaced, where one is given

@@ -1,21 +1,29 @@
 -- The headline: what holds of each run, and of the state that it leads to.
 use Rattle.std.specs.Prelude.{◌≡◌, false, drop, take}
-use Rattle.flume_core.specs.Log.{Log, Opening}
-use Rattle.flume_core.specs.Offers.{kept, hand_outs}
-use Rattle.flume_core.specs.Counts.{is_over}
-use Rattle.flume_core.specs.Line.{boundary, messages}
-use Rattle.flume_core.specs.Replies.{IsRun}
-use Rattle.flume_core.specs.Laws.{InOrder}
+use Rattle.flume_model.specs.Log.{Log, Opening}
+use Rattle.flume_model.specs.Offers.{kept, hand_outs}
+use Rattle.flume_model.specs.Counts.{is_over}
+use Rattle.flume_model.specs.Line.{boundary, messages}
+use Rattle.flume_model.specs.Replies.{IsRun}
+use Rattle.flume_model.specs.Laws.{InOrder}
 use Rattle.flume_core.specs.State.{State, offers_of}
+use Rattle.flume_core.specs.StateFacts.{WokenCoverQueued, QueuedAndWaitingAreBounded}
 
 module _ {T A S : Type 0} where
-  -- each reply is the abstract channel's; the messages handed out are the kept offers in order; the
-  -- queue is the kept offers that come next, and the blocked messages are the rest of them, with
-  -- their tickets, up to the step that leaves both ends gone
+  -- after the steps and replies of the log, the channel is in this state
   pub record Headline (opening : Opening) (log : Log T A) (s : State T S) : Type 0 where
-    pub replies_lawful : IsRun opening log
-    pub in_order : InOrder log
-    pub queue_is_next :
+    -- the j-th message handed out is the message of the j-th offer that wasn't withdrawn
+    pub in_order : InOrder opening log
+    -- the queued messages are those of the offers that come next
+    pub queue_is_front :
         s.queue ≡ messages (take (boundary opening log) (drop (hand_outs log) (kept log)))
+    -- the blocked ones are the rest of these offers, with their tickets, up to the step that leaves
+    -- both ends gone
     pub blocked_are_rest : is_over log ≡ false
         → offers_of s.blocked ≡ drop (boundary opening log) (drop (hand_outs log) (kept log))
+    -- each reply is the abstract channel's
+    pub replies_lawful : IsRun opening log
+    -- while a receiver waits, at least as many stand woken as messages are queued
+    pub woken_cover : WokenCoverQueued s
+    -- queued messages and waiting receivers are at most the greater of the capacity and the peak
+    pub queue_bounded : QueuedAndWaitingAreBounded s

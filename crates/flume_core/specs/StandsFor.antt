@@ -3,18 +3,19 @@ use Rattle.std.specs.Prelude.{◌≡◌, ℕ, Bool, not, if◌then◌else◌, Li
 use Rattle.std.specs.Prelude.{Some, None}
 use Rattle.std.specs.Option.{option_map}
 use Rattle.std.specs.FinMap.{get}
-use Rattle.flume_core.specs.declared.step.Step.{Step}
-use Rattle.flume_core.specs.declared.step.Step.TheVariants.{Poll}
-use Rattle.flume_core.specs.declared.step.Reply.{Reply}
-use Rattle.flume_core.specs.declared.step.Reply.TheVariants.{Full, Closed, NoMemory, Spent}
-use Rattle.flume_core.specs.declared.step.Reply.TheVariants.{NoTicket, Empty, Ended, NoEnd}
-use Rattle.flume_core.specs.declared.step.Reply.TheVariants.{CountFull}
-use Rattle.flume_core.specs.Log.{Log, Opening, Offer}
-use Rattle.flume_core.specs.Counts.{senders, receivers}
-use Rattle.flume_core.specs.Line.{line, capacity, boundary, blocked, messages, next_ticket, is_live}
-use Rattle.flume_core.specs.Parked.{entries, peak}
-use Rattle.flume_core.specs.Channel.{has_ticket}
-use Rattle.flume_core.specs.Replies.{IsRun}
+use Rattle.flume_model.specs.declared.step.Step.{Step}
+use Rattle.flume_model.specs.declared.step.Step.TheVariants.{Poll}
+use Rattle.flume_model.specs.declared.step.Reply.{Reply}
+use Rattle.flume_model.specs.declared.step.Reply.TheVariants.{Full, Closed, NoMemory, Spent}
+use Rattle.flume_model.specs.declared.step.Reply.TheVariants.{NoTicket, Empty, Ended, NoEnd}
+use Rattle.flume_model.specs.declared.step.Reply.TheVariants.{CountFull}
+use Rattle.flume_model.specs.Log.{Log, Opening, Offer}
+use Rattle.flume_model.specs.Counts.{senders, receivers}
+use Rattle.flume_model.specs.Line.{line, capacity, boundary, blocked, messages, next_ticket}
+use Rattle.flume_model.specs.Line.{is_live}
+use Rattle.flume_model.specs.Parked.{entries, peak}
+use Rattle.flume_model.specs.Channel.{has_ticket}
+use Rattle.flume_model.specs.Replies.{IsRun}
 use Rattle.flume_core.specs.State.{State, offers_of, bare}
 
 module _ {T A : Type 0} where

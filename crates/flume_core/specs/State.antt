@@ -3,13 +3,13 @@ use Rattle.std.specs.Prelude.{ℕ, List, [], map, Option}
 use Rattle.std.specs.Prelude.{Some, refl}
 use Rattle.std.specs.Coded.{Coded, code_by, coded×, coded_ℕ, coded_list, coded_option}
 use Rattle.std.specs.FinMap.{empty}
-use Rattle.flume_core.specs.Log.{Opening, Offer}
-use Rattle.flume_core.specs.Messages.{Blocked, blocked_code}
-use Rattle.flume_core.specs.Sends.{SendMap, send_map_code}
-use Rattle.flume_core.specs.declared.entries.Entry.{Entry}
-use Rattle.flume_core.specs.Parked.{LogEntry}
-use Rattle.flume_core.specs.Waits.{Entries}
-use Rattle.flume_core.specs.EntryCode.{entry_code}
+use Rattle.flume_model.specs.Log.{Opening, Offer}
+use Rattle.flume_lists.specs.Messages.{Blocked, blocked_code}
+use Rattle.flume_lists.specs.Sends.{SendMap, send_map_code}
+use Rattle.flume_model.specs.declared.entry.Entry.{Entry}
+use Rattle.flume_model.specs.Parked.{LogEntry}
+use Rattle.flume_lists.specs.Waits.{Entries}
+use Rattle.flume_lists.specs.EntryCode.{entry_code}
 
 -- the state of a channel
 pub record State (T S : Type 0) : Type 0 where

@@ -4,10 +4,10 @@ use Rattle.std.specs.Prelude.{Option, Some, None}
 use Rattle.std.specs.List.{All}
 use Rattle.std.specs.Option.{option_map}
 use Rattle.std.specs.FinMap.{get}
-use Rattle.flume_core.specs.Limits.{IsAtCapacity, IsOpen, IsClosed}
-use Rattle.flume_core.specs.Entries.{some_wait, waiting_count, woken_count, entry_of}
-use Rattle.flume_core.specs.Laws.{Rising}
-use Rattle.flume_core.specs.WaitLaws.{IsWithin, Apart, block_woken}
+use Rattle.flume_model.specs.Limits.{IsAtCapacity, IsOpen, IsClosed}
+use Rattle.flume_model.specs.Entries.{some_wait, waiting_count, woken_count, entry_of}
+use Rattle.flume_model.specs.Laws.{Rising}
+use Rattle.flume_model.specs.WaitLaws.{IsWithin, Apart, block_woken}
 use Rattle.flume_core.specs.State.{State, offers_of}
 
 module _ {T S : Type 0} where

@@ -2,9 +2,9 @@
 use Rattle.std.specs.Prelude.{◌≡◌, ℕ, true, Option, Some, None}
 use Rattle.std.specs.Option.{option_map}
 use Rattle.std.specs.FinMap.{get}
-use Rattle.flume_core.specs.Entries.{entry_of}
-use Rattle.flume_core.specs.Sends.{changed, told, is_due}
-use Rattle.flume_core.specs.Waits.{Tells}
+use Rattle.flume_model.specs.Entries.{entry_of}
+use Rattle.flume_lists.specs.Sends.{changed, told, is_due}
+use Rattle.flume_lists.specs.Waits.{Tells}
 use Rattle.flume_core.specs.State.{State}
 
 module _ {S : Type 0} where

@@ -1,7 +1,7 @@
 //! The state of a channel, and the steps that change it.
 ghost use Rattle.std.specs.Prelude.{◌≡◌, ◌∷◌, [], length, IsTrue, ◌↔◌};
-ghost use Rattle.flume_core.specs.Log.{Log, Opening, opens};
-ghost use Rattle.flume_core.specs.Limits.{IsOpen, HasRoom};
+ghost use Rattle.flume_model.specs.Log.{Log, Opening, opens};
+ghost use Rattle.flume_model.specs.Limits.{IsOpen, HasRoom};
 ghost use Rattle.flume_core.specs.State.{State, state_code, opened};
 ghost use Rattle.flume_core.specs.StandsFor.{StandsFor};
 ghost use Rattle.flume_core.specs.StandsFor.{IsRefusalOf};
@@ -12,10 +12,10 @@ mod queries;
 mod receive;
 mod send;
 
-use crate::entries::Entries;
-use crate::line::Line;
-use crate::sends::Sends;
-use crate::step::{Reply, Step};
+use flume_lists::entries::Entries;
+use flume_lists::line::Line;
+use flume_lists::sends::Sends;
+use flume_model::step::{Reply, Step};
 use std::alloc::{Allocator, Global};
 use std::marker::Model;
 

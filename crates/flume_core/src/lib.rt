@@ -2,12 +2,8 @@
 #![tactic(auto)]
 
 pub mod chan;
-mod entries;
-pub mod error;
-pub mod laws;
-mod line;
 pub mod reached;
 pub mod run;
-pub mod script;
-mod sends;
-pub mod step;
+
+pub use flume_error::error;
+pub use flume_model::step;

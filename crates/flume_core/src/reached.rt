@@ -1,13 +1,13 @@
 //! A channel that some run led to.
 ghost use Rattle.std.specs.Prelude.{◌≡◌, ◌∷◌};
-ghost use Rattle.flume_core.specs.Log.{Log, Opening, opens};
+ghost use Rattle.flume_model.specs.Log.{Log, Opening, opens};
 ghost use Rattle.flume_core.specs.State.{State, state_code, opened};
 ghost use Rattle.flume_core.specs.StandsFor.{StandsFor, IsRefusalOf};
 
 pub mod facts;
 
 use crate::chan::Chan;
-use crate::step::{Reply, Step};
+use flume_model::step::{Reply, Step};
 use std::alloc::{Allocator, Global};
 use std::marker::Model;
 

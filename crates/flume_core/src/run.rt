@@ -1,12 +1,13 @@
 //! Lists of steps.
 ghost use Rattle.std.specs.Prelude.{◌≡◌, vec_len, IfOk, IfErr, OnErr};
-ghost use Rattle.flume_core.specs.Log.{Log, Opening};
-ghost use Rattle.flume_core.specs.Offers.{after};
+ghost use Rattle.flume_model.specs.Log.{Log, Opening};
+ghost use Rattle.flume_model.specs.Offers.{after};
 ghost use Rattle.flume_core.specs.StandsFor.{StandsFor};
+ghost use Rattle.flume_model.specs.Beginnings.{HoldsThroughout};
 ghost use Rattle.flume_core.specs.Headline.{Headline};
 
 use crate::chan::Chan;
-use crate::step::{Reply, Step};
+use flume_model::step::{Reply, Step};
 use std::alloc::Allocator;
 use std::collections::VecDeque;
 
@@ -29,6 +30,9 @@ pub fn run<T: Drop, A: Allocator + Copy>(
     ensures headline { IfOk result (λ replies. (opening : Opening) (log : Log T A)
         → StandsFor opening log chan.old
         → Headline opening (after log steps.items replies.items) chan.new) }
+    ensures throughout { IfOk result (λ replies. (opening : Opening) (log : Log T A)
+        → StandsFor opening log chan.old
+        → HoldsThroughout opening (after log steps.items replies.items)) }
     ensures one_each { IfOk result (λ replies. vec_len replies ≡ vec_len steps) }
     ensures returned { IfErr result (λ back. back.items ≡ steps.items) }
     ensures unchanged { OnErr result (chan.new ≡ chan.old) }
@@ -42,3 +46,18 @@ pub fn run<T: Drop, A: Allocator + Copy>(
     }
     Ok(replies)
 }
+
+/// The headline, for a caller who does the steps of a channel one by one. Does nothing: each method
+/// of `Chan` says by its clause `step` which log its state stands for then, and this says what
+/// holds of that log and that state.
+///
+/// ```
+/// chan.try_send(7);
+/// headline_of_steps(&chan);
+/// ```
+pub fn headline_of_steps<T, S, A: Allocator>(chan: &Chan<T, S, A>)
+    ensures headline { (opening : Opening) (log : Log T A)
+        → StandsFor opening log chan.now → Headline opening log chan.now }
+    ensures throughout { (opening : Opening) (log : Log T A)
+        → StandsFor opening log chan.now → HoldsThroughout opening log }
+{}

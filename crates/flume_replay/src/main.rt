@@ -2,7 +2,7 @@
 #![tactic(auto)]
 
 use flume_core::error::NoMemory;
-use flume_core::script::run_script;
+use flume_script::run_script;
 use std::alloc::Global;
 use std::{fs, io};
 

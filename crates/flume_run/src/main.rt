@@ -5,7 +5,7 @@ ghost use Rattle.std.specs.Prelude.{◌≡◌, ℕ, List, ◌++◌, Some};
 ghost use Rattle.flume_run.specs.Serves.{Finishes, Serves};
 
 use flume_core::error::NoMemory;
-use flume_core::script::run_script;
+use flume_script::run_script;
 use std::alloc::Allocator;
 use std::io;
 use std::io::{ErrorKind, Read, Write};

@@ -1,15 +1,15 @@
 //! The steps by which ends come and go.
 ghost use Rattle.std.specs.Prelude.{not, ◌≡◌, ◌+◌, ◌-◌, ◌<◌, ◌↔◌, ◌∷◌};
-ghost use Rattle.flume_core.specs.Log.{Log, Opening};
-ghost use Rattle.flume_core.specs.Limits.{is_closed, most};
+ghost use Rattle.flume_model.specs.Log.{Log, Opening};
+ghost use Rattle.flume_model.specs.Limits.{is_closed, most};
 ghost use Rattle.flume_core.specs.Effects.{after_leaving, all_due};
 ghost use Rattle.flume_core.specs.State.{State};
 ghost use Rattle.flume_core.specs.StandsFor.{StandsFor, IsRefusal};
 
 use super::Chan;
-use crate::line::Line;
-use crate::sends::Sends;
-use crate::step::{Reply, Step};
+use flume_lists::line::Line;
+use flume_lists::sends::Sends;
+use flume_model::step::{Reply, Step};
 use std::alloc::Allocator;
 
 impl<T: Drop, S: Drop, A: Allocator + Copy> Chan<T, S, A> {
@@ -20,7 +20,9 @@ impl<T: Drop, S: Drop, A: Allocator + Copy> Chan<T, S, A> {
             → StandsFor opening ((Step.CloneSender, result) ∷ log) self.new }
         ensures no_end { (result ≡ Reply.NoEnd) ↔ (self.old.senders ≡ 0) }
         ensures count_full { (result ≡ Reply.CountFull) ↔ (self.old.senders ≡ most) }
-        ensures done { result ≡ Reply.Done
+        ensures done { (result ≡ Reply.Done)
+            ↔ (0 < self.old.senders) × (self.old.senders < most) }
+        ensures counted { result ≡ Reply.Done
             → self.new ≡ record self.old { senders = self.old.senders + 1 } }
         ensures unchanged { IsRefusal result → self.new ≡ self.old }
     {
@@ -40,7 +42,9 @@ impl<T: Drop, S: Drop, A: Allocator + Copy> Chan<T, S, A> {
             → StandsFor opening ((Step.CloneReceiver, result) ∷ log) self.new }
         ensures no_end { (result ≡ Reply.NoEnd) ↔ (self.old.receivers ≡ 0) }
         ensures count_full { (result ≡ Reply.CountFull) ↔ (self.old.receivers ≡ most) }
-        ensures done { result ≡ Reply.Done
+        ensures done { (result ≡ Reply.Done)
+            ↔ (0 < self.old.receivers) × (self.old.receivers < most) }
+        ensures counted { result ≡ Reply.Done
             → self.new ≡ record self.old { receivers = self.old.receivers + 1 } }
         ensures unchanged { IsRefusal result → self.new ≡ self.old }
     {

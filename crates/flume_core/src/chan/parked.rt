@@ -1,20 +1,22 @@
 //! The steps of parked receivers, and wake rounds.
 ghost use Rattle.std.specs.Prelude.{◌≡◌, ◌≢◌, ◌↔◌, ◌⊎◌, ℕ, Bool, true, List, [], ◌∷◌, Option, Some};
 ghost use Rattle.std.specs.Prelude.{None};
-ghost use Rattle.flume_core.specs.Log.{Log, Opening};
-ghost use Rattle.flume_core.specs.Limits.{IsOpen, IsClosed, is_closed};
-ghost use Rattle.flume_core.specs.Entries.{entry_of, again, passes_on, left_fills};
-ghost use Rattle.flume_core.specs.Entries.{round_for_fills};
-ghost use Rattle.flume_core.specs.Waits.{standing, looks, blocks, held_by, noticed, waits_on};
-ghost use Rattle.flume_core.specs.declared.entries.Standing.TheVariants.{BlockWaiting, Filled};
+ghost use Rattle.flume_model.specs.Log.{Log, Opening};
+ghost use Rattle.flume_model.specs.Limits.{IsOpen, IsClosed, is_closed};
+ghost use Rattle.flume_model.specs.Entries.{entry_of, again, passes_on, left_fills};
+ghost use Rattle.flume_model.specs.Entries.{round_for_fills};
+ghost use Rattle.flume_lists.specs.Waits.{standing, looks, blocks, noticed, waits_on};
+ghost use Rattle.flume_lists.specs.Waits.{only_leaves};
+ghost use Rattle.flume_model.specs.Entries.{held_by};
+ghost use Rattle.flume_lists.specs.declared.entries.Standing.TheVariants.{BlockWaiting, Filled};
 ghost use Rattle.flume_core.specs.Effects.{fronted, taken, unparked, departed, rounded};
 ghost use Rattle.flume_core.specs.Effects.{waiting_so, Departs};
 ghost use Rattle.flume_core.specs.State.{State};
 ghost use Rattle.flume_core.specs.StandsFor.{StandsFor, IsRefusalOf};
 
 use super::Chan;
-use crate::entries::Standing;
-use crate::step::{Reply, Step};
+use flume_lists::entries::Standing;
+use flume_model::step::{Reply, Step};
 use std::alloc::Allocator;
 
 impl<T: Drop, S: Drop, A: Allocator + Copy> Chan<T, S, A> {
@@ -103,6 +105,11 @@ impl<T: Drop, S: Drop, A: Allocator + Copy> Chan<T, S, A> {
             → (result ≡ Reply.Got message) × (self.new ≡ unparked ticket (taken rest self.old)) }
         ensures gone { (closed : Bool) (filled : Option ℕ) → result ≡ Reply.Gone closed filled
             → Departs self.old self.new ticket closed filled }
+        ensures leaves { (result ≡ Reply.Gone (is_closed self.old.senders self.old.receivers)
+            (left_fills ticket self.old.queue self.old.entries))
+            ↔ (only_leaves (standing ticket self.old.entries) ≡ true)
+            ⊎ ((blocks (standing ticket self.old.entries) ≡ true)
+            × ((fronted self.old).queue ≡ [])) }
         ensures never_refused { (back : Option T) → result ≢ Reply.NoMemory back }
         ensures unchanged { IsRefusalOf (Step.Withdraw ticket) result → self.new ≡ self.old }
     {

@@ -1,16 +1,16 @@
 //! The queries, each a step that changes nothing, and what is due.
 ghost use Rattle.std.specs.Prelude.{◌≡◌, ◌==◌, ◌∷◌, length, IfNone, IfSome, true};
 ghost use Rattle.std.specs.Option.{option_copied};
-ghost use Rattle.flume_core.specs.Log.{Log, Opening};
-ghost use Rattle.flume_core.specs.Limits.{is_closed, is_full};
-ghost use Rattle.flume_core.specs.Sends.{NoneDue};
-ghost use Rattle.flume_core.specs.Waits.{NoneDueIn};
+ghost use Rattle.flume_model.specs.Log.{Log, Opening};
+ghost use Rattle.flume_model.specs.Limits.{is_closed, is_full};
+ghost use Rattle.flume_lists.specs.Sends.{NoneDue};
+ghost use Rattle.flume_lists.specs.Waits.{NoneDueIn};
 ghost use Rattle.flume_core.specs.Told.{Names, signal_of};
 ghost use Rattle.flume_core.specs.State.{State};
 ghost use Rattle.flume_core.specs.StandsFor.{StandsFor};
 
 use super::Chan;
-use crate::step::{Reply, Step};
+use flume_model::step::{Reply, Step};
 use std::alloc::Allocator;
 
 impl<T: Drop, S: Drop, A: Allocator + Copy> Chan<T, S, A> {

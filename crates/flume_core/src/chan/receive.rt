@@ -1,16 +1,16 @@
 //! The steps of receivers.
-ghost use Rattle.std.specs.Prelude.{◌≡◌, ◌≢◌, ◌<◌, ◌≤◌, ◌↔◌, ℕ, List, [], ◌∷◌, IfNone, IfSome};
-ghost use Rattle.std.specs.Prelude.{Option};
+ghost use Rattle.std.specs.Prelude.{◌≡◌, ◌≢◌, ◌<◌, ◌≤◌, ◌↔◌, ◌⊎◌, ℕ, List, [], ◌∷◌};
+ghost use Rattle.std.specs.Prelude.{IfNone, IfSome, Option};
 ghost use Rattle.std.specs.Prelude.{None, Vec};
-ghost use Rattle.flume_core.specs.Log.{Log, Opening};
-ghost use Rattle.flume_core.specs.Limits.{IsOpen, IsClosed, most};
+ghost use Rattle.flume_model.specs.Log.{Log, Opening};
+ghost use Rattle.flume_model.specs.Limits.{IsOpen, IsClosed, most};
 ghost use Rattle.flume_core.specs.Effects.{admitted, fronted, refilled, taken, filled_up};
 ghost use Rattle.flume_core.specs.Effects.{waiting_so, Begins};
 ghost use Rattle.flume_core.specs.State.{State};
 ghost use Rattle.flume_core.specs.StandsFor.{StandsFor, IsRefusal};
 
 use super::Chan;
-use crate::step::{Kind, Reply, Step};
+use flume_model::step::{Kind, Reply, Step};
 use std::alloc::Allocator;
 
 impl<T: Drop, S: Drop, A: Allocator + Copy> Chan<T, S, A> {
@@ -106,6 +106,8 @@ impl<T: Drop, S: Drop, A: Allocator + Copy> Chan<T, S, A> {
             × (self.new ≡ filled_up (record self.old { queue = [] })) }
         ensures refused { (back : Option T) → result ≡ Reply.NoMemory back
             → (self.old.queue ≢ []) × (back ≡ None) }
+        ensures either { (result ≡ Reply.NoMemory None)
+            ⊎ ((list : Vec T A) × (result ≡ Reply.Drained list)) }
         ensures unchanged { IsRefusal result → self.new ≡ self.old }
     {
         let Ok(list) = self.line.drain_queued() else {

@@ -1,6 +1,7 @@
 -- What a list of steps leaves.
 use Rattle.std.proofs.Common.{◌≡◌, [], rules}
 use Rattle.flume_core.proofs.Lists.{none_done, one_more, all_done, headline}
+use Rattle.flume_model.proofs.Beginnings.{throughout}
 use Rattle.flume_core.proofs.run.run.Goals as goal
 
 pub returns-clause-steps : goal.returns-clause-steps
@@ -10,6 +11,9 @@ returns-clause-steps g c o log h =
 
 pub returns-clause-headline : goal.returns-clause-headline
 returns-clause-headline g c o log h = headline o _ _ (returns-clause-steps g c o log h)
+
+pub returns-clause-throughout : goal.returns-clause-throughout
+returns-clause-throughout g c o log h = throughout o _ (returns-clause-steps g c o log h).run
 
 pub loop-step-init : goal.loop-step-init
 loop-step-init g c = record {

@@ -1,6 +1,6 @@
 -- A query changes nothing.
 use Rattle.std.proofs.Common.{refl, rules}
-use Rattle.flume_core.proofs.Moves.{still}
+use Rattle.flume_core.proofs.Keeping.{still}
 use Rattle.flume_core.proofs.chan.Chan.capacity.Goals as goal
 
 pub returns-clause-step : goal.returns-clause-step

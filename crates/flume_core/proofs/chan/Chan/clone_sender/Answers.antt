@@ -1,7 +1,7 @@
 -- A refused clone changes nothing, and another one counts one end more.
 use Rattle.std.proofs.Common.{refl, rules, arith}
-use Rattle.flume_core.specs.Log.{SenderJoins}
-use Rattle.flume_core.proofs.Moves.{still, counts_open}
+use Rattle.flume_model.specs.Log.{SenderJoins}
+use Rattle.flume_core.proofs.Keeping.{still, counts_open}
 use Rattle.flume_core.proofs.chan.Chan.clone_sender.Goals as goal
 
 pub returns-in-0-clause-step : goal.returns-in-0-clause-step
@@ -13,4 +13,4 @@ returns-in-18446744073709551615-clause-step g c o log h = still o log _ _ _ h (s
 pub returns-in_default-clause-step : goal.returns-in_default-clause-step
 returns-in_default-clause-step g c o log h =
     counts_open o log _ SenderJoins c.args.self.now _ c.args.self.now.sends c.args.self.now.entries h (search rules) refl refl
-    (search rules) (λ t. refl) refl (omega arith) (omega arith)
+    (search rules) (λ t. refl) refl (omega arith) refl (omega arith)

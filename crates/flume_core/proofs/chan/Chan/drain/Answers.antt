@@ -1,7 +1,7 @@
 -- All queued messages are handed out, and blocked ones move in.
-use Rattle.std.proofs.Common.{◌≡◌, refl, ◌∙◌, sym, rules}
+use Rattle.std.proofs.Common.{◌≡◌, refl, ◌∙◌, sym, rules, inr}
 use Rattle.flume_core.proofs.Views.{queue_at_log, some_queued}
-use Rattle.flume_core.proofs.Moves.{still}
+use Rattle.flume_core.proofs.Keeping.{still}
 use Rattle.flume_core.proofs.Drains.{drains}
 use Rattle.flume_core.proofs.chan.Chan.drain.Goals as goal
 
@@ -12,3 +12,6 @@ pub returns-clause-step : goal.returns-clause-step
 returns-clause-step g c o log h =
     let list : c.in-Ok.list.items ≡ c.args.self.now.queue = search rules in
     drains o log _ c.args.self.now _ c.in-Ok.list.items h (list ∙ sym (queue_at_log h)) refl (search rules)
+
+pub returns-clause-either : goal.returns-clause-either
+returns-clause-either g c = inr (c.in-Ok.list, refl)

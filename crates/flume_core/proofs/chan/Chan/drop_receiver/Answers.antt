@@ -1,7 +1,7 @@
 -- An end that is not there, and one that leaves.
 use Rattle.std.proofs.Common.{refl, rules}
-use Rattle.flume_core.specs.Log.{ReceiverLeaves}
-use Rattle.flume_core.proofs.Moves.{still}
+use Rattle.flume_model.specs.Log.{ReceiverLeaves}
+use Rattle.flume_core.proofs.Keeping.{still}
 use Rattle.flume_core.proofs.Closing.{leaves}
 use Rattle.flume_core.proofs.chan.Chan.drop_receiver.Goals as goal
 

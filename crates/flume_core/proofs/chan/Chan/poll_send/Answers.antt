@@ -1,8 +1,9 @@
 -- How a send stands, as it is answered.
 use Rattle.std.proofs.Common.{refl, ◌∙◌, rules, eq-eqb}
-use Rattle.flume_core.specs.Limits.{IsClosed}
+use Rattle.flume_model.specs.Limits.{IsClosed}
 use Rattle.flume_core.specs.Effects.{resignalled}
-use Rattle.flume_core.proofs.Moves.{still, still_signal, accepts}
+use Rattle.flume_core.proofs.Keeping.{still, still_signal}
+use Rattle.flume_core.proofs.Moves.{accepts}
 use Rattle.flume_core.proofs.Views.{open_at_log, closed_at_log}
 use Rattle.flume_core.proofs.Answering.{unknown, known, waits, taken_back, closed_where}
 use Rattle.flume_core.proofs.Telling.{same_marks_signal}

@@ -1,6 +1,6 @@
 -- A receive that does not park, and one that does.
 use Rattle.std.proofs.Common.{◌≡◌, ◌<◌, refl, ap, ◌∙◌, rules, arith}
-use Rattle.flume_core.specs.Limits.{most}
+use Rattle.flume_model.specs.Limits.{most}
 use Rattle.flume_core.proofs.Receives.{parks}
 use Rattle.flume_core.proofs.Views.{open_at_log}
 use Rattle.flume_core.proofs.Answering.{empty_line}

@@ -1,7 +1,7 @@
 -- A send that does not block, and one that does.
 use Rattle.std.proofs.Common.{◌≡◌, ◌<◌, refl, ap, ◌∙◌, rules, arith}
-use Rattle.flume_core.specs.declared.step.Reply.TheVariants.{Full}
-use Rattle.flume_core.specs.Limits.{most}
+use Rattle.flume_model.specs.declared.step.Reply.TheVariants.{Full}
+use Rattle.flume_model.specs.Limits.{most}
 use Rattle.flume_core.proofs.Moves.{blocks}
 use Rattle.flume_core.proofs.Answering.{takes_none_in}
 use Rattle.flume_core.proofs.AsTries.{send_as_try}

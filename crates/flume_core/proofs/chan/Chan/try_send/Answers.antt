@@ -1,7 +1,8 @@
 -- A send that is refused, and one that is taken in.
 use Rattle.std.proofs.Common.{◌≡◌, [], ◌∷◌, ◌++◌, refl, ◌∙◌, rules}
-use Rattle.flume_core.specs.Entries.{round_for_fills}
-use Rattle.flume_core.proofs.Moves.{still, queues}
+use Rattle.flume_model.specs.Entries.{round_for_fills}
+use Rattle.flume_core.proofs.Keeping.{still}
+use Rattle.flume_core.proofs.Moves.{queues}
 use Rattle.flume_core.proofs.Answering.{takes_in, takes_none_in, fills_at_log}
 use Rattle.flume_core.proofs.chan.Chan.try_send.Goals as goal
 

@@ -1,6 +1,7 @@
 -- How a send stands that takes its message back.
 use Rattle.std.proofs.Common.{refl, ◌∙◌, rules}
-use Rattle.flume_core.proofs.Moves.{still, accepts}
+use Rattle.flume_core.proofs.Keeping.{still}
+use Rattle.flume_core.proofs.Moves.{accepts}
 use Rattle.flume_core.proofs.Answering.{unknown, known, waits, taken_back, closed_as}
 use Rattle.flume_core.proofs.chan.Chan.withdraw_send.Goals as goal
 

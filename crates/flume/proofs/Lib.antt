@@ -1,0 +1,6 @@
+mod Comes
+mod Rest
+mod DueCounts
+mod Ringing
+mod AtRest
+mod InTime

@@ -1,0 +1,33 @@
+-- Telling all who are due of it: one ring of a bell for each.
+use Rattle.std.specs.Prelude.{◌≡◌, ℕ, Some, map}
+use Rattle.std.specs.Option.{option_map}
+use Rattle.std.specs.FinMap.{get}
+use Rattle.flume_model.specs.declared.entry.Entry.{Entry}
+use Rattle.flume_lists.specs.declared.entries.Notice.{Notice}
+use Rattle.flume_lists.specs.Sends.{NoneDue, told}
+use Rattle.flume_lists.specs.Waits.{NoneDueIn, not_due}
+use Rattle.flume_core.specs.State.{State}
+use Rattle.flume_core.specs.Told.{Names, signal_of}
+
+module _ {B S : Type 0} (rings : B → ℕ → S → B → Type 0) {T : Type 0} where
+  -- From a channel and a bell to both as they are after: each due ticket is named, and isn't due
+  -- then, and the bell rings once for it, with the signal that it left last. There is no other
+  -- ring, and the last is the one after which nothing is due.
+  pub data Rings : State T S → B → State T S → B → Type 0 where
+    -- nothing is due
+    Over : {s : State T S} {bell : B} → NoneDue s.sends → NoneDueIn s.entries → Rings s bell s bell
+    -- one that is due, and then the others
+    Rung : {old named new : State T S} {bell rung end : B} {ticket : ℕ} {signal : S}
+        → Names old named ticket → signal_of old ticket ≡ Some signal
+        → rings bell ticket signal rung → Rings named rung new end → Rings old bell new end
+
+module _ {T S : Type 0} where
+  -- an entry that isn't due, and is otherwise this one
+  abbrev pub told_entry : Entry T (Notice S) → Entry T (Notice S)
+  told_entry e = record e { notice = not_due e.notice }
+
+  -- nothing is due any more, and all else is as it was
+  pub record AllTold (old new : State T S) : Type 0 where
+    pub rest : new ≡ record old { sends = new.sends; entries = new.entries }
+    pub sends : (ticket : ℕ) → get new.sends ticket ≡ option_map told (get old.sends ticket)
+    pub entries : new.entries ≡ map told_entry old.entries

@@ -1,0 +1,191 @@
+//! The gate of the ends: each turn of a call is made under the channel's lock, and the call waits
+//! on a parker of its own.
+ghost use Rattle.std.specs.Prelude.{◌≡◌, ◌≢◌, Bool, true, false};
+ghost use Rattle.flume.specs.declared.gate.Deadline.TheVariants.{Never};
+ghost use Rattle.flume.specs.SendGates as send;
+ghost use Rattle.flume.specs.ReceiveGates as receive;
+
+use crate::calls::{RecvCall, RecvNext, SendCall, SendNext};
+use crate::gates::{RecvGate, SendGate};
+use crate::shared::{Shared, Waits};
+use crate::signal::{Parker, Signal};
+use flume_core::error::{RecvTimeoutError, SendTimeoutError};
+use std::alloc::Allocator;
+use std::marker::Model;
+use std::sync::Arc;
+use std::time::{Duration, Instant};
+
+/// Up to when a call waits.
+#[derive(Clone, Copy, Drop)]
+pub(crate) enum Deadline {
+    /// As long as it takes.
+    Never,
+    /// Up to this time.
+    At(Instant),
+    /// It is reached.
+    Reached,
+}
+
+impl Deadline {
+    /// So long from now. Where no time is that late, never; where the clock can't be read, it is
+    /// reached.
+    pub(crate) fn after<R: Waits>(rt: &R, timeout: Duration) -> Deadline {
+        match Instant::now(rt) {
+            Ok(now) => match now.checked_add(timeout) {
+                Some(deadline) => Deadline::At(deadline),
+                None => Deadline::Never,
+            },
+            Err(_) => Deadline::Reached,
+        }
+    }
+
+    // Whether it is reached, by the clock. A clock that can't be read counts as past it.
+    fn is_reached<R: Waits>(self, rt: &R) -> bool
+        ensures never { result ≡ true → self ≢ Deadline.Never }
+    {
+        match self {
+            Deadline::Never => false,
+            Deadline::At(deadline) => match Instant::now(rt) {
+                Ok(now) => now >= deadline,
+                Err(_) => true,
+            },
+            Deadline::Reached => true,
+        }
+    }
+}
+
+/// What one blocking call of an end goes through.
+#[derive(Drop)]
+pub(crate) struct Gate<'a, T, R: Waits, A: Allocator + Copy> {
+    shared: &'a Shared<T, R, A>,
+    deadline: Deadline,
+    // What the call waits on, once it is made.
+    parker: Option<Arc<Parker, A>>,
+    // The copy of it that the call's entry is to hold.
+    signal: Option<Signal<A>>,
+}
+
+impl<'a, T, R: Waits, A: Allocator + Copy> Model for Gate<'a, T, R, A> {
+    ghost use Rattle.flume.specs.declared.gate.Deadline.{Deadline};
+
+    ghost Value = { Deadline };
+
+    ghost view = { λ gate. gate.deadline };
+}
+
+impl<'a, T: Drop, R: Waits, A: Allocator + Copy> Gate<'a, T, R, A> {
+    /// A gate of a call that waits up to the deadline. Takes no memory.
+    pub(crate) fn new(shared: &'a Shared<T, R, A>, deadline: Deadline) -> Self
+        ensures deadline { result ≡ deadline }
+    {
+        Gate {
+            shared,
+            deadline,
+            parker: None,
+            signal: None,
+        }
+    }
+
+    // Makes the parker and the entry's copy of it, outside the lock.
+    fn make_parker(&mut self) -> bool
+        ensures same { self.new ≡ self.old }
+    {
+        let Ok(parker) = Arc::new(self.shared.alloc, Parker::new()) else {
+            return false;
+        };
+        let Ok(copy) = Arc::try_clone(&parker) else {
+            return false;
+        };
+        self.parker = Some(parker);
+        self.signal = Some(Signal::Parker(copy));
+        true
+    }
+
+    // Waits for the parker's wake or the deadline. True, at once, where the deadline is reached.
+    fn wait_for_wake(&mut self) -> bool
+        ensures same { self.new ≡ self.old }
+        ensures late { result ≡ true → self.old ≢ Deadline.Never }
+    {
+        let rt = &self.shared.rt;
+        if self.deadline.is_reached(rt) {
+            return true;
+        }
+        if let Some(parker) = &self.parker {
+            match self.deadline {
+                Deadline::At(deadline) => parker.wait_until(rt, deadline),
+                _ => parker.wait(rt),
+            }
+        }
+        false
+    }
+}
+
+impl<T: Drop, R: Waits, A: Allocator + Copy> SendGate<T> for Gate<'_, T, R, A> {
+    ghost firsts = { λ old message new next. (new ≡ old) × send.IsFirst message next };
+
+    ghost arms = { λ old new _. new ≡ old };
+
+    ghost parks = { λ old message new next. (new ≡ old) × send.IsParking message next };
+
+    ghost agains = { λ old _ late new next. (new ≡ old) × send.IsAgain late next };
+
+    ghost waits = { λ old new late. (new ≡ old) × (late ≡ true → old ≢ Never) };
+
+    fn first(&mut self, message: T) -> SendNext<T> {
+        self.shared.first_send(message)
+    }
+
+    fn arm(&mut self) -> bool {
+        self.make_parker()
+    }
+
+    fn park(&mut self, message: T) -> SendNext<T> {
+        match self.signal.take() {
+            Some(signal) => self.shared.park_send(message, signal),
+            None => SendNext::Done(Err(SendTimeoutError::NoMemory(message))),
+        }
+    }
+
+    fn again(&mut self, call: SendCall, late: bool) -> SendNext<T> {
+        self.shared.again_send(call, late)
+    }
+
+    fn wait(&mut self) -> bool {
+        self.wait_for_wake()
+    }
+}
+
+impl<T: Drop, R: Waits, A: Allocator + Copy> RecvGate<T> for Gate<'_, T, R, A> {
+    ghost firsts = { λ old new next. (new ≡ old) × receive.IsFirst next };
+
+    ghost arms = { λ old new _. new ≡ old };
+
+    ghost parks = { λ old new next. (new ≡ old) × receive.IsParking next };
+
+    ghost agains = { λ old _ late new next. (new ≡ old) × receive.IsAgain late next };
+
+    ghost waits = { λ old new late. (new ≡ old) × (late ≡ true → old ≢ Never) };
+
+    fn first(&mut self) -> RecvNext<T> {
+        self.shared.first_receive()
+    }
+
+    fn arm(&mut self) -> bool {
+        self.make_parker()
+    }
+
+    fn park(&mut self) -> RecvNext<T> {
+        match self.signal.take() {
+            Some(signal) => self.shared.park_receive(signal),
+            None => RecvNext::Done(Err(RecvTimeoutError::NoMemory)),
+        }
+    }
+
+    fn again(&mut self, call: RecvCall, late: bool) -> RecvNext<T> {
+        self.shared.again_receive(call, late)
+    }
+
+    fn wait(&mut self) -> bool {
+        self.wait_for_wake()
+    }
+}

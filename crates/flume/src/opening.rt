@@ -1,0 +1,64 @@
+//! New channels.
+ghost use Rattle.std.specs.Prelude.{◌≡◌, IfOk};
+
+use crate::receiver::Receiver;
+use crate::sender::Sender;
+use crate::shared::{Shared, Waits};
+use flume_core::error::NoMemory;
+use std::alloc::Allocator;
+use std::sync::Arc;
+
+/// A channel that holds any number of messages. The number `id` names it: ends of channels with one
+/// number count as ends of the same. `NoMemory`: there was no room for what the ends share.
+///
+/// ```
+/// let (tx, rx) = unbounded::<u64, _, _>(rt, rt.alloc(), 1)?;
+/// tx.send(42);                           // Ok(())
+/// rx.recv();                             // Ok(42)
+/// ```
+pub fn unbounded<T: Drop, R: Waits, A: Allocator + Copy>(
+    rt: R,
+    alloc: A,
+    id: u64,
+) -> Result<(Sender<T, R, A>, Receiver<T, R, A>), NoMemory>
+    ensures sender { IfOk result (λ ends. ends.0 ≡ id) }
+    ensures receiver { IfOk result (λ ends. ends.1 ≡ id) }
+{
+    ends(rt, alloc, id, None)
+}
+
+/// A channel that holds at most `capacity` messages, but for those that were sent to receivers that
+/// wait. At 0 a send waits for a receiver. `id` and `NoMemory` as of `unbounded`.
+///
+/// ```
+/// let (tx, rx) = bounded::<u64, _, _>(rt, rt.alloc(), 2, 1)?;
+/// tx.try_send(1);                        // Ok(())
+/// tx.try_send(2);                        // Err(Full(2))
+/// ```
+pub fn bounded<T: Drop, R: Waits, A: Allocator + Copy>(
+    rt: R,
+    alloc: A,
+    id: u64,
+    capacity: usize,
+) -> Result<(Sender<T, R, A>, Receiver<T, R, A>), NoMemory>
+    ensures sender { IfOk result (λ ends. ends.0 ≡ id) }
+    ensures receiver { IfOk result (λ ends. ends.1 ≡ id) }
+{
+    ends(rt, alloc, id, Some(capacity))
+}
+
+fn ends<T: Drop, R: Waits, A: Allocator + Copy>(
+    rt: R,
+    alloc: A,
+    id: u64,
+    capacity: Option<usize>,
+) -> Result<(Sender<T, R, A>, Receiver<T, R, A>), NoMemory>
+    ensures sender { IfOk result (λ ends. ends.0 ≡ id) }
+    ensures receiver { IfOk result (λ ends. ends.1 ≡ id) }
+{
+    let Ok(one) = Arc::new(alloc, Shared::new(rt, alloc, id, capacity)) else {
+        return Err(NoMemory);
+    };
+    let other = Arc::try_clone(&one)?;
+    Ok((Sender::over(one), Receiver::over(other)))
+}

@@ -1,0 +1,174 @@
+//! The receivers of a channel.
+ghost use Rattle.std.specs.Prelude.{◌≡◌, ◌≢◌, ℕ, ◌==◌, Err};
+
+use crate::calls::RecvNext;
+use crate::gate::{Deadline, Gate};
+use crate::gates::recv_over;
+use crate::shared::{Shared, Waits};
+use flume_core::error::{RecvError, RecvTimeoutError, TryRecvError};
+use flume_core::step::Reply;
+use std::alloc::{AllocError, Allocator, Global};
+use std::fmt;
+use std::marker::Model;
+use std::sync::Arc;
+use std::time::{Duration, Instant};
+
+/// Receives the messages of a channel. Each message goes to one receiver, also where there are
+/// clones of it. As the last of them goes the channel closes: messages that are queued stay until
+/// the last sender goes too, and senders that are blocked get theirs back.
+pub struct Receiver<T, R: Waits, A: Allocator + Copy = Global> {
+    shared: Arc<Shared<T, R, A>, A>,
+}
+
+impl<T, R: Waits, A: Allocator + Copy> Model for Receiver<T, R, A> {
+    ghost Value = { ℕ };
+
+    ghost view = { λ receiver. receiver.shared.value.id };
+}
+
+impl<T: Drop, R: Waits, A: Allocator + Copy> Receiver<T, R, A> {
+    /// The receiver over what the ends share, which counts it already.
+    pub(crate) fn over(shared: Arc<Shared<T, R, A>, A>) -> Self
+        ensures number { result ≡ shared.value.id }
+    {
+        Receiver { shared }
+    }
+
+    /// Takes the next message, where one is there. Doesn't wait for a sender. `Empty`: none is
+    /// there. `Disconnected`: none is, and all senders are gone.
+    ///
+    /// ```
+    /// let (tx, rx) = unbounded::<u64, _, _>(rt, rt.alloc(), 1)?;
+    /// rx.try_recv();                     // Err(Empty)
+    /// tx.send(42);
+    /// rx.try_recv();                     // Ok(42)
+    /// drop(tx);
+    /// rx.try_recv();                     // Err(Disconnected)
+    /// ```
+    pub fn try_recv(&self) -> Result<T, TryRecvError> {
+        match self.shared.first_receive() {
+            RecvNext::Done(Ok(message)) => Ok(message),
+            RecvNext::Done(Err(RecvTimeoutError::Disconnected)) => Err(TryRecvError::Disconnected),
+            RecvNext::Done(Err(RecvTimeoutError::NoMemory)) => Err(TryRecvError::NoMemory),
+            RecvNext::NeedSignal => Err(TryRecvError::Empty),
+            RecvNext::Done(Err(RecvTimeoutError::Timeout))
+            | RecvNext::Park(_)
+            | RecvNext::Refused(_) => unreachable!(),
+        }
+    }
+
+    /// Takes the next message, and waits while there is none. `Disconnected`: none is there, and
+    /// all senders are gone. `NoMemory`: there was no room for what a call waits on.
+    ///
+    /// ```
+    /// tx.send(42);
+    /// rx.recv();                         // Ok(42)
+    /// drop(tx);
+    /// rx.recv();                         // Err(Disconnected)
+    /// ```
+    pub fn recv(&self) -> Result<T, RecvError> {
+        match self.recv_up_to(Deadline::Never) {
+            Ok(message) => Ok(message),
+            Err(RecvTimeoutError::NoMemory) => Err(RecvError::NoMemory),
+            Err(RecvTimeoutError::Disconnected) => Err(RecvError::Disconnected),
+            Err(RecvTimeoutError::Timeout) => unreachable!(),
+        }
+    }
+
+    /// Takes the next message, and waits while there is none, up to the deadline. `Timeout`: it is
+    /// reached, and no message came. Where the channel is closed by then the answer is
+    /// `Disconnected`. A clock that can't be read counts as past each deadline.
+    ///
+    /// ```
+    /// let now = Instant::now(&rt)?;
+    /// rx.recv_deadline(now);             // Err(Timeout), where no message is there
+    /// ```
+    pub fn recv_deadline(&self, deadline: Instant) -> Result<T, RecvTimeoutError> {
+        self.recv_up_to(Deadline::At(deadline))
+    }
+
+    /// The same, up to so long from now. Where no time is that late it waits as `recv` does.
+    ///
+    /// ```
+    /// rx.recv_timeout(Duration::from_millis(100));
+    /// ```
+    pub fn recv_timeout(&self, timeout: Duration) -> Result<T, RecvTimeoutError> {
+        let deadline = Deadline::after(&self.shared.rt, timeout);
+        self.recv_up_to(deadline)
+    }
+
+    fn recv_up_to(&self, deadline: Deadline) -> Result<T, RecvTimeoutError>
+        ensures in_time { deadline ≡ Deadline.Never → result ≢ Err RecvTimeoutError.Timeout }
+    {
+        let shared: &Shared<T, R, A> = &self.shared;
+        let mut gate = Gate::new(shared, deadline);
+        recv_over(&shared.rt, &mut gate)
+    }
+
+    /// How many messages are queued.
+    pub fn len(&self) -> usize {
+        self.shared.len()
+    }
+
+    /// Whether no message is queued.
+    pub fn is_empty(&self) -> bool {
+        self.shared.is_empty()
+    }
+
+    /// Whether the channel is bounded, and as many messages are queued as it holds.
+    pub fn is_full(&self) -> bool {
+        self.shared.is_full()
+    }
+
+    /// How many messages the channel holds; `None` of an unbounded one.
+    pub fn capacity(&self) -> Option<usize> {
+        self.shared.capacity()
+    }
+
+    /// How many senders live.
+    pub fn sender_count(&self) -> usize {
+        self.shared.sender_count()
+    }
+
+    /// How many receivers live.
+    pub fn receiver_count(&self) -> usize {
+        self.shared.receiver_count()
+    }
+
+    /// Whether all receivers, or all senders, are gone.
+    pub fn is_disconnected(&self) -> bool {
+        self.shared.is_disconnected()
+    }
+
+    /// Whether both receive from channels of the same number.
+    pub fn same_channel(&self, other: &Receiver<T, R, A>) -> bool
+        ensures same { result ≡ (self.now == other.now) }
+    {
+        self.shared.id == other.shared.id
+    }
+}
+
+impl<T: Drop, R: Waits, A: Allocator + Copy> Clone for Receiver<T, R, A> {
+    ghost is_clone = { λ receiver copy. copy ≡ receiver };
+
+    fn clone(&self) -> Result<Self, AllocError> {
+        let shared = Arc::try_clone(&self.shared)?;
+        match shared.clone_receiver() {
+            Reply::Done => Ok(Receiver { shared }),
+            _ => Err(AllocError),
+        }
+    }
+}
+
+impl<T: Drop, R: Waits, A: Allocator + Copy> fmt::Debug for Receiver<T, R, A> {
+    fn fmt<W: fmt::Write>(&self, f: &mut fmt::Formatter<W>) -> fmt::Result {
+        f.write_str("Receiver")
+    }
+}
+
+impl<T: Drop, R: Waits, A: Allocator + Copy> Drop for Receiver<T, R, A> {
+    fn drop(self) {
+        let Self { shared } = self;
+        shared.drop_receiver();
+    }
+}

@@ -1,0 +1,213 @@
+//! The senders of a channel.
+ghost use Rattle.std.specs.Prelude.{◌≡◌, ◌≢◌, ℕ, ◌==◌, IfOk, Err};
+
+use crate::calls::SendNext;
+use crate::gate::{Deadline, Gate};
+use crate::gates::send_over;
+use crate::shared::{Shared, Waits};
+use crate::weak::WeakSender;
+use flume_core::error::{NoMemory, SendError, SendTimeoutError, TrySendError};
+use flume_core::step::Reply;
+use std::alloc::{AllocError, Allocator, Global};
+use std::fmt;
+use std::marker::Model;
+use std::sync::Arc;
+use std::time::{Duration, Instant};
+
+/// Sends messages into a channel. Its clones send into the same one. As the last of them goes the
+/// channel closes: what is queued is still received.
+///
+/// Once all senders and all receivers are gone, the messages that are left are dropped, while the
+/// channel is locked. A message that holds an end of its own channel keeps it from that. One whose
+/// `drop` upgrades a `WeakSender` of its own channel would wait for itself.
+pub struct Sender<T, R: Waits, A: Allocator + Copy = Global> {
+    shared: Arc<Shared<T, R, A>, A>,
+}
+
+impl<T, R: Waits, A: Allocator + Copy> Model for Sender<T, R, A> {
+    ghost Value = { ℕ };
+
+    ghost view = { λ sender. sender.shared.value.id };
+}
+
+impl<T: Drop, R: Waits, A: Allocator + Copy> Sender<T, R, A> {
+    /// The sender over what the ends share, which counts it already.
+    pub(crate) fn over(shared: Arc<Shared<T, R, A>, A>) -> Self
+        ensures number { result ≡ shared.value.id }
+    {
+        Sender { shared }
+    }
+
+    /// Sends a message, or gives it back where the channel is full or closed, or where memory was
+    /// wanted and there was none. Doesn't wait for a receiver.
+    ///
+    /// ```
+    /// let (tx, rx) = bounded::<u64, _, _>(rt, rt.alloc(), 1, 1)?;
+    /// tx.try_send(1);                    // Ok(())
+    /// tx.try_send(2);                    // Err(Full(2))
+    /// drop(rx);
+    /// tx.try_send(3);                    // Err(Disconnected(3))
+    /// ```
+    pub fn try_send(&self, message: T) -> Result<(), TrySendError<T>>
+        ensures full { (back : T) → result ≡ Err (TrySendError.Full back) → back ≡ message }
+        ensures disconnected { (back : T) → result ≡ Err (TrySendError.Disconnected back)
+            → back ≡ message }
+        ensures no_memory { (back : T) → result ≡ Err (TrySendError.NoMemory back)
+            → back ≡ message }
+    {
+        match self.shared.first_send(message) {
+            SendNext::Done(Ok(())) => Ok(()),
+            SendNext::Done(Err(SendTimeoutError::Disconnected(message))) => {
+                Err(TrySendError::Disconnected(message))
+            }
+            SendNext::Done(Err(SendTimeoutError::NoMemory(message))) => {
+                Err(TrySendError::NoMemory(message))
+            }
+            SendNext::NeedSignal(message) => Err(TrySendError::Full(message)),
+            SendNext::Done(Err(SendTimeoutError::Timeout(_))) | SendNext::Park(_) => unreachable!(),
+        }
+    }
+
+    /// Sends a message, and waits while the channel is full. `Disconnected`: all receivers are
+    /// gone, and the message wasn't taken in. `NoMemory`: there was no room for it, or for what a
+    /// call waits on. Both give the message back.
+    ///
+    /// ```
+    /// tx.send(42);                       // Ok(())
+    /// drop(rx);
+    /// tx.send(43);                       // Err(Disconnected(43))
+    /// ```
+    pub fn send(&self, message: T) -> Result<(), SendError<T>>
+        ensures no_memory { (back : T) → result ≡ Err (SendError.NoMemory back) → back ≡ message }
+    {
+        match self.send_up_to(message, Deadline::Never) {
+            Ok(()) => Ok(()),
+            Err(SendTimeoutError::NoMemory(message)) => Err(SendError::NoMemory(message)),
+            Err(SendTimeoutError::Disconnected(message)) => Err(SendError::Disconnected(message)),
+            Err(SendTimeoutError::Timeout(_)) => unreachable!(),
+        }
+    }
+
+    /// Sends a message, and waits while the channel is full, up to the deadline. `Timeout`: it is
+    /// reached, and the message wasn't taken in. Where the channel is closed by then the answer is
+    /// `Disconnected`. A clock that can't be read counts as past each deadline.
+    ///
+    /// ```
+    /// let (tx, rx) = bounded::<u64, _, _>(rt, rt.alloc(), 1, 1)?;
+    /// let now = Instant::now(&rt)?;
+    /// tx.send_deadline(1, now);          // Ok(())
+    /// tx.send_deadline(2, now);          // Err(Timeout(2))
+    /// ```
+    pub fn send_deadline(&self, message: T, deadline: Instant) -> Result<(), SendTimeoutError<T>>
+        ensures no_memory { (back : T) → result ≡ Err (SendTimeoutError.NoMemory back)
+            → back ≡ message }
+    {
+        self.send_up_to(message, Deadline::At(deadline))
+    }
+
+    /// The same, up to so long from now. Where no time is that late it waits as `send` does.
+    ///
+    /// ```
+    /// tx.send_timeout(1, Duration::from_millis(350));
+    /// ```
+    pub fn send_timeout(&self, message: T, timeout: Duration) -> Result<(), SendTimeoutError<T>>
+        ensures no_memory { (back : T) → result ≡ Err (SendTimeoutError.NoMemory back)
+            → back ≡ message }
+    {
+        let deadline = Deadline::after(&self.shared.rt, timeout);
+        self.send_up_to(message, deadline)
+    }
+
+    fn send_up_to(&self, message: T, deadline: Deadline) -> Result<(), SendTimeoutError<T>>
+        ensures in_time { deadline ≡ Deadline.Never
+            → (back : T) → result ≢ Err (SendTimeoutError.Timeout back) }
+        ensures no_memory { (back : T) → result ≡ Err (SendTimeoutError.NoMemory back)
+            → back ≡ message }
+    {
+        let shared: &Shared<T, R, A> = &self.shared;
+        let mut gate = Gate::new(shared, deadline);
+        send_over(&shared.rt, &mut gate, message)
+    }
+
+    /// How many messages are queued.
+    pub fn len(&self) -> usize {
+        self.shared.len()
+    }
+
+    /// Whether no message is queued.
+    pub fn is_empty(&self) -> bool {
+        self.shared.is_empty()
+    }
+
+    /// Whether the channel is bounded, and as many messages are queued as it holds.
+    pub fn is_full(&self) -> bool {
+        self.shared.is_full()
+    }
+
+    /// How many messages the channel holds; `None` of an unbounded one.
+    pub fn capacity(&self) -> Option<usize> {
+        self.shared.capacity()
+    }
+
+    /// How many senders live.
+    pub fn sender_count(&self) -> usize {
+        self.shared.sender_count()
+    }
+
+    /// How many receivers live.
+    pub fn receiver_count(&self) -> usize {
+        self.shared.receiver_count()
+    }
+
+    /// Whether all receivers, or all senders, are gone.
+    pub fn is_disconnected(&self) -> bool {
+        self.shared.is_disconnected()
+    }
+
+    /// A sender that doesn't count: the channel may close while it is there. `NoMemory`: there are
+    /// as many ends as can be counted.
+    ///
+    /// ```
+    /// let weak = tx.downgrade()?;
+    /// weak.upgrade();                    // Ok(Some(..))
+    /// drop(tx);
+    /// weak.upgrade();                    // Ok(None)
+    /// ```
+    pub fn downgrade(&self) -> Result<WeakSender<T, R, A>, NoMemory>
+        ensures same { IfOk result (λ weak. weak ≡ self.now) }
+    {
+        Ok(WeakSender::over(Arc::try_clone(&self.shared)?))
+    }
+
+    /// Whether both send into channels of the same number.
+    pub fn same_channel(&self, other: &Sender<T, R, A>) -> bool
+        ensures same { result ≡ (self.now == other.now) }
+    {
+        self.shared.id == other.shared.id
+    }
+}
+
+impl<T: Drop, R: Waits, A: Allocator + Copy> Clone for Sender<T, R, A> {
+    ghost is_clone = { λ sender copy. copy ≡ sender };
+
+    fn clone(&self) -> Result<Self, AllocError> {
+        let shared = Arc::try_clone(&self.shared)?;
+        match shared.clone_sender() {
+            Reply::Done => Ok(Sender { shared }),
+            _ => Err(AllocError),
+        }
+    }
+}
+
+impl<T: Drop, R: Waits, A: Allocator + Copy> fmt::Debug for Sender<T, R, A> {
+    fn fmt<W: fmt::Write>(&self, f: &mut fmt::Formatter<W>) -> fmt::Result {
+        f.write_str("Sender")
+    }
+}
+
+impl<T: Drop, R: Waits, A: Allocator + Copy> Drop for Sender<T, R, A> {
+    fn drop(self) {
+        let Self { shared } = self;
+        shared.drop_sender();
+    }
+}

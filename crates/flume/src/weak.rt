@@ -1,0 +1,67 @@
+//! The senders that don't count.
+ghost use Rattle.std.specs.Prelude.{◌≡◌, ℕ, IfOk, IfSome};
+
+use crate::sender::Sender;
+use crate::shared::{Shared, Waits};
+use flume_core::error::NoMemory;
+use flume_core::step::Reply;
+use std::alloc::{AllocError, Allocator, Global};
+use std::fmt;
+use std::marker::Model;
+use std::sync::Arc;
+
+/// A sender that doesn't count: the channel closes with its last sender, whether or not such a one
+/// is there.
+#[derive(Drop)]
+pub struct WeakSender<T, R: Waits, A: Allocator + Copy = Global> {
+    shared: Arc<Shared<T, R, A>, A>,
+}
+
+impl<T, R: Waits, A: Allocator + Copy> Model for WeakSender<T, R, A> {
+    ghost Value = { ℕ };
+
+    ghost view = { λ weak. weak.shared.value.id };
+}
+
+impl<T: Drop, R: Waits, A: Allocator + Copy> WeakSender<T, R, A> {
+    /// The one over what the ends share.
+    pub(crate) fn over(shared: Arc<Shared<T, R, A>, A>) -> Self
+        ensures number { result ≡ shared.value.id }
+    {
+        WeakSender { shared }
+    }
+
+    /// A sender, while one lives, even where all receivers are gone; `None` once the last is gone.
+    /// `NoMemory`: there are as many as can be counted.
+    ///
+    /// ```
+    /// if let Some(tx) = weak.upgrade()? {
+    ///     tx.send(7);
+    /// }
+    /// ```
+    pub fn upgrade(&self) -> Result<Option<Sender<T, R, A>>, NoMemory>
+        ensures same { IfOk result (λ sender. IfSome sender (λ s. s ≡ self.now)) }
+    {
+        let shared = Arc::try_clone(&self.shared)?;
+        match shared.clone_sender() {
+            Reply::Done => Ok(Some(Sender::over(shared))),
+            Reply::NoEnd => Ok(None),
+            _ => Err(NoMemory),
+        }
+    }
+}
+
+impl<T: Drop, R: Waits, A: Allocator + Copy> Clone for WeakSender<T, R, A> {
+    ghost is_clone = { λ weak copy. copy ≡ weak };
+
+    fn clone(&self) -> Result<Self, AllocError> {
+        let shared = Arc::try_clone(&self.shared)?;
+        Ok(WeakSender { shared })
+    }
+}
+
+impl<T: Drop, R: Waits, A: Allocator + Copy> fmt::Debug for WeakSender<T, R, A> {
+    fn fmt<W: fmt::Write>(&self, f: &mut fmt::Formatter<W>) -> fmt::Result {
+        f.write_str("WeakSender")
+    }
+}

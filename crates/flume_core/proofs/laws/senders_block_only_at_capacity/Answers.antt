@@ -1,5 +1,0 @@
-use Rattle.flume_core.proofs.Runs.{blocked_at_capacity}
-use Rattle.flume_core.proofs.laws.senders_block_only_at_capacity.Goals as goal
-
-pub returns : goal.returns
-returns g c = record { law = blocked_at_capacity }

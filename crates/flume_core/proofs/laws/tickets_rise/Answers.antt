@@ -1,5 +1,0 @@
-use Rattle.flume_core.proofs.Runs.{tickets_rise}
-use Rattle.flume_core.proofs.laws.tickets_rise.Goals as goal
-
-pub returns : goal.returns
-returns g c = record { law = tickets_rise }

@@ -1,5 +1,0 @@
-use Rattle.flume_core.proofs.WaitingLaws.{woken_block_while_closed}
-use Rattle.flume_core.proofs.laws.waits.blocking_receivers_are_woken_only_by_closing.Goals as goal
-
-pub returns : goal.returns
-returns g c = record { law = woken_block_while_closed }

@@ -1,5 +1,0 @@
-use Rattle.flume_core.proofs.WaitingLaws.{nothing_once_over}
-use Rattle.flume_core.proofs.laws.waits.nothing_is_left_once_over.Goals as goal
-
-pub returns : goal.returns
-returns g c = record { law = nothing_once_over }

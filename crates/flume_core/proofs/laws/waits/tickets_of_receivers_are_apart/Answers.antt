@@ -1,5 +1,0 @@
-use Rattle.flume_core.proofs.WaitingLaws.{entries_apart, sides_apart}
-use Rattle.flume_core.proofs.laws.waits.tickets_of_receivers_are_apart.Goals as goal
-
-pub returns : goal.returns
-returns g c = record { entries = entries_apart; sides = sides_apart }

@@ -1,5 +1,0 @@
-use Rattle.flume_core.proofs.WaitingLaws.{covered}
-use Rattle.flume_core.proofs.laws.waits.waiting_receivers_are_covered.Goals as goal
-
-pub returns : goal.returns
-returns g c = record { law = covered }

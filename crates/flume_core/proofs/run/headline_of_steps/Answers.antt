@@ -1,0 +1,9 @@
+use Rattle.flume_model.proofs.Beginnings.{throughout}
+use Rattle.flume_core.proofs.Lists.{headline}
+use Rattle.flume_core.proofs.run.headline_of_steps.Goals as goal
+
+pub returns : goal.returns
+returns g c = record {
+  headline = λ opening log h. headline opening log c.args.chan.now h;
+  throughout = λ opening log h. throughout opening log h.run;
+}

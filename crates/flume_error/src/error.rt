@@ -1,0 +1,66 @@
+//! The errors of the channel.
+//!
+//! A send that fails gives its message back, in the error. `NoMemory`, a type and a case of each
+//! error, says that memory was wanted and there was none.
+ghost use Rattle.std.specs.Prelude.{Some};
+ghost use Rattle.std.specs.Fmt.{styled_text};
+ghost use Rattle.flume_error.specs.Texts.{no_memory_text, select_text};
+
+pub mod receive;
+pub mod send;
+
+pub use receive::{RecvError, RecvTimeoutError, TryRecvError};
+pub use send::{SendError, SendTimeoutError, TrySendError};
+use std::alloc::AllocError;
+use std::error::Error;
+use std::fmt;
+
+/// Memory was wanted, and there was none.
+///
+/// It comes of a call that can fail in no other way and has no message to give back.
+#[derive(Clone, Copy, Debug, PartialEq, Eq)]
+pub struct NoMemory;
+
+/// `out of memory`, padded and cut as text is.
+impl fmt::Display for NoMemory {
+    ghost output = { λ _. Some no_memory_text };
+
+    ghost styled_output = { λ _ spec. Some (styled_text spec no_memory_text) };
+
+    fn fmt<W: fmt::Write>(&self, f: &mut fmt::Formatter<W>) -> fmt::Result {
+        f.pad("out of memory")
+    }
+}
+
+impl Error for NoMemory {}
+
+impl From<AllocError> for NoMemory {
+    fn from(_refused: AllocError) -> NoMemory {
+        NoMemory
+    }
+}
+
+/// A selector completed no arm.
+#[derive(Clone, Copy, Debug, PartialEq, Eq, Drop)]
+pub enum SelectError {
+    /// The deadline was reached, and no arm was ready.
+    Timeout,
+    /// Memory was wanted, and there was none.
+    NoMemory,
+}
+
+/// One text for each case, padded and cut as text is.
+impl fmt::Display for SelectError {
+    ghost output = { λ e. Some (select_text e) };
+
+    ghost styled_output = { λ e spec. Some (styled_text spec (select_text e)) };
+
+    fn fmt<W: fmt::Write>(&self, f: &mut fmt::Formatter<W>) -> fmt::Result {
+        f.pad(match self {
+            SelectError::Timeout => "timeout occurred",
+            SelectError::NoMemory => "out of memory",
+        })
+    }
+}
+
+impl Error for SelectError {}

@@ -1,0 +1,7 @@
+//! The errors of the channel.
+#![tactic(auto)]
+
+pub mod error;
+pub mod laws;
+#[cfg(test)]
+mod tests;

@@ -1,0 +1,5 @@
+pub mod Messages
+pub mod LineEntry
+pub mod Sends
+pub mod Waits
+pub mod EntryCode

@@ -1,0 +1,165 @@
+-- Where all receivers block, no more is queued than the capacity.
+use Rattle.std.proofs.Common.{◌≡◌, ℕ, ◌+◌, ◌-◌, ◌≤◌, Bool, true, false, if◌then◌else◌, not, ◌&&◌, [], ◌∷◌, Option, Some, None, refl, sym}
+use Rattle.std.proofs.Common.{arith, max, subst}
+use Rattle.std.proofs.lemmas.Bool.{cond-true, cond-false}
+use Rattle.std.proofs.lemmas.List.Elements.{All-head, All-tail}
+use Rattle.flume_model.specs.declared.step.Step.{Step}
+use Rattle.flume_model.specs.declared.step.Step.TheVariants.{TrySend, Send, PollSend, WithdrawSend, TryRecv, Recv, Poll, Withdraw, Drain}
+use Rattle.flume_model.specs.declared.step.Step.TheVariants.{CloneSender, CloneReceiver, DropSender, DropReceiver}
+use Rattle.flume_model.specs.declared.step.Reply.{Reply}
+use Rattle.flume_model.specs.declared.step.Reply.TheVariants.{Sent, Pending, Accepted, Waiting, Returned, Got, Ended, Parked, Gone, Drained}
+use Rattle.flume_model.specs.declared.step.Reply.TheVariants.{Done}
+use Rattle.flume_model.specs.Log.{Log, Opening, Change, Queues, Takes, Drains, Collects, Leaves, was_filled, change, capped}
+use Rattle.flume_model.specs.Counts.{is_over}
+use Rattle.flume_model.specs.Line.{capacity, boundary, boundary_after, queue, how_many}
+use Rattle.flume_model.specs.Entries.{some_wait, round_fills}
+use Rattle.flume_model.specs.Limits.{HasRoom}
+use Rattle.flume_model.specs.Parked.{entries, is_shut}
+use Rattle.flume_model.specs.Channel.{Channel, channel}
+use Rattle.flume_model.specs.Replies.{IsRun}
+use Rattle.flume_model.specs.WaitLaws.{block_woken}
+use Rattle.flume_model.specs.AllBlock.{parks_blocking, OnlyBlockingReceivers, IsAtMostCapacity}
+use Rattle.flume_model.proofs.Fits.{Fits}
+use Rattle.flume_model.proofs.WaitingSteps.{stepped}
+use Rattle.flume_model.proofs.WaitingLaws.{covered, waits_while_open, woken_block_while_closed}
+use Rattle.flume_model.proofs.BlockEntries.{AllBlock, round_fills_one, none_woken, parks_block, block_after}
+
+-- less is at most the capacity too
+less_within : (c : Option ℕ) (n m : ℕ) → n ≤ m → IsAtMostCapacity c m → IsAtMostCapacity c n
+less_within None n m le h = tt
+less_within (Some c) n m le h = omega arith
+
+-- where there is room for one more, it is within the capacity
+room_within : (c : Option ℕ) (n m : ℕ) → m ≤ n + 1 → HasRoom c n → IsAtMostCapacity c m
+room_within None n m le h = tt
+room_within (Some c) n m le h = omega arith
+
+-- what is queued where one was taken
+taken_within : (c : Option ℕ) (n long : ℕ) → IsAtMostCapacity c n → IsAtMostCapacity c (max (n - 1) (capped c long))
+taken_within None n long h = tt
+taken_within (Some c) n long h = omega arith
+
+-- what is queued after a drain
+drained_within : (c : Option ℕ) (long : ℕ) → IsAtMostCapacity c (capped c long)
+drained_within None long = tt
+drained_within (Some c) long = omega arith
+
+-- nothing is within each capacity
+none_within : (c : Option ℕ) (n : ℕ) → n ≡ 0 → IsAtMostCapacity c n
+none_within None n e = tt
+none_within (Some c) n e = omega arith
+
+module _ {T : Type 0} where
+  -- where a message joins the queue
+  queues_within : (c : Channel T) (m : T) → (some_wait c.entries ≡ true → c.boundary ≡ 0) → AllBlock c.entries
+      → (some_wait c.entries ≡ false → HasRoom c.capacity c.boundary)
+      → IsAtMostCapacity c.capacity (c.boundary + 1 - how_many (round_fills c.entries))
+  queues_within c m empty block room = by_case (some_wait c.entries) refl
+    where
+      by_case : (b : Bool) → some_wait c.entries ≡ b
+          → IsAtMostCapacity c.capacity (c.boundary + 1 - how_many (round_fills c.entries))
+      by_case true some =
+          let one = round_fills_one c.entries block some in
+          let none = empty some in
+          none_within c.capacity _ (omega arith)
+      by_case false none = room_within c.capacity c.boundary _ (omega arith) (room none)
+
+  -- after a change that fits
+  within_by : (c : Channel T) (n : ℕ) (done : Change T) → (some_wait c.entries ≡ true → c.boundary ≡ 0) → AllBlock c.entries → Fits c done
+      → IsAtMostCapacity c.capacity c.boundary → IsAtMostCapacity c.capacity (boundary_after c.capacity n c.boundary done)
+  within_by c n (Queues m filled) empty block h before =
+      let Within : Option ℕ → Type 0 = λ f. IsAtMostCapacity c.capacity (c.boundary + 1 - how_many f) in
+      subst Within (sym h.1) (queues_within c m empty block h.0.1)
+  within_by c n (Takes m receiver) empty block h before = taken_within c.capacity c.boundary n before
+  within_by c n (Drains list) empty block h before = drained_within c.capacity n
+  within_by c n (Leaves t filled) empty block h before = less_within c.capacity _ c.boundary (omega arith) before
+  within_by c n _ empty block h before = before
+
+module _ {T A : Type 0} where
+  -- a step that parks none of another kind makes such a change
+  change_parks : (past : Log T A) (step : Step T) (reply : Reply T A) → parks_blocking step ≡ true
+      → parks_block (change past step reply) ≡ true
+  change_parks past (TrySend m) (Sent filled) e = refl
+  change_parks past (Send m) (Sent filled) e = refl
+  change_parks past (Send m) (Pending t) e = refl
+  change_parks past (PollSend t) Accepted e = refl
+  change_parks past (PollSend t) (Returned m closed) e = refl
+  change_parks past (WithdrawSend t) Accepted e = refl
+  change_parks past (WithdrawSend t) (Returned m closed) e = refl
+  change_parks past TryRecv (Got m) e = refl
+  change_parks past (Recv kind) (Got m) e = refl
+  change_parks past (Recv kind) (Parked t) e = e
+  change_parks past (Poll t) Waiting e = refl
+  change_parks past (Poll t) Ended e = refl
+  change_parks past (Withdraw t) (Gone closed filled) e = refl
+  change_parks past Drain (Drained list) e = refl
+  change_parks past CloneSender Done e = refl
+  change_parks past CloneReceiver Done e = refl
+  change_parks past DropSender Done e = refl
+  change_parks past DropReceiver Done e = refl
+  change_parks past (Poll t) (Got m) e = by_case (was_filled past t)
+    where
+      by_case : (b : Bool) → parks_block (if b then Collects t else Takes m (Some t)) ≡ true
+      by_case true = refl
+      by_case false = refl
+  change_parks past (Withdraw t) (Got m) e = by_case (was_filled past t)
+    where
+      by_case : (b : Bool) → parks_block (if b then Collects t else Takes m (Some t)) ≡ true
+      by_case true = refl
+      by_case false = refl
+  change_parks past _ _ e = refl
+
+  -- all entries block
+  entries_block : (o : Opening) (log : Log T A) → OnlyBlockingReceivers log → AllBlock (entries o log)
+  entries_block o [] only = tt
+  entries_block o (p ∷ past) only =
+      by_case (is_over (p ∷ past)) refl (entries_block o past (All-tail (λ q. parks_blocking q.0 ≡ true) p past only))
+    where
+      by_case : (b : Bool) → is_over (p ∷ past) ≡ b → AllBlock (entries o past) → AllBlock (entries o (p ∷ past))
+      by_case true over rest = subst AllBlock (sym (cond-true (is_over (p ∷ past)) [] _ over)) tt
+      by_case false still rest =
+          subst AllBlock (sym (cond-false (is_over (p ∷ past)) [] _ still))
+          (block_after (queue o past) (not (is_shut past) && is_shut (p ∷ past)) (entries o past) (change past p.0 p.1) rest
+          (change_parks past p.0 p.1 (All-head (λ q. parks_blocking q.0 ≡ true) p past only)))
+
+  -- while one of them waits nothing is queued
+  none_queued : (o : Opening) (log : Log T A) → IsRun o log → OnlyBlockingReceivers log → some_wait (entries o log) ≡ true
+      → boundary o log ≡ 0
+  none_queued o log run only some = by_case (block_woken (entries o log)) refl
+    where
+      by_case : (b : Bool) → block_woken (entries o log) ≡ b → boundary o log ≡ 0
+      by_case true woken =
+          let is_closed = (woken_block_while_closed o log run woken).0 in
+          let is_open = (waits_while_open o log run some).0 in
+          absurd (omega arith)
+      by_case false none =
+          let count = none_woken (entries o log) (entries_block o log only) none in
+          let le = covered o log run some in
+          omega arith
+
+  -- after one more pair of a run
+  within_more : (o : Opening) (past : Log T A) (p : Step T × Reply T A) → IsRun o (p ∷ past) → OnlyBlockingReceivers past
+      → IsAtMostCapacity (capacity o past) (boundary o past) → IsAtMostCapacity (capacity o (p ∷ past)) (boundary o (p ∷ past))
+  within_more o past p run only before = by_case (is_over (p ∷ past)) refl
+    where
+      by_case : (b : Bool) → is_over (p ∷ past) ≡ b → IsAtMostCapacity (capacity o (p ∷ past)) (boundary o (p ∷ past))
+      by_case true over = none_within o.capacity _ (cond-true (is_over (p ∷ past)) 0 _ over)
+      by_case false still =
+          let s = stepped o past p run still in
+          subst (IsAtMostCapacity o.capacity) (sym s.boundary_is)
+          (within_by (channel o past) s.long (change past p.0 p.1) (none_queued o past run.1 only) (entries_block o past only) s.fit before)
+
+  -- no more is queued than the capacity
+  pub within_capacity : (o : Opening) (log : Log T A) → IsRun o log → OnlyBlockingReceivers log
+      → IsAtMostCapacity (capacity o log) (boundary o log)
+  within_capacity o [] run only = none_within o.capacity 0 refl
+  within_capacity o (p ∷ past) run only =
+      let others = All-tail (λ q. parks_blocking q.0 ≡ true) p past only in
+      within_more o past p run others (within_capacity o past run.1 others)
+
+  -- where the capacity is 0 nothing is queued
+  pub rendezvous : (o : Opening) (log : Log T A) → IsRun o log → OnlyBlockingReceivers log → capacity o log ≡ Some 0 → boundary o log ≡ 0
+  rendezvous o log run only none =
+      let Within : Option ℕ → Type 0 = λ c. IsAtMostCapacity c (boundary o log) in
+      let le : boundary o log ≤ 0 = subst Within none (within_capacity o log run only) in
+      omega arith

@@ -1,0 +1,181 @@
+-- What is queued and who waits are together at most the greater of the capacity and the most that waited at once.
+use Rattle.std.proofs.Common.{◌≡◌, ℕ, ◌+◌, ◌-◌, ◌≤◌, Bool, true, false, if◌then◌else◌, List, [], ◌∷◌, length, Option, Some, None, refl, sym}
+use Rattle.std.proofs.Common.{◌∙◌, ap, arith, max, subst, subst₂}
+use Rattle.std.proofs.lemmas.Bool.{cond-true}
+use Rattle.flume_model.specs.declared.step.Step.{Step}
+use Rattle.flume_model.specs.declared.step.Reply.{Reply}
+use Rattle.flume_model.specs.Log.{Log, Opening, Change, Queues, Blocks, Accepts, Withdraws, Takes, Drains, Parks, Asks, Collects, Leaves}
+use Rattle.flume_model.specs.Log.{SenderJoins, ReceiverJoins, SenderLeaves, ReceiverLeaves, Stays, change, capped}
+use Rattle.flume_model.specs.Counts.{is_over}
+use Rattle.flume_model.specs.Line.{boundary, boundary_after, how_many}
+use Rattle.flume_model.specs.Limits.{HasRoom}
+use Rattle.flume_model.specs.Entries.{is_woken, some_wait, waiting_count, round, round_fills, all_woken, entry_of, without}
+use Rattle.flume_model.specs.Parked.{LogEntry, untold, entries_after, entries, peak}
+use Rattle.flume_model.specs.Channel.{Channel, channel}
+use Rattle.flume_model.specs.Replies.{IsRun}
+use Rattle.flume_model.specs.WaitLaws.{IsWithin, Bounded}
+use Rattle.flume_model.proofs.Fits.{Fits}
+use Rattle.flume_model.proofs.WaitingCounts.{wait_woken}
+use Rattle.flume_model.proofs.WaitLists.{fills_waiting}
+use Rattle.flume_model.proofs.EntryLists.{round_for_push, again_cases, left_cases}
+use Rattle.flume_model.proofs.EntryCounts.{round_counts, without_counts, counted_none}
+use Rattle.flume_model.proofs.WaitingSteps.{Stood, Long, stepped, nobody_once_over}
+
+-- how many are queued and how many wait after a change, where both together were so many before
+data LeavesWithin (capacity : Option ℕ) (was queued waits : ℕ) : Type 0 where
+  -- no more of both together than before
+  NoMore : queued + waits ≤ was → LeavesWithin capacity was queued waits
+  -- nothing is queued
+  OnlyWaits : queued ≡ 0 → LeavesWithin capacity was queued waits
+  -- nobody waits, and no more is queued than the capacity, or than before
+  NoneWaits : waits ≡ 0 → IsWithin capacity was queued → LeavesWithin capacity was queued waits
+
+-- then they are within the bound
+left_within_bound : (capacity : Option ℕ) (highest was queued waits : ℕ) → IsWithin capacity highest was
+    → LeavesWithin capacity was queued waits → IsWithin capacity (max highest waits) (queued + waits)
+left_within_bound None highest was queued waits before leaves = tt
+left_within_bound (Some c) highest was queued waits before (NoMore le) = omega arith
+left_within_bound (Some c) highest was queued waits before (OnlyWaits none) = omega arith
+left_within_bound (Some c) highest was queued waits before (NoneWaits none le) = omega arith
+
+-- where the queue has room, one more is within the capacity
+room_within : (capacity : Option ℕ) (was n : ℕ) → HasRoom capacity n → IsWithin capacity was (n + 1)
+room_within None was n room = tt
+room_within (Some c) was n room = omega arith
+
+-- where one was taken, what is queued is within the capacity, or was queued before
+taken_within : (capacity : Option ℕ) (long n was : ℕ) → n ≤ was → IsWithin capacity was (max (n - 1) (capped capacity long))
+taken_within None long n was le = tt
+taken_within (Some c) long n was le = omega arith
+
+-- where all that was queued was drained, what is queued then is within the capacity
+drained_within : (capacity : Option ℕ) (long was : ℕ) → IsWithin capacity was (capped capacity long)
+drained_within None long was = tt
+drained_within (Some c) long was = omega arith
+
+module _ {T : Type 0} where
+  -- where none waits a round fills none
+  fills_nobody : (es : List (LogEntry T)) → some_wait es ≡ false → how_many (round_fills es) ≡ 0
+  fills_nobody es none = by_fills (round_fills es) refl
+    where
+      by_fills : (f : Option ℕ) → round_fills es ≡ f → how_many (round_fills es) ≡ 0
+      by_fills None e = ap how_many e
+      by_fills (Some u) e = absurd (let some = fills_waiting es u e in let no : ⊥ = cc in no)
+
+  -- once all are woken none is counted
+  woken_uncounted : (es : List (LogEntry T)) → waiting_count (all_woken untold es) ≡ 0
+  woken_uncounted es = counted_none (all_woken untold es) (wait_woken untold es)
+
+  -- where an entry leaves, no more wait
+  fewer_without : (t : ℕ) (e : LogEntry T) (es : List (LogEntry T)) → entry_of t es ≡ Some e
+      → waiting_count (without t es) ≤ waiting_count es
+  fewer_without t e es found = let counts = without_counts t e es found in let waiting = counts.waiting in omega arith
+
+  -- where an end leaves
+  leaves_close : (c : Channel T) (closes : Bool) → LeavesWithin c.capacity (c.boundary + waiting_count c.entries) c.boundary
+      (waiting_count (if closes then all_woken untold c.entries else c.entries))
+  leaves_close c true = NoMore (let none = woken_uncounted c.entries in omega arith)
+  leaves_close c false = NoMore (omega arith)
+
+  -- where nobody more waits, and no more is queued than the capacity and, while a receiver waits, than before
+  leaves_fewer : (c : Channel T) (queued waits : ℕ) → waits ≤ waiting_count c.entries → (some_wait c.entries ≡ true → queued ≤ c.boundary)
+      → IsWithin c.capacity (c.boundary + waiting_count c.entries) queued
+      → LeavesWithin c.capacity (c.boundary + waiting_count c.entries) queued waits
+  leaves_fewer c queued waits few some within = by_case (some_wait c.entries) refl
+    where
+      by_case : (b : Bool) → some_wait c.entries ≡ b → LeavesWithin c.capacity (c.boundary + waiting_count c.entries) queued waits
+      by_case true e = let le = some e in NoMore (omega arith)
+      by_case false e = let none = counted_none c.entries e in NoneWaits (omega arith) within
+
+  -- where a message joined the queue
+  leaves_queued : (c : Channel T) (front : T) → (some_wait c.entries ≡ false → HasRoom c.capacity c.boundary)
+      → LeavesWithin c.capacity (c.boundary + waiting_count c.entries) (c.boundary + 1 - how_many (round_fills c.entries))
+      (waiting_count (round untold front c.entries))
+  leaves_queued c front room = by_case (some_wait c.entries) refl
+    where
+      by_case : (b : Bool) → some_wait c.entries ≡ b
+          → LeavesWithin c.capacity (c.boundary + waiting_count c.entries) (c.boundary + 1 - how_many (round_fills c.entries))
+          (waiting_count (round untold front c.entries))
+      by_case true e = let fewer = (round_counts untold front c.entries).fewer e in NoMore (omega arith)
+      by_case false e =
+          let none = counted_none c.entries e in
+          let no_more = (round_counts untold front c.entries).no_more in
+          let fills = fills_nobody c.entries e in
+          let same : c.boundary + 1 ≡ c.boundary + 1 - how_many (round_fills c.entries) = omega arith in
+          let Within : ℕ → Type 0 = λ n. IsWithin c.capacity (c.boundary + waiting_count c.entries) n in
+          NoneWaits (omega arith) (subst Within same (room_within c.capacity (c.boundary + waiting_count c.entries) c.boundary (room e)))
+
+  -- after a change that fits
+  leaves_by : (c : Channel T) (closes : Bool) (done : Change T) (n : ℕ) → Stood c → Fits c done → Long c done n
+      → boundary_after c.capacity n c.boundary done ≤ n
+      → LeavesWithin c.capacity (c.boundary + waiting_count c.entries) (boundary_after c.capacity n c.boundary done)
+      (waiting_count (entries_after c.queue closes c.entries done))
+  leaves_by c closes (Queues m filled) n stood h long within =
+      let LeavesBy : Option ℕ → Type 0 = λ f. LeavesWithin c.capacity (c.boundary + waiting_count c.entries)
+      (c.boundary + 1 - how_many f) (waiting_count (entries_after c.queue closes c.entries (Queues m filled))) in
+      subst LeavesBy (sym h.1) (round_for_push
+      (λ es. LeavesWithin c.capacity (c.boundary + waiting_count c.entries) (c.boundary + 1 - how_many (round_fills c.entries))
+      (waiting_count es)) untold c.queue m c.entries (λ front. leaves_queued c front h.0.1))
+  leaves_by c closes (Takes m None) n stood h long within =
+      leaves_fewer c _ (waiting_count c.entries) (omega arith) (λ some. (let whole = stood.whole some in omega arith))
+      (taken_within c.capacity n c.boundary _ (omega arith))
+  leaves_by c closes (Takes m (Some t)) n stood h long within =
+      leaves_fewer c _ (waiting_count (without t c.entries)) (fewer_without t h.1.entry c.entries h.1.found)
+      (λ some. (let whole = stood.whole some in omega arith)) (taken_within c.capacity n c.boundary _ (omega arith))
+  leaves_by c closes (Drains list) n stood h long within =
+      leaves_fewer c _ (waiting_count c.entries) (omega arith) (λ some. (let whole = stood.whole some in omega arith))
+      (drained_within c.capacity n _)
+  leaves_by c closes (Parks t kind) n stood h long within =
+      OnlyWaits (let empty = ap length h.0 in let in_line = stood.within in omega arith)
+  leaves_by c closes (Asks t) n stood h long within =
+      again_cases (λ es. LeavesWithin c.capacity (c.boundary + waiting_count c.entries) c.boundary (waiting_count es)) t c.entries
+      (NoMore (omega arith))
+      (λ e found woken.
+      (let same : h.0 ≡ e = cc in
+      let empty = ap length (h.2 (ap (λ x. is_woken x.mark) same ∙ woken)).0 in
+      let in_line = stood.within in
+      OnlyWaits (omega arith)))
+  leaves_by c closes (Collects t) n stood h long within =
+      NoMore (let fewer = fewer_without t h.0 c.entries h.2 in omega arith)
+  leaves_by c closes (Leaves t filled) n stood h long within =
+      let fewer = fewer_without t h.0.entry c.entries h.0.found in
+      NoMore (left_cases (λ es f. c.boundary - how_many filled + waiting_count es ≤ c.boundary + waiting_count c.entries)
+      untold t c.queue c.entries (λ none. omega arith)
+      (λ passes front rest e.
+      (let no_more = (round_counts untold front (without t c.entries)).no_more in omega arith)))
+  leaves_by c closes SenderLeaves n stood h long within = leaves_close c closes
+  leaves_by c closes ReceiverLeaves n stood h long within = leaves_close c closes
+  leaves_by c closes (Blocks m t) n stood h long within = NoMore (omega arith)
+  leaves_by c closes (Accepts t) n stood h long within = NoMore (omega arith)
+  leaves_by c closes (Withdraws t) n stood h long within = NoMore (omega arith)
+  leaves_by c closes SenderJoins n stood h long within = NoMore (omega arith)
+  leaves_by c closes ReceiverJoins n stood h long within = NoMore (omega arith)
+  leaves_by c closes Stays n stood h long within = NoMore (omega arith)
+
+-- nothing is within each bound
+none_within : (capacity : Option ℕ) (other n : ℕ) → n ≡ 0 → IsWithin capacity other n
+none_within None other n e = tt
+none_within (Some c) other n e = omega arith
+
+module _ {T A : Type 0} where
+  -- after one more pair of a run
+  bounded_more : (o : Opening) (past : Log T A) (p : Step T × Reply T A) → IsRun o (p ∷ past) → Bounded o past → Bounded o (p ∷ past)
+  bounded_more o past p run before = by_case (is_over (p ∷ past)) refl
+    where
+      by_case : (b : Bool) → is_over (p ∷ past) ≡ b → Bounded o (p ∷ past)
+      by_case true over =
+          let nobody = ap waiting_count (nobody_once_over o (p ∷ past) over) in
+          let none : boundary o (p ∷ past) ≡ 0 = cond-true (is_over (p ∷ past)) 0 _ over in
+          none_within o.capacity _ _ (omega arith)
+      by_case false still =
+          let s = stepped o past p run still in
+          let leaves = leaves_by (channel o past) s.closes (change past p.0 p.1) s.long s.stood s.fit s.line_is s.in_line in
+          let LeftBy : ℕ → ℕ → Type 0 = λ n waits. LeavesWithin o.capacity (boundary o past + waiting_count (entries o past)) n waits in
+          left_within_bound o.capacity (peak o past) (boundary o past + waiting_count (entries o past)) (boundary o (p ∷ past))
+          (waiting_count (entries o (p ∷ past))) before
+          (subst₂ LeftBy (sym s.boundary_is) (sym (ap waiting_count s.entries_are)) leaves)
+
+  -- what is queued and who waits are together at most the greater of the capacity and the most that waited at once
+  pub bounded : (o : Opening) (log : Log T A) → IsRun o log → Bounded o log
+  bounded o [] run = none_within o.capacity _ _ (omega arith)
+  bounded o (p ∷ past) run = bounded_more o past p run (bounded o past run.1)

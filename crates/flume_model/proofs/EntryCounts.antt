@@ -1,0 +1,97 @@
+-- How many entries wait and how many stand woken, after a wake round, a leave and one more entry.
+use Rattle.std.proofs.Common.{◌≡◌, ℕ, ◌+◌, ◌<◌, ◌≤◌, Bool, true, false, if◌then◌else◌, eqb, List, [], ◌∷◌, ◌++◌, Option, Some, refl, ap}
+use Rattle.std.proofs.Common.{arith}
+use Rattle.flume_model.specs.declared.step.Kind.{Kind}
+use Rattle.flume_model.specs.declared.step.Kind.TheVariants.{Block, Plain, Stream, Arm}
+use Rattle.flume_model.specs.declared.entry.Entry.{Entry}
+use Rattle.flume_model.specs.declared.entry.Mark.{Mark}
+use Rattle.flume_model.specs.declared.entry.Mark.TheVariants.{Waiting, Woken, Filled}
+use Rattle.flume_model.specs.Line.{how_many}
+use Rattle.flume_model.specs.Entries.{is_waiting, is_woken, some_wait, waiting_count, woken_count, round, round_fills, entry_of}
+use Rattle.flume_model.specs.Entries.{without}
+
+module _ {T : Type 0} where
+  -- one for a mark that waits
+  abbrev pub waits_one : Mark T → ℕ
+  waits_one m = if is_waiting m then 1 else 0
+
+  -- one for a mark that is woken
+  abbrev pub woken_one : Mark T → ℕ
+  woken_one m = if is_woken m then 1 else 0
+
+module _ {T N : Type 0} where
+  -- where none waits, none is counted
+  pub counted_none : (es : List (Entry T N)) → some_wait es ≡ false → waiting_count es ≡ 0
+  counted_none [] h = refl
+  counted_none (x ∷ es) h = by_mark x.mark h (counted_none es)
+    where
+      by_mark : (m : Mark T) → some_wait (record x { mark = m } ∷ es) ≡ false → (some_wait es ≡ false → waiting_count es ≡ 0)
+          → waiting_count (record x { mark = m } ∷ es) ≡ 0
+      by_mark Waiting some rest = absurd (let none : ⊥ = cc in none)
+      by_mark Woken some rest = let more = rest some in omega arith
+      by_mark (Filled held) some rest = let more = rest some in omega arith
+
+  -- where one waits, it is counted
+  pub counted_some : (es : List (Entry T N)) → some_wait es ≡ true → 0 < waiting_count es
+  counted_some [] h = absurd (let none : ⊥ = cc in none)
+  counted_some (x ∷ es) h = by_mark x.mark h (counted_some es)
+    where
+      by_mark : (m : Mark T) → some_wait (record x { mark = m } ∷ es) ≡ true → (some_wait es ≡ true → 0 < waiting_count es)
+          → 0 < waiting_count (record x { mark = m } ∷ es)
+      by_mark Waiting some rest = omega arith
+      by_mark Woken some rest = let more = rest some in omega arith
+      by_mark (Filled held) some rest = let more = rest some in omega arith
+
+  -- what a round does to the counts
+  pub record Rounded (es after : List (Entry T N)) (filled : Option ℕ) : Type 0 where
+    pub total : waiting_count after + woken_count after + how_many filled ≡ waiting_count es + woken_count es
+    pub no_more : waiting_count after ≤ waiting_count es
+    pub fewer : some_wait es ≡ true → waiting_count after + 1 ≤ waiting_count es
+
+  -- a round wakes or fills one where one waits, and as many wait no longer as it wakes and fills
+  pub round_counts : (tell : N → N) (front : T) (es : List (Entry T N)) → Rounded es (round tell front es) (round_fills es)
+  round_counts tell front [] =
+      record { total = omega arith; no_more = omega arith; fewer = λ some. absurd (let none : ⊥ = cc in none) }
+  round_counts tell front (x ∷ es) = by_mark x.kind x.mark (round_counts tell front es)
+    where
+      by_mark : (k : Kind) (m : Mark T) → Rounded es (round tell front es) (round_fills es)
+          → Rounded (record x { kind = k; mark = m } ∷ es) (round tell front (record x { kind = k; mark = m } ∷ es))
+          (round_fills (record x { kind = k; mark = m } ∷ es))
+      by_mark Block Waiting rest = record { total = omega arith; no_more = omega arith; fewer = λ some. omega arith }
+      by_mark Plain Waiting rest = record { total = omega arith; no_more = omega arith; fewer = λ some. omega arith }
+      by_mark Arm Waiting rest = record { total = omega arith; no_more = omega arith; fewer = λ some. omega arith }
+      by_mark Stream Waiting rest = record { total = omega arith; no_more = omega arith; fewer = λ some. omega arith }
+      by_mark k Woken rest =
+          record { total = omega arith; no_more = omega arith; fewer = λ some. (let less = rest.fewer some in omega arith) }
+      by_mark k (Filled held) rest =
+          record { total = omega arith; no_more = omega arith; fewer = λ some. (let less = rest.fewer some in omega arith) }
+
+  -- what a leave does to the counts
+  pub record Left (es after : List (Entry T N)) (m : Mark T) : Type 0 where
+    pub waiting : waiting_count after + waits_one m ≡ waiting_count es
+    pub woken : woken_count after + woken_one m ≡ woken_count es
+
+  -- where an entry leaves, it is no longer counted
+  pub without_counts : (t : ℕ) (e : Entry T N) (es : List (Entry T N)) → entry_of t es ≡ Some e → Left es (without t es) e.mark
+  without_counts t e [] h = absurd (let none : ⊥ = cc in none)
+  without_counts t e (x ∷ es) h = by_case (eqb x.ticket t) refl (without_counts t e es)
+    where
+      by_case : (b : Bool) → eqb x.ticket t ≡ b → (entry_of t es ≡ Some e → Left es (without t es) e.mark)
+          → Left (x ∷ es) (without t (x ∷ es)) e.mark
+      by_case true f rest =
+          let h2 = simp f at h in
+          let same : x ≡ e = cc in
+          let same_waits : waits_one x.mark ≡ waits_one e.mark = ap (λ y. waits_one y.mark) same in
+          let same_woken : woken_one x.mark ≡ woken_one e.mark = ap (λ y. woken_one y.mark) same in
+          simp f (record { waiting = omega arith; woken = omega arith })
+      by_case false f rest = let more = rest (simp f at h) in simp f (record { waiting = omega arith; woken = omega arith })
+
+  -- one more entry is counted where it waits
+  pub push_waiting : (es : List (Entry T N)) (x : Entry T N) → waiting_count (es ++ x ∷ []) ≡ waiting_count es + waits_one x.mark
+  push_waiting [] x = omega arith
+  push_waiting (y ∷ es) x = let more = push_waiting es x in omega arith
+
+  -- and counted as woken where it is
+  pub push_woken : (es : List (Entry T N)) (x : Entry T N) → woken_count (es ++ x ∷ []) ≡ woken_count es + woken_one x.mark
+  push_woken [] x = omega arith
+  push_woken (y ∷ es) x = let more = push_woken es x in omega arith

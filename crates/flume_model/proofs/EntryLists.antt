@@ -1,0 +1,177 @@
+-- What wake rounds, a leave and one more entry do to the tickets of entries and to their marks.
+use Rattle.std.proofs.Common.{◌≡◌, ℕ, Bool, true, false, if◌then◌else◌, eqb, List, [], ◌∷◌, ◌++◌, Option, Some, None, refl, sym, ◌∙◌, ap}
+use Rattle.std.proofs.Common.{eqb-true, eq-eqb}
+use Rattle.flume_model.specs.declared.step.Kind.{Kind}
+use Rattle.flume_model.specs.declared.step.Kind.TheVariants.{Block, Plain, Stream, Arm}
+use Rattle.flume_model.specs.declared.entry.Entry.{Entry}
+use Rattle.flume_model.specs.declared.entry.Mark.{Mark}
+use Rattle.flume_model.specs.declared.entry.Mark.TheVariants.{Waiting, Woken, Filled}
+use Rattle.flume_model.specs.Log.{is_ticket}
+use Rattle.flume_model.specs.Entries.{is_woken, round, round_fills, round_for, round_for_fills, all_woken, entry_of, without, again_as}
+use Rattle.flume_model.specs.Entries.{again, passes_on, left, left_fills}
+
+module _ {T N : Type 0} where
+  -- the tickets of entries, in order
+  abbrev pub tickets : List (Entry T N) → List ℕ
+  tickets [] = []
+  tickets (e ∷ es) = e.ticket ∷ tickets es
+
+  -- no entry of a list with a first one has the ticket: neither the first one nor another
+  pub none_parts : (t : ℕ) (x : Entry T N) (es : List (Entry T N)) → entry_of t (x ∷ es) ≡ None
+      → (eqb x.ticket t ≡ false) × (entry_of t es ≡ None)
+  none_parts t x es h = by_case (eqb x.ticket t) refl
+    where
+      by_case : (b : Bool) → eqb x.ticket t ≡ b → (eqb x.ticket t ≡ false) × (entry_of t es ≡ None)
+      by_case true e = let h2 = simp e at h in absurd (let none : ⊥ = cc in none)
+      by_case false e = (e, simp e at h)
+
+  -- the other way round
+  pub none_more : (t : ℕ) (x : Entry T N) (es : List (Entry T N)) → eqb x.ticket t ≡ false → entry_of t es ≡ None
+      → entry_of t (x ∷ es) ≡ None
+  none_more t x es e h = simp e h
+
+  -- the entry found by a ticket has it
+  pub ticket_of : (t : ℕ) (e : Entry T N) (es : List (Entry T N)) → entry_of t es ≡ Some e → e.ticket ≡ t
+  ticket_of t e [] h = absurd (let none : ⊥ = cc in none)
+  ticket_of t e (x ∷ es) h = by_case (eqb x.ticket t) refl (ticket_of t e es)
+    where
+      by_case : (b : Bool) → eqb x.ticket t ≡ b → (entry_of t es ≡ Some e → e.ticket ≡ t) → e.ticket ≡ t
+      by_case true f rest =
+          let h2 = simp f at h in
+          let same : x ≡ e = cc in
+          sym (ap (λ y. y.ticket) same) ∙ eqb-true x.ticket t f
+      by_case false f rest = rest (simp f at h)
+
+  -- a round changes no ticket
+  pub tickets_round : (tell : N → N) (front : T) (es : List (Entry T N)) → tickets (round tell front es) ≡ tickets es
+  tickets_round tell front [] = refl
+  tickets_round tell front (x ∷ es) = by_mark x.kind x.mark (ap (λ l. x.ticket ∷ l) (tickets_round tell front es))
+    where
+      by_mark : (k : Kind) (m : Mark T) → x.ticket ∷ tickets (round tell front es) ≡ x.ticket ∷ tickets es
+          → tickets (round tell front (record x { kind = k; mark = m } ∷ es)) ≡ x.ticket ∷ tickets es
+      by_mark Block Waiting rest = refl
+      by_mark Plain Waiting rest = refl
+      by_mark Stream Waiting rest = rest
+      by_mark Arm Waiting rest = refl
+      by_mark k Woken rest = rest
+      by_mark k (Filled held) rest = rest
+
+  -- nor does a wake of all
+  pub tickets_woken : (tell : N → N) (es : List (Entry T N)) → tickets (all_woken tell es) ≡ tickets es
+  tickets_woken tell [] = refl
+  tickets_woken tell (x ∷ es) = by_mark x.mark (ap (λ l. x.ticket ∷ l) (tickets_woken tell es))
+    where
+      by_mark : (m : Mark T) → x.ticket ∷ tickets (all_woken tell es) ≡ x.ticket ∷ tickets es
+          → tickets (all_woken tell (record x { mark = m } ∷ es)) ≡ x.ticket ∷ tickets es
+      by_mark Waiting rest = rest
+      by_mark Woken rest = rest
+      by_mark (Filled held) rest = rest
+
+  -- a round fills none that isn't there
+  pub fills_none_else : (t : ℕ) (es : List (Entry T N)) → entry_of t es ≡ None → is_ticket t (round_fills es) ≡ false
+  fills_none_else t [] h = refl
+  fills_none_else t (x ∷ es) h =
+      let parts = none_parts t x es h in
+      by_mark x.kind x.mark parts.0 (fills_none_else t es parts.1)
+    where
+      by_mark : (k : Kind) (m : Mark T) → eqb x.ticket t ≡ false → is_ticket t (round_fills es) ≡ false
+          → is_ticket t (round_fills (record x { kind = k; mark = m } ∷ es)) ≡ false
+      by_mark Block Waiting e rest = e
+      by_mark Plain Waiting e rest = refl
+      by_mark Stream Waiting e rest = rest
+      by_mark Arm Waiting e rest = refl
+      by_mark k Woken e rest = rest
+      by_mark k (Filled held) e rest = rest
+
+  -- what has no ticket of a list has none of the list without an entry
+  pub none_without : (t u : ℕ) (es : List (Entry T N)) → entry_of t es ≡ None → entry_of t (without u es) ≡ None
+  none_without t u [] h = refl
+  none_without t u (x ∷ es) h =
+      let parts = none_parts t x es h in
+      by_case (eqb x.ticket u) refl parts.0 parts.1 (none_without t u es parts.1)
+    where
+      by_case : (b : Bool) → eqb x.ticket u ≡ b → eqb x.ticket t ≡ false → entry_of t es ≡ None → entry_of t (without u es) ≡ None
+          → entry_of t (without u (x ∷ es)) ≡ None
+      by_case true e first others rest = simp e others
+      by_case false e first others rest = simp e (none_more t x (without u es) first rest)
+
+  -- nor of the list with one more of another ticket
+  pub none_push : (t : ℕ) (es : List (Entry T N)) (x : Entry T N) → entry_of t es ≡ None → eqb x.ticket t ≡ false
+      → entry_of t (es ++ x ∷ []) ≡ None
+  none_push t [] x h e = none_more t x [] e refl
+  none_push t (y ∷ es) x h e =
+      let parts = none_parts t y es h in
+      none_more t y (es ++ x ∷ []) parts.0 (none_push t es x parts.1 e)
+
+  -- where no entry has the ticket, none leaves
+  pub without_none : (t : ℕ) (es : List (Entry T N)) → entry_of t es ≡ None → without t es ≡ es
+  without_none t [] h = refl
+  without_none t (x ∷ es) h =
+      let parts = none_parts t x es h in
+      let first : eqb x.ticket t ≡ false = parts.0 in
+      simp first (ap (λ l. x ∷ l) (without_none t es parts.1))
+
+  -- where none had its ticket, the one more is found by it
+  pub entry_last : (es : List (Entry T N)) (x : Entry T N) → entry_of x.ticket es ≡ None → entry_of x.ticket (es ++ x ∷ []) ≡ Some x
+  entry_last [] x h = let same = eq-eqb x.ticket x.ticket refl in simp same
+  entry_last (y ∷ es) x h =
+      let parts = none_parts x.ticket y es h in
+      let other : eqb y.ticket x.ticket ≡ false = parts.0 in
+      simp other (entry_last es x parts.1)
+
+module _ {T N M : Type 0} where
+  -- lists of the same tickets have the same tickets missing
+  pub none_same : (t : ℕ) (es : List (Entry T N)) (fs : List (Entry T M)) → tickets es ≡ tickets fs → entry_of t es ≡ None
+      → entry_of t fs ≡ None
+  none_same t [] [] e h = refl
+  none_same t [] (y ∷ fs) e h = absurd (let none : ⊥ = cc in none)
+  none_same t (x ∷ es) [] e h = absurd (let none : ⊥ = cc in none)
+  none_same t (x ∷ es) (y ∷ fs) e h =
+      let parts = none_parts t x es h in
+      let first : x.ticket ≡ y.ticket = cc in
+      let others : tickets es ≡ tickets fs = cc in
+      none_more t y fs (ap (λ u. eqb u t) (sym first) ∙ parts.0) (none_same t es fs others parts.1)
+
+module _ {T N : Type 0} where
+  -- what holds where a queue is empty and where a round comes, holds of what a round for the queue leaves
+  pub round_for_cases : (P : List (Entry T N) → Option ℕ → Type 0) (tell : N → N) (queue_ : List T) (es : List (Entry T N))
+      → (queue_ ≡ [] → P es None)
+      → ((front : T) (rest : List T) → queue_ ≡ front ∷ rest → P (round tell front es) (round_fills es))
+      → P (round_for tell queue_ es) (round_for_fills queue_ es)
+  round_for_cases P tell [] es none some = none refl
+  round_for_cases P tell (front ∷ rest) es none some = some front rest refl
+
+  -- with one more message there is a round
+  pub round_for_push : (P : List (Entry T N) → Type 0) (tell : N → N) (queue_ : List T) (m : T) (es : List (Entry T N))
+      → ((front : T) → P (round tell front es)) → P (round_for tell (queue_ ++ m ∷ []) es)
+  round_for_push P tell [] m es some = some m
+  round_for_push P tell (front ∷ rest) m es some = some front
+
+  -- a receiver that asks keeps its place, or was woken and goes behind all others
+  pub again_cases : (P : List (Entry T N) → Type 0) (t : ℕ) (es : List (Entry T N)) → P es
+      → ((e : Entry T N) → entry_of t es ≡ Some e → is_woken e.mark ≡ true → P (without t es ++ record e { mark = Waiting } ∷ []))
+      → P (again t es)
+  again_cases P t es stays goes = by_found (entry_of t es) refl
+    where
+      by_found : (found : Option (Entry T N)) → entry_of t es ≡ found → P (again_as t found es)
+      by_found None e = stays
+      by_found (Some x) e = by_case (is_woken x.mark) refl
+        where
+          by_case : (b : Bool) → is_woken x.mark ≡ b
+              → P (if b then without t es ++ record x { mark = Waiting } ∷ [] else es)
+          by_case true woken = goes x e woken
+          by_case false waits = stays
+
+  -- a receiver that leaves leaves the others as they are, or passes a round on
+  pub left_cases : (P : List (Entry T N) → Option ℕ → Type 0) (tell : N → N) (t : ℕ) (queue_ : List T) (es : List (Entry T N))
+      → ((passes_on (entry_of t es) ≡ true → queue_ ≡ []) → P (without t es) None)
+      → (passes_on (entry_of t es) ≡ true → (front : T) (rest : List T) → queue_ ≡ front ∷ rest
+      → P (round tell front (without t es)) (round_fills (without t es)))
+      → P (left tell t queue_ es) (left_fills t queue_ es)
+  left_cases P tell t queue_ es stays passes = by_case (passes_on (entry_of t es)) refl
+    where
+      by_case : (b : Bool) → passes_on (entry_of t es) ≡ b
+          → P (if b then round_for tell queue_ (without t es) else without t es)
+          (if b then round_for_fills queue_ (without t es) else None)
+      by_case true e = round_for_cases P tell queue_ (without t es) (λ none. stays (λ same. none)) (passes e)
+      by_case false e = stays (λ same. absurd (let none : ⊥ = cc in none))

@@ -1,0 +1,152 @@
+-- Which entries are filled after a wake round, a leave and one more entry, and that their tickets stay apart.
+use Rattle.std.proofs.Common.{◌≡◌, ℕ, ◌<◌, ◌≤◌, Bool, true, false, ◌||◌, eqb, List, [], ◌∷◌, ◌++◌, Some, None, refl, sym, ◌∙◌, ap, arith}
+use Rattle.std.proofs.Common.{eqb-true, eq-eqb, ne_eqb}
+use Rattle.std.proofs.lemmas.Bool.{or_left}
+use Rattle.flume_model.specs.declared.step.Kind.{Kind}
+use Rattle.flume_model.specs.declared.step.Kind.TheVariants.{Block, Plain, Stream, Arm}
+use Rattle.flume_model.specs.declared.entry.Entry.{Entry}
+use Rattle.flume_model.specs.declared.entry.Mark.{Mark}
+use Rattle.flume_model.specs.declared.entry.Mark.TheVariants.{Waiting, Woken, Filled}
+use Rattle.flume_model.specs.Log.{is_ticket}
+use Rattle.flume_model.specs.Entries.{is_filled, round, round_fills, all_woken, entry_of, without}
+use Rattle.flume_model.specs.Parked.{LogEntry}
+use Rattle.flume_model.specs.WaitLaws.{Apart}
+use Rattle.flume_model.proofs.EntryLists.{tickets, none_parts, none_more, fills_none_else, none_without, none_push, none_same}
+
+module _ {T N : Type 0} where
+  -- each entry is filled just where this test says so of its ticket
+  abbrev pub FilledBy : (ℕ → Bool) → List (Entry T N) → Type 0
+  FilledBy was [] = Unit {0}
+  FilledBy was (e ∷ es) = (was e.ticket ≡ is_filled e.mark) × FilledBy was es
+
+  -- of an entry that is found
+  pub filled_found : (was : ℕ → Bool) (t : ℕ) (e : Entry T N) (es : List (Entry T N)) → FilledBy was es → entry_of t es ≡ Some e
+      → was t ≡ is_filled e.mark
+  filled_found was t e [] all h = absurd (let none : ⊥ = cc in none)
+  filled_found was t e (x ∷ es) all h = by_case (eqb x.ticket t) refl (filled_found was t e es all.1)
+    where
+      by_case : (b : Bool) → eqb x.ticket t ≡ b → (entry_of t es ≡ Some e → was t ≡ is_filled e.mark) → was t ≡ is_filled e.mark
+      by_case true f rest =
+          let h2 = simp f at h in
+          let same : x ≡ e = cc in
+          ap was (sym (eqb-true x.ticket t f)) ∙ all.0 ∙ ap (λ y. is_filled y.mark) same
+      by_case false f rest = rest (simp f at h)
+
+  -- where one ticket more counts as filled, which no entry has, nothing changes
+  pub filled_more : (was : ℕ → Bool) (t : ℕ) (es : List (Entry T N)) → entry_of t es ≡ None → FilledBy was es
+      → FilledBy (λ u. eqb t u || was u) es
+  filled_more was t [] h all = tt
+  filled_more was t (x ∷ es) h all =
+      let parts = none_parts t x es h in
+      let other : eqb t x.ticket ≡ false = ne_eqb t x.ticket (λ same. (let eq : eqb x.ticket t ≡ true = eq-eqb x.ticket t (sym same) in
+      let none : ⊥ = cc (parts.0, eq) in none)) in
+      (rw other all.0, filled_more was t es parts.1 all.1)
+
+  -- of all entries but one
+  pub filled_without : (was : ℕ → Bool) (t : ℕ) (es : List (Entry T N)) → FilledBy was es → FilledBy was (without t es)
+  filled_without was t [] all = tt
+  filled_without was t (x ∷ es) all = by_case (eqb x.ticket t) refl (filled_without was t es all.1)
+    where
+      by_case : (b : Bool) → eqb x.ticket t ≡ b → FilledBy was (without t es) → FilledBy was (without t (x ∷ es))
+      by_case true e rest = simp e all.1
+      by_case false e rest = simp e (all.0, rest)
+
+  -- of one more entry
+  pub filled_push : (was : ℕ → Bool) (es : List (Entry T N)) (x : Entry T N) → FilledBy was es → was x.ticket ≡ is_filled x.mark
+      → FilledBy was (es ++ x ∷ [])
+  filled_push was [] x all h = (h, tt)
+  filled_push was (y ∷ es) x all h = (all.0, filled_push was es x all.1 h)
+
+  -- where all that wait are woken
+  pub filled_woken : (tell : N → N) (was : ℕ → Bool) (es : List (Entry T N)) → FilledBy was es → FilledBy was (all_woken tell es)
+  filled_woken tell was [] all = tt
+  filled_woken tell was (x ∷ es) all = by_mark x.mark all.0 (filled_woken tell was es all.1)
+    where
+      by_mark : (m : Mark T) → was x.ticket ≡ is_filled m → FilledBy was (all_woken tell es)
+          → FilledBy was (all_woken tell (record x { mark = m } ∷ es))
+      by_mark Waiting h rest = (h, rest)
+      by_mark Woken h rest = (h, rest)
+      by_mark (Filled held) h rest = (h, rest)
+
+module _ {T : Type 0} where
+  -- a greater bound
+  pub apart_above : (n k : ℕ) (es : List (LogEntry T)) → n ≤ k → Apart n es → Apart k es
+  apart_above n k [] le h = tt
+  apart_above n k (x ∷ es) le h = (let below = h.0 in omega arith, h.1, apart_above n k es le h.2)
+
+  -- no entry has a ticket at or past the bound
+  pub none_past : (n t : ℕ) (es : List (LogEntry T)) → n ≤ t → Apart n es → entry_of t es ≡ None
+  none_past n t [] le h = refl
+  none_past n t (x ∷ es) le h =
+      let below = h.0 in
+      none_more t x es (ne_eqb x.ticket t (λ e. omega arith)) (none_past n t es le h.2)
+
+  -- the ticket of an entry that is found is below the bound
+  pub found_below : (n t : ℕ) (e : LogEntry T) (es : List (LogEntry T)) → entry_of t es ≡ Some e → Apart n es → t < n
+  found_below n t e [] f h = absurd (let none : ⊥ = cc in none)
+  found_below n t e (x ∷ es) f h = by_case (eqb x.ticket t) refl (λ g. found_below n t e es g h.2)
+    where
+      by_case : (b : Bool) → eqb x.ticket t ≡ b → (entry_of t es ≡ Some e → t < n) → t < n
+      by_case true g rest = let below = h.0 in let same = eqb-true x.ticket t g in omega arith
+      by_case false g rest = rest (simp g at f)
+
+  -- lists of the same tickets are apart alike
+  pub apart_same : (n : ℕ) (es fs : List (LogEntry T)) → tickets es ≡ tickets fs → Apart n es → Apart n fs
+  apart_same n [] [] e h = tt
+  apart_same n [] (y ∷ fs) e h = absurd (let none : ⊥ = cc in none)
+  apart_same n (x ∷ es) [] e h = absurd (let none : ⊥ = cc in none)
+  apart_same n (x ∷ es) (y ∷ fs) e h =
+      let first : x.ticket ≡ y.ticket = cc in
+      let others : tickets es ≡ tickets fs = cc in
+      let below = h.0 in
+      let none : entry_of y.ticket es ≡ None = ap (λ t. entry_of t es) (sym first) ∙ h.1 in
+      (omega arith, none_same y.ticket es fs others none, apart_same n es fs others h.2)
+
+  -- all entries but one are apart
+  pub apart_without : (n t : ℕ) (es : List (LogEntry T)) → Apart n es → Apart n (without t es)
+  apart_without n t [] h = tt
+  apart_without n t (x ∷ es) h = by_case (eqb x.ticket t) refl (apart_without n t es h.2)
+    where
+      by_case : (b : Bool) → eqb x.ticket t ≡ b → Apart n (without t es) → Apart n (without t (x ∷ es))
+      by_case true e rest = simp e h.2
+      by_case false e rest = simp e (h.0, none_without x.ticket t es h.1, rest)
+
+  -- none of the others has the ticket of the one that left
+  pub left_out : (n t : ℕ) (es : List (LogEntry T)) → Apart n es → entry_of t (without t es) ≡ None
+  left_out n t [] h = refl
+  left_out n t (x ∷ es) h = by_case (eqb x.ticket t) refl (left_out n t es h.2)
+    where
+      by_case : (b : Bool) → eqb x.ticket t ≡ b → entry_of t (without t es) ≡ None → entry_of t (without t (x ∷ es)) ≡ None
+      by_case true e rest = simp e (ap (λ u. entry_of u es) (sym (eqb-true x.ticket t e)) ∙ h.1)
+      by_case false e rest = simp e rest
+
+  -- one more entry, whose ticket none has
+  pub apart_push : (n : ℕ) (es : List (LogEntry T)) (x : LogEntry T) → Apart n es → entry_of x.ticket es ≡ None → x.ticket < n
+      → Apart n (es ++ x ∷ [])
+  apart_push n [] x h none below = (below, refl, tt)
+  apart_push n (y ∷ es) x h none below =
+      let parts = none_parts x.ticket y es none in
+      let other : eqb x.ticket y.ticket ≡ false = ne_eqb x.ticket y.ticket (λ same.
+      (let eq : eqb y.ticket x.ticket ≡ true = eq-eqb y.ticket x.ticket (sym same) in let no : ⊥ = cc (parts.0, eq) in no)) in
+      (h.0, none_push y.ticket es x h.1 other, apart_push n es x h.2 parts.1 below)
+
+  -- after a round, the entry that it fills is filled too
+  pub filled_round : (tell : Unit {0} → Unit {0}) (front : T) (n : ℕ) (was : ℕ → Bool) (es : List (LogEntry T)) → Apart n es
+      → FilledBy was es → FilledBy (λ t. is_ticket t (round_fills es) || was t) (round tell front es)
+  filled_round tell front n was [] apart all = tt
+  filled_round tell front n was (x ∷ es) apart all =
+      by_mark x.kind x.mark all.0 (filled_round tell front n was es apart.2 all.1)
+    where
+      none : is_ticket x.ticket (round_fills es) ≡ false
+      none = fills_none_else x.ticket es apart.1
+
+      by_mark : (k : Kind) (m : Mark T) → was x.ticket ≡ is_filled m
+          → FilledBy (λ t. is_ticket t (round_fills es) || was t) (round tell front es)
+          → FilledBy (λ t. is_ticket t (round_fills (record x { kind = k; mark = m } ∷ es)) || was t)
+          (round tell front (record x { kind = k; mark = m } ∷ es))
+      by_mark Block Waiting h rest = (or_left _ _ (eq-eqb x.ticket x.ticket refl), filled_more was x.ticket es apart.1 all.1)
+      by_mark Plain Waiting h rest = (h, all.1)
+      by_mark Stream Waiting h rest = (rw none h, rest)
+      by_mark Arm Waiting h rest = (h, all.1)
+      by_mark k Woken h rest = (rw none h, rest)
+      by_mark k (Filled held) h rest = (rw none h, rest)

@@ -1,0 +1,180 @@
+-- What the entries of each run are: their tickets are apart from one another and from those of sends, and they are filled where told.
+use Rattle.std.proofs.Common.{◌≡◌, ℕ, ◌+◌, ◌<◌, ◌≤◌, Bool, true, false, not, ◌||◌, ◌&&◌, if◌then◌else◌, [], ◌∷◌, Option, Some, None, refl}
+use Rattle.std.proofs.Common.{sym, ◌∙◌, ap, subst, arith, inl, inr, ◌⊎◌}
+use Rattle.std.proofs.lemmas.Bool.{or_from, or_cases, and_parts}
+use Rattle.flume_model.specs.declared.step.Kind.{Kind}
+use Rattle.flume_model.specs.declared.step.Kind.TheVariants.{Block, Plain, Stream, Arm}
+use Rattle.flume_model.specs.declared.step.Step.{Step}
+use Rattle.flume_model.specs.declared.step.Step.TheVariants.{TrySend, Send, Poll, Withdraw}
+use Rattle.flume_model.specs.declared.step.Reply.{Reply}
+use Rattle.flume_model.specs.declared.step.Reply.TheVariants.{Sent, Got, Gone}
+use Rattle.flume_model.specs.declared.entry.Mark.{Mark}
+use Rattle.flume_model.specs.declared.entry.Mark.TheVariants.{Waiting, Woken, Filled}
+use Rattle.flume_model.specs.Log.{Log, Opening, Takes, Collects, filled_by, was_filled, is_ticket, change}
+use Rattle.flume_model.specs.Counts.{is_over}
+use Rattle.flume_model.specs.Line.{next_ticket, queue, issued, issues, spends, is_live}
+use Rattle.flume_model.specs.Entries.{entry_of}
+use Rattle.flume_model.specs.Parked.{LogEntry, entries_after, entries, is_shut}
+use Rattle.flume_model.specs.Channel.{Channel, channel}
+use Rattle.flume_model.specs.Asking.{IsPolledMark, IsPolled, IsGoneMark, IsGone}
+use Rattle.flume_model.specs.Replies.{IsReply, IsRun}
+use Rattle.flume_model.specs.WaitLaws.{EntriesApart, SidesApart, ToldFilled}
+use Rattle.flume_model.proofs.EntryMarks.{FilledBy, filled_found, none_past}
+use Rattle.flume_model.proofs.Fits.{Fits, fits}
+use Rattle.flume_model.proofs.EntryChanges.{fills, apart_by, fills_none, filled_by_change, sides_by}
+
+module _ {T A : Type 0} where
+  -- a receiver that asks fills none, by its kind and mark
+  asked_fills_none : (c : Channel T) (k : Kind) (m : Mark T) (reply : Reply T A) → IsPolledMark c k m reply → filled_by reply ≡ None
+  asked_fills_none c k (Filled held) (Sent f) h = absurd h
+  asked_fills_none c Block Waiting (Sent f) h = absurd h
+  asked_fills_none c Block Woken (Sent f) h = absurd h
+  asked_fills_none c Plain Waiting (Sent f) h = absurd h
+  asked_fills_none c Plain Woken (Sent f) h = absurd h
+  asked_fills_none c Stream Waiting (Sent f) h = absurd h
+  asked_fills_none c Stream Woken (Sent f) h = absurd h
+  asked_fills_none c Arm Waiting (Sent f) h = absurd h
+  asked_fills_none c Arm Woken (Sent f) h = absurd h
+  asked_fills_none c k (Filled held) (Gone closed f) h = absurd h
+  asked_fills_none c Block Waiting (Gone closed f) h = absurd h
+  asked_fills_none c Block Woken (Gone closed f) h = absurd h
+  asked_fills_none c Plain Waiting (Gone closed f) h = absurd h
+  asked_fills_none c Plain Woken (Gone closed f) h = absurd h
+  asked_fills_none c Stream Waiting (Gone closed f) h = absurd h
+  asked_fills_none c Stream Woken (Gone closed f) h = absurd h
+  asked_fills_none c Arm Waiting (Gone closed f) h = absurd h
+  asked_fills_none c Arm Woken (Gone closed f) h = absurd h
+  asked_fills_none c k m _ h = refl
+
+  -- a receiver that asks fills none
+  polled_fills_none : (c : Channel T) (found : Option (LogEntry T)) (reply : Reply T A) → IsPolled c found reply → filled_by reply ≡ None
+  polled_fills_none c None (Sent f) h = absurd h
+  polled_fills_none c None (Gone closed f) h = absurd h
+  polled_fills_none c None _ h = refl
+  polled_fills_none c (Some e) reply h = asked_fills_none c e.kind e.mark reply h
+
+module _ {T : Type 0} where
+  -- a receiver that leaves is not answered as a sender is, by its kind and mark
+  gone_not_sent : (A : Type 0) (c : Channel T) (t : ℕ) (k : Kind) (m : Mark T) (f : Option ℕ) → IsGoneMark {A = A} c t k m (Sent f) → ⊥
+  gone_not_sent A c t k (Filled held) f h = h
+  gone_not_sent A c t Block Waiting f h = h
+  gone_not_sent A c t Block Woken f h = h
+  gone_not_sent A c t Plain Waiting f h = h
+  gone_not_sent A c t Plain Woken f h = h
+  gone_not_sent A c t Stream Waiting f h = h
+  gone_not_sent A c t Stream Woken f h = h
+  gone_not_sent A c t Arm Waiting f h = h
+  gone_not_sent A c t Arm Woken f h = h
+
+  -- a receiver that leaves is not answered as a sender is
+  gone_sends_none : (A : Type 0) (c : Channel T) (t : ℕ) (found : Option (LogEntry T)) (f : Option ℕ)
+      → IsGone {A = A} c t found (Sent f) → ⊥
+  gone_sends_none A c t None f h = h
+  gone_sends_none A c t (Some e) f h = gone_not_sent A c t e.kind e.mark f h
+
+module _ {T A : Type 0} where
+  -- a lawful reply tells as filled what its change fills
+  told_by : (o : Opening) (past : Log T A) (step : Step T) (reply : Reply T A) → IsReply (channel o past) step reply
+      → filled_by reply ≡ fills (change past step reply)
+  told_by o past (TrySend m) (Sent f) h = refl
+  told_by o past (Send m) (Sent f) h = refl
+  told_by o past (Withdraw t) (Gone closed f) h = refl
+  told_by o past (Poll t) (Got m) h = by_case (was_filled past t)
+    where
+      by_case : (b : Bool) → None ≡ fills (if b then Collects t else Takes m (Some t))
+      by_case true = refl
+      by_case false = refl
+  told_by o past (Withdraw t) (Got m) h = by_case (was_filled past t)
+    where
+      by_case : (b : Bool) → None ≡ fills (if b then Collects t else Takes m (Some t))
+      by_case true = refl
+      by_case false = refl
+  told_by o past (Poll t) (Sent f) h = polled_fills_none (channel o past) (entry_of t (entries o past)) (Sent f) h
+  told_by o past (Poll t) (Gone closed f) h = polled_fills_none (channel o past) (entry_of t (entries o past)) (Gone closed f) h
+  told_by o past (Withdraw t) (Sent f) h = absurd (gone_sends_none A (channel o past) t (entry_of t (entries o past)) f h)
+  told_by o past _ (Sent f) h = absurd h
+  told_by o past _ (Gone closed f) h = absurd h
+  told_by o past _ _ h = refl
+
+  -- what the entries of a run are
+  pub record Entered (o : Opening) (log : Log T A) : Type 0 where
+    pub apart : EntriesApart o log
+    pub marks : FilledBy (was_filled log) (entries o log)
+    pub unfilled : (t : ℕ) → next_ticket o log ≤ t → was_filled log t ≡ false
+    pub sides : SidesApart o log
+
+  -- a receiver is filled just where a reply told its ticket
+  pub told_in : (o : Opening) (log : Log T A) → Entered o log → ToldFilled o log
+  told_in o log h t e found = filled_found (was_filled log) t e (entries o log) h.marks found
+
+  -- what the entries are after one more pair
+  entered_more : (o : Opening) (past : Log T A) (p : Step T × Reply T A) → IsReply (channel o past) p.0 p.1 → Entered o past
+      → Entered o (p ∷ past)
+  entered_more o past p reply h = by_case (is_over (p ∷ past)) refl
+    where
+      fit : Fits (channel o past) (change past p.0 p.1)
+      fit = fits o past p.0 p.1 (told_in o past h) reply
+
+      closes : Bool
+      closes = not (is_shut past) && is_shut (p ∷ past)
+
+      told : filled_by p.1 ≡ fills (change past p.0 p.1)
+      told = told_by o past p.0 p.1 reply
+
+      unfilled_now : (t : ℕ) → next_ticket o (p ∷ past) ≤ t → was_filled (p ∷ past) t ≡ false
+      unfilled_now t le =
+          let none = none_past (next_ticket o past) t (entries o past) (omega arith) h.apart in
+          or_from _ _ (ap (is_ticket t) told ∙ fills_none (channel o past) (change past p.0 p.1) t fit none) (h.unfilled t (omega arith))
+
+      FilledNow : Option ℕ → Type 0
+      FilledNow f = FilledBy (λ t. is_ticket t f || was_filled past t)
+          (entries_after (queue o past) (not (is_shut past) && is_shut (p ∷ past)) (entries o past) (change past p.0 p.1))
+
+      marks_now : FilledNow (filled_by p.1)
+      marks_now =
+          subst FilledNow (sym told)
+          (filled_by_change (channel o past) closes (change past p.0 p.1) (was_filled past) fit h.apart h.unfilled h.marks)
+
+      sides_now : (t : ℕ) → (issues (change past p.0 p.1) t || (is_live past t && not (spends (change past p.0 p.1) t))) ≡ true
+          → (t < next_ticket o past + issued (change past p.0 p.1))
+          × (entry_of t (entries_after (queue o past) closes (entries o past) (change past p.0 p.1)) ≡ None)
+      sides_now t live =
+          sides_by (channel o past) closes (change past p.0 p.1) t fit h.apart (h.sides t)
+          (elim (or_cases (issues (change past p.0 p.1) t) (is_live past t && not (spends (change past p.0 p.1) t)) live)
+          as (λ _. (issues (change past p.0 p.1) t ≡ true) ⊎ (is_live past t ≡ true))
+          [ inl e ↦ inl e | inr e ↦ inr (and_parts _ _ e).0 ])
+
+      by_case : (b : Bool) → is_over (p ∷ past) ≡ b → Entered o (p ∷ past)
+      by_case true over = record {
+        apart = rw over tt;
+        marks = rw over tt;
+        unfilled = unfilled_now;
+        sides = λ t live. (let live2 = rw over at live in absurd (let none : ⊥ = cc in none));
+      }
+      by_case false still = record {
+        apart = rw still (apart_by (channel o past) closes (change past p.0 p.1) fit h.apart);
+        marks = rw still marks_now;
+        unfilled = unfilled_now;
+        sides = λ t live. rw still (sides_now t (and_parts (not (is_over (p ∷ past))) _ live).1);
+      }
+
+  -- of each run
+  pub entered : (o : Opening) (log : Log T A) → IsRun o log → Entered o log
+  entered o [] run = record { apart = tt; marks = tt; unfilled = λ t le. refl; sides = λ t live. absurd (let none : ⊥ = cc in none) }
+  entered o (p ∷ past) run = entered_more o past p run.0 (entered o past run.1)
+
+  -- a receiver is filled just where a reply told its ticket as filled
+  pub told_filled : (o : Opening) (log : Log T A) → IsRun o log → ToldFilled o log
+  told_filled o log run = told_in o log (entered o log run)
+
+  -- the tickets of parked receivers are apart and below the next one
+  pub entries_apart : (o : Opening) (log : Log T A) → IsRun o log → EntriesApart o log
+  entries_apart o log run = (entered o log run).apart
+
+  -- no ticket is live of a send and of a receiver
+  pub sides_apart : (o : Opening) (log : Log T A) → IsRun o log → SidesApart o log
+  sides_apart o log run = (entered o log run).sides
+
+  -- what a lawful reply changes fits what stands before it
+  pub fits_run : (o : Opening) (past : Log T A) (p : Step T × Reply T A) → IsRun o (p ∷ past) → Fits (channel o past) (change past p.0 p.1)
+  fits_run o past p run = fits o past p.0 p.1 (told_filled o past run.1) run.0

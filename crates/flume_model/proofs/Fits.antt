@@ -1,0 +1,214 @@
+-- A lawful reply makes a change that fits what stands before it.
+use Rattle.std.proofs.Common.{◌≡◌, ℕ, ◌+◌, ◌<◌, true, false, Bool, if◌then◌else◌, List, [], ◌∷◌, Option, Some, None}
+use Rattle.std.proofs.Common.{refl, sym, ◌∙◌, ap, arith, cond, take, subst, eqb-true, eq-eqb}
+use Rattle.std.proofs.Math.Seq.{take-nil}
+use Rattle.flume_model.specs.declared.step.Kind.{Kind}
+use Rattle.flume_model.specs.declared.step.Kind.TheVariants.{Block, Plain, Stream, Arm}
+use Rattle.flume_model.specs.declared.step.Step.{Step}
+use Rattle.flume_model.specs.declared.step.Step.TheVariants.{TrySend, Send, PollSend, WithdrawSend, TryRecv, Recv, Poll, Withdraw, Drain}
+use Rattle.flume_model.specs.declared.step.Step.TheVariants.{CloneSender, CloneReceiver, DropSender, DropReceiver}
+use Rattle.flume_model.specs.declared.step.Reply.{Reply}
+use Rattle.flume_model.specs.declared.step.Reply.TheVariants.{Sent, Pending, Accepted, Waiting, Returned, NoMemory, NoTicket}
+use Rattle.flume_model.specs.declared.step.Reply.TheVariants.{Got, Ended, Parked, Gone, Drained, Done}
+use Rattle.flume_model.specs.declared.entry.Entry.{Entry}
+use Rattle.flume_model.specs.declared.entry.Mark.{Mark}
+use Rattle.flume_model.specs.declared.entry.Mark.TheVariants.{Waiting as Waits, Woken, Filled}
+use Rattle.flume_model.specs.Log.{Log, Opening, Offer, Change, Queues, Blocks, Accepts, Withdraws, Takes, Drains, Parks, Asks, Collects}
+use Rattle.flume_model.specs.Log.{Leaves, SenderJoins, ReceiverJoins, SenderLeaves, ReceiverLeaves, Stays, was_filled, change}
+use Rattle.flume_model.specs.Counts.{senders, receivers, senders_after, receivers_after, is_over}
+use Rattle.flume_model.specs.Line.{line, boundary, queue, messages}
+use Rattle.flume_model.specs.Entries.{is_filled, is_woken, entry_of, round_fills, left_fills, passes_on}
+use Rattle.flume_model.specs.Parked.{LogEntry, entries}
+use Rattle.flume_model.specs.Channel.{Channel, TakesIn, TakesNoneIn, IsAccepted, IsBlocked, IsFront, channel}
+use Rattle.flume_model.specs.Asking.{IsPolledOther, IsPolledMark, IsPolled, IsGoneBlock, IsGoneOther, IsGoneMark, IsGone}
+use Rattle.flume_model.specs.Replies.{IsReply, IsRun}
+use Rattle.flume_model.specs.WaitLaws.{ToldFilled}
+use Rattle.flume_model.specs.Limits.{IsOpen, most}
+
+module _ {T : Type 0} where
+  -- the entry with this ticket, which isn't filled
+  pub record Unfilled (c : Channel T) (t : ℕ) : Type 0 where
+    pub entry : LogEntry T
+    pub found : entry_of t c.entries ≡ Some entry
+    pub empty : is_filled entry.mark ≡ false
+
+  -- what a change asks of the channel before it
+  abbrev pub Fits : Channel T → Change T → Type 0
+  Fits c (Queues m filled) = TakesIn c × (filled ≡ round_fills c.entries)
+  Fits c (Blocks m t) = TakesNoneIn c × (c.next < most) × (t ≡ c.next)
+  Fits c (Accepts t) = IsAccepted c t
+  Fits c (Withdraws t) = (m : T) × IsBlocked c t m
+  Fits c (Takes m None) = IsFront c m
+  Fits c (Takes m (Some t)) = IsFront c m × Unfilled c t
+  Fits c (Drains list) = list ≡ c.queue
+  Fits c (Parks t kind) = (c.line ≡ []) × IsOpen c.senders c.receivers × (c.next < most) × (t ≡ c.next)
+  Fits c (Asks t) =
+      (e : LogEntry T) × (entry_of t c.entries ≡ Some e)
+      × (is_woken e.mark ≡ true → (c.line ≡ []) × IsOpen c.senders c.receivers)
+  Fits c (Collects t) = (e : LogEntry T) × (held : T) × (entry_of t c.entries ≡ Some e) × (e.mark ≡ Filled held)
+  Fits c (Leaves t filled) = Unfilled c t × (filled ≡ left_fills t c.queue c.entries)
+  Fits c SenderJoins = 0 < c.senders
+  Fits c ReceiverJoins = 0 < c.receivers
+  Fits c SenderLeaves = 0 < c.senders
+  Fits c ReceiverLeaves = 0 < c.receivers
+  Fits c Stays = Unit {0}
+
+  -- an end of a line that has no message queues none
+  none_taken : (n : ℕ) (xs : List (Offer T)) → messages xs ≡ [] → messages (take n xs) ≡ []
+  none_taken n [] e = ap messages (take-nil n)
+  none_taken n (x ∷ xs) e = absurd (let none : ⊥ = cc in none)
+
+  -- a receiver that leaves where nothing is queued fills nobody
+  pub fills_none : {N : Type 0} (t : ℕ) (queue_ : List T) (es : List (Entry T N)) → queue_ ≡ [] → left_fills t queue_ es ≡ None
+  fills_none t queue_ es e =
+      rw e (elim (passes_on (entry_of t es)) as (λ b. cond {A = Option ℕ} b None None ≡ None) [ true ↦ refl | false ↦ refl ])
+
+module _ {T A : Type 0} where
+  -- a filled receiver gets its message
+  collects : (o : Opening) (past : Log T A) (t : ℕ) (m held : T) (e : LogEntry T) → ToldFilled o past → entry_of t (entries o past) ≡ Some e
+      → e.mark ≡ Filled held → Fits (channel o past) (if was_filled past t then Collects t else Takes m (Some t))
+  collects o past t m held e told found is =
+      let was : was_filled past t ≡ true = told t e found ∙ ap is_filled is in
+      rw was (e, held, found, is)
+
+  -- one that isn't filled gets the front
+  takes : (o : Opening) (past : Log T A) (t : ℕ) (m : T) (e : LogEntry T) → ToldFilled o past → entry_of t (entries o past) ≡ Some e
+      → is_filled e.mark ≡ false → IsFront (channel o past) m
+      → Fits (channel o past) (if was_filled past t then Collects t else Takes m (Some t))
+  takes o past t m e told found not_filled front =
+      let was : was_filled past t ≡ false = told t e found ∙ not_filled in
+      rw was (front, record { entry = e; found = found; empty = not_filled })
+
+  -- one that isn't filled leaves where the line is empty
+  ends : (o : Opening) (past : Log T A) (t : ℕ) (e : LogEntry T) → entry_of t (entries o past) ≡ Some e
+      → is_filled e.mark ≡ false → messages (line past) ≡ [] → Fits (channel o past) (Leaves t None)
+  ends o past t e found not_filled empty = (
+    record { entry = e; found = found; empty = not_filled },
+    sym (fills_none t (queue o past) (entries o past) (none_taken (boundary o past) (line past) empty)),
+  )
+
+  -- one that looks at the line, whether it was woken or not
+  polled_other : (o : Opening) (past : Log T A) (t : ℕ) (reply : Reply T A) (e : LogEntry T) → ToldFilled o past
+      → entry_of t (entries o past) ≡ Some e → is_filled e.mark ≡ false → IsPolledOther (channel o past) reply
+      → Fits (channel o past) (change past (Poll t) reply)
+  polled_other o past t (Got m) e told found not_filled h = takes o past t m e told found not_filled h
+  polled_other o past t (NoMemory back) e told found not_filled h = tt
+  polled_other o past t Ended e told found not_filled h = ends o past t e found not_filled h.0
+  polled_other o past t Waiting e told found not_filled h = (e, found, λ woken. h)
+  polled_other o past t _ e told found not_filled h = absurd h
+
+  -- a parked receiver that asks, where this is its entry
+  polled_mark : (o : Opening) (past : Log T A) (t : ℕ) (reply : Reply T A) (e : LogEntry T) (kind : Kind) (mark : Mark T)
+      → ToldFilled o past → entry_of t (entries o past) ≡ Some e → e.mark ≡ mark → IsPolledMark (channel o past) kind mark reply
+      → Fits (channel o past) (change past (Poll t) reply)
+  polled_mark o past t (Got m) e kind (Filled held) told found is h = collects o past t m held e told found is
+  polled_mark o past t Waiting e Block Waits told found is h = (e, found, λ woken. absurd (let none : ⊥ = cc in none))
+  polled_mark o past t (Got m) e Block Woken told found is h = takes o past t m e told found (ap is_filled is) h
+  polled_mark o past t Ended e Block Woken told found is h = ends o past t e found (ap is_filled is) h
+  polled_mark o past t reply e Plain Waits told found is h = polled_other o past t reply e told found (ap is_filled is) h
+  polled_mark o past t reply e Plain Woken told found is h = polled_other o past t reply e told found (ap is_filled is) h
+  polled_mark o past t reply e Stream Waits told found is h = polled_other o past t reply e told found (ap is_filled is) h
+  polled_mark o past t reply e Stream Woken told found is h = polled_other o past t reply e told found (ap is_filled is) h
+  polled_mark o past t reply e Arm Waits told found is h = polled_other o past t reply e told found (ap is_filled is) h
+  polled_mark o past t reply e Arm Woken told found is h = polled_other o past t reply e told found (ap is_filled is) h
+  polled_mark o past t _ e kind (Filled held) told found is h = absurd h
+  polled_mark o past t _ e Block Waits told found is h = absurd h
+  polled_mark o past t _ e Block Woken told found is h = absurd h
+
+  -- a parked receiver that asks
+  polled : (o : Opening) (past : Log T A) (t : ℕ) (reply : Reply T A) → ToldFilled o past
+      → IsPolled (channel o past) (entry_of t (entries o past)) reply → Fits (channel o past) (change past (Poll t) reply)
+  polled o past t reply told h = by_entry (entry_of t (entries o past)) reply refl h
+    where
+      by_entry : (entry : Option (LogEntry T)) (given : Reply T A) → entry_of t (entries o past) ≡ entry
+          → IsPolled (channel o past) entry given → Fits (channel o past) (change past (Poll t) given)
+      by_entry (Some e) given found h = polled_mark o past t given e e.kind e.mark told found refl h
+      by_entry None NoTicket found h = tt
+      by_entry None _ found h = absurd h
+
+  -- one of another kind leaves
+  gone_other : (o : Opening) (past : Log T A) (t : ℕ) (reply : Reply T A) (e : LogEntry T)
+      → entry_of t (entries o past) ≡ Some e → is_filled e.mark ≡ false → IsGoneOther (channel o past) t reply
+      → Fits (channel o past) (change past (Withdraw t) reply)
+  gone_other o past t (Gone closed filled) e found not_filled h = (record { entry = e; found = found; empty = not_filled }, h.1)
+  gone_other o past t _ e found not_filled h = absurd h
+
+  -- one that blocks leaves
+  gone_block : (o : Opening) (past : Log T A) (t : ℕ) (reply : Reply T A) (e : LogEntry T) → ToldFilled o past
+      → entry_of t (entries o past) ≡ Some e → is_filled e.mark ≡ false → IsGoneBlock (channel o past) reply
+      → Fits (channel o past) (change past (Withdraw t) reply)
+  gone_block o past t (Got m) e told found not_filled h = takes o past t m e told found not_filled h
+  gone_block o past t (Gone closed filled) e told found not_filled h =
+      let done : Path (Change T) (Leaves t None) (Leaves t filled) = ap (λ none. Leaves t none) (sym h.2) in
+      subst (Fits (channel o past)) done (ends o past t e found not_filled h.0)
+  gone_block o past t _ e told found not_filled h = absurd h
+
+  -- one that leaves, where this is its entry
+  gone_mark : (o : Opening) (past : Log T A) (t : ℕ) (reply : Reply T A) (e : LogEntry T) (kind : Kind) (mark : Mark T)
+      → ToldFilled o past → entry_of t (entries o past) ≡ Some e → e.mark ≡ mark → IsGoneMark (channel o past) t kind mark reply
+      → Fits (channel o past) (change past (Withdraw t) reply)
+  gone_mark o past t (Got m) e kind (Filled held) told found is h = collects o past t m held e told found is
+  gone_mark o past t reply e Block Waits told found is h = gone_block o past t reply e told found (ap is_filled is) h
+  gone_mark o past t reply e Block Woken told found is h = gone_block o past t reply e told found (ap is_filled is) h
+  gone_mark o past t reply e Plain Waits told found is h = gone_other o past t reply e found (ap is_filled is) h
+  gone_mark o past t reply e Plain Woken told found is h = gone_other o past t reply e found (ap is_filled is) h
+  gone_mark o past t reply e Stream Waits told found is h = gone_other o past t reply e found (ap is_filled is) h
+  gone_mark o past t reply e Stream Woken told found is h = gone_other o past t reply e found (ap is_filled is) h
+  gone_mark o past t reply e Arm Waits told found is h = gone_other o past t reply e found (ap is_filled is) h
+  gone_mark o past t reply e Arm Woken told found is h = gone_other o past t reply e found (ap is_filled is) h
+  gone_mark o past t _ e kind (Filled held) told found is h = absurd h
+
+  -- one that leaves
+  gone : (o : Opening) (past : Log T A) (t : ℕ) (reply : Reply T A) → ToldFilled o past
+      → IsGone (channel o past) t (entry_of t (entries o past)) reply → Fits (channel o past) (change past (Withdraw t) reply)
+  gone o past t reply told h = by_entry (entry_of t (entries o past)) reply refl h
+    where
+      by_entry : (entry : Option (LogEntry T)) (given : Reply T A) → entry_of t (entries o past) ≡ entry
+          → IsGone (channel o past) t entry given → Fits (channel o past) (change past (Withdraw t) given)
+      by_entry (Some e) given found h = gone_mark o past t given e e.kind e.mark told found refl h
+      by_entry None NoTicket found h = tt
+      by_entry None _ found h = absurd h
+
+  -- a lawful reply changes only what may change
+  pub fits : (o : Opening) (past : Log T A) (step : Step T) (reply : Reply T A) → ToldFilled o past
+      → IsReply (channel o past) step reply → Fits (channel o past) (change past step reply)
+  fits o past (TrySend m) (Sent filled) told h = h
+  fits o past (Send m) (Sent filled) told h = h
+  fits o past (Send m) (Pending t) told h = h
+  fits o past (PollSend t) Accepted told h = h
+  fits o past (PollSend t) (Returned m closed) told h = (m, h.0)
+  fits o past (WithdrawSend t) Accepted told h = h
+  fits o past (WithdrawSend t) (Returned m closed) told h = (m, h.0)
+  fits o past TryRecv (Got m) told h = h
+  fits o past (Recv kind) (Got m) told h = h
+  fits o past (Recv kind) (Parked t) told h = h
+  fits o past (Poll t) reply told h = polled o past t reply told h
+  fits o past (Withdraw t) reply told h = gone o past t reply told h
+  fits o past Drain (Drained list) told h = h
+  fits o past CloneSender Done told h = h.0
+  fits o past CloneReceiver Done told h = h.0
+  fits o past DropSender Done told h = h
+  fits o past DropReceiver Done told h = h
+  fits o past _ _ told h = tt
+
+  -- where both ends are gone, no change that fits brings one back
+  over_stays : (o : Opening) (past : Log T A) (done : Change T) → Fits (channel o past) done → senders past + receivers past ≡ 0
+      → senders_after (senders past) done + receivers_after (receivers past) done ≡ 0
+  over_stays o past SenderJoins h e = absurd (omega arith)
+  over_stays o past ReceiverJoins h e = absurd (omega arith)
+  over_stays o past SenderLeaves h e = omega arith
+  over_stays o past ReceiverLeaves h e = omega arith
+  over_stays o past _ h e = e
+
+  -- once over, over for good
+  pub not_over_yet : (o : Opening) (past : Log T A) (p : Step T × Reply T A) → ToldFilled o past → IsRun o (p ∷ past)
+      → is_over (p ∷ past) ≡ false → is_over past ≡ false
+  not_over_yet o past p told run open_ = by_case (is_over past) refl
+    where
+      by_case : (b : Bool) → is_over past ≡ b → is_over past ≡ false
+      by_case false e = e
+      by_case true e =
+          let none_left = eqb-true (senders past + receivers past) 0 e in
+          let over = over_stays o past (change past p.0 p.1) (fits o past p.0 p.1 told run.0) none_left in
+          let now : is_over (p ∷ past) ≡ true = eq-eqb _ 0 over in
+          absurd (let none : ⊥ = cc in none)

@@ -1,0 +1,118 @@
+-- What wake rounds, leaves and one more entry do to the weight of the messages that entries hold.
+use Rattle.std.proofs.Common.{◌≡◌, ℕ, ◌+◌, Bool, true, false, eqb, List, [], ◌∷◌, ◌++◌, Option, Some, None, refl, ap, arith}
+use Rattle.std.proofs.Common.{drop, sum_by}
+use Rattle.std.proofs.lemmas.List.Sums.{sum_by-cons}
+use Rattle.flume_model.specs.declared.step.Kind.{Kind}
+use Rattle.flume_model.specs.declared.step.Kind.TheVariants.{Block, Plain, Stream, Arm}
+use Rattle.flume_model.specs.declared.entry.Entry.{Entry}
+use Rattle.flume_model.specs.declared.entry.Mark.{Mark}
+use Rattle.flume_model.specs.declared.entry.Mark.TheVariants.{Waiting, Woken, Filled}
+use Rattle.flume_model.specs.Line.{how_many}
+use Rattle.flume_model.specs.Entries.{round, round_fills, round_for, all_woken, entry_of, without}
+use Rattle.flume_model.specs.Conserved.{messages_in, held}
+
+-- what fills a receiver weighs so much, if one is filled
+abbrev fill_weighs : Option ℕ → ℕ → ℕ
+fill_weighs None n = 0
+fill_weighs (Some t) n = n
+
+module _ {T : Type 0} where
+  -- what a mark holds weighs so much
+  abbrev pub mark_weighs : (T → ℕ) → Mark T → ℕ
+  mark_weighs weight (Filled m) = weight m
+  mark_weighs weight _ = 0
+
+  -- the weight of what a mark and others hold
+  held_mark : (weight : T → ℕ) (m : Mark T) (more : List T)
+      → sum_by weight (messages_in m ++ more) ≡ mark_weighs weight m + sum_by weight more
+  held_mark weight Waiting more = omega arith
+  held_mark weight Woken more = omega arith
+  held_mark weight (Filled m) more = sum_by-cons weight m more
+
+module _ {T N : Type 0} where
+  -- the weight of what entries hold, by the first one and the others
+  pub held_cons : (weight : T → ℕ) (x : Entry T N) (es : List (Entry T N))
+      → sum_by weight (held (x ∷ es)) ≡ mark_weighs weight x.mark + sum_by weight (held es)
+  held_cons weight x es = held_mark weight x.mark (held es)
+
+  -- a round adds what it fills with
+  held_round : (weight : T → ℕ) (tell : N → N) (front : T) (es : List (Entry T N))
+      → sum_by weight (held (round tell front es)) ≡ fill_weighs (round_fills es) (weight front) + sum_by weight (held es)
+  held_round weight tell front [] = omega arith
+  held_round weight tell front (x ∷ es) = by_mark x.kind x.mark (held_round weight tell front es)
+    where
+      by_mark : (k : Kind) (m : Mark T)
+          → sum_by weight (held (round tell front es)) ≡ fill_weighs (round_fills es) (weight front) + sum_by weight (held es)
+          → sum_by weight (held (round tell front (record x { kind = k; mark = m } ∷ es)))
+          ≡ fill_weighs (round_fills (record x { kind = k; mark = m } ∷ es)) (weight front)
+          + sum_by weight (held (record x { kind = k; mark = m } ∷ es))
+      by_mark Block Waiting rest = sum_by-cons weight front (held es)
+      by_mark Plain Waiting rest = omega arith
+      by_mark Arm Waiting rest = omega arith
+      by_mark Stream Waiting rest = rest
+      by_mark k Woken rest = rest
+      by_mark k (Filled other) rest =
+          let after = sum_by-cons weight other (held (round tell front es)) in
+          let before = sum_by-cons weight other (held es) in
+          omega arith
+
+  -- an entry that leaves takes along what it holds
+  pub held_without : (weight : T → ℕ) (t : ℕ) (e : Entry T N) (es : List (Entry T N)) → entry_of t es ≡ Some e
+      → sum_by weight (held es) ≡ mark_weighs weight e.mark + sum_by weight (held (without t es))
+  held_without weight t e [] h = absurd (let none : ⊥ = cc in none)
+  held_without weight t e (x ∷ es) h = by_case (eqb x.ticket t) refl (held_without weight t e es)
+    where
+      by_case : (b : Bool) → eqb x.ticket t ≡ b
+          → (entry_of t es ≡ Some e → sum_by weight (held es) ≡ mark_weighs weight e.mark + sum_by weight (held (without t es)))
+          → sum_by weight (held (x ∷ es)) ≡ mark_weighs weight e.mark + sum_by weight (held (without t (x ∷ es)))
+      by_case true f rest =
+          let h2 = simp f at h in
+          let same : x ≡ e = cc in
+          let weighs : mark_weighs weight x.mark ≡ mark_weighs weight e.mark = ap (λ y. mark_weighs weight y.mark) same in
+          let all = held_cons weight x es in
+          simp f (omega arith)
+      by_case false f rest =
+          let others = rest (simp f at h) in
+          let all = held_cons weight x es in
+          let after = held_cons weight x (without t es) in
+          simp f (omega arith)
+
+  -- one more entry adds what it holds
+  pub held_push : (weight : T → ℕ) (es : List (Entry T N)) (x : Entry T N)
+      → sum_by weight (held (es ++ x ∷ [])) ≡ mark_weighs weight x.mark + sum_by weight (held es)
+  held_push weight [] x = held_cons weight x []
+  held_push weight (y ∷ es) x =
+      let more = held_push weight es x in
+      let before = held_cons weight y es in
+      let after = held_cons weight y (es ++ x ∷ []) in
+      omega arith
+
+  -- a wake of all leaves what they hold
+  pub held_woken : (tell : N → N) (es : List (Entry T N)) → held (all_woken tell es) ≡ held es
+  held_woken tell [] = refl
+  held_woken tell (x ∷ es) = by_mark x.mark (held_woken tell es)
+    where
+      by_mark : (m : Mark T) → held (all_woken tell es) ≡ held es
+          → held (all_woken tell (record x { mark = m } ∷ es)) ≡ held (record x { mark = m } ∷ es)
+      by_mark Waiting rest = rest
+      by_mark Woken rest = rest
+      by_mark (Filled m) rest = ap (λ l. m ∷ l) rest
+
+  -- what a round fills with leaves the front of the messages
+  pub round_front : (weight : T → ℕ) (tell : N → N) (front : T) (rest : List T) (es : List (Entry T N))
+      → sum_by weight (drop (how_many (round_fills es)) (front ∷ rest)) + sum_by weight (held (round tell front es))
+      ≡ sum_by weight (front ∷ rest) + sum_by weight (held es)
+  round_front weight tell front rest es = by_fills (round_fills es) (held_round weight tell front es)
+    where
+      by_fills : (f : Option ℕ) → sum_by weight (held (round tell front es)) ≡ fill_weighs f (weight front) + sum_by weight (held es)
+          → sum_by weight (drop (how_many f) (front ∷ rest)) + sum_by weight (held (round tell front es))
+          ≡ sum_by weight (front ∷ rest) + sum_by weight (held es)
+      by_fills None e = omega arith
+      by_fills (Some t) e = let all = sum_by-cons weight front rest in omega arith
+
+  -- the same where one more message was queued
+  pub queued_weighs : (weight : T → ℕ) (tell : N → N) (queue_ : List T) (m : T) (es : List (Entry T N))
+      → sum_by weight (drop (how_many (round_fills es)) (queue_ ++ m ∷ [])) + sum_by weight (held (round_for tell (queue_ ++ m ∷ []) es))
+      ≡ sum_by weight (queue_ ++ m ∷ []) + sum_by weight (held es)
+  queued_weighs weight tell [] m es = round_front weight tell m [] es
+  queued_weighs weight tell (front ∷ rest) m es = round_front weight tell front (rest ++ m ∷ []) es

@@ -1,0 +1,54 @@
+-- What a change of the entries does to whether some receiver waits.
+use Rattle.std.proofs.Common.{◌≡◌, ℕ, Bool, true, false, List, [], ◌∷◌, Option, Some, None, refl, sym, ◌∙◌}
+use Rattle.std.proofs.Common.{◌⊎◌, inl, inr, ap, cond}
+use Rattle.std.proofs.lemmas.Bool.{or_left, or_right}
+use Rattle.flume_model.specs.declared.entry.Entry.{Entry}
+use Rattle.flume_model.specs.Entries.{is_waiting, is_woken, some_wait, round_fills, round_for_fills}
+use Rattle.flume_model.proofs.WaitingCounts.{wait_without}
+use Rattle.flume_model.specs.Entries.{entry_of, without, again_as, again, passes_on, left_fills}
+
+module _ {T N : Type 0} where
+  -- one of these waits if one of those further on does
+  pub wait_later : (e : Entry T N) (es : List (Entry T N)) → some_wait es ≡ true → some_wait (e ∷ es) ≡ true
+  wait_later e es h = or_right (is_waiting e.mark) (some_wait es) h
+
+  -- a round fills only where one waits
+  pub fills_waiting : (es : List (Entry T N)) (u : ℕ) → round_fills es ≡ Some u → some_wait es ≡ true
+  fills_waiting [] u h = absurd (let none : ⊥ = cc in none)
+  fills_waiting (e ∷ es) u h = by_case (is_waiting e.mark) refl (fills_waiting es u)
+    where
+      by_case : (b : Bool) → is_waiting e.mark ≡ b → (round_fills es ≡ Some u → some_wait es ≡ true) → some_wait (e ∷ es) ≡ true
+      by_case true is rest = or_left (is_waiting e.mark) (some_wait es) is
+      by_case false is rest =
+          let same : round_fills (e ∷ es) ≡ round_fills es = rw is refl in
+          wait_later e es (rest (sym same ∙ h))
+
+  -- the same of a round that takes place only where something is queued
+  pub fills_waiting_for : (queue : List T) (es : List (Entry T N)) (u : ℕ) → round_for_fills queue es ≡ Some u → some_wait es ≡ true
+  fills_waiting_for [] es u h = absurd (let none : ⊥ = cc in none)
+  fills_waiting_for (front ∷ queue) es u h = fills_waiting es u h
+
+  -- one that leaves fills another only where one waits
+  pub left_fills_waiting : (t : ℕ) (queue : List T) (es : List (Entry T N)) (u : ℕ) → left_fills t queue es ≡ Some u
+      → some_wait es ≡ true
+  left_fills_waiting t queue es u h =
+      elim (passes_on (entry_of t es))
+      as (λ b. cond b (round_for_fills queue (without t es)) None ≡ Some u → some_wait es ≡ true)
+      [ true ↦ λ h. wait_without t es (fills_waiting_for queue (without t es) u h) | false ↦ λ h. absurd (let none : ⊥ = cc in none) ] h
+
+  -- where one waits after one asked again, one waited, or the one that asked was woken
+  pub wait_again : (t : ℕ) (es : List (Entry T N)) → some_wait (again t es) ≡ true
+      → (some_wait es ≡ true) ⊎ ((e : Entry T N) × (entry_of t es ≡ Some e) × (is_woken e.mark ≡ true))
+  wait_again t es h = by_entry (entry_of t es) refl
+    where
+      by_entry : (found : Option (Entry T N)) → entry_of t es ≡ found
+          → (some_wait es ≡ true) ⊎ ((e : Entry T N) × (entry_of t es ≡ Some e) × (is_woken e.mark ≡ true))
+      by_entry None is = inl (sym (ap (λ found. some_wait (again_as t found es)) is) ∙ h)
+      by_entry (Some e) is = by_case (is_woken e.mark) refl
+        where
+          by_case : (b : Bool) → is_woken e.mark ≡ b
+              → (some_wait es ≡ true) ⊎ ((e : Entry T N) × (entry_of t es ≡ Some e) × (is_woken e.mark ≡ true))
+          by_case true woken = inr (e, is, woken)
+          by_case false not_woken =
+              let same : again t es ≡ es = rw (is, not_woken) refl in
+              inl (sym (ap some_wait same) ∙ h)

@@ -1,0 +1,196 @@
+-- A receiver that blocks stands woken only in a closed channel, and only where no sender is blocked.
+use Rattle.std.proofs.Common.{◌≡◌, ℕ, ◌≤◌, Bool, true, false, not, ◌&&◌, ◌||◌, if◌then◌else◌, List, [], ◌∷◌, ◌++◌, length, eqb, Some, None}
+use Rattle.std.proofs.Common.{refl, sym, ◌∙◌, ◌⊎◌, inl, inr, ap, arith, min, eqb-true}
+use Rattle.std.proofs.lemmas.Bool.{or_cases, or_left, or_right, or_from, and_right, and_parts}
+use Rattle.std.proofs.lemmas.List.Folds.{list_any-append}
+use Rattle.flume_model.specs.declared.step.Kind.{Kind}
+use Rattle.flume_model.specs.declared.step.Kind.TheVariants.{Block, Plain, Stream, Arm}
+use Rattle.flume_model.specs.declared.step.Step.{Step}
+use Rattle.flume_model.specs.declared.step.Reply.{Reply}
+use Rattle.flume_model.specs.declared.entry.Mark.{Mark}
+use Rattle.flume_model.specs.declared.entry.Mark.TheVariants.{Waiting, Woken, Filled}
+use Rattle.flume_model.specs.Log.{Log, Opening, Change, Queues, Blocks, Accepts, Withdraws, Takes, Drains, Parks, Asks, Collects, Leaves}
+use Rattle.flume_model.specs.Log.{SenderJoins, ReceiverJoins, SenderLeaves, ReceiverLeaves, Stays, change}
+use Rattle.flume_model.specs.Counts.{senders, receivers, senders_after, receivers_after, is_over}
+use Rattle.flume_model.specs.Line.{line, boundary, boundary_after, blocked}
+use Rattle.flume_model.specs.Limits.{IsClosed, is_closed}
+use Rattle.flume_model.specs.Entries.{is_woken, some_wait, all_woken, without, round}
+use Rattle.flume_model.specs.Parked.{LogEntry, untold, entries_after, entries}
+use Rattle.flume_model.specs.Channel.{Channel, channel}
+use Rattle.flume_model.specs.Replies.{IsRun}
+use Rattle.flume_model.specs.WaitLaws.{is_block, block_woken, WokenBlockWhileClosed}
+use Rattle.flume_model.proofs.Fits.{Fits}
+use Rattle.flume_model.proofs.EntryLists.{round_for_push, again_cases, left_cases}
+use Rattle.flume_model.proofs.WaitingSteps.{Stood, Long, stepped, nobody_once_over, line_long}
+use Rattle.flume_model.proofs.WaitingOpen.{whole_by, none_blocked_by}
+
+-- what is shown of a channel that has so many ends: it is closed, and the queue is the whole line
+abbrev ClosedWhole : ℕ → ℕ → ℕ → ℕ → Type 0
+ClosedWhole s r long n = IsClosed s r × (long ≤ n)
+
+module _ {T : Type 0} where
+  -- one that blocks stands woken further on
+  block_later : (x : LogEntry T) (es : List (LogEntry T)) → block_woken es ≡ true → block_woken (x ∷ es) ≡ true
+  block_later x es h = or_right (is_block x.kind && is_woken x.mark) (block_woken es) h
+
+  -- a round wakes none that blocks
+  block_round : (front : T) (es : List (LogEntry T)) → block_woken (round untold front es) ≡ true → block_woken es ≡ true
+  block_round front [] h = h
+  block_round front (x ∷ es) h = by_mark x.kind x.mark h (block_round front es)
+    where
+      by_mark : (k : Kind) (m : Mark T) → block_woken (round untold front (record x { kind = k; mark = m } ∷ es)) ≡ true
+          → (block_woken (round untold front es) ≡ true → block_woken es ≡ true)
+          → block_woken (record x { kind = k; mark = m } ∷ es) ≡ true
+      by_mark Block Waiting some rest = some
+      by_mark Plain Waiting some rest = some
+      by_mark Stream Waiting some rest = rest some
+      by_mark Arm Waiting some rest = some
+      by_mark Block Woken some rest = refl
+      by_mark Plain Woken some rest = rest some
+      by_mark Stream Woken some rest = rest some
+      by_mark Arm Woken some rest = rest some
+      by_mark Block (Filled held) some rest = rest some
+      by_mark Plain (Filled held) some rest = rest some
+      by_mark Stream (Filled held) some rest = rest some
+      by_mark Arm (Filled held) some rest = rest some
+
+  -- one of the others
+  block_without : (t : ℕ) (es : List (LogEntry T)) → block_woken (without t es) ≡ true → block_woken es ≡ true
+  block_without t [] h = h
+  block_without t (x ∷ es) h = by_case (eqb x.ticket t) refl (block_without t es)
+    where
+      one : Bool
+      one = is_block x.kind && is_woken x.mark
+
+      by_case : (b : Bool) → eqb x.ticket t ≡ b → (block_woken (without t es) ≡ true → block_woken es ≡ true) → block_woken (x ∷ es) ≡ true
+      by_case true e rest = block_later x es (simp e at h)
+      by_case false e rest =
+          let some : (one || block_woken (without t es)) ≡ true = simp e at h in
+          elim (or_cases one (block_woken (without t es)) some) as (λ _. (one || block_woken es) ≡ true)
+          [ inl first ↦ or_left one (block_woken es) first | inr others ↦ or_right one (block_woken es) (rest others) ]
+
+  -- with one more that waits
+  block_push : (es : List (LogEntry T)) (x : LogEntry T) → is_woken x.mark ≡ false → block_woken (es ++ x ∷ []) ≡ true
+      → block_woken es ≡ true
+  block_push es x e h =
+      let last : block_woken (x ∷ []) ≡ false = or_from _ false (and_right (is_block x.kind) (is_woken x.mark) e) refl in
+      elim (or_cases (block_woken es) (block_woken (x ∷ [])) (sym (list_any-append _ es (x ∷ [])) ∙ h))
+      as (λ _. block_woken es ≡ true) [ inl some ↦ some | inr first ↦ absurd (let none : ⊥ = cc in none) ]
+
+  -- where all that wait are woken, one that blocks stood woken or one waited
+  block_closes : (es : List (LogEntry T)) → block_woken (all_woken untold es) ≡ true → (block_woken es ≡ true) ⊎ (some_wait es ≡ true)
+  block_closes [] h = inl h
+  block_closes (x ∷ es) h = by_mark x.kind x.mark h (block_closes es)
+    where
+      by_mark : (k : Kind) (m : Mark T) → block_woken (all_woken untold (record x { kind = k; mark = m } ∷ es)) ≡ true
+          → (block_woken (all_woken untold es) ≡ true → (block_woken es ≡ true) ⊎ (some_wait es ≡ true))
+          → (block_woken (record x { kind = k; mark = m } ∷ es) ≡ true) ⊎ (some_wait (record x { kind = k; mark = m } ∷ es) ≡ true)
+      by_mark k Waiting some rest = inr refl
+      by_mark Block Woken some rest = inl refl
+      by_mark Plain Woken some rest = rest some
+      by_mark Stream Woken some rest = rest some
+      by_mark Arm Woken some rest = rest some
+      by_mark Block (Filled held) some rest = rest some
+      by_mark Plain (Filled held) some rest = rest some
+      by_mark Stream (Filled held) some rest = rest some
+      by_mark Arm (Filled held) some rest = rest some
+
+  -- where an end leaves
+  closed_close : (c : Channel T) (s2 r2 n : ℕ) (closes : Bool) → Stood c → n ≡ length c.line
+      → closes ≡ (not (is_closed c.senders c.receivers) && is_closed s2 r2) → (IsClosed c.senders c.receivers → IsClosed s2 r2)
+      → (block_woken c.entries ≡ true → ClosedWhole c.senders c.receivers (length c.line) c.boundary)
+      → block_woken (if closes then all_woken untold c.entries else c.entries) ≡ true → ClosedWhole s2 r2 n c.boundary
+  closed_close c s2 r2 n true stood long e stays before some = (
+    eqb-true (min s2 r2) 0 (and_parts (not (is_closed c.senders c.receivers)) (is_closed s2 r2) (sym e)).1,
+    elim (block_closes c.entries some) as (λ _. n ≤ c.boundary) [
+      | inl stood_woken ↦ (let le = (before stood_woken).1 in omega arith)
+      | inr waited ↦ (let whole = stood.whole waited in omega arith)
+    ],
+  )
+  closed_close c s2 r2 n false stood long e stays before some = (stays (before some).0, let le = (before some).1 in omega arith)
+
+  -- after a change that fits
+  closed_by : (c : Channel T) (closes : Bool) (done : Change T) (n : ℕ) → Stood c → Fits c done → Long c done n
+      → closes ≡ (not (is_closed c.senders c.receivers) && is_closed (senders_after c.senders done) (receivers_after c.receivers done))
+      → (block_woken c.entries ≡ true → ClosedWhole c.senders c.receivers (length c.line) c.boundary)
+      → block_woken (entries_after c.queue closes c.entries done) ≡ true
+      → ClosedWhole (senders_after c.senders done) (receivers_after c.receivers done) n (boundary_after c.capacity n c.boundary done)
+  closed_by c closes (Queues m filled) n stood h long e before some =
+      let was = before (round_for_push (λ es. block_woken es ≡ true → block_woken c.entries ≡ true) untold c.queue m c.entries
+      (λ front. block_round front c.entries) some) in
+      let closed = was.0 in
+      let is_open = h.0.0 in
+      absurd (omega arith)
+  closed_by c closes (Blocks m t) n stood h long e before some =
+      let closed = (before some).0 in
+      let is_open = h.0.0 in
+      absurd (omega arith)
+  closed_by c closes (Takes m None) n stood h long e before some =
+      let was = before some in (was.0, let le = was.1 in omega arith)
+  closed_by c closes (Takes m (Some t)) n stood h long e before some =
+      let was = before (block_without t c.entries some) in (was.0, let le = was.1 in omega arith)
+  closed_by c closes (Drains list) n stood h long e before some =
+      let was = before some in (was.0, let le = was.1 in omega arith)
+  closed_by c closes (Parks t kind) n stood h long e before some =
+      let closed = (before (block_push c.entries _ refl some)).0 in
+      let is_open = h.1 in
+      absurd (omega arith)
+  closed_by c closes (Asks t) n stood h long e before some =
+      again_cases (λ es. block_woken es ≡ true → ClosedWhole c.senders c.receivers n c.boundary) t c.entries
+      (λ stays. (let was = before stays in (was.0, let le = was.1 in omega arith)))
+      (λ x found woken goes.
+      (let same : h.0 ≡ x = cc in
+      let is_open = (h.2 (ap (λ y. is_woken y.mark) same ∙ woken)).1 in
+      let closed = (before (block_without t c.entries (block_push (without t c.entries) _ refl goes))).0 in
+      absurd (omega arith))) some
+  closed_by c closes (Collects t) n stood h long e before some =
+      let was = before (block_without t c.entries some) in (was.0, let le = was.1 in omega arith)
+  closed_by c closes (Leaves t filled) n stood h long e before some =
+      let was = before (left_cases (λ es f. block_woken es ≡ true → block_woken c.entries ≡ true) untold t c.queue c.entries
+      (λ none others. block_without t c.entries others)
+      (λ passes front rest e2 others. block_without t c.entries (block_round front (without t c.entries) others)) some) in
+      (was.0, let le = was.1 in omega arith)
+  closed_by c closes SenderLeaves n stood h long e before some =
+      closed_close c _ _ n closes stood long e (λ closed. omega arith) before some
+  closed_by c closes ReceiverLeaves n stood h long e before some =
+      closed_close c _ _ n closes stood long e (λ closed. omega arith) before some
+  closed_by c closes SenderJoins n stood h long e before some =
+      let was = before some in let closed = was.0 in (omega arith, let le = was.1 in omega arith)
+  closed_by c closes ReceiverJoins n stood h long e before some =
+      let was = before some in let closed = was.0 in (omega arith, let le = was.1 in omega arith)
+  closed_by c closes (Accepts t) n stood h long e before some = let was = before some in (was.0, let le = was.1 in omega arith)
+  closed_by c closes (Withdraws t) n stood h long e before some = let was = before some in (was.0, let le = was.1 in omega arith)
+  closed_by c closes Stays n stood h long e before some = let was = before some in (was.0, let le = was.1 in omega arith)
+
+module _ {T A : Type 0} where
+  -- after one more pair of a run
+  closed_more : (o : Opening) (past : Log T A) (p : Step T × Reply T A) → IsRun o (p ∷ past) → WokenBlockWhileClosed o past
+      → WokenBlockWhileClosed o (p ∷ past)
+  closed_more o past p run before some = by_case (is_over (p ∷ past)) refl
+    where
+      whole_before : block_woken (entries o past) ≡ true
+          → ClosedWhole (senders past) (receivers past) (length (channel o past).line) (boundary o past)
+      whole_before woken =
+          let was = before woken in
+          let whole = whole_by (boundary o past) (line past) was.1 in
+          let same = line_long o past in
+          (was.0, omega arith)
+
+      by_case : (b : Bool) → is_over (p ∷ past) ≡ b
+          → IsClosed (senders (p ∷ past)) (receivers (p ∷ past)) × (blocked o (p ∷ past) ≡ [])
+      by_case true over =
+          let nobody = ap block_woken (nobody_once_over o (p ∷ past) over) in
+          absurd (let none : ⊥ = cc in none)
+      by_case false still =
+          let s = stepped o past p run still in
+          let main = closed_by (channel o past) s.closes (change past p.0 p.1) s.long s.stood s.fit s.line_is s.closes_is whole_before
+          (sym (ap block_woken s.entries_are) ∙ some) in
+          let queued = s.boundary_is in
+          let long = s.long_is in
+          let le = main.1 in
+          (main.0, none_blocked_by o (p ∷ past) (omega arith))
+
+  -- a receiver that blocks stands woken only in a closed channel, and only where no sender is blocked
+  pub woken_block_while_closed : (o : Opening) (log : Log T A) → IsRun o log → WokenBlockWhileClosed o log
+  woken_block_while_closed o [] run some = absurd (let none : ⊥ = cc in none)
+  woken_block_while_closed o (p ∷ past) run some = closed_more o past p run (woken_block_while_closed o past run.1) some

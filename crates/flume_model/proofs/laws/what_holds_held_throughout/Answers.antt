@@ -1,0 +1,5 @@
+use Rattle.flume_model.proofs.Beginnings.{throughout}
+use Rattle.flume_model.proofs.laws.what_holds_held_throughout.Goals as goal
+
+pub returns : goal.returns
+returns g c = record { law = throughout }

@@ -1,0 +1,86 @@
+-- How a parked receiver may be answered when it asks again, and when it leaves.
+use Rattle.std.specs.Prelude.{◌≡◌, ℕ, ◌<◌, [], length, Option, Some, None}
+use Rattle.flume_model.specs.declared.step.Kind.{Kind}
+use Rattle.flume_model.specs.declared.step.Kind.TheVariants.{Block, Plain, Stream, Arm}
+use Rattle.flume_model.specs.declared.step.Reply.{Reply}
+use Rattle.flume_model.specs.declared.step.Reply.TheVariants.{NoMemory, NoTicket, Got, Ended}
+use Rattle.flume_model.specs.declared.step.Reply.TheVariants.{Waiting}
+use Rattle.flume_model.specs.declared.step.Reply.TheVariants.{Gone}
+use Rattle.flume_model.specs.declared.entry.Mark.{Mark}
+use Rattle.flume_model.specs.declared.entry.Mark.TheVariants.{Waiting as Waits, Woken, Filled}
+use Rattle.flume_model.specs.Limits.{IsOpen, IsClosed, is_closed}
+use Rattle.flume_model.specs.Entries.{left_fills}
+use Rattle.flume_model.specs.Parked.{LogEntry}
+use Rattle.flume_model.specs.Channel.{Channel, IsFront}
+
+module _ {T A : Type 0} where
+  -- a filled one gets its message, asking or leaving
+  abbrev pub IsCollected : T → Reply T A → Type 0
+  IsCollected held (Got m) = m ≡ held
+  IsCollected held _ = ⊥
+
+  -- one that blocks waits on, or was woken as the channel closed
+  abbrev pub IsPolledBlock : Channel T → Mark T → Reply T A → Type 0
+  IsPolledBlock c Waits Waiting = Unit {0}
+  IsPolledBlock c Woken (Got m) = IsFront c m
+  IsPolledBlock c Woken Ended = c.line ≡ []
+  IsPolledBlock c _ _ = ⊥
+
+  -- one of another kind looks at the line, whether it was woken or not
+  abbrev pub IsPolledOther : Channel T → Reply T A → Type 0
+  IsPolledOther c (Got m) = IsFront c m
+  IsPolledOther c (NoMemory back) = (c.boundary < length c.line) × (back ≡ None)
+  IsPolledOther c Ended = (c.line ≡ []) × IsClosed c.senders c.receivers
+  IsPolledOther c Waiting = (c.line ≡ []) × IsOpen c.senders c.receivers
+  IsPolledOther c _ = ⊥
+
+  -- by its kind
+  abbrev pub IsPolledKind : Channel T → Kind → Mark T → Reply T A → Type 0
+  IsPolledKind c Block mark reply = IsPolledBlock c mark reply
+  IsPolledKind c Plain mark reply = IsPolledOther c reply
+  IsPolledKind c Stream mark reply = IsPolledOther c reply
+  IsPolledKind c Arm mark reply = IsPolledOther c reply
+
+  -- by its mark, and then by its kind
+  abbrev pub IsPolledMark : Channel T → Kind → Mark T → Reply T A → Type 0
+  IsPolledMark c kind (Filled held) reply = IsCollected held reply
+  IsPolledMark c kind Waits reply = IsPolledKind c kind Waits reply
+  IsPolledMark c kind Woken reply = IsPolledKind c kind Woken reply
+
+  -- a receiver that asks again, where this is its entry
+  abbrev pub IsPolled : Channel T → Option (LogEntry T) → Reply T A → Type 0
+  IsPolled c None NoTicket = Unit {0}
+  IsPolled c None _ = ⊥
+  IsPolled c (Some e) reply = IsPolledMark c e.kind e.mark reply
+
+  -- one that blocks takes the front with it, if there is one
+  abbrev pub IsGoneBlock : Channel T → Reply T A → Type 0
+  IsGoneBlock c (Got m) = IsFront c m
+  IsGoneBlock c (Gone closed filled) =
+      (c.line ≡ []) × (closed ≡ is_closed c.senders c.receivers) × (filled ≡ None)
+  IsGoneBlock c _ = ⊥
+
+  -- one of another kind takes no message, and passes its wake on
+  abbrev pub IsGoneOther : Channel T → ℕ → Reply T A → Type 0
+  IsGoneOther c t (Gone closed filled) =
+      (closed ≡ is_closed c.senders c.receivers) × (filled ≡ left_fills t c.queue c.entries)
+  IsGoneOther c t _ = ⊥
+
+  -- by its kind
+  abbrev pub IsGoneKind : Channel T → ℕ → Kind → Reply T A → Type 0
+  IsGoneKind c t Block reply = IsGoneBlock c reply
+  IsGoneKind c t Plain reply = IsGoneOther c t reply
+  IsGoneKind c t Stream reply = IsGoneOther c t reply
+  IsGoneKind c t Arm reply = IsGoneOther c t reply
+
+  -- by its mark, and then by its kind
+  abbrev pub IsGoneMark : Channel T → ℕ → Kind → Mark T → Reply T A → Type 0
+  IsGoneMark c t kind (Filled held) reply = IsCollected held reply
+  IsGoneMark c t kind Waits reply = IsGoneKind c t kind reply
+  IsGoneMark c t kind Woken reply = IsGoneKind c t kind reply
+
+  -- a receiver that leaves, where this is its entry
+  abbrev pub IsGone : Channel T → ℕ → Option (LogEntry T) → Reply T A → Type 0
+  IsGone c t None NoTicket = Unit {0}
+  IsGone c t None _ = ⊥
+  IsGone c t (Some e) reply = IsGoneMark c t e.kind e.mark reply

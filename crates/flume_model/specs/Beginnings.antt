@@ -1,0 +1,26 @@
+-- What holds of a run at each moment: of each log that it began with.
+use Rattle.std.specs.Prelude.{◌≡◌, ◌++◌}
+use Rattle.flume_model.specs.Log.{Log, Opening}
+use Rattle.flume_model.specs.Replies.{IsRun}
+use Rattle.flume_model.specs.Laws.{InOrder}
+use Rattle.flume_model.specs.WaitLaws.{Covered, Bounded}
+
+module _ {T A : Type 0} where
+  -- the log began with this one; what came later stands before it, since the newest stand first
+  abbrev pub IsBeginning : Log T A → Log T A → Type 0
+  IsBeginning log before = (later : Log T A) × (log ≡ later ++ before)
+
+  -- what holds of a log, whatever the state behind it
+  pub record Holds (opening : Opening) (log : Log T A) : Type 0 where
+    -- each reply is the abstract channel's
+    pub replies_lawful : IsRun opening log
+    -- the j-th message handed out is the message of the j-th offer that wasn't withdrawn
+    pub in_order : InOrder opening log
+    -- while a receiver waits, at least as many stand woken as messages are queued
+    pub woken_cover : Covered opening log
+    -- queued messages and waiting receivers are at most the greater of the capacity and the peak
+    pub queue_bounded : Bounded opening log
+
+  -- it held at each moment up to now
+  abbrev pub HoldsThroughout : Opening → Log T A → Type 0
+  HoldsThroughout opening log = (before : Log T A) → IsBeginning log before → Holds opening before

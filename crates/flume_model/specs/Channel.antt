@@ -1,0 +1,79 @@
+-- The abstract channel: what stands before a step, and what it says of sends and of the line.
+use Rattle.std.specs.Prelude.{◌≡◌, ℕ, Bool, true, false, List, ◌∷◌, ◌++◌, Option, Some}
+use Rattle.std.specs.List.{list_any}
+use Rattle.flume_model.specs.Log.{Log, Opening, Offer, is_ticket}
+use Rattle.flume_model.specs.Counts.{senders, receivers}
+use Rattle.flume_model.specs.Line.{line, capacity, boundary, queue, blocked, messages, next_ticket}
+use Rattle.flume_model.specs.Line.{is_live}
+use Rattle.flume_model.specs.Limits.{HasRoom, IsAtCapacity, IsOpen}
+use Rattle.flume_model.specs.Entries.{some_wait}
+use Rattle.flume_model.specs.Parked.{LogEntry, entries}
+
+-- what a reply is judged by
+pub record Channel (T : Type 0) : Type 0 where
+  -- none: unbounded
+  pub capacity : Option ℕ
+  -- the messages that weren't handed out yet, in order
+  pub line : List T
+  -- how many of them are queued, those messages, and the offers of the others
+  pub boundary : ℕ
+  pub queue : List T
+  pub blocked : List (Offer T)
+  -- the parked receivers
+  pub entries : List (LogEntry T)
+  -- which send tickets are live, and the next ticket
+  pub is_live : ℕ → Bool
+  pub next : ℕ
+  pub senders : ℕ
+  pub receivers : ℕ
+
+module _ {T : Type 0} where
+  -- a send is taken in at once: a receiver waits, or the queue has room
+  abbrev pub TakesIn : Channel T → Type 0
+  TakesIn c =
+      IsOpen c.senders c.receivers
+      × (some_wait c.entries ≡ false → HasRoom c.capacity c.boundary)
+
+  -- an open channel takes no send in at once
+  abbrev pub TakesNoneIn : Channel T → Type 0
+  TakesNoneIn c =
+      IsOpen c.senders c.receivers × (some_wait c.entries ≡ false)
+      × IsAtCapacity c.capacity c.boundary
+
+  -- the line begins with this message
+  abbrev pub IsFront : Channel T → T → Type 0
+  IsFront c message = (rest : List T) × (c.line ≡ message ∷ rest)
+
+  -- some offer of these has the ticket
+  abbrev pub has_ticket : ℕ → List (Offer T) → Bool
+  has_ticket t some = list_any (λ offer. is_ticket t offer.ticket) some
+
+  -- the ticket is live, and its message was taken in
+  abbrev pub IsAccepted : Channel T → ℕ → Type 0
+  IsAccepted c t = (c.is_live t ≡ true) × (has_ticket t c.blocked ≡ false)
+
+  -- the ticket is live, and its message is blocked
+  abbrev pub IsWaiting : Channel T → ℕ → Type 0
+  IsWaiting c t = (c.is_live t ≡ true) × (has_ticket t c.blocked ≡ true)
+
+  -- this message is blocked under the ticket, behind these and before those
+  abbrev pub IsBlocked : Channel T → ℕ → T → Type 0
+  IsBlocked c t m =
+      (c.is_live t ≡ true) × (before : List (Offer T)) × (after : List (Offer T))
+      × (c.blocked ≡ before ++ record { message = m; ticket = Some t } ∷ after)
+
+module _ {T A : Type 0} where
+  -- the channel after a log
+  abbrev pub channel : Opening → Log T A → Channel T
+  channel opening log = record {
+    capacity = capacity opening log;
+    line = messages (line log);
+    boundary = boundary opening log;
+    queue = queue opening log;
+    blocked = blocked opening log;
+    entries = entries opening log;
+    is_live = is_live log;
+    next = next_ticket opening log;
+    senders = senders log;
+    receivers = receivers log;
+  }

@@ -1,0 +1,137 @@
+-- The parked receivers, an entry each: their kinds and marks, wake rounds, and who stands after a
+-- log. The waiting ones stand in the order in which they began to wait. N is what an entry has
+-- beside: nothing in a log, the signal in a state.
+use Rattle.std.specs.Prelude.{◌==◌, ℕ, ◌+◌, Bool, true, false, if◌then◌else◌, List, [], ◌∷◌, ◌++◌}
+use Rattle.std.specs.Prelude.{map, Option, Some, None}
+use Rattle.std.specs.List.{list_any}
+use Rattle.flume_model.specs.declared.step.Kind.{Kind}
+use Rattle.flume_model.specs.declared.step.Kind.TheVariants.{Block, Plain, Stream, Arm}
+use Rattle.flume_model.specs.declared.entry.Entry.{Entry}
+use Rattle.flume_model.specs.declared.entry.Mark.{Mark}
+use Rattle.flume_model.specs.declared.entry.Mark.TheVariants.{Waiting, Woken, Filled}
+
+module _ {T : Type 0} where
+  -- the receiver waits
+  abbrev pub is_waiting : Mark T → Bool
+  is_waiting Waiting = true
+  is_waiting _ = false
+
+  -- it was woken, and hasn't asked since
+  abbrev pub is_woken : Mark T → Bool
+  is_woken Woken = true
+  is_woken _ = false
+
+  -- it holds a message
+  abbrev pub is_filled : Mark T → Bool
+  is_filled (Filled message) = true
+  is_filled _ = false
+
+  -- the message that it holds, if it holds one
+  abbrev pub held_in : Mark T → Option T
+  held_in (Filled message) = Some message
+  held_in _ = None
+
+-- the ticket that a round fills at a waiting entry, where further on it would fill this one
+abbrev pub filled_at : Kind → ℕ → Option ℕ → Option ℕ
+filled_at Stream ticket on = on
+filled_at Plain ticket on = None
+filled_at Arm ticket on = None
+filled_at Block ticket on = Some ticket
+
+module _ {T N : Type 0} where
+  -- some receiver waits
+  abbrev pub some_wait : List (Entry T N) → Bool
+  some_wait entries = list_any (λ e. is_waiting e.mark) entries
+
+  -- how many wait
+  abbrev pub waiting_count : List (Entry T N) → ℕ
+  waiting_count [] = 0
+  waiting_count (e ∷ entries) = (if is_waiting e.mark then 1 else 0) + waiting_count entries
+
+  -- how many stand woken
+  abbrev pub woken_count : List (Entry T N) → ℕ
+  woken_count [] = 0
+  woken_count (e ∷ entries) = (if is_woken e.mark then 1 else 0) + woken_count entries
+
+  -- the entry with another mark, told of it
+  abbrev pub marked : (N → N) → Mark T → Entry T N → Entry T N
+  marked tell mark e = record e { mark = mark; notice = tell e.notice }
+
+  -- a waiting entry that a wake round meets, with the entries behind it: as they are where the
+  -- round ends here, as it leaves them where it goes on
+  abbrev pub met : (N → N) → Kind → T → Entry T N → List (Entry T N) → List (Entry T N)
+      → List (Entry T N)
+  met tell Stream front e as_are goes_on = marked tell Woken e ∷ goes_on
+  met tell Plain front e as_are goes_on = marked tell Woken e ∷ as_are
+  met tell Arm front e as_are goes_on = marked tell Woken e ∷ as_are
+  met tell Block front e as_are goes_on = marked tell (Filled front) e ∷ as_are
+
+  -- a wake round: streams are woken up to the first waiting entry that is none; that is woken, or
+  -- filled with the message at the front of the queue where it blocks
+  abbrev pub round : (N → N) → T → List (Entry T N) → List (Entry T N)
+  round tell front [] = []
+  round tell front (e ∷ entries) =
+      if is_waiting e.mark then met tell e.kind front e entries (round tell front entries)
+      else e ∷ round tell front entries
+
+  -- the ticket that a round fills, if it fills one
+  abbrev pub round_fills : List (Entry T N) → Option ℕ
+  round_fills [] = None
+  round_fills (e ∷ entries) =
+      if is_waiting e.mark then filled_at e.kind e.ticket (round_fills entries)
+      else round_fills entries
+
+  -- a wake round where this is the queue; there is none where nothing is queued
+  abbrev pub round_for : (N → N) → List T → List (Entry T N) → List (Entry T N)
+  round_for tell [] entries = entries
+  round_for tell (front ∷ queue) entries = round tell front entries
+
+  -- the ticket that it fills, if it fills one
+  abbrev pub round_for_fills : List T → List (Entry T N) → Option ℕ
+  round_for_fills [] entries = None
+  round_for_fills (front ∷ queue) entries = round_fills entries
+
+  -- all that wait are woken
+  abbrev pub all_woken : (N → N) → List (Entry T N) → List (Entry T N)
+  all_woken tell entries = map (λ e. if is_waiting e.mark then marked tell Woken e else e) entries
+
+  -- the first entry with a ticket
+  abbrev pub entry_of : ℕ → List (Entry T N) → Option (Entry T N)
+  entry_of t [] = None
+  entry_of t (e ∷ entries) = if e.ticket == t then Some e else entry_of t entries
+
+  -- the message that this entry, which may be there, holds, if it holds one
+  abbrev pub held_by : Option (Entry T N) → Option T
+  held_by None = None
+  held_by (Some e) = held_in e.mark
+
+  -- the entries without that one
+  abbrev pub without : ℕ → List (Entry T N) → List (Entry T N)
+  without t [] = []
+  without t (e ∷ entries) = if e.ticket == t then entries else e ∷ without t entries
+
+  -- this entry, which a ticket has, waits again behind all others where it was woken
+  abbrev pub again_as : ℕ → Option (Entry T N) → List (Entry T N) → List (Entry T N)
+  again_as t None entries = entries
+  again_as t (Some e) entries =
+      if is_woken e.mark then without t entries ++ (record e { mark = Waiting }) ∷ [] else entries
+
+  -- a woken entry waits again, behind all others; a waiting one keeps its place
+  abbrev pub again : ℕ → List (Entry T N) → List (Entry T N)
+  again t entries = again_as t (entry_of t entries) entries
+
+  -- whether a wake is passed on where this entry leaves: it was woken
+  abbrev pub passes_on : Option (Entry T N) → Bool
+  passes_on None = false
+  passes_on (Some e) = is_woken e.mark
+
+  -- the others once the entry with a ticket has left, where this is the queue
+  abbrev pub left : (N → N) → ℕ → List T → List (Entry T N) → List (Entry T N)
+  left tell t queue entries =
+      if passes_on (entry_of t entries) then round_for tell queue (without t entries)
+      else without t entries
+
+  -- the ticket that the wake which it passes on fills, if it fills one
+  abbrev pub left_fills : ℕ → List T → List (Entry T N) → Option ℕ
+  left_fills t queue entries =
+      if passes_on (entry_of t entries) then round_for_fills queue (without t entries) else None

@@ -1,0 +1,54 @@
+-- What a fill is of, tried on worked logs in which receivers are filled.
+use Rattle.std.specs.Prelude.{◌≡◌, ℕ, [], ◌∷◌, ◌++◌, Some, None}
+use Rattle.flume_model.specs.declared.step.Kind.TheVariants.{Block}
+use Rattle.flume_model.specs.declared.step.Step.TheVariants.{Send, Poll, Withdraw}
+use Rattle.flume_model.specs.declared.step.Step.TheVariants.{Recv, DropSender, DropReceiver}
+use Rattle.flume_model.specs.declared.step.Reply.TheVariants.{Sent, Got, Parked, Done}
+use Rattle.flume_model.specs.Log.{FilledIn, opens}
+use Rattle.flume_model.specs.Fills.{IsOf}
+use Rattle.flume_model.specs.Rows.{Row, as_log}
+
+-- by the definition the fill of this receiver is of the message, after a row of an unbounded
+-- channel
+abbrev pub IsFillOf : Row → ℕ → ℕ → Type 0
+IsFillOf row ticket message = IsOf (opens None 1) (as_log [] row) (FilledIn ticket) message
+
+-- it is of this one, and of no other
+abbrev pub IsFillOfOnly : Row → ℕ → ℕ → Type 0
+IsFillOfOnly row ticket message =
+    IsFillOf row ticket message
+    × ((other : ℕ) → IsFillOf row ticket other → other ≡ message)
+
+-- it is left out: nothing is said of its message
+abbrev pub IsLeftOut : Row → ℕ → Type 0
+IsLeftOut row ticket = (message : ℕ) → IsFillOf row ticket message
+
+-- a receiver is filled, and holds its message
+abbrev pub holds : Row
+holds = (Recv Block, Parked 1) ∷ (Send 7, Sent (Some 1)) ∷ []
+
+-- it collects it
+abbrev pub collects : Row
+collects = holds ++ (Poll 1, Got 7) ∷ []
+
+-- it leaves with it
+abbrev pub leaves : Row
+leaves = holds ++ (Withdraw 1, Got 7) ∷ []
+
+-- the channel is closed by then
+abbrev pub holds_when_closed : Row
+holds_when_closed = holds ++ (DropSender, Done) ∷ []
+
+-- two are filled, and the one that was filled last collects its message first
+abbrev pub two_filled : Row
+two_filled =
+    (Recv Block, Parked 1) ∷ (Recv Block, Parked 2) ∷ (Send 7, Sent (Some 1))
+    ∷ (Send 8, Sent (Some 2)) ∷ (Poll 2, Got 8) ∷ []
+
+-- both ends are gone once it has collected its message
+abbrev pub collects_before_the_end : Row
+collects_before_the_end = collects ++ (DropSender, Done) ∷ (DropReceiver, Done) ∷ []
+
+-- both ends are gone before, and its message with them
+abbrev pub holds_until_the_end : Row
+holds_until_the_end = holds ++ (DropSender, Done) ∷ (DropReceiver, Done) ∷ []

@@ -1,0 +1,46 @@
+-- What a receiver that was filled got, or still holds, and the message that a hand-out is of.
+use Rattle.std.specs.Prelude.{◌≡◌, ◌==◌, ℕ, Bool, true, false, if◌then◌else◌, [], ◌∷◌, Option}
+use Rattle.std.specs.Prelude.{Some, None}
+use Rattle.flume_model.specs.declared.step.Step.{Step}
+use Rattle.flume_model.specs.declared.step.Step.TheVariants.{Poll, Withdraw}
+use Rattle.flume_model.specs.declared.step.Reply.{Reply}
+use Rattle.flume_model.specs.declared.step.Reply.TheVariants.{Got}
+use Rattle.flume_model.specs.Log.{Log, Opening, HandOut, Shown, FilledIn}
+use Rattle.flume_model.specs.Counts.{is_over}
+use Rattle.flume_model.specs.Entries.{entry_of}
+use Rattle.flume_model.specs.Parked.{entries}
+use Rattle.flume_model.specs.Entries.{held_by}
+
+module _ {T : Type 0} where
+  -- the first of two, or where it isn't there, the second
+  abbrev pub or_else : Option T → Option T → Option T
+  or_else None second = second
+  or_else (Some message) second = Some message
+
+  -- the hand-out that filled a receiver is of this message. It goes by whether both ends are gone,
+  -- by the message that the receiver got, if it got one, and by the one that its entry holds, if it
+  -- holds one. It is of what the receiver got; before that, of what its entry holds. What wasn't
+  -- got before both ends were gone went with them, and nothing is said of it
+  abbrev pub FillIs : Bool → Option T → Option T → T → Type 0
+  FillIs over (Some got) held message = got ≡ message
+  FillIs true None held message = Unit {0}
+  FillIs false None held message = held ≡ Some message
+
+module _ {T A : Type 0} where
+  -- the message that a step with this reply shows to the receiver parked under the ticket
+  abbrev pub shows_to : ℕ → Step T → Reply T A → Option T
+  shows_to t (Poll u) (Got message) = if u == t then Some message else None
+  shows_to t (Withdraw u) (Got message) = if u == t then Some message else None
+  shows_to t _ _ = None
+
+  -- the message that the receiver parked under the ticket got, if it got one
+  abbrev pub shown : Log T A → ℕ → Option T
+  shown [] t = None
+  shown (p ∷ past) t = or_else (shows_to t p.0 p.1) (shown past t)
+
+  -- the hand-out is of this message: the one that its reply shows; or, where it filled a receiver,
+  -- the one that this receiver got, or holds
+  abbrev pub IsOf : Opening → Log T A → HandOut T → T → Type 0
+  IsOf opening log (Shown given) message = given ≡ message
+  IsOf opening log (FilledIn t) message =
+      FillIs (is_over log) (shown log t) (held_by (entry_of t (entries opening log))) message

@@ -1,0 +1,81 @@
+-- What is left of the offers: the line, how much of it is queued, and the tickets of blocked sends.
+use Rattle.std.specs.Prelude.{◌==◌, ℕ, ◌+◌, ◌-◌, Bool, false, not, ◌&&◌, ◌||◌, if◌then◌else◌}
+use Rattle.std.specs.Prelude.{List, [], ◌∷◌, length, map, drop, take, max, Option, Some, None}
+use Rattle.flume_model.specs.Log.{Log, Opening, Offer, Change, Queues, Blocks, Accepts, Withdraws}
+use Rattle.flume_model.specs.Log.{Takes, Drains, Parks, Leaves, change, capped}
+use Rattle.flume_model.specs.Offers.{kept, hand_outs}
+use Rattle.flume_model.specs.Counts.{is_over}
+
+-- how many receivers are filled: none or one
+abbrev pub how_many : Option ℕ → ℕ
+how_many None = 0
+how_many (Some ticket) = 1
+
+module _ {T : Type 0} where
+  -- the messages of some offers
+  abbrev pub messages : List (Offer T) → List T
+  messages some = map (λ offer. offer.message) some
+
+  -- how many offers of the line's front are queued after a change, where `n` is how many were, and
+  -- the line is so long after it
+  abbrev pub boundary_after : Option ℕ → ℕ → ℕ → Change T → ℕ
+  boundary_after capacity line_length n (Queues message filled) = n + 1 - how_many filled
+  boundary_after capacity line_length n (Takes message receiver) =
+      max (n - 1) (capped capacity line_length)
+  boundary_after capacity line_length n (Drains messages) = capped capacity line_length
+  boundary_after capacity line_length n (Leaves ticket filled) = n - how_many filled
+  boundary_after capacity line_length n _ = n
+
+  -- how many tickets a change issues
+  abbrev pub issued : Change T → ℕ
+  issued (Blocks message ticket) = 1
+  issued (Parks ticket kind) = 1
+  issued _ = 0
+
+  -- whether a change issues the send ticket
+  abbrev pub issues : Change T → ℕ → Bool
+  issues (Blocks message ticket) t = ticket == t
+  issues _ t = false
+
+  -- whether a change spends the send ticket
+  abbrev pub spends : Change T → ℕ → Bool
+  spends (Accepts ticket) t = ticket == t
+  spends (Withdraws ticket) t = ticket == t
+  spends _ t = false
+
+module _ {T A : Type 0} where
+  -- the kept offers that weren't handed out, in order; none once both ends are gone
+  abbrev pub line : Log T A → List (Offer T)
+  line log = if is_over log then [] else drop (hand_outs log) (kept log)
+
+  -- the capacity in force: the opening's
+  abbrev pub capacity : Opening → Log T A → Option ℕ
+  capacity opening log = opening.capacity
+
+  -- how many offers of the line's front are queued
+  abbrev pub boundary : Opening → Log T A → ℕ
+  boundary opening [] = 0
+  boundary opening (p ∷ past) =
+      if is_over (p ∷ past) then 0
+      else boundary_after (capacity opening (p ∷ past)) (length (line (p ∷ past)))
+      (boundary opening past) (change past p.0 p.1)
+
+  -- the queued messages, the front first
+  abbrev pub queue : Opening → Log T A → List T
+  queue opening log = messages (take (boundary opening log) (line log))
+
+  -- the offers of the line that aren't queued: their senders are blocked
+  abbrev pub blocked : Opening → Log T A → List (Offer T)
+  blocked opening log = drop (boundary opening log) (line log)
+
+  -- the next ticket
+  abbrev pub next_ticket : Opening → Log T A → ℕ
+  next_ticket opening [] = opening.first
+  next_ticket opening (p ∷ past) = next_ticket opening past + issued (change past p.0 p.1)
+
+  -- whether the send ticket is live: issued and not spent; none is once both ends are gone
+  abbrev pub is_live : Log T A → ℕ → Bool
+  is_live [] t = false
+  is_live (p ∷ past) t =
+      not (is_over (p ∷ past)) && (issues (change past p.0 p.1) t
+      || (is_live past t && not (spends (change past p.0 p.1) t)))

@@ -1,0 +1,87 @@
+-- Which replies are lawful, and runs.
+use Rattle.std.specs.Prelude.{◌≡◌, ◌==◌, ◌<◌, ◌≤◌, ◌⊎◌, true, false, [], ◌∷◌, length, Some}
+use Rattle.std.specs.Prelude.{None}
+use Rattle.flume_model.specs.declared.step.Step.{Step}
+use Rattle.flume_model.specs.declared.step.Step.TheVariants.{TrySend, Send, PollSend, WithdrawSend}
+use Rattle.flume_model.specs.declared.step.Step.TheVariants.{TryRecv, Recv, Poll, Withdraw, Drain}
+use Rattle.flume_model.specs.declared.step.Step.TheVariants.{CloneSender, CloneReceiver}
+use Rattle.flume_model.specs.declared.step.Step.TheVariants.{DropSender, DropReceiver, Len, IsEmpty}
+use Rattle.flume_model.specs.declared.step.Step.TheVariants.{IsFull, Capacity, SenderCount}
+use Rattle.flume_model.specs.declared.step.Step.TheVariants.{ReceiverCount, IsDisconnected}
+use Rattle.flume_model.specs.declared.step.Reply.{Reply}
+use Rattle.flume_model.specs.declared.step.Reply.TheVariants.{Sent, Full, Closed, NoMemory, Spent}
+use Rattle.flume_model.specs.declared.step.Reply.TheVariants.{Pending, Accepted, Waiting, Returned}
+use Rattle.flume_model.specs.declared.step.Reply.TheVariants.{NoTicket, Got, Empty, Ended, Parked}
+use Rattle.flume_model.specs.declared.step.Reply.TheVariants.{Drained, Done, NoEnd, CountFull}
+use Rattle.flume_model.specs.declared.step.Reply.TheVariants.{Number, Truth, Capacity as Bound}
+use Rattle.flume_model.specs.Log.{Log, Opening}
+use Rattle.flume_model.specs.Limits.{is_full, IsOpen, IsClosed, is_closed, most}
+use Rattle.flume_model.specs.Entries.{round_fills, entry_of}
+use Rattle.flume_model.specs.Channel.{Channel, TakesIn, TakesNoneIn, IsFront, IsAccepted, IsWaiting}
+use Rattle.flume_model.specs.Channel.{IsBlocked, channel}
+use Rattle.flume_model.specs.Asking.{IsPolled, IsGone}
+
+module _ {T A : Type 0} where
+  -- the channel may answer the step so; of the two replies to a step that may be refused for want
+  -- of memory either may come, and else exactly one
+  abbrev pub IsReply : Channel T → Step T → Reply T A → Type 0
+  IsReply c (TrySend m) (Sent filled) = TakesIn c × (filled ≡ round_fills c.entries)
+  IsReply c (TrySend m) (NoMemory back) = TakesIn c × (back ≡ Some m)
+  IsReply c (TrySend m) (Full back) = TakesNoneIn c × (back ≡ m)
+  IsReply c (TrySend m) (Closed back) = IsClosed c.senders c.receivers × (back ≡ m)
+  IsReply c (Send m) (Sent filled) = TakesIn c × (filled ≡ round_fills c.entries)
+  IsReply c (Send m) (Pending t) = TakesNoneIn c × (c.next < most) × (t ≡ c.next)
+  IsReply c (Send m) (NoMemory back) =
+      IsOpen c.senders c.receivers × (TakesNoneIn c → c.next < most) × (back ≡ Some m)
+  IsReply c (Send m) (Spent back) = TakesNoneIn c × (most ≤ c.next) × (back ≡ Some m)
+  IsReply c (Send m) (Closed back) = IsClosed c.senders c.receivers × (back ≡ m)
+  IsReply c (PollSend t) NoTicket = c.is_live t ≡ false
+  IsReply c (PollSend t) Accepted = IsAccepted c t
+  IsReply c (PollSend t) Waiting = IsWaiting c t × IsOpen c.senders c.receivers
+  IsReply c (PollSend t) (Returned m closed) =
+      IsBlocked c t m × IsClosed c.senders c.receivers × (closed ≡ true)
+  IsReply c (WithdrawSend t) NoTicket = c.is_live t ≡ false
+  IsReply c (WithdrawSend t) Accepted = IsAccepted c t
+  IsReply c (WithdrawSend t) (Returned m closed) =
+      IsBlocked c t m × (closed ≡ is_closed c.senders c.receivers)
+  IsReply c TryRecv (Got m) = IsFront c m
+  IsReply c TryRecv (NoMemory back) = (c.boundary < length c.line) × (back ≡ None)
+  IsReply c TryRecv Ended = (c.line ≡ []) × IsClosed c.senders c.receivers
+  IsReply c TryRecv Empty = (c.line ≡ []) × IsOpen c.senders c.receivers
+  IsReply c (Recv kind) (Got m) = IsFront c m
+  IsReply c (Recv kind) (NoMemory back) =
+      ((c.boundary < length c.line)
+      ⊎ ((c.line ≡ []) × IsOpen c.senders c.receivers × (c.next < most))) × (back ≡ None)
+  IsReply c (Recv kind) Ended = (c.line ≡ []) × IsClosed c.senders c.receivers
+  IsReply c (Recv kind) (Spent back) =
+      (c.line ≡ []) × IsOpen c.senders c.receivers × (most ≤ c.next) × (back ≡ None)
+  IsReply c (Recv kind) (Parked t) =
+      (c.line ≡ []) × IsOpen c.senders c.receivers × (c.next < most) × (t ≡ c.next)
+  IsReply c (Poll t) reply = IsPolled c (entry_of t c.entries) reply
+  IsReply c (Withdraw t) reply = IsGone c t (entry_of t c.entries) reply
+  IsReply c Drain (Drained list) = list.items ≡ c.queue
+  IsReply c Drain (NoMemory back) = (0 < c.boundary) × (back ≡ None)
+  IsReply c CloneSender Done = (0 < c.senders) × (c.senders < most)
+  IsReply c CloneSender NoEnd = c.senders ≡ 0
+  IsReply c CloneSender CountFull = c.senders ≡ most
+  IsReply c CloneReceiver Done = (0 < c.receivers) × (c.receivers < most)
+  IsReply c CloneReceiver NoEnd = c.receivers ≡ 0
+  IsReply c CloneReceiver CountFull = c.receivers ≡ most
+  IsReply c DropSender Done = 0 < c.senders
+  IsReply c DropSender NoEnd = c.senders ≡ 0
+  IsReply c DropReceiver Done = 0 < c.receivers
+  IsReply c DropReceiver NoEnd = c.receivers ≡ 0
+  IsReply c Len (Number n) = n ≡ c.boundary
+  IsReply c IsEmpty (Truth b) = b ≡ (c.boundary == 0)
+  IsReply c IsFull (Truth b) = b ≡ is_full c.capacity c.boundary
+  IsReply c Capacity (Bound bound) = bound ≡ c.capacity
+  IsReply c SenderCount (Number n) = n ≡ c.senders
+  IsReply c ReceiverCount (Number n) = n ≡ c.receivers
+  IsReply c IsDisconnected (Truth b) = b ≡ is_closed c.senders c.receivers
+  -- no other reply comes
+  IsReply c _ _ = ⊥
+
+  -- each reply is the abstract channel's, after what came before it
+  abbrev pub IsRun : Opening → Log T A → Type 0
+  IsRun opening [] = Unit {0}
+  IsRun opening (p ∷ past) = IsReply (channel opening past) p.0 p.1 × IsRun opening past

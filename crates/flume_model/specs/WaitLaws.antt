@@ -1,0 +1,83 @@
+-- What holds of the parked receivers of each run.
+use Rattle.std.specs.Prelude.{◌≡◌, ℕ, ◌+◌, ◌<◌, ◌≤◌, Bool, true, false, ◌&&◌, List, [], ◌∷◌, max}
+use Rattle.std.specs.Prelude.{Option, Some, None}
+use Rattle.std.specs.List.{list_any}
+use Rattle.flume_model.specs.declared.step.Kind.{Kind}
+use Rattle.flume_model.specs.declared.step.Kind.TheVariants.{Block}
+use Rattle.flume_model.specs.declared.entry.Entry.{Entry}
+use Rattle.flume_model.specs.Log.{Log, Opening, was_filled}
+use Rattle.flume_model.specs.Counts.{senders, receivers, is_over}
+use Rattle.flume_model.specs.Line.{line, capacity, boundary, blocked, next_ticket, is_live}
+use Rattle.flume_model.specs.Limits.{IsOpen, IsClosed}
+use Rattle.flume_model.specs.Entries.{is_woken, is_filled, some_wait, waiting_count, woken_count}
+use Rattle.flume_model.specs.Entries.{entry_of}
+use Rattle.flume_model.specs.Parked.{LogEntry, entries, peak}
+
+-- at most the greater of the capacity and another number; no bound where there is no capacity
+abbrev pub IsWithin : Option ℕ → ℕ → ℕ → Type 0
+IsWithin None other n = Unit {0}
+IsWithin (Some capacity) other n = n ≤ max capacity other
+
+-- whether this kind blocks
+abbrev pub is_block : Kind → Bool
+is_block Block = true
+is_block _ = false
+
+module _ {T N : Type 0} where
+  -- the tickets of these entries are below a bound, and each is another
+  abbrev pub Apart : ℕ → List (Entry T N) → Type 0
+  Apart bound [] = Unit {0}
+  Apart bound (e ∷ entries) =
+      (e.ticket < bound) × (entry_of e.ticket entries ≡ None) × Apart bound entries
+
+  -- some receiver that blocks stands woken
+  abbrev pub block_woken : List (Entry T N) → Bool
+  block_woken entries = list_any (λ e. is_block e.kind && is_woken e.mark) entries
+
+module _ {T A : Type 0} where
+  -- while a receiver waits, at least as many stand woken as messages are queued
+  abbrev pub Covered : Opening → Log T A → Type 0
+  Covered opening log =
+      some_wait (entries opening log) ≡ true
+      → boundary opening log ≤ woken_count (entries opening log)
+
+  -- what is queued and who waits are together at most the greater of the capacity and the peak
+  abbrev pub Bounded : Opening → Log T A → Type 0
+  Bounded opening log =
+      IsWithin (capacity opening log) (peak opening log)
+      (boundary opening log + waiting_count (entries opening log))
+
+  -- a receiver waits only in an open channel, and only while no sender is blocked
+  abbrev pub WaitsWhileOpen : Opening → Log T A → Type 0
+  WaitsWhileOpen opening log =
+      some_wait (entries opening log) ≡ true
+      → IsOpen (senders log) (receivers log) × (blocked opening log ≡ [])
+
+  -- a receiver that blocks stands woken only in a closed channel, and only where no sender is
+  -- blocked
+  abbrev pub WokenBlockWhileClosed : Opening → Log T A → Type 0
+  WokenBlockWhileClosed opening log =
+      block_woken (entries opening log) ≡ true
+      → IsClosed (senders log) (receivers log) × (blocked opening log ≡ [])
+
+  -- the tickets of parked receivers are apart and below the next one
+  abbrev pub EntriesApart : Opening → Log T A → Type 0
+  EntriesApart opening log = Apart (next_ticket opening log) (entries opening log)
+
+  -- no ticket is live of a send and of a receiver
+  abbrev pub SidesApart : Opening → Log T A → Type 0
+  SidesApart opening log =
+      (t : ℕ) → is_live log t ≡ true
+      → (t < next_ticket opening log) × (entry_of t (entries opening log) ≡ None)
+
+  -- a receiver is filled just where a reply told its ticket as filled
+  abbrev pub ToldFilled : Opening → Log T A → Type 0
+  ToldFilled opening log =
+      (t : ℕ) (e : LogEntry T) → entry_of t (entries opening log) ≡ Some e
+      → was_filled log t ≡ is_filled e.mark
+
+  -- once both ends are gone, nothing is left
+  abbrev pub NothingOnceOver : Opening → Log T A → Type 0
+  NothingOnceOver opening log =
+      is_over log ≡ true
+      → (line log ≡ []) × (entries opening log ≡ []) × ((t : ℕ) → is_live log t ≡ false)

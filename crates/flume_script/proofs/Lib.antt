@@ -1,0 +1,5 @@
+pub mod ScriptLines
+pub mod ScriptNumbers
+pub mod ScriptWords
+pub mod ScriptSteps
+pub mod ScriptReplies

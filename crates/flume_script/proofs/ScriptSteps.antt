@@ -1,0 +1,59 @@
+-- The steps that are read so far.
+use Rattle.std.proofs.Common.{◌≡◌, ℕ, suc, ◌+◌, ◌≤◌, ◌<◌, List, [], ◌∷◌, ◌++◌, length, refl, sym, ap, ◌∙◌, arith}
+use Rattle.std.specs.List.{AllZip}
+use Rattle.std.specs.Str.Lines.{lines}
+use Rattle.std.proofs.lemmas.List.{append_assoc, length_push}
+use Rattle.flume_model.specs.declared.step.Step.{Step}
+use Rattle.flume_script.specs.Script.{IsStepLine, IsNoStep, StepsUpTo}
+
+-- of the lines of the whole, those before the rest are these steps
+pub record ReadSteps (whole rest : List ℕ) (steps : List (Step ℕ)) : Type 0 where
+  pub before : List (List ℕ)
+  pub parts : lines whole ≡ before ++ lines rest
+  pub right : AllZip IsStepLine before steps
+  pub count : length before + length rest ≤ length whole
+
+-- lists that agree place by place are as long
+length_all_zip : {A B : Type 0} (R : A → B → Type 0) (xs : List A) (ys : List B) → AllZip R xs ys → length xs ≡ length ys
+length_all_zip R [] [] all = refl
+length_all_zip R [] (y ∷ ys) all = absurd all
+length_all_zip R (x ∷ xs) [] all = absurd all
+length_all_zip R (x ∷ xs) (y ∷ ys) all = ap suc (length_all_zip R xs ys all.1)
+
+-- two lists that agree place by place, with one more of each at their ends
+all_zip_push : {A B : Type 0} (R : A → B → Type 0) (xs : List A) (ys : List B) (x : A) (y : B) → AllZip R xs ys → R x y
+    → AllZip R (xs ++ x ∷ []) (ys ++ y ∷ [])
+all_zip_push R [] [] x y all one = (one, tt)
+all_zip_push R [] (y' ∷ ys) x y all one = absurd all
+all_zip_push R (x' ∷ xs) [] x y all one = absurd all
+all_zip_push R (x' ∷ xs) (y' ∷ ys) x y all one = (all.0, all_zip_push R xs ys x y all.1 one)
+
+-- after one more line that is a step
+pub one_more : {whole rest : List ℕ} {steps steps' : List (Step ℕ)} (line later : List ℕ) (step : Step ℕ) → ReadSteps whole rest steps
+    → lines rest ≡ line ∷ lines later → length later < length rest → IsStepLine line step → steps' ≡ steps ++ step ∷ []
+    → ReadSteps whole later steps'
+one_more {steps = steps} line later step read first shorter is_step pushed = rw pushed (record {
+  before = read.before ++ line ∷ [];
+  parts = read.parts ∙ ap (λ ls. read.before ++ ls) first ∙ sym (append_assoc read.before (line ∷ []) (lines later));
+  right = all_zip_push IsStepLine read.before steps line step read.right is_step;
+  count = omega (arith, length_push read.before line);
+})
+
+-- at a line that is no step
+pub up_to : {whole rest : List ℕ} {steps : List (Step ℕ)} {place : ℕ} (line later : List ℕ) → ReadSteps whole rest steps
+    → lines rest ≡ line ∷ lines later → length later < length rest → IsNoStep line → place ≡ length steps
+    → StepsUpTo (lines whole) place × (place < length whole)
+up_to {steps = steps} line later read first shorter wrong at =
+    let same = length_all_zip IsStepLine read.before steps read.right in (
+      record {
+        before = read.before;
+        steps = steps;
+        line = line;
+        later = lines later;
+        parts = read.parts ∙ ap (λ ls. read.before ++ ls) first;
+        right = read.right;
+        wrong = wrong;
+        place_is = same ∙ sym at;
+      },
+      omega arith,
+    )

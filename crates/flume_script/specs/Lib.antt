@@ -1,0 +1,4 @@
+pub mod Script
+pub mod ReplyTexts
+pub mod Reading
+pub mod Program

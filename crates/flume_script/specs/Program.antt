@@ -1,0 +1,31 @@
+-- What `run_script` makes of the bytes of a script.
+use Rattle.std.specs.Prelude.{◌≡◌, ℕ, ◌⊎◌, List, [], length, Option}
+use Rattle.std.specs.Str.Lines.{lines}
+use Rattle.flume_model.specs.declared.step.Step.{Step}
+use Rattle.flume_model.specs.declared.step.Reply.{Reply}
+use Rattle.flume_model.specs.Offers.{after}
+use Rattle.flume_model.specs.Replies.{IsRun}
+use Rattle.flume_script.specs.Script.{IsScript, IsFirstWrong, wrong_text}
+use Rattle.flume_script.specs.ReplyTexts.{reply_texts}
+
+-- each line is right: the text is the replies of a run of the steps on a new channel
+pub record Answers (A : Type 0) (input text : List ℕ) (status : ℕ) : Type 0 where
+  pub capacity : Option ℕ
+  pub steps : List (Step ℕ)
+  pub replies : List (Reply ℕ A)
+  pub reads : IsScript (lines input) capacity steps
+  pub one_each : length replies ≡ length steps
+  pub run : IsRun (record { capacity = capacity; first = 1 }) (after [] steps replies)
+  pub text_is : text ≡ reply_texts replies
+  pub status_is : status ≡ 0
+
+-- a line is wrong: the text names the first one
+pub record Refuses (input text : List ℕ) (status : ℕ) : Type 0 where
+  pub line : ℕ
+  pub wrong : IsFirstWrong (lines input) line
+  pub text_is : text ≡ wrong_text line
+  pub status_is : status ≡ 2
+
+-- of these bytes this text is printed, with this status
+abbrev pub Prints : Type 0 → List ℕ → List ℕ → ℕ → Type 0
+Prints A input text status = Answers A input text status ⊎ Refuses input text status

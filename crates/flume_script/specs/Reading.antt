@@ -1,0 +1,11 @@
+-- What is said of a script that was read.
+use Rattle.std.specs.Prelude.{ℕ, List}
+use Rattle.std.specs.Str.Lines.{lines}
+use Rattle.flume_script.specs.declared.reading.Reading.{Reading}
+use Rattle.flume_script.specs.declared.reading.Reading.TheVariants.{Right, Wrong}
+use Rattle.flume_script.specs.Script.{IsScript, IsFirstWrong}
+
+-- the bytes are a script of this capacity and these steps, or this line of them is the first wrong
+abbrev pub IsReading : {Z : Type 0} → List ℕ → Reading Z → Type 0
+IsReading input (Right capacity steps) = IsScript (lines input) capacity steps.items
+IsReading input (Wrong line) = IsFirstWrong (lines input) line

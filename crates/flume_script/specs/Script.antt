@@ -1,0 +1,98 @@
+-- What a script of steps is, line by line.
+use Rattle.std.specs.Prelude.{◌≡◌, ℕ, ◌+◌, ◌^◌, ◌<◌, ◌⊎◌, List, [], ◌∷◌, ◌++◌, length}
+use Rattle.std.specs.Prelude.{Option, Some, None, codes}
+use Rattle.std.specs.List.{AllZip}
+use Rattle.std.specs.Fmt.{decimal}
+use Rattle.std.specs.Str.Parse.{IsNumeral, digits_value}
+use Rattle.flume_model.specs.declared.step.Kind.{Kind}
+use Rattle.flume_model.specs.declared.step.Kind.TheVariants.{Block, Plain, Stream, Arm}
+use Rattle.flume_model.specs.declared.step.Step.{Step}
+use Rattle.flume_model.specs.declared.step.Step.TheVariants.{TrySend, Send, PollSend, WithdrawSend}
+use Rattle.flume_model.specs.declared.step.Step.TheVariants.{TryRecv, Recv, Poll, Withdraw, Drain}
+use Rattle.flume_model.specs.declared.step.Step.TheVariants.{CloneSender, CloneReceiver}
+use Rattle.flume_model.specs.declared.step.Step.TheVariants.{DropSender, DropReceiver, Len, IsEmpty}
+use Rattle.flume_model.specs.declared.step.Step.TheVariants.{IsFull, Capacity, SenderCount}
+use Rattle.flume_model.specs.declared.step.Step.TheVariants.{ReceiverCount, IsDisconnected}
+
+-- the line is this word, which ends in a space, and then the decimal digits of a number of 64 bits
+pub record IsCall (line word : List ℕ) (number : ℕ) : Type 0 where
+  pub digits : List ℕ
+  pub line_is : line ≡ word ++ digits
+  pub numeral : IsNumeral 10 digits
+  pub value : digits_value 10 digits ≡ number
+  pub fits : number < 2 ^ 64
+
+-- the line opens a channel of this capacity
+abbrev pub IsOpeningLine : List ℕ → Option ℕ → Type 0
+IsOpeningLine line None = line ≡ codes "unbounded"
+IsOpeningLine line (Some capacity) = IsCall line (codes "bounded ") capacity
+
+-- the name of a kind of receiver
+abbrev pub kind_name : Kind → List ℕ
+kind_name Block = codes "block"
+kind_name Plain = codes "plain"
+kind_name Stream = codes "stream"
+kind_name Arm = codes "arm"
+
+-- the line is this step
+abbrev pub IsStepLine : List ℕ → Step ℕ → Type 0
+IsStepLine line (TrySend message) = IsCall line (codes "try_send ") message
+IsStepLine line (Send message) = IsCall line (codes "send ") message
+IsStepLine line (PollSend ticket) = IsCall line (codes "poll_send ") ticket
+IsStepLine line (WithdrawSend ticket) = IsCall line (codes "withdraw_send ") ticket
+IsStepLine line TryRecv = line ≡ codes "try_recv"
+IsStepLine line (Recv kind) = line ≡ codes "recv " ++ kind_name kind
+IsStepLine line (Poll ticket) = IsCall line (codes "poll ") ticket
+IsStepLine line (Withdraw ticket) = IsCall line (codes "withdraw ") ticket
+IsStepLine line Drain = line ≡ codes "drain"
+IsStepLine line CloneSender = line ≡ codes "clone_sender"
+IsStepLine line CloneReceiver = line ≡ codes "clone_receiver"
+IsStepLine line DropSender = line ≡ codes "drop_sender"
+IsStepLine line DropReceiver = line ≡ codes "drop_receiver"
+IsStepLine line Len = line ≡ codes "len"
+IsStepLine line IsEmpty = line ≡ codes "is_empty"
+IsStepLine line IsFull = line ≡ codes "is_full"
+IsStepLine line Capacity = line ≡ codes "capacity"
+IsStepLine line SenderCount = line ≡ codes "sender_count"
+IsStepLine line ReceiverCount = line ≡ codes "receiver_count"
+IsStepLine line IsDisconnected = line ≡ codes "is_disconnected"
+
+-- the lines are an opening line, and then one line for each of these steps
+pub record IsScript (lines : List (List ℕ)) (capacity : Option ℕ) (steps : List (Step ℕ))
+    : Type 0 where
+  pub first : List ℕ
+  pub rest : List (List ℕ)
+  pub lines_are : lines ≡ first ∷ rest
+  pub opens : IsOpeningLine first capacity
+  pub steps_are : AllZip IsStepLine rest steps
+
+-- the line is no step
+abbrev pub IsNoStep : List ℕ → Type 0
+IsNoStep line = (step : Step ℕ) → ¬ IsStepLine line step
+
+-- the line opens no channel
+abbrev pub IsNoOpening : List ℕ → Type 0
+IsNoOpening line = (capacity : Option ℕ) → ¬ IsOpeningLine line capacity
+
+-- of these lines, each meant as a step, so many are steps, and the next one isn't
+pub record StepsUpTo (lines : List (List ℕ)) (place : ℕ) : Type 0 where
+  pub before : List (List ℕ)
+  pub steps : List (Step ℕ)
+  pub line : List ℕ
+  pub later : List (List ℕ)
+  pub parts : lines ≡ before ++ line ∷ later
+  pub right : AllZip IsStepLine before steps
+  pub wrong : IsNoStep line
+  pub place_is : length before ≡ place
+
+-- the first wrong line has this number, counted from 1; where there is no line, the first is wrong
+abbrev pub IsFirstWrong : List (List ℕ) → ℕ → Type 0
+IsFirstWrong [] number = number ≡ 1
+IsFirstWrong (first ∷ rest) number =
+    (IsNoOpening first × (number ≡ 1))
+    ⊎ ((capacity : Option ℕ) × IsOpeningLine first capacity
+    × (place : ℕ) × StepsUpTo rest place × (number ≡ place + 2))
+
+-- what is printed for a wrong line
+abbrev pub wrong_text : ℕ → List ℕ
+wrong_text number = codes "line " ++ decimal number ++ codes ": not a step" ++ 10 ∷ []

@@ -1,0 +1,203 @@
+//! The lines of a script, read to steps.
+ghost use Rattle.flume_script.specs.Reading.{IsReading};
+ghost use Rattle.flume_script.specs.Script.{IsCall, IsNoOpening, IsOpeningLine};
+ghost use Rattle.flume_script.specs.Script.{IsNoStep, IsStepLine, StepsUpTo};
+ghost use Rattle.std.specs.List.{All, AllZip};
+ghost use Rattle.std.specs.Prelude.{IfErr, IfNone, IfOk, IfSome, IsTrue, MatchOption, SomeIff};
+ghost use Rattle.std.specs.Prelude.{◌≡◌, ◌==◌, ℕ, ◌^◌, ◌<◌, ◌↔◌, List, [], ◌∷◌, ◌++◌};
+ghost use Rattle.std.specs.Prelude.{false, length, codes};
+ghost use Rattle.std.specs.Str.Lines.{lines, strip_carriage_return};
+ghost use Rattle.std.specs.Str.Parse.{IsNumeral, digits_value};
+
+use flume_core::error::NoMemory;
+use flume_core::step::{Kind, Step};
+use std::alloc::{AllocError, Allocator};
+use std::str;
+
+/// A script as it was read.
+#[derive(Drop)]
+pub(super) enum Reading<A: Allocator> {
+    /// Every line is right.
+    Right {
+        capacity: Option<usize>,
+        steps: Vec<Step<u64>, A>,
+    },
+    /// The first wrong line, counted from 1.
+    Wrong {
+        line: usize,
+    },
+}
+
+// What stands before the first such byte, and what after it.
+fn part_at(bytes: &[u8], byte: u8) -> Option<(&[u8], &[u8])>
+    ensures none { IfNone result (All (λ x. (x == byte) ≡ false) bytes.now) }
+    ensures parts { IfSome result (λ r. bytes.now ≡ r.0.now ++ byte ∷ r.1.now) }
+    ensures first { IfSome result (λ r. All (λ x. (x == byte) ≡ false) r.0.now) }
+{
+    let at = bytes.iter().position(|x| *x == byte)?;
+    Some((&bytes[..at], &bytes[at + 1..]))
+}
+
+fn without_return(line: &[u8]) -> &[u8]
+    ensures value { result.now ≡ strip_carriage_return line.now }
+{
+    match line {
+        [front @ .., b'\r'] => front,
+        _ => line,
+    }
+}
+
+// The first line, and what follows it.
+#[tactic(auto, using(crate::proofs::ScriptLines::next_lines))]
+fn next_line(rest: &[u8]) -> Option<(&[u8], &[u8])>
+    ensures none { IfNone result (rest.now ≡ []) }
+    ensures first { IfSome result (λ r. lines rest.now ≡ r.0.now ∷ lines r.1.now) }
+    ensures shorter { IfSome result (λ r. length r.1.now < length rest.now) }
+{
+    match part_at(rest, b'\n') {
+        Some((line, later)) => Some((without_return(line), later)),
+        None if rest.is_empty() => None,
+        None => Some((rest, &[])),
+    }
+}
+
+#[tactic(auto, using(crate::proofs::ScriptNumbers::numeral_is_text))]
+fn number(digits: &[u8]) -> Option<u64>
+    ensures value { SomeIff result
+        (IsNumeral 10 digits.now × (digits_value 10 digits.now < 2 ^ 64))
+        (digits_value 10 digits.now) }
+{
+    if digits.starts_with(b"+") {
+        return None;
+    }
+    let text = str::from_utf8(digits).ok()?;
+    text.parse::<u64>().ok()
+}
+
+fn number_after(line: &[u8], word: &[u8]) -> Option<u64>
+    ensures value { MatchOption result ((n : ℕ) → ¬ IsCall line.now word.now n)
+        (λ n. IsCall line.now word.now n) }
+{
+    let digits = line.strip_prefix(word)?;
+    number(digits)
+}
+
+fn is(line: &[u8], word: &[u8]) -> bool
+    ensures value { IsTrue result ↔ (line.now ≡ word.now) }
+{
+    line == word
+}
+
+// The step of a word that takes no number.
+fn plain_step(word: &[u8]) -> Option<Step<u64>>
+    requires no_space { All (λ x. (x == 32) ≡ false) word.now }
+    ensures value { MatchOption result (IsNoStep word.now) (IsStepLine word.now) }
+{
+    match word {
+        _ if is(word, b"try_recv") => Some(Step::TryRecv),
+        _ if is(word, b"drain") => Some(Step::Drain),
+        _ if is(word, b"clone_sender") => Some(Step::CloneSender),
+        _ if is(word, b"clone_receiver") => Some(Step::CloneReceiver),
+        _ if is(word, b"drop_sender") => Some(Step::DropSender),
+        _ if is(word, b"drop_receiver") => Some(Step::DropReceiver),
+        _ if is(word, b"len") => Some(Step::Len),
+        _ if is(word, b"is_empty") => Some(Step::IsEmpty),
+        _ if is(word, b"is_full") => Some(Step::IsFull),
+        _ if is(word, b"capacity") => Some(Step::Capacity),
+        _ if is(word, b"sender_count") => Some(Step::SenderCount),
+        _ if is(word, b"receiver_count") => Some(Step::ReceiverCount),
+        _ if is(word, b"is_disconnected") => Some(Step::IsDisconnected),
+        _ => None,
+    }
+}
+
+// The step of a word and its number.
+fn call_step(word: &[u8], number: u64) -> Option<Step<u64>>
+    requires no_space { All (λ x. (x == 32) ≡ false) word.now }
+    ensures value { (digits : List ℕ) → IsNumeral 10 digits → digits_value 10 digits ≡ number →
+        MatchOption result (IsNoStep (word.now ++ 32 ∷ digits))
+        (IsStepLine (word.now ++ 32 ∷ digits)) }
+{
+    match word {
+        _ if is(word, b"try_send") => Some(Step::TrySend(number)),
+        _ if is(word, b"send") => Some(Step::Send(number)),
+        _ if is(word, b"poll_send") => Some(Step::PollSend(number)),
+        _ if is(word, b"withdraw_send") => Some(Step::WithdrawSend(number)),
+        _ if is(word, b"poll") => Some(Step::Poll(number)),
+        _ if is(word, b"withdraw") => Some(Step::Withdraw(number)),
+        _ => None,
+    }
+}
+
+// The step of a receiver of the kind with this name.
+fn recv_step(kind: &[u8]) -> Option<Step<u64>>
+    ensures value { MatchOption result (IsNoStep (codes "recv " ++ kind.now))
+        (IsStepLine (codes "recv " ++ kind.now)) }
+{
+    match kind {
+        _ if is(kind, b"block") => Some(Step::Recv(Kind::Block)),
+        _ if is(kind, b"plain") => Some(Step::Recv(Kind::Plain)),
+        _ if is(kind, b"stream") => Some(Step::Recv(Kind::Stream)),
+        _ if is(kind, b"arm") => Some(Step::Recv(Kind::Arm)),
+        _ => None,
+    }
+}
+
+fn step_of(line: &[u8]) -> Option<Step<u64>>
+    ensures value { MatchOption result (IsNoStep line.now) (IsStepLine line.now) }
+{
+    match part_at(line, b' ') {
+        None => plain_step(line),
+        Some((word, kind)) if is(word, b"recv") => recv_step(kind),
+        Some((word, digits)) => call_step(word, number(digits)?),
+    }
+}
+
+fn opening_of(line: &[u8]) -> Option<Option<usize>>
+    ensures value { MatchOption result (IsNoOpening line.now) (IsOpeningLine line.now) }
+{
+    if is(line, b"unbounded") {
+        return Some(None);
+    }
+    let capacity = number_after(line, b"bounded ")?;
+    Some(Some(capacity as usize))
+}
+
+// The steps of the lines, or how many stand before the first line that is none.
+fn read_steps<A: Allocator + Copy>(
+    alloc: A,
+    mut rest: &[u8],
+) -> Result<Result<Vec<Step<u64>, A>, usize>, NoMemory>
+    ensures right { IfOk result (λ r. IfOk r (λ s. AllZip IsStepLine (lines rest.now) s.items)) }
+    ensures wrong { IfOk result (λ r. IfErr r (λ place. StepsUpTo (lines rest.now) place)) }
+    ensures within { IfOk result (λ r. IfErr r (λ place. place < length rest.now)) }
+{
+    let mut steps = Vec::new(alloc);
+    while let Some((line, later)) = next_line(rest) {
+        let Some(step) = step_of(line) else {
+            return Ok(Err(steps.len()));
+        };
+        steps.push(step).map_err(AllocError::from)?;
+        rest = later;
+    }
+    Ok(Ok(steps))
+}
+
+/// Reads a script of steps.
+pub(super) fn read_script<A: Allocator + Copy>(
+    alloc: A,
+    input: &[u8],
+) -> Result<Reading<A>, NoMemory>
+    ensures value { IfOk result (λ reading. IsReading input.now reading) }
+{
+    let Some((first, rest)) = next_line(input) else {
+        return Ok(Reading::Wrong { line: 1 });
+    };
+    let Some(capacity) = opening_of(first) else {
+        return Ok(Reading::Wrong { line: 1 });
+    };
+    match read_steps(alloc, rest)? {
+        Ok(steps) => Ok(Reading::Right { capacity, steps }),
+        Err(place) => Ok(Reading::Wrong { line: place + 2 }),
+    }
+}
