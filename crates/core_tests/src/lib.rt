@@ -1,12 +1,27 @@
-//! Tests that cross the modules of `flume_core`: worked rows, run as scripts, as lists of steps and
-//! as calls, and drawn scripts.
+//! Tests of all that stands below the ends: worked rows, run as scripts, as lists of steps and as
+//! calls; drawn scripts; the errors; the lists of a channel's state; calls turn by turn, their
+//! loops and their bells.
 #![tactic(auto)]
 
 #[cfg(test)]
+mod bells;
+#[cfg(test)]
+mod calls;
+#[cfg(test)]
 mod chan_calls;
+#[cfg(test)]
+mod errors;
+#[cfg(test)]
+mod gates;
+#[cfg(test)]
+mod lent;
 #[cfg(test)]
 mod lists;
 #[cfg(test)]
 mod random_scripts;
 #[cfg(test)]
+mod script_texts;
+#[cfg(test)]
 mod scripts;
+#[cfg(test)]
+mod waiting;

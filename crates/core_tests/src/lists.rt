@@ -7,6 +7,15 @@ use std::test::Fail;
 
 const SENT: Reply<u64> = Reply::Sent { filled: None };
 
+// On a channel of capacity 1 the last three messages block, and the one in their middle comes back.
+const MIDDLE_WITHDRAWN: [Step<u64>; 5] = [
+    Step::Send(1),
+    Step::Send(2),
+    Step::Send(3),
+    Step::Send(4),
+    Step::WithdrawSend(2),
+];
+
 // A message that can't be copied.
 #[derive(Debug, PartialEq, Eq, Drop)]
 struct Parcel(u64);
@@ -144,22 +153,7 @@ fn a_ticket_is_told_of_its_message_once(rt: HostRuntime) -> Result<(), Fail> {
 }
 
 #[test]
-fn a_message_withdrawn_from_the_middle_leaves_the_others_in_order(
-    rt: HostRuntime,
-) -> Result<(), Fail> {
-    let steps = [
-        Step::Send(1),
-        Step::Send(2),
-        Step::Send(3),
-        Step::Send(4),
-        Step::WithdrawSend(2),
-        Step::TryRecv,
-        Step::TryRecv,
-        Step::TryRecv,
-        Step::TryRecv,
-        Step::PollSend(1),
-        Step::PollSend(3),
-    ];
+fn a_message_withdrawn_from_the_middle_comes_back(rt: HostRuntime) -> Result<(), Fail> {
     let wanted = [
         SENT,
         Reply::Pending(1),
@@ -169,6 +163,25 @@ fn a_message_withdrawn_from_the_middle_leaves_the_others_in_order(
             message: 3,
             closed: false,
         },
+    ];
+    let replies = answers(rt.alloc(), Some(1), &MIDDLE_WITHDRAWN)?;
+    assert_eq!(rt; replies.as_slice(), wanted.as_slice());
+    Ok(())
+}
+
+#[test]
+fn the_messages_around_a_withdrawn_one_keep_their_order(rt: HostRuntime) -> Result<(), Fail> {
+    let mut chan: Chan<u64, ()> = Chan::new(rt.alloc(), Some(1));
+    replies_of(rt.alloc(), &mut chan, &MIDDLE_WITHDRAWN)?;
+    let steps = [
+        Step::TryRecv,
+        Step::TryRecv,
+        Step::TryRecv,
+        Step::TryRecv,
+        Step::PollSend(1),
+        Step::PollSend(3),
+    ];
+    let wanted = [
         Reply::Got(1),
         Reply::Got(2),
         Reply::Got(4),
@@ -176,7 +189,7 @@ fn a_message_withdrawn_from_the_middle_leaves_the_others_in_order(
         Reply::Accepted,
         Reply::Accepted,
     ];
-    let replies = answers(rt.alloc(), Some(1), &steps)?;
+    let replies = replies_of(rt.alloc(), &mut chan, &steps)?;
     assert_eq!(rt; replies.as_slice(), wanted.as_slice());
     Ok(())
 }

@@ -4,14 +4,14 @@ use Rattle.flume_core.specs.declared.error.SendTimeoutError.{SendTimeoutError}
 use Rattle.flume_core.specs.declared.error.SendTimeoutError.TheVariants.{Timeout as SendTimeout}
 use Rattle.flume_core.specs.declared.error.RecvTimeoutError.{RecvTimeoutError}
 use Rattle.flume_core.specs.declared.error.RecvTimeoutError.TheVariants.{Timeout as RecvTimeout}
-use Rattle.flume.specs.declared.calls.send.SendNext.{SendNext}
-use Rattle.flume.specs.declared.calls.send.SendNext.TheVariants.{Done as SendDone}
-use Rattle.flume.specs.declared.calls.receive.RecvNext.{RecvNext}
-use Rattle.flume.specs.declared.calls.receive.RecvNext.TheVariants.{Done as RecvDone}
+use Rattle.flume_calls.specs.declared.calls.send.SendNext.{SendNext}
+use Rattle.flume_calls.specs.declared.calls.send.SendNext.TheVariants.{Done as SendDone}
+use Rattle.flume_calls.specs.declared.calls.receive.RecvNext.{RecvNext}
+use Rattle.flume_calls.specs.declared.calls.receive.RecvNext.TheVariants.{Done as RecvDone}
 use Rattle.flume.specs.declared.gate.Deadline.{Deadline}
 use Rattle.flume.specs.declared.gate.Deadline.TheVariants.{Never}
-use Rattle.flume.specs.SendGates as send
-use Rattle.flume.specs.ReceiveGates as receive
+use Rattle.flume_calls.specs.SendGates as send
+use Rattle.flume_calls.specs.ReceiveGates as receive
 
 -- what waiting does to the gate of an end
 abbrev Waits : Deadline → Deadline → Bool → Type 0

@@ -1,6 +1,1 @@
-mod Comes
-mod Rest
-mod DueCounts
-mod Ringing
-mod AtRest
 mod InTime

@@ -2,13 +2,13 @@
 //! on a parker of its own.
 ghost use Rattle.std.specs.Prelude.{◌≡◌, ◌≢◌, Bool, true, false};
 ghost use Rattle.flume.specs.declared.gate.Deadline.TheVariants.{Never};
-ghost use Rattle.flume.specs.SendGates as send;
-ghost use Rattle.flume.specs.ReceiveGates as receive;
+ghost use Rattle.flume_calls.specs.SendGates as send;
+ghost use Rattle.flume_calls.specs.ReceiveGates as receive;
 
-use crate::calls::{RecvCall, RecvNext, SendCall, SendNext};
-use crate::gates::{RecvGate, SendGate};
-use crate::shared::{Shared, Waits};
+use crate::shared::{Backoff, Shared, Waits, pause};
 use crate::signal::{Parker, Signal};
+use flume_calls::calls::{RecvCall, RecvNext, SendCall, SendNext};
+use flume_calls::gates::{RecvGate, SendGate};
 use flume_core::error::{RecvTimeoutError, SendTimeoutError};
 use std::alloc::Allocator;
 use std::marker::Model;
@@ -42,6 +42,7 @@ impl Deadline {
     // Whether it is reached, by the clock. A clock that can't be read counts as past it.
     fn is_reached<R: Waits>(self, rt: &R) -> bool
         ensures never { result ≡ true → self ≢ Deadline.Never }
+        ensures reached { self ≡ Deadline.Reached → result ≡ true }
     {
         match self {
             Deadline::Never => false,
@@ -61,8 +62,6 @@ pub(crate) struct Gate<'a, T, R: Waits, A: Allocator + Copy> {
     deadline: Deadline,
     // What the call waits on, once it is made.
     parker: Option<Arc<Parker, A>>,
-    // The copy of it that the call's entry is to hold.
-    signal: Option<Signal<A>>,
 }
 
 impl<'a, T, R: Waits, A: Allocator + Copy> Model for Gate<'a, T, R, A> {
@@ -75,6 +74,7 @@ impl<'a, T, R: Waits, A: Allocator + Copy> Model for Gate<'a, T, R, A> {
 
 impl<'a, T: Drop, R: Waits, A: Allocator + Copy> Gate<'a, T, R, A> {
     /// A gate of a call that waits up to the deadline. Takes no memory.
+    #[inline(always)]
     pub(crate) fn new(shared: &'a Shared<T, R, A>, deadline: Deadline) -> Self
         ensures deadline { result ≡ deadline }
     {
@@ -82,26 +82,33 @@ impl<'a, T: Drop, R: Waits, A: Allocator + Copy> Gate<'a, T, R, A> {
             shared,
             deadline,
             parker: None,
-            signal: None,
         }
     }
 
-    // Makes the parker and the entry's copy of it, outside the lock.
+    // Makes the parker, outside the lock, and pauses before the call parks.
+    #[inline(always)]
     fn make_parker(&mut self) -> bool
         ensures same { self.new ≡ self.old }
     {
-        let Ok(parker) = Arc::new(self.shared.alloc, Parker::new()) else {
-            return false;
-        };
-        let Ok(copy) = Arc::try_clone(&parker) else {
+        let Backoff { pauses, looks } = self.shared.backoff;
+        let Ok(parker) = Arc::new(self.shared.alloc, Parker::new(looks)) else {
             return false;
         };
         self.parker = Some(parker);
-        self.signal = Some(Signal::Parker(copy));
+        pause(pauses);
         true
     }
 
+    // The copy of the parker that the call's entry is to hold, made outside the lock too.
+    #[inline(always)]
+    fn signal(&self) -> Option<Signal<A>> {
+        let parker = self.parker.as_ref()?;
+        let copy = Arc::try_clone(parker).ok()?;
+        Some(Signal::Parker(copy))
+    }
+
     // Waits for the parker's wake or the deadline. True, at once, where the deadline is reached.
+    #[inline(always)]
     fn wait_for_wake(&mut self) -> bool
         ensures same { self.new ≡ self.old }
         ensures late { result ≡ true → self.old ≢ Deadline.Never }
@@ -131,25 +138,30 @@ impl<T: Drop, R: Waits, A: Allocator + Copy> SendGate<T> for Gate<'_, T, R, A> {
 
     ghost waits = { λ old new late. (new ≡ old) × (late ≡ true → old ≢ Never) };
 
+    #[inline(always)]
     fn first(&mut self, message: T) -> SendNext<T> {
         self.shared.first_send(message)
     }
 
+    #[inline(always)]
     fn arm(&mut self) -> bool {
         self.make_parker()
     }
 
+    #[inline(always)]
     fn park(&mut self, message: T) -> SendNext<T> {
-        match self.signal.take() {
+        match self.signal() {
             Some(signal) => self.shared.park_send(message, signal),
             None => SendNext::Done(Err(SendTimeoutError::NoMemory(message))),
         }
     }
 
+    #[inline(always)]
     fn again(&mut self, call: SendCall, late: bool) -> SendNext<T> {
         self.shared.again_send(call, late)
     }
 
+    #[inline(always)]
     fn wait(&mut self) -> bool {
         self.wait_for_wake()
     }
@@ -166,25 +178,30 @@ impl<T: Drop, R: Waits, A: Allocator + Copy> RecvGate<T> for Gate<'_, T, R, A> {
 
     ghost waits = { λ old new late. (new ≡ old) × (late ≡ true → old ≢ Never) };
 
+    #[inline(always)]
     fn first(&mut self) -> RecvNext<T> {
         self.shared.first_receive()
     }
 
+    #[inline(always)]
     fn arm(&mut self) -> bool {
         self.make_parker()
     }
 
+    #[inline(always)]
     fn park(&mut self) -> RecvNext<T> {
-        match self.signal.take() {
+        match self.signal() {
             Some(signal) => self.shared.park_receive(signal),
             None => RecvNext::Done(Err(RecvTimeoutError::NoMemory)),
         }
     }
 
+    #[inline(always)]
     fn again(&mut self, call: RecvCall, late: bool) -> RecvNext<T> {
         self.shared.again_receive(call, late)
     }
 
+    #[inline(always)]
     fn wait(&mut self) -> bool {
         self.wait_for_wake()
     }

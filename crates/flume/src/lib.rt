@@ -2,7 +2,8 @@
 //! send waits for a receive.
 //!
 //! Each call of an end is a few steps of the one channel behind its lock, whose steps are proved.
-//! The names of `flume_core` are given again here.
+//! The names of `flume_core`, and the calls, bells and gates of `flume_calls`, are given again
+//! here.
 //!
 //! ```
 //! let (tx, rx) = unbounded::<u64, _, _>(rt, rt.alloc(), 1)?;
@@ -11,24 +12,26 @@
 //! ```
 #![tactic(auto)]
 
-pub mod calls;
-pub mod due;
+mod drain;
 mod gate;
-pub mod gates;
-mod locked;
+mod into_iter;
+mod iterators;
 mod opening;
+mod progress;
 mod receiver;
 mod sender;
 mod shared;
 pub mod signal;
-#[cfg(test)]
-mod tests;
 mod weak;
 
+pub use drain::Drain;
+pub use flume_calls::{calls, due, gates};
 pub use flume_core::error::{
     RecvError, RecvTimeoutError, SendError, SendTimeoutError, TryRecvError, TrySendError,
 };
 pub use flume_core::{chan, error, reached, run, step};
+pub use into_iter::IntoIter;
+pub use iterators::{Iter, TryIter};
 pub use opening::{bounded, unbounded};
 pub use receiver::Receiver;
 pub use sender::Sender;

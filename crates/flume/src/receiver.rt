@@ -1,11 +1,14 @@
 //! The receivers of a channel.
 ghost use Rattle.std.specs.Prelude.{◌≡◌, ◌≢◌, ℕ, ◌==◌, Err};
+ghost use Rattle.flume.specs.Iterators.{receiving_from};
 
-use crate::calls::RecvNext;
+use crate::drain::Drain;
 use crate::gate::{Deadline, Gate};
-use crate::gates::recv_over;
+use crate::iterators::{Iter, TryIter};
 use crate::shared::{Shared, Waits};
-use flume_core::error::{RecvError, RecvTimeoutError, TryRecvError};
+use flume_calls::calls::RecvNext;
+use flume_calls::gates::recv_over;
+use flume_core::error::{NoMemory, RecvError, RecvTimeoutError, TryRecvError};
 use flume_core::step::Reply;
 use std::alloc::{AllocError, Allocator, Global};
 use std::fmt;
@@ -35,23 +38,24 @@ impl<T: Drop, R: Waits, A: Allocator + Copy> Receiver<T, R, A> {
     }
 
     /// Takes the next message, where one is there. Doesn't wait for a sender. `Empty`: none is
-    /// there. `Disconnected`: none is, and all senders are gone.
+    /// there. `Disconnected`: none is, and all senders are gone. Never `NoMemory`.
     ///
     /// ```
     /// let (tx, rx) = unbounded::<u64, _, _>(rt, rt.alloc(), 1)?;
     /// rx.try_recv();                     // Err(Empty)
-    /// tx.send(42);
+    /// tx.send(42);                       // Ok(())
     /// rx.try_recv();                     // Ok(42)
     /// drop(tx);
     /// rx.try_recv();                     // Err(Disconnected)
     /// ```
-    pub fn try_recv(&self) -> Result<T, TryRecvError> {
+    pub fn try_recv(&self) -> Result<T, TryRecvError>
+        ensures never_no_memory { result ≢ Err TryRecvError.NoMemory }
+    {
         match self.shared.first_receive() {
             RecvNext::Done(Ok(message)) => Ok(message),
             RecvNext::Done(Err(RecvTimeoutError::Disconnected)) => Err(TryRecvError::Disconnected),
-            RecvNext::Done(Err(RecvTimeoutError::NoMemory)) => Err(TryRecvError::NoMemory),
             RecvNext::NeedSignal => Err(TryRecvError::Empty),
-            RecvNext::Done(Err(RecvTimeoutError::Timeout))
+            RecvNext::Done(Err(RecvTimeoutError::Timeout | RecvTimeoutError::NoMemory))
             | RecvNext::Park(_)
             | RecvNext::Refused(_) => unreachable!(),
         }
@@ -61,7 +65,7 @@ impl<T: Drop, R: Waits, A: Allocator + Copy> Receiver<T, R, A> {
     /// all senders are gone. `NoMemory`: there was no room for what a call waits on.
     ///
     /// ```
-    /// tx.send(42);
+    /// tx.send(42);                       // Ok(())
     /// rx.recv();                         // Ok(42)
     /// drop(tx);
     /// rx.recv();                         // Err(Disconnected)
@@ -103,6 +107,56 @@ impl<T: Drop, R: Waits, A: Allocator + Copy> Receiver<T, R, A> {
         let shared: &Shared<T, R, A> = &self.shared;
         let mut gate = Gate::new(shared, deadline);
         recv_over(&shared.rt, &mut gate)
+    }
+
+    /// The messages, one after the other. It waits for each, and ends where `recv` is refused.
+    ///
+    /// ```
+    /// for message in rx.iter() {
+    ///     // each message, until the channel is empty and all senders are gone
+    /// }
+    /// ```
+    pub fn iter(&self) -> Iter<'_, T, R, A>
+        ensures new { result ≡ receiving_from self.now }
+    {
+        Iter::over(self)
+    }
+
+    /// The messages that are there, one after the other. It doesn't wait for a sender.
+    ///
+    /// ```
+    /// tx.send(1);
+    /// tx.send(2);
+    /// let mut messages = rx.try_iter();
+    /// messages.next();                   // Some(1)
+    /// messages.next();                   // Some(2)
+    /// messages.next();                   // None
+    /// ```
+    pub fn try_iter(&self) -> TryIter<'_, T, R, A>
+        ensures new { result ≡ receiving_from self.now }
+    {
+        TryIter::over(self)
+    }
+
+    /// Takes all messages that are queued, at once and in order. Blocked sends move in behind them,
+    /// and their senders go on. `NoMemory`: some are queued, and there was no room for their list;
+    /// none was taken.
+    ///
+    /// ```
+    /// tx.send(1);
+    /// tx.send(2);
+    /// let mut messages = rx.drain()?;
+    /// messages.len();                    // 2
+    /// messages.next();                   // Some(1)
+    /// rx.len();                          // 0
+    /// ```
+    pub fn drain(&self) -> Result<Drain<'_, T, A>, NoMemory> {
+        self.shared.drain()
+    }
+
+    /// The runtime value that the ends keep.
+    pub(crate) fn runtime(&self) -> &R {
+        &self.shared.rt
     }
 
     /// How many messages are queued.

@@ -1,11 +1,11 @@
 //! The senders of a channel.
 ghost use Rattle.std.specs.Prelude.{◌≡◌, ◌≢◌, ℕ, ◌==◌, IfOk, Err};
 
-use crate::calls::SendNext;
 use crate::gate::{Deadline, Gate};
-use crate::gates::send_over;
 use crate::shared::{Shared, Waits};
 use crate::weak::WeakSender;
+use flume_calls::calls::SendNext;
+use flume_calls::gates::send_over;
 use flume_core::error::{NoMemory, SendError, SendTimeoutError, TrySendError};
 use flume_core::step::Reply;
 use std::alloc::{AllocError, Allocator, Global};

@@ -1,56 +1,43 @@
 //! What a parked call leaves with the channel, and what wakes it.
 use std::alloc::{Allocator, Global};
 use std::hint::spin_loop;
+use std::sync::atomic::{AtomicU64, Ordering};
 use std::sync::{Arc, Condvar, Mutex, Wait};
 use std::time::{Clock, Duration, Instant};
 
-// How often a call looks for its wake before it sleeps.
-const LOOKS: u32 = 200;
+// What a parker's word says: no wake has come that wasn't taken, one has, or its call sleeps.
+const IDLE: u64 = 0;
 
-// How long it pauses between two looks.
-const PAUSES: u32 = 8;
+const FIRED: u64 = 1;
 
-// Whether a wake has come and wasn't taken yet, and whether the call sleeps.
-#[derive(Drop)]
-struct Wake {
-    fired: bool,
-    asleep: bool,
-}
-
-impl Wake {
-    // Takes the wake, if one has come. Then nobody sleeps.
-    fn take(&mut self) -> bool {
-        let fired = self.fired;
-        if fired {
-            self.fired = false;
-            self.asleep = false;
-        }
-        fired
-    }
-}
+const ASLEEP: u64 = 2;
 
 /// What one blocking call waits on, and others wake it by. A wake that comes before the wait isn't
 /// lost: the wait then takes it, and returns at once. Two wakes before a wait count as one.
 #[derive(Drop)]
 pub struct Parker {
-    wake: Mutex<Wake>,
+    word: AtomicU64,
+    // How often a wait looks for the wake before it sleeps.
+    looks: u32,
+    // Held by a call that goes to sleep until it does, so that its wake isn't told before.
+    falling_asleep: Mutex<()>,
     changed: Condvar,
 }
 
 impl Parker {
-    /// A parker that no wake has come to. Takes no memory.
+    /// A parker that no wake has come to. A wait on it looks so often for its wake before it
+    /// sleeps. Takes no memory.
     ///
     /// ```
-    /// let parker = Parker::new();
+    /// let parker = Parker::new(0);
     /// parker.fire(&rt);
     /// parker.wait(&rt);                  // returns at once
     /// ```
-    pub const fn new() -> Parker {
+    pub const fn new(looks: u32) -> Parker {
         Parker {
-            wake: Mutex::new(Wake {
-                fired: false,
-                asleep: false,
-            }),
+            word: AtomicU64::new(IDLE),
+            looks,
+            falling_asleep: Mutex::new(()),
             changed: Condvar::new(),
         }
     }
@@ -58,11 +45,8 @@ impl Parker {
     /// Wakes the call that waits, or the next one that will. Where nobody sleeps it asks nothing of
     /// the system.
     pub fn fire<R: Wait>(&self, rt: &R) {
-        let mut wake = self.wake.lock(rt);
-        wake.fired = true;
-        let asleep = wake.asleep;
-        drop(wake);
-        if asleep {
+        if self.word.swap(FIRED, Ordering::SeqCst) == ASLEEP {
+            drop(self.falling_asleep.lock(rt));
             self.changed.notify_one();
         }
     }
@@ -72,13 +56,14 @@ impl Parker {
         if self.comes_soon() {
             return;
         }
-        let mut wake = self.wake.lock(rt);
+        let mut awake = self.falling_asleep.lock(rt);
         for _ in rt.forever() {
-            if wake.take() {
+            if self.take() {
                 return;
             }
-            wake.asleep = true;
-            wake = self.changed.wait(rt, wake);
+            if self.may_sleep() {
+                awake = self.changed.wait(rt, awake);
+            }
         }
         unreachable!()
     }
@@ -92,34 +77,49 @@ impl Parker {
         if self.comes_soon() {
             return;
         }
-        let mut wake = self.wake.lock(rt);
+        let mut awake = self.falling_asleep.lock(rt);
         for _ in rt.forever() {
-            if wake.take() {
+            if self.take() {
                 return;
             }
             let Some(left) = left_until(rt, deadline) else {
-                wake.asleep = false;
+                // Nobody sleeps now. A wake that has just come stays.
+                let _ = self.changes(ASLEEP, IDLE);
                 return;
             };
-            wake.asleep = true;
-            wake = self.changed.wait_timeout(rt, wake, left).0;
+            if self.may_sleep() {
+                awake = self.changed.wait_timeout(rt, awake, left).0;
+            }
         }
         unreachable!()
     }
 
     // Looks for a wake for a short while, and takes it.
     fn comes_soon(&self) -> bool {
-        for _ in 0..LOOKS {
-            if let Some(mut wake) = self.wake.try_lock()
-                && wake.take()
-            {
-                return true;
+        for _ in 0..self.looks {
+            if self.word.load(Ordering::SeqCst) == FIRED {
+                return self.take();
             }
-            for _ in 0..PAUSES {
-                spin_loop();
-            }
+            spin_loop();
         }
         false
+    }
+
+    // Takes the wake, if one has come.
+    fn take(&self) -> bool {
+        self.changes(FIRED, IDLE)
+    }
+
+    // Says that the call sleeps. False where a wake came before.
+    fn may_sleep(&self) -> bool {
+        self.changes(IDLE, ASLEEP) || self.word.load(Ordering::SeqCst) == ASLEEP
+    }
+
+    // Changes the word from one thing to another, if it says the one.
+    fn changes(&self, from: u64, to: u64) -> bool {
+        self.word
+            .compare_exchange(from, to, Ordering::SeqCst, Ordering::SeqCst)
+            .is_ok()
     }
 }
 

@@ -1,5 +1,5 @@
 //! The senders that don't count.
-ghost use Rattle.std.specs.Prelude.{◌≡◌, ℕ, IfOk, IfSome};
+ghost use Rattle.std.specs.Prelude.{◌≡◌, ◌≢◌, ◌↔◌, ℕ, IfOk, IfSome, IsErr, Ok, Some, None};
 
 use crate::sender::Sender;
 use crate::shared::{Shared, Waits};
@@ -43,11 +43,25 @@ impl<T: Drop, R: Waits, A: Allocator + Copy> WeakSender<T, R, A> {
         ensures same { IfOk result (λ sender. IfSome sender (λ s. s ≡ self.now)) }
     {
         let shared = Arc::try_clone(&self.shared)?;
-        match shared.clone_sender() {
-            Reply::Done => Ok(Some(Sender::over(shared))),
-            Reply::NoEnd => Ok(None),
-            _ => Err(NoMemory),
-        }
+        let reply = shared.clone_sender();
+        upgraded(reply, shared)
+    }
+}
+
+// What an upgrade answers, by the channel's reply to one more sender: there is a sender only where
+// the channel counts it.
+fn upgraded<T: Drop, R: Waits, A: Allocator + Copy>(
+    reply: Reply<T, A>,
+    shared: Arc<Shared<T, R, A>, A>,
+) -> Result<Option<Sender<T, R, A>>, NoMemory>
+    ensures counted { (reply ≡ Reply.Done) ↔ (result ≡ Ok (Some shared.value.id)) }
+    ensures all_gone { (reply ≡ Reply.NoEnd) ↔ (result ≡ Ok None) }
+    ensures refused { reply ≢ Reply.Done → reply ≢ Reply.NoEnd → IsErr result }
+{
+    match reply {
+        Reply::Done => Ok(Some(Sender::over(shared))),
+        Reply::NoEnd => Ok(None),
+        _ => Err(NoMemory),
     }
 }
 

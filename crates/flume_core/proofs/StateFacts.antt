@@ -21,7 +21,7 @@ use Rattle.flume_core.specs.State.{State, offers_of, bare}
 use Rattle.flume_core.specs.StandsFor.{StandsFor}
 use Rattle.flume_core.specs.StateFacts.{accepted_at, SendersBlockAtCapacity, ReceiversWaitWhileOpen, WokenCoverQueued}
 use Rattle.flume_core.specs.StateFacts.{QueuedAndWaitingAreBounded, ReceiverTicketsApart, SendTicketsApart, BlockedTicketsRise}
-use Rattle.flume_core.specs.StateFacts.{BlockedSendsAreLive, AcceptedBeforeBlocked, EmptyOnceOver, BlockingWokenByClosing}
+use Rattle.flume_core.specs.StateFacts.{BlockedSendsAreLive, AcceptedBeforeBlocked, EmptyOnceOver, BlockingWokenByClosing, ChannelFacts}
 use Rattle.flume_core.proofs.Bare.{bare_waiting, bare_entry}
 use Rattle.flume_model.proofs.Kept.{line_is_open}
 use Rattle.flume_model.proofs.Tickets.{rising_filter}
@@ -164,3 +164,19 @@ module _ {T A S : Type 0} where
         subst₂ IsClosed (sym h.senders_are) (sym h.receivers_are) law.0,
         nil_mapped (λ b. record { message = b.message; ticket = Some b.ticket }) s.blocked (sym (blocked_is h) ∙ law.1),
       )
+
+  -- all of these
+  pub channel_facts : (o : Opening) (log : Log T A) (s : State T S) → StandsFor o log s → ChannelFacts s
+  channel_facts o log s h = record {
+    senders_block_at_capacity = senders_block o log s h;
+    receivers_wait_while_open = receivers_wait o log s h;
+    woken_cover_queued = woken_cover o log s h;
+    queued_and_waiting_are_bounded = queued_bounded o log s h;
+    receiver_tickets_are_apart = receivers_apart o log s h;
+    send_tickets_are_apart = sends_apart o log s h;
+    blocked_tickets_rise = blocked_rise o log s h;
+    blocked_sends_are_live = blocked_live o log s h;
+    accepted_are_before_blocked = accepted_before o log s h;
+    nothing_is_left_once_over = empty_over o log s h;
+    blocking_woken_by_closing = blocking_woken o log s h;
+  }

@@ -71,3 +71,17 @@ module _ {T S : Type 0} where
   abbrev pub BlockingWokenByClosing : State T S → Type 0
   BlockingWokenByClosing s =
       block_woken s.entries ≡ true → IsClosed s.senders s.receivers × (s.blocked ≡ [])
+
+  -- all that holds of a state that some run led to
+  pub record ChannelFacts (s : State T S) : Type 0 where
+    pub senders_block_at_capacity : SendersBlockAtCapacity s
+    pub receivers_wait_while_open : ReceiversWaitWhileOpen s
+    pub woken_cover_queued : WokenCoverQueued s
+    pub queued_and_waiting_are_bounded : QueuedAndWaitingAreBounded s
+    pub receiver_tickets_are_apart : ReceiverTicketsApart s
+    pub send_tickets_are_apart : SendTicketsApart s
+    pub blocked_tickets_rise : BlockedTicketsRise s
+    pub blocked_sends_are_live : BlockedSendsAreLive s
+    pub accepted_are_before_blocked : AcceptedBeforeBlocked s
+    pub nothing_is_left_once_over : EmptyOnceOver s
+    pub blocking_woken_by_closing : BlockingWokenByClosing s

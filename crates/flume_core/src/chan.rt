@@ -91,12 +91,14 @@ impl<T: Drop, S: Drop, A: Allocator + Copy> Chan<T, S, A> {
         }
     }
 
+    #[inline(always)]
     pub(super) fn is_open(&self) -> bool
         ensures open { IsTrue result ↔ IsOpen self.now.senders self.now.receivers }
     {
         self.senders > 0 && self.receivers > 0
     }
 
+    #[inline(always)]
     pub(super) fn has_room(&self) -> bool
         ensures room { IsTrue result ↔ HasRoom self.now.capacity (length self.now.queue) }
     {

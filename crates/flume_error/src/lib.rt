@@ -3,5 +3,3 @@
 
 pub mod error;
 pub mod laws;
-#[cfg(test)]
-mod tests;

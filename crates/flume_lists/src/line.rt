@@ -1,9 +1,9 @@
 //! The line of a channel: its queued messages, and behind them those whose senders block.
-ghost use Rattle.std.specs.Prelude.{◌≡◌, ◌≢◌, ◌+◌, ◌<◌, ◌≤◌, ◌==◌, ◌↔◌, List, [], ◌∷◌, ◌++◌};
+ghost use Rattle.std.specs.Prelude.{◌≡◌, ◌≢◌, ◌+◌, ◌≤◌, ◌==◌, List, [], ◌∷◌, ◌++◌};
 ghost use Rattle.std.specs.Prelude.{length, Some, None};
-ghost use Rattle.std.specs.Prelude.{IsTrue, IfNone, IfSome, IfOk, IfErr, OnOk, OnErr};
+ghost use Rattle.std.specs.Prelude.{IfNone, IfSome, IfOk, IfErr, OnOk, OnErr};
 ghost use Rattle.std.specs.Prelude.{slice_get, option_map};
-ghost use Rattle.std.specs.List.{All, position, slice_range};
+ghost use Rattle.std.specs.List.{All, position};
 ghost use Rattle.flume_lists.specs.Messages.{Admits, Blocked, TakesBack};
 
 use std::alloc::{AllocError, Allocator};
@@ -13,13 +13,14 @@ use std::marker::Model;
 /// The messages of a channel: the queued ones, and behind them those of blocked sends.
 #[derive(Drop)]
 pub struct Line<T, A: Allocator> {
-    // Every message, the front first.
-    entries: VecDeque<LineEntry<T>, A>,
-    // How many entries at the front are queued.
-    queued: usize,
+    // The queued messages, the front first. It has room for the blocked ones too, so that each can
+    // join it with no memory left.
+    queued: VecDeque<T, A>,
+    // The blocked messages, in order.
+    blocked: VecDeque<LineEntry<T>, A>,
 }
 
-// A message, and the ticket of the send that blocked with it, or 0 where none did.
+// A message, and the ticket of the send that blocks with it.
 #[derive(Drop)]
 struct LineEntry<T> {
     ticket: u64,
@@ -27,7 +28,8 @@ struct LineEntry<T> {
 }
 
 impl<T, A: Allocator> Model for Line<T, A> {
-    ghost use Rattle.std.specs.Prelude.{◌≤◌, length};
+    ghost use Rattle.std.specs.Prelude.{◌≤◌, ◌+◌};
+    ghost use Rattle.std.specs.VecDeque.{deque_len, deque_capacity};
     ghost use Rattle.flume_lists.specs.Messages.{Messages, messages_code};
 
     ghost Value = { Messages T };
@@ -36,25 +38,16 @@ impl<T, A: Allocator> Model for Line<T, A> {
 
     ghost use Rattle.flume_lists.specs.LineEntry.{line_of};
 
-    ghost view = { λ s. line_of s.entries.items s.queued };
+    ghost view = { λ s. line_of s.queued.items s.blocked.items };
 
-    ghost invariant = { λ s. s.queued ≤ length s.entries.items };
+    ghost invariant = { λ s. deque_len s.queued + deque_len s.blocked ≤ deque_capacity s.queued };
 }
 
-// How far past `from` the first entry with this ticket is.
-fn place_of<T, A: Allocator>(
-    entries: &VecDeque<LineEntry<T>, A>,
-    from: usize,
-    ticket: u64,
-) -> Option<usize>
-    requires within { from ≤ length entries.now.items }
-    ensures first { result
-        ≡ position (λ e. e.ticket == ticket)
-        (slice_range entries.now.items from (length entries.now.items)) }
+// Where the first entry with this ticket is.
+fn place_of<T, A: Allocator>(entries: &VecDeque<LineEntry<T>, A>, ticket: u64) -> Option<usize>
+    ensures first { result ≡ position (λ e. e.ticket == ticket) entries.now.items }
 {
-    entries
-        .range(from..)
-        .position(|entry| entry.ticket == ticket)
+    entries.iter().position(|entry| entry.ticket == ticket)
 }
 
 impl<T, A: Allocator + Copy> Line<T, A> {
@@ -71,45 +64,41 @@ impl<T, A: Allocator + Copy> Line<T, A> {
         ensures empty { result ≡ record { queued = []; blocked = [] } }
     {
         Line {
-            entries: VecDeque::new(alloc),
-            queued: 0,
+            queued: VecDeque::new(alloc),
+            blocked: VecDeque::new(alloc),
         }
     }
 
     /// How many messages are queued. It reads a count, whatever the length.
+    #[inline(always)]
     pub fn queued_len(&self) -> usize
         ensures len { result ≡ length self.now.queued }
     {
-        self.queued
+        self.queued.len()
     }
 
-    /// How many messages are blocked. It reads two counts, whatever the length.
+    /// How many messages are blocked. It reads a count, whatever the length.
+    #[inline(always)]
     pub fn blocked_len(&self) -> usize
         ensures len { result ≡ length self.now.blocked }
     {
-        self.entries.len() - self.queued
+        self.blocked.len()
     }
 
     /// Queues a message behind the other queued ones, and before the blocked ones. With no memory
-    /// left, the message comes back, and the line stays as it was. No other message is moved where
-    /// none is blocked.
-    #[tactic(auto, using(crate::proofs::LineLemmas::queued_push))]
+    /// left, the message comes back, and the line stays as it was.
+    #[inline(always)]
     pub fn push_queued(&mut self, message: T) -> Result<(), T>
         ensures pushed { OnOk result (self.new
             ≡ record self.old { queued = self.old.queued ++ message ∷ [] }) }
         ensures returned { IfErr result (λ back. back ≡ message) }
         ensures unchanged { OnErr result (self.new ≡ self.old) }
     {
-        match self
-            .entries
-            .insert(self.queued, LineEntry { ticket: 0, message })
-        {
-            Ok(()) => {
-                self.queued += 1;
-                Ok(())
-            }
-            Err(failed) => Err(failed.value.message),
+        if self.queued.reserve(self.blocked.len() + 1).is_err() {
+            return Err(message);
         }
+        self.queued.push_back_reserved(message);
+        Ok(())
     }
 
     /// Puts a message behind all others, as one that blocks under this ticket. With no memory
@@ -121,7 +110,10 @@ impl<T, A: Allocator + Copy> Line<T, A> {
         ensures returned { IfErr result (λ back. back ≡ message) }
         ensures unchanged { OnErr result (self.new ≡ self.old) }
     {
-        match self.entries.push_back(LineEntry { ticket, message }) {
+        if self.queued.reserve(self.blocked.len() + 1).is_err() {
+            return Err(message);
+        }
+        match self.blocked.push_back(LineEntry { ticket, message }) {
             Ok(()) => Ok(()),
             Err(failed) => Err(failed.value.message),
         }
@@ -136,40 +128,33 @@ impl<T, A: Allocator + Copy> Line<T, A> {
         ensures none_blocked { self.old.blocked ≡ [] → result ≡ None }
         ensures unchanged { IfNone result (self.new ≡ self.old) }
     {
-        if self.queued == self.entries.len() {
-            return None;
-        }
-        let entry = self.entries.pop_back()?;
+        let entry = self.blocked.pop_back()?;
         Some(entry.message)
     }
 
     /// Lets the first blocked message into the queue, behind all queued ones, and returns its
     /// ticket. `None` where no message is blocked, and then nothing changes. Takes no memory.
-    #[tactic(auto, using(crate::proofs::LineLemmas::admits_next))]
+    #[inline(always)]
     pub fn admit(&mut self) -> Option<u64>
         ensures admitted { IfSome result (λ ticket. Admits self.old self.new ticket) }
         ensures none_blocked { IfNone result (self.old.blocked ≡ []) }
         ensures unchanged { IfNone result (self.new ≡ self.old) }
     {
-        let ticket = self.entries.get(self.queued)?.ticket;
-        self.queued += 1;
-        Some(ticket)
+        let entry = self.blocked.pop_front()?;
+        self.queued.push_back_reserved(entry.message);
+        Some(entry.ticket)
     }
 
     /// Takes the message at the front of the queue. `None` where none is queued, though some may be
     /// blocked, and then nothing changes. Takes no memory.
+    #[inline(always)]
     pub fn take_queued(&mut self) -> Option<T>
         ensures taken { IfSome result (λ m.
             self.old ≡ record self.new { queued = m ∷ self.new.queued }) }
         ensures none_queued { IfNone result (self.old.queued ≡ []) }
         ensures unchanged { IfNone result (self.new ≡ self.old) }
     {
-        if self.queued == 0 {
-            return None;
-        }
-        let entry = self.entries.pop_front()?;
-        self.queued -= 1;
-        Some(entry.message)
+        self.queued.pop_front()
     }
 
     /// Takes all queued messages, the front first, and leaves the blocked ones. With no memory left
@@ -182,7 +167,7 @@ impl<T, A: Allocator + Copy> Line<T, A> {
         ensures none_queued { OnErr result (self.old.queued ≢ []) }
         ensures unchanged { OnErr result (self.new ≡ self.old) }
     {
-        let mut list = Vec::with_capacity(*self.entries.allocator(), self.queued)?;
+        let mut list = Vec::with_capacity(*self.queued.allocator(), self.queued.len())?;
         while let Some(message) = self.take_queued() {
             list.push_reserved(message);
         }
@@ -194,10 +179,7 @@ impl<T, A: Allocator + Copy> Line<T, A> {
     pub fn ticket_at(&self, place: usize) -> Option<u64>
         ensures ticket { result ≡ option_map (λ b. b.ticket) (slice_get self.now.blocked place) }
     {
-        if self.entries.len() - self.queued <= place {
-            return None;
-        }
-        Some(self.entries[self.queued + place].ticket)
+        Some(self.blocked.get(place)?.ticket)
     }
 
     /// Takes out the first blocked message with this ticket. The others keep their order. `None`
@@ -209,8 +191,8 @@ impl<T, A: Allocator + Copy> Line<T, A> {
         ensures absent { IfNone result (All (λ b. b.ticket ≢ ticket) self.old.blocked) }
         ensures unchanged { IfNone result (self.new ≡ self.old) }
     {
-        let place = place_of(&self.entries, self.queued, ticket)?;
-        let entry = self.entries.remove(self.queued + place)?;
+        let place = place_of(&self.blocked, ticket)?;
+        let entry = self.blocked.remove(place)?;
         Some(entry.message)
     }
 
@@ -220,7 +202,7 @@ impl<T, A: Allocator + Copy> Line<T, A> {
         T: Drop,
         ensures empty { self.new ≡ record { queued = []; blocked = [] } }
     {
-        self.entries.clear();
-        self.queued = 0;
+        self.queued.clear();
+        self.blocked.clear();
     }
 }

@@ -117,6 +117,7 @@ impl<S: Drop, A: Allocator + Clone> Sends<S, A> {
     /// The message of a live ticket was taken into the queue: the ticket is accepted, and due.
     /// Nothing changes where the ticket isn't live. Takes no memory.
     #[tactic(auto, using(crate::proofs::SendsLemmas::not_written))]
+    #[inline(never)]
     pub fn accept(&mut self, ticket: u64)
         ensures accepted { self.new ≡ changed self.old ticket accepted_now }
     {
@@ -146,6 +147,14 @@ impl<S: Drop, A: Allocator + Clone> Sends<S, A> {
         ensures spent { self.new ≡ remove self.old ticket }
     {
         self.table.remove(&ticket);
+    }
+
+    /// Whether some ticket may be due. It reads a flag, whatever the length.
+    #[inline(always)]
+    pub fn may_be_due(&self) -> bool
+        ensures none { result ≡ false → NoneDue self.now }
+    {
+        self.some_due
     }
 
     /// A live ticket that was due, and now isn't: it is named once. `None` where none is due, and
@@ -190,42 +199,5 @@ impl<S: Drop, A: Allocator + Clone> Sends<S, A> {
     {
         self.table.clear();
         self.some_due = false;
-    }
-}
-
-#[cfg(test)]
-mod tests {
-    use super::*;
-    use std::test::Fail;
-
-    #[test]
-    fn follows_two_sends_to_their_ends(rt: HostRuntime) -> Result<(), Fail> {
-        let mut sends = Sends::new(rt.alloc());
-        assert_eq!(rt; sends.accepted(7), None);
-        assert_eq!(rt; sends.next_due(), None);
-        sends.block(7, 70u32)?;
-        sends.block(8, 80)?;
-        assert_eq!(rt; sends.accepted(7), Some(false));
-        assert_eq!(rt; sends.signal(8).copied(), Some(80));
-        sends.set_signal(8, 81);
-        sends.set_signal(9, 90);
-        assert_eq!(rt; sends.signal(8).copied(), Some(81));
-        assert_eq!(rt; sends.next_due(), None);
-        sends.accept(8);
-        sends.mark_due(7);
-        sends.mark_due(9);
-        assert_eq!(rt; sends.accepted(8), Some(true));
-        assert_eq!(rt; sends.accepted(7), Some(false));
-        assert_eq!(rt; sends.next_due(), Some(7));
-        assert_eq!(rt; sends.next_due(), Some(8));
-        assert_eq!(rt; sends.next_due(), None);
-        sends.spend(8);
-        assert_eq!(rt; sends.accepted(8), None);
-        assert_eq!(rt; sends.signal(7).copied(), Some(70));
-        sends.mark_due(7);
-        sends.clear();
-        assert_eq!(rt; sends.accepted(7), None);
-        assert_eq!(rt; sends.next_due(), None);
-        Ok(())
     }
 }

@@ -6,8 +6,8 @@ ghost use Rattle.flume_script.specs.Script.{IsScript, wrong_text};
 ghost use Rattle.std.specs.Prelude.{IfOk, ◌≡◌, ℕ, List};
 ghost use Rattle.std.specs.Str.Lines.{lines};
 
-mod reading;
-mod writing;
+pub mod reading;
+pub mod writing;
 
 use flume_core::chan::Chan;
 use flume_core::error::NoMemory;
@@ -71,6 +71,3 @@ fn answer<A: Allocator + Copy>(
     let text = write_replies(alloc, &replies)?;
     Ok(Script { text, status: 0 })
 }
-
-#[cfg(test)]
-mod tests;

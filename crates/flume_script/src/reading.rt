@@ -16,14 +16,17 @@ use std::str;
 
 /// A script as it was read.
 #[derive(Drop)]
-pub(super) enum Reading<A: Allocator> {
+pub enum Reading<A: Allocator> {
     /// Every line is right.
     Right {
+        /// How many messages the channel is to hold: none of an unbounded one.
         capacity: Option<usize>,
+        /// The steps, in the order of their lines.
         steps: Vec<Step<u64>, A>,
     },
-    /// The first wrong line, counted from 1.
+    /// Some line is wrong.
     Wrong {
+        /// The first wrong line, counted from 1.
         line: usize,
     },
 }
@@ -183,11 +186,14 @@ fn read_steps<A: Allocator + Copy>(
     Ok(Ok(steps))
 }
 
-/// Reads a script of steps.
-pub(super) fn read_script<A: Allocator + Copy>(
-    alloc: A,
-    input: &[u8],
-) -> Result<Reading<A>, NoMemory>
+/// Reads a script of steps, up to its first wrong line. `NoMemory`: the steps found no room. Linear
+/// in the length of the input.
+///
+/// ```
+/// read_script(alloc, b"bounded 7\nlen\n")?       // Right { capacity: Some(7), steps: [Len] }
+/// read_script(alloc, b"bounded 7\nlen\n\n")?     // Wrong { line: 3 }
+/// ```
+pub fn read_script<A: Allocator + Copy>(alloc: A, input: &[u8]) -> Result<Reading<A>, NoMemory>
     ensures value { IfOk result (λ reading. IsReading input.now reading) }
 {
     let Some((first, rest)) = next_line(input) else {

@@ -149,9 +149,14 @@ fn write_reply<A: Allocator>(text: &mut String<A>, reply: &Reply<u64, A>) -> Res
     Ok(())
 }
 
-/// The texts of the replies, each on a line.
+/// The texts of the replies, each on a line. `NoMemory`: the text found no room. Linear in the
+/// length of the text.
+///
+/// ```
+/// write_replies(alloc, &[Reply::Got(12), Reply::Empty])?     // "got 12\nempty\n"
+/// ```
 #[tactic(auto, using(crate::proofs::ScriptReplies::reply_texts_more))]
-pub(super) fn write_replies<A: Allocator + Copy>(
+pub fn write_replies<A: Allocator + Copy>(
     alloc: A,
     replies: &[Reply<u64, A>],
 ) -> Result<Vec<u8, A>, NoMemory>
@@ -164,11 +169,8 @@ pub(super) fn write_replies<A: Allocator + Copy>(
     Ok(text.into_bytes())
 }
 
-/// What is printed of a script whose first wrong line is this.
-pub(super) fn write_wrong<A: Allocator + Copy>(
-    alloc: A,
-    line: usize,
-) -> Result<Vec<u8, A>, NoMemory>
+/// What is printed of a script whose first wrong line is this. `NoMemory`: the text found no room.
+pub fn write_wrong<A: Allocator + Copy>(alloc: A, line: usize) -> Result<Vec<u8, A>, NoMemory>
     ensures value { IfOk result (λ bytes. bytes.items ≡ wrong_text line) }
 {
     let mut text = String::new(alloc);

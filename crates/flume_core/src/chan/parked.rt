@@ -135,6 +135,7 @@ impl<T: Drop, S: Drop, A: Allocator + Copy> Chan<T, S, A> {
     }
 
     // A wake round, and the ticket that it filled, if it filled one.
+    #[inline(always)]
     pub(super) fn wake(&mut self) -> Option<u64>
         ensures fills { result ≡ round_for_fills self.old.queue self.old.entries }
         ensures rounded { self.new ≡ rounded self.old }

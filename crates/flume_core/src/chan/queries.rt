@@ -1,5 +1,5 @@
 //! The queries, each a step that changes nothing, and what is due.
-ghost use Rattle.std.specs.Prelude.{◌≡◌, ◌==◌, ◌∷◌, length, IfNone, IfSome, true};
+ghost use Rattle.std.specs.Prelude.{◌≡◌, ◌==◌, ◌∷◌, length, IfNone, IfSome, true, false};
 ghost use Rattle.std.specs.Option.{option_copied};
 ghost use Rattle.flume_model.specs.Log.{Log, Opening};
 ghost use Rattle.flume_model.specs.Limits.{is_closed, is_full};
@@ -78,6 +78,19 @@ impl<T: Drop, S: Drop, A: Allocator + Copy> Chan<T, S, A> {
         Reply::Truth(!self.is_open())
     }
 
+    /// Whether some ticket may be due: false only where `next_due` has none to name. It reads two
+    /// flags, whatever is parked.
+    ///
+    /// ```
+    /// chan.may_be_due();                 // false of a channel where nobody parked
+    /// ```
+    #[inline(always)]
+    pub fn may_be_due(&self) -> bool
+        ensures none { result ≡ false → NoneDue self.now.sends × NoneDueIn self.now.entries }
+    {
+        self.sends.may_be_due() || self.entries.may_be_due()
+    }
+
     /// A ticket that is due: its send was accepted, or found blocked by the step that closed the
     /// channel, or its receiver was woken or filled, and it wasn't named since. It isn't due then;
     /// all else is as it was. `None` exactly where no ticket is due. No step of its own, and no
@@ -96,6 +109,7 @@ impl<T: Drop, S: Drop, A: Allocator + Copy> Chan<T, S, A> {
     }
 
     /// The signal that the live ticket left last, or `None` where the ticket isn't live. No memory.
+    #[inline(never)]
     pub fn signal(&self, ticket: u64) -> Option<&S>
         ensures signal { option_copied result ≡ signal_of self.now ticket }
     {

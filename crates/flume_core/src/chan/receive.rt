@@ -23,6 +23,7 @@ impl<T: Drop, S: Drop, A: Allocator + Copy> Chan<T, S, A> {
     /// chan.try_recv();                   // Got(42)
     /// chan.try_recv();                   // Empty
     /// ```
+    #[inline(always)]
     pub fn try_recv(&mut self) -> Reply<T, A>
         ensures step { (opening : Opening) (log : Log T A) → StandsFor opening log self.old
             → StandsFor opening ((Step.TryRecv, result) ∷ log) self.new }
@@ -119,6 +120,7 @@ impl<T: Drop, S: Drop, A: Allocator + Copy> Chan<T, S, A> {
 
     // Hands out the message at the front. It takes no memory: a blocked message stands in the line
     // already, and moves in where it stands.
+    #[inline(always)]
     pub(super) fn take_front(&mut self) -> Option<T>
         ensures some { IfSome result (λ message. (rest : List T)
             × ((fronted self.old).queue ≡ message ∷ rest)
@@ -133,6 +135,7 @@ impl<T: Drop, S: Drop, A: Allocator + Copy> Chan<T, S, A> {
     }
 
     // Where nothing is queued, the first blocked message is the front.
+    #[inline(always)]
     fn bring_to_front(&mut self)
         ensures fronted { self.new ≡ fronted self.old }
     {
@@ -142,6 +145,7 @@ impl<T: Drop, S: Drop, A: Allocator + Copy> Chan<T, S, A> {
     }
 
     // Where the queue has room, the first blocked message moves in.
+    #[inline(always)]
     fn refill(&mut self)
         ensures refilled { self.new ≡ refilled self.old }
     {
@@ -151,6 +155,7 @@ impl<T: Drop, S: Drop, A: Allocator + Copy> Chan<T, S, A> {
     }
 
     // Lets the first blocked message into the queue, and its sender is to be told.
+    #[inline(always)]
     fn admit(&mut self)
         ensures admitted { self.new ≡ admitted self.old }
     {

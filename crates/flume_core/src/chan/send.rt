@@ -29,6 +29,7 @@ impl<T: Drop, S: Drop, A: Allocator + Copy> Chan<T, S, A> {
     /// chan.drop_receiver();              // Done
     /// chan.try_send(8);                  // Closed(8)
     /// ```
+    #[inline(always)]
     pub fn try_send(&mut self, message: T) -> Reply<T, A>
         ensures step { (opening : Opening) (log : Log T A) → StandsFor opening log self.old
             → StandsFor opening ((Step.TrySend message, result) ∷ log) self.new }

@@ -1,12 +1,15 @@
 //! What holds of each channel that some run led to. These functions change nothing: each contract
-//! is a fact of the state.
+//! is a fact of the state, and that of the last is all of them.
+ghost use Rattle.flume_model.specs.Log.{Log, Opening};
+ghost use Rattle.flume_core.specs.StandsFor.{StandsFor};
 ghost use Rattle.flume_core.specs.StateFacts.{SendersBlockAtCapacity, ReceiversWaitWhileOpen};
 ghost use Rattle.flume_core.specs.StateFacts.{WokenCoverQueued, QueuedAndWaitingAreBounded};
 ghost use Rattle.flume_core.specs.StateFacts.{ReceiverTicketsApart, SendTicketsApart};
 ghost use Rattle.flume_core.specs.StateFacts.{BlockedTicketsRise, BlockedSendsAreLive};
 ghost use Rattle.flume_core.specs.StateFacts.{AcceptedBeforeBlocked, EmptyOnceOver};
-ghost use Rattle.flume_core.specs.StateFacts.{BlockingWokenByClosing};
+ghost use Rattle.flume_core.specs.StateFacts.{BlockingWokenByClosing, ChannelFacts};
 
+use crate::chan::Chan;
 use crate::reached::Reached;
 use std::alloc::Allocator;
 
@@ -90,3 +93,14 @@ pub fn blocking_receivers_are_woken_only_by_closing<T, S, A: Allocator>(reached:
 {
     let _ = &reached.chan;
 }
+
+/// All of these facts, for a caller who holds a `Chan`: they hold where some log led to its state.
+///
+/// ```
+/// chan.send(7, signal);
+/// facts_of_channel(&chan);
+/// ```
+pub fn facts_of_channel<T, S, A: Allocator>(chan: &Chan<T, S, A>)
+    ensures facts { (opening : Opening) (log : Log T A)
+        → StandsFor opening log chan.now → ChannelFacts chan.now }
+{}

@@ -1,0 +1,108 @@
+//! What the program is asked to time.
+use std::time::Duration;
+
+/// What one run does.
+#[derive(Clone, Copy, PartialEq, Eq, Debug)]
+pub enum Shape {
+    Seq,
+    Spsc,
+    Mpsc,
+    Mpmc,
+    Oneshot,
+    Inout,
+    TryPair,
+    TryEmpty,
+    TryFull,
+}
+
+impl Shape {
+    fn read(word: &str) -> Option<Shape> {
+        match word {
+            "seq" => Some(Shape::Seq),
+            "spsc" => Some(Shape::Spsc),
+            "mpsc" => Some(Shape::Mpsc),
+            "mpmc" => Some(Shape::Mpmc),
+            "oneshot" => Some(Shape::Oneshot),
+            "inout" => Some(Shape::Inout),
+            "try_pair" => Some(Shape::TryPair),
+            "try_empty" => Some(Shape::TryEmpty),
+            "try_full" => Some(Shape::TryFull),
+            _ => None,
+        }
+    }
+}
+
+/// The capacity of the channel.
+#[derive(Clone, Copy, PartialEq, Eq, Debug)]
+pub enum Capacity {
+    Unbounded,
+    /// As many as there are messages.
+    Big,
+    Of(usize),
+}
+
+impl Capacity {
+    fn read(word: &str) -> Option<Capacity> {
+        match word {
+            "unbounded" => Some(Capacity::Unbounded),
+            "big" => Some(Capacity::Big),
+            _ => Some(Capacity::Of(word.parse().ok()?)),
+        }
+    }
+
+    /// The number, `None` of an unbounded channel.
+    pub fn of_messages(self, messages: usize) -> Option<usize> {
+        match self {
+            Capacity::Unbounded => None,
+            Capacity::Big => Some(messages),
+            Capacity::Of(capacity) => Some(capacity),
+        }
+    }
+}
+
+/// What the program is asked to time.
+#[derive(Clone, Copy, PartialEq, Eq, Debug)]
+pub struct Arguments {
+    pub shape: Shape,
+    pub capacity: Capacity,
+    pub messages: usize,
+    pub rounds: usize,
+}
+
+impl Arguments {
+    /// Reads `SHAPE CAPACITY MESSAGES [ROUNDS]`. `None` where the words are no such thing.
+    pub fn read(words: &[String]) -> Option<Arguments> {
+        let (shape, capacity, messages, rounds) = match words {
+            [shape, capacity, messages] => (shape, capacity, messages, None),
+            [shape, capacity, messages, rounds] => (shape, capacity, messages, Some(rounds)),
+            _ => return None,
+        };
+        Some(Arguments {
+            shape: Shape::read(shape.as_str())?,
+            capacity: Capacity::read(capacity.as_str())?,
+            messages: messages.as_str().parse().ok()?,
+            rounds: match rounds {
+                Some(rounds) => rounds.as_str().parse().ok()?,
+                None => 1,
+            },
+        })
+    }
+
+    /// Whether the shape can be had at this capacity, without waiting for ever.
+    pub fn can_be_timed(&self) -> bool {
+        match self.shape {
+            Shape::Seq => !matches!(self.capacity, Capacity::Of(_)),
+            Shape::TryFull => matches!(self.capacity, Capacity::Of(_)),
+            Shape::Oneshot | Shape::Inout | Shape::TryPair => self.capacity != Capacity::Of(0),
+            Shape::Spsc | Shape::Mpsc | Shape::Mpmc | Shape::TryEmpty => true,
+        }
+    }
+
+    /// The time that one message takes, where all take this time, in hundredths of a nanosecond.
+    pub fn hundredths_a_message(&self, time: Duration) -> u128 {
+        time.as_nanos().saturating_mul(100) / (self.messages.max(1) as u128)
+    }
+}
+
+#[cfg(test)]
+mod tests;

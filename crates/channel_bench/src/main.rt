@@ -1,0 +1,71 @@
+//! Times a channel in one shape, and prints nanoseconds a message.
+#![tactic(auto)]
+
+mod arguments;
+mod bench;
+mod one_thread;
+mod threads;
+
+use crate::arguments::Arguments;
+use crate::bench::{Bench, Fault};
+use std::process::ExitCode;
+use std::time::Duration;
+use std::{env, io};
+
+const USAGE: &str = "channel_bench SHAPE CAPACITY MESSAGES [ROUNDS]
+
+Prints how many nanoseconds a message takes, in the least of ROUNDS runs (1 where none are given).
+
+CAPACITY   unbounded, big (as many as there are messages), or a number
+
+SHAPE
+seq        one thread sends all, and then receives all; not at a number
+spsc       one thread sends, one receives
+mpsc       four threads send, one receives
+mpmc       four threads send, four receive
+oneshot    a channel made, one message sent and received, both ends dropped; not at 0
+inout      one message sent and received, again and again, by one thread; not at 0
+try_pair   the same by try_send and try_recv; not at 0
+try_empty  try_recv of an empty channel
+try_full   try_send into a full channel; only at a number";
+
+fn main(rt: HostRuntime) -> io::Result<ExitCode> {
+    let mut words = Vec::new(rt.alloc());
+    for word in env::args(&rt)?.skip(1) {
+        words.push(word)?;
+    }
+    if words.is_empty() {
+        println!(rt; "{USAGE}")?;
+        return Ok(ExitCode::SUCCESS);
+    }
+    let Some(arguments) = Arguments::read(&words) else {
+        eprintln!(rt; "{USAGE}")?;
+        return Ok(ExitCode::from(2));
+    };
+    if !arguments.can_be_timed() {
+        eprintln!(rt; "this shape can't be had at this capacity")?;
+        return Ok(ExitCode::from(3));
+    }
+    let bench = Bench::new(rt, rt.alloc(), &arguments);
+    let least = bench.least(arguments.shape, arguments.rounds);
+    print_time(&rt, &arguments, least)
+}
+
+/// Prints how long a message takes, where the least run took this time, or what went wrong.
+fn print_time(
+    rt: &HostRuntime,
+    arguments: &Arguments,
+    least: Result<Duration, Fault>,
+) -> io::Result<ExitCode> {
+    match least {
+        Ok(time) => {
+            let hundredths = arguments.hundredths_a_message(time);
+            println!(rt; "{}.{:02}", hundredths / 100, hundredths % 100)?;
+            Ok(ExitCode::SUCCESS)
+        }
+        Err(fault) => {
+            eprintln!(rt; "{fault}")?;
+            Ok(ExitCode::FAILURE)
+        }
+    }
+}

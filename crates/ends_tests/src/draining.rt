@@ -1,0 +1,94 @@
+//! Drains at the ends.
+use flume::{bounded, unbounded};
+use flume_core::error::{SendTimeoutError, TrySendError};
+use std::test::Fail;
+use std::thread;
+use std::time::Duration;
+
+#[test]
+fn a_drain_takes_no_message_that_timed_out(rt: HostRuntime) -> Result<(), Fail> {
+    let (tx, rx) = bounded::<u64, _, _>(rt, rt.alloc(), 1, 1)?;
+    let timeout = Duration::from_millis(350);
+    assert!(rt; tx.send_timeout(42, timeout).is_ok());
+    assert!(rt;
+        matches!(
+            tx.send_timeout(43, timeout),
+            Err(SendTimeoutError::Timeout(43))
+        )
+    );
+    assert_eq!(rt; rx.drain()?.len(), 1);
+    drop(rx);
+    assert!(rt;
+        matches!(
+            tx.send_timeout(42, timeout),
+            Err(SendTimeoutError::Disconnected(42))
+        )
+    );
+    Ok(())
+}
+
+#[test]
+fn a_drain_gives_all_that_was_queued(rt: HostRuntime) -> Result<(), Fail> {
+    let (tx, rx) = unbounded::<u64, _, _>(rt, rt.alloc(), 1)?;
+    for message in 0..100 {
+        assert!(rt; tx.send(message).is_ok());
+    }
+    let mut sum = 0u64;
+    for message in rx.drain()? {
+        sum = sum.saturating_add(message);
+    }
+    assert_eq!(rt; sum, 4950);
+    assert_eq!(rt; rx.len(), 0);
+    Ok(())
+}
+
+#[test]
+fn a_drain_knows_how_many_are_left(rt: HostRuntime) -> Result<(), Fail> {
+    let (tx, rx) = unbounded::<u64, _, _>(rt, rt.alloc(), 1)?;
+    for message in 1..4 {
+        assert!(rt; tx.send(message).is_ok());
+    }
+    let mut drain = rx.drain()?;
+    for (left, message) in [(3, 1), (2, 2), (1, 3)] {
+        assert_eq!(rt; drain.len(), left);
+        assert_eq!(rt; drain.next(), Some(message));
+    }
+    assert_eq!(rt; drain.next(), None);
+    assert_eq!(rt; rx.len(), 0);
+    Ok(())
+}
+
+#[test]
+fn a_drain_shows_what_is_left_of_it(rt: HostRuntime) -> Result<(), Fail> {
+    let (tx, rx) = unbounded::<u64, _, _>(rt, rt.alloc(), 1)?;
+    for message in 0..3 {
+        assert!(rt; tx.send(message).is_ok());
+    }
+    let mut drain = rx.drain()?;
+    assert_eq!(rt; drain.next(), Some(0));
+    assert_eq!(rt; drain.size_hint(), (2, Some(2)));
+    let shown = format!(in rt.alloc(); "{drain:?}")?;
+    assert_eq!(rt; shown.as_str(), "Drain { queue: [1, 2] }");
+    Ok(())
+}
+
+#[test]
+fn no_send_passes_one_that_a_drain_let_in(rt: HostRuntime) -> Result<(), Fail> {
+    let (tx, rx) = bounded::<u64, _, _>(rt, rt.alloc(), 1, 1)?;
+    assert!(rt; tx.send(1).is_ok());
+    let other = tx.clone()?;
+    let sender = thread::spawn(&rt, move || other.send(2).is_ok())?;
+    let mut drain = rx.drain()?;
+    assert_eq!(rt; (drain.next(), drain.next()), (Some(1), None));
+    // Whether it was blocked as the drain came or sent after it, the thread's message moves in.
+    for _ in rt.forever() {
+        if rx.len() == 1 {
+            break;
+        }
+        thread::yield_now();
+    }
+    assert!(rt; matches!(tx.try_send(3), Err(TrySendError::Full(3))));
+    assert_eq!(rt; rx.recv(), Ok(2));
+    assert!(rt; sender.join(&rt));
+    Ok(())
+}

@@ -1,0 +1,109 @@
+//! Threads that receive from one channel and send into another.
+use flume::{Receiver, Sender, Waits, bounded, unbounded};
+use flume_core::error::RecvError;
+use std::process::Abort;
+use std::test::Fail;
+use std::thread;
+use std::thread::{JoinHandle, Threads};
+
+// How many threads forward.
+const FORWARDERS: usize = 8;
+
+// What a thread's last receive answers; or the message that it couldn't send on.
+type Ending = Result<u64, RecvError>;
+
+type Forwarders = Vec<JoinHandle<Ending>>;
+
+// Sends on what it receives, until a call fails.
+fn forward<R: Waits>(rt: &R, rx: &Receiver<u64, R>, tx: &Sender<u64, R>) -> Ending {
+    for _ in rt.forever() {
+        let message = rx.recv()?;
+        if tx.send(message).is_err() {
+            return Ok(message);
+        }
+    }
+    unreachable!()
+}
+
+// Starts eight threads that forward from the one channel into the other.
+fn start_fan<R>(rt: R, rx: Receiver<u64, R>, tx: Sender<u64, R>) -> Result<Forwarders, Fail>
+where
+    R: Waits + AllocGlobal + Threads + Send + Sync + 'static,
+{
+    let mut forwarders = Vec::new(rt.alloc());
+    for _ in 0..FORWARDERS {
+        let (rx, tx) = (rx.clone()?, tx.clone()?);
+        forwarders.push(thread::spawn(&rt, move || forward(&rt, &rx, &tx))?)?;
+    }
+    Ok(forwarders)
+}
+
+// Starts eight threads, of which each receives what the one before it sends. Answers the receiver
+// at the end of the chain too.
+fn start_chain<R>(rt: R, mut rx: Receiver<u64, R>) -> Result<(Forwarders, Receiver<u64, R>), Fail>
+where
+    R: Waits + AllocGlobal + Threads + Send + Sync + 'static,
+{
+    let mut forwarders = Vec::new(rt.alloc());
+    for _ in 0..FORWARDERS {
+        let (tx, next) = bounded::<u64, _, _>(rt, rt.alloc(), 1, 4)?;
+        forwarders.push(thread::spawn(&rt, move || forward(&rt, &rx, &tx))?)?;
+        rx = next;
+    }
+    Ok((forwarders, rx))
+}
+
+// Joins threads that forward. Each has ended as its senders went.
+fn join_all<R: Threads + Abort>(rt: &R, forwarders: Forwarders) {
+    for forwarder in forwarders {
+        assert_eq!(rt; forwarder.join(rt), Err(RecvError::Disconnected));
+    }
+}
+
+// Sends 0 to 99.
+fn send_hundred<R: Waits>(tx: &Sender<u64, R>) {
+    for message in 0..100 {
+        let _ = tx.send(message);
+    }
+}
+
+// The count and the sum of what a hundred receives give.
+fn count_and_sum<R: Waits>(rx: &Receiver<u64, R>) -> (u64, u64) {
+    let (mut count, mut sum) = (0u64, 0u64);
+    for _ in 0..100 {
+        if let Ok(message) = rx.recv() {
+            count = count.wrapping_add(1);
+            sum = sum.wrapping_add(message);
+        }
+    }
+    (count, sum)
+}
+
+#[test]
+fn eight_threads_forward_from_one_channel_into_another(rt: HostRuntime) -> Result<(), Fail> {
+    let (tx, first) = unbounded::<u64, _, _>(rt, rt.alloc(), 1)?;
+    let (second, rx) = unbounded::<u64, _, _>(rt, rt.alloc(), 2)?;
+    let forwarders = start_fan(rt, first, second)?;
+    for _ in 0..3 {
+        send_hundred(&tx);
+        assert_eq!(rt; count_and_sum(&rx), (100, 4950));
+    }
+    drop(tx);
+    assert_eq!(rt; rx.recv(), Err(RecvError::Disconnected));
+    join_all(&rt, forwarders);
+    Ok(())
+}
+
+#[test]
+fn a_chain_of_eight_keeps_the_order(rt: HostRuntime) -> Result<(), Fail> {
+    let (tx, first) = bounded::<u64, _, _>(rt, rt.alloc(), 1, 4)?;
+    let (forwarders, last) = start_chain(rt, first)?;
+    let sender = thread::spawn(&rt, move || send_hundred(&tx))?;
+    for message in 0..100 {
+        assert_eq!(rt; last.recv(), Ok(message));
+    }
+    assert_eq!(rt; last.recv(), Err(RecvError::Disconnected));
+    sender.join(&rt);
+    join_all(&rt, forwarders);
+    Ok(())
+}

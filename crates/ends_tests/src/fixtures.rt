@@ -1,0 +1,26 @@
+//! What several tests use: channels of any capacity, a message, and a long time.
+use flume::error::NoMemory;
+use flume::{Receiver, Sender, Waits, bounded, unbounded};
+use std::alloc::Global;
+use std::time::Duration;
+
+/// A message that can't be copied.
+#[derive(Debug, PartialEq, Eq, Drop)]
+pub(crate) struct Parcel(pub(crate) u64);
+
+/// The ends of a new channel of this capacity: `None` is unbounded.
+pub(crate) fn opened<T: Drop, R: Waits>(
+    rt: R,
+    alloc: Global,
+    capacity: Option<usize>,
+) -> Result<(Sender<T, R>, Receiver<T, R>), NoMemory> {
+    match capacity {
+        Some(capacity) => bounded(rt, alloc, 1, capacity),
+        None => unbounded(rt, alloc, 1),
+    }
+}
+
+/// So long that no test waits for its end.
+pub(crate) fn long() -> Duration {
+    Duration::from_secs(3600)
+}

@@ -1,0 +1,82 @@
+//! What becomes of a message as one side goes: it comes back, or it is still received.
+use crate::fixtures::{Parcel, long, opened};
+use flume::error::{
+    RecvError, RecvTimeoutError, SendError, SendTimeoutError, TryRecvError, TrySendError,
+};
+use flume::{Receiver, Sender, Waits};
+use std::process::Abort;
+use std::test::Fail;
+use std::thread;
+use std::time::Instant;
+
+// Sends 1, 2 and 3.
+fn send_three<R: Waits + Abort>(rt: R, tx: &Sender<Parcel, R>) {
+    for number in 1..=3 {
+        assert!(rt; tx.send(Parcel(number)).is_ok());
+    }
+}
+
+#[test]
+fn each_send_hands_its_message_back_once_the_receivers_are_gone(
+    rt: HostRuntime,
+) -> Result<(), Fail> {
+    let now = Instant::now(&rt)?;
+    for capacity in [None, Some(100)] {
+        let (tx, rx) = opened(rt, rt.alloc(), capacity)?;
+        send_three(rt, &tx);
+        drop(rx);
+        assert_eq!(rt; tx.send(Parcel(4)), Err(SendError::Disconnected(Parcel(4))));
+        assert_eq!(rt;
+            tx.try_send(Parcel(5)),
+            Err(TrySendError::Disconnected(Parcel(5)))
+        );
+        let timed = tx.send_timeout(Parcel(6), long());
+        assert_eq!(rt; timed, Err(SendTimeoutError::Disconnected(Parcel(6))));
+        let timed = tx.send_deadline(Parcel(7), now);
+        assert_eq!(rt; timed, Err(SendTimeoutError::Disconnected(Parcel(7))));
+        assert_eq!(rt; tx.len(), 3);
+    }
+    Ok(())
+}
+
+#[test]
+fn each_receive_takes_what_the_senders_left_and_then_ends(rt: HostRuntime) -> Result<(), Fail> {
+    let (tx, rx) = opened(rt, rt.alloc(), None)?;
+    send_three(rt, &tx);
+    assert!(rt; tx.send(Parcel(4)).is_ok());
+    drop(tx);
+    let now = Instant::now(&rt)?;
+    assert_eq!(rt; rx.try_recv(), Ok(Parcel(1)));
+    assert_eq!(rt; rx.recv(), Ok(Parcel(2)));
+    assert_eq!(rt; rx.recv_timeout(long()), Ok(Parcel(3)));
+    assert_eq!(rt; rx.recv_deadline(now), Ok(Parcel(4)));
+    assert_eq!(rt; rx.try_recv(), Err(TryRecvError::Disconnected));
+    assert_eq!(rt; rx.recv(), Err(RecvError::Disconnected));
+    assert_eq!(rt;
+        rx.recv_timeout(long()),
+        Err(RecvTimeoutError::Disconnected)
+    );
+    assert_eq!(rt; rx.recv_deadline(now), Err(RecvTimeoutError::Disconnected));
+    Ok(())
+}
+
+// Tries until a message is there.
+fn tried_until_one_comes<R: Waits>(rt: &R, rx: &Receiver<Parcel, R>) -> Parcel {
+    for _ in rt.forever() {
+        if let Ok(message) = rx.try_recv() {
+            return message;
+        }
+        thread::yield_now();
+    }
+    unreachable!()
+}
+
+#[test]
+fn a_tried_receive_takes_a_blocked_send(rt: HostRuntime) -> Result<(), Fail> {
+    let (tx, rx) = opened(rt, rt.alloc(), Some(0))?;
+    let sender = thread::spawn(&rt, move || tx.send(Parcel(1)).is_ok())?;
+    assert_eq!(rt; tried_until_one_comes(&rt, &rx), Parcel(1));
+    assert!(rt; sender.join(&rt));
+    assert_eq!(rt; rx.try_recv(), Err(TryRecvError::Disconnected));
+    Ok(())
+}

@@ -1,0 +1,183 @@
+//! Messages that hold an end of another channel.
+use crate::fixtures::opened;
+use flume::{Receiver, Sender, Waits, WeakSender};
+use flume_core::error::{NoMemory, RecvError, SendError, TryRecvError, TrySendError};
+use std::process::Abort;
+use std::test::Fail;
+use std::thread;
+
+// A question, and the sender for its answer.
+#[derive(Drop)]
+struct Request<R: Waits> {
+    number: u64,
+    answer: Sender<u64, R>,
+}
+
+// Answers each request by its double, until all who ask are gone.
+fn serve<R: Waits>(rt: &R, requests: &Receiver<Request<R>, R>) {
+    for _ in rt.forever() {
+        let Ok(request) = requests.recv() else {
+            return;
+        };
+        let _ = request.answer.send(request.number.wrapping_mul(2));
+    }
+}
+
+// Asks for the doubles of 0 to 99, each over a channel of its own. Once it is answered, nothing
+// holds its sender.
+fn ask<R: Waits + AllocGlobal + Abort>(
+    rt: R,
+    requests: &Sender<Request<R>, R>,
+    capacity: Option<usize>,
+) -> Result<(), Fail> {
+    for number in 0..100 {
+        let (answer, rx) = opened(rt, rt.alloc(), capacity)?;
+        assert!(rt; requests.send(Request { number, answer }).is_ok());
+        assert_eq!(rt; rx.recv(), Ok(number * 2));
+        assert_eq!(rt; rx.recv(), Err(RecvError::Disconnected));
+    }
+    Ok(())
+}
+
+#[test]
+fn a_server_answers_through_the_sender_in_a_request(rt: HostRuntime) -> Result<(), Fail> {
+    for capacity in [None, Some(0)] {
+        let (requests, rx) = opened(rt, rt.alloc(), capacity)?;
+        let server = thread::spawn(&rt, move || serve(&rt, &rx))?;
+        ask(rt, &requests, capacity)?;
+        drop(requests);
+        server.join(&rt);
+    }
+    Ok(())
+}
+
+// The ends of one channel.
+type Ends<T, R> = (Sender<T, R>, Receiver<T, R>);
+
+// A channel for what holds ends, and one of numbers.
+fn opened_both<T: Drop, R: Waits + AllocGlobal>(
+    rt: R,
+    capacity: Option<usize>,
+) -> Result<(Ends<T, R>, Ends<u64, R>), NoMemory> {
+    Ok((
+        opened(rt, rt.alloc(), capacity)?,
+        opened(rt, rt.alloc(), capacity)?,
+    ))
+}
+
+// Receives a receiver, and what that one receives.
+fn read_inner<R: Waits>(outer: &Receiver<Receiver<u64, R>, R>) -> [Result<u64, RecvError>; 3] {
+    match outer.recv() {
+        Ok(inner) => [inner.recv(), inner.recv(), inner.recv()],
+        Err(error) => [Err(error); 3],
+    }
+}
+
+#[test]
+fn a_receiver_is_received_and_read(rt: HostRuntime) -> Result<(), Fail> {
+    for capacity in [None, Some(0)] {
+        let ((outer, outer_rx), (tx, rx)) = opened_both(rt, capacity)?;
+        let reader = thread::spawn(&rt, move || read_inner(&outer_rx))?;
+        assert!(rt; outer.send(rx).is_ok());
+        assert!(rt; tx.send(1).is_ok() && tx.send(2).is_ok());
+        drop(tx);
+        let read = reader.join(&rt);
+        assert_eq!(rt; read, [Ok(1), Ok(2), Err(RecvError::Disconnected)]);
+    }
+    Ok(())
+}
+
+#[test]
+fn a_sender_left_in_a_channel_goes_with_it(rt: HostRuntime) -> Result<(), Fail> {
+    for capacity in [None, Some(1)] {
+        let ((outer, outer_rx), (tx, rx)) = opened_both(rt, capacity)?;
+        assert!(rt; outer.send(tx).is_ok());
+        drop(outer);
+        assert_eq!(rt; rx.try_recv(), Err(TryRecvError::Empty));
+        drop(outer_rx);
+        assert_eq!(rt; rx.try_recv(), Err(TryRecvError::Disconnected));
+        assert_eq!(rt; rx.recv(), Err(RecvError::Disconnected));
+    }
+    Ok(())
+}
+
+#[test]
+fn a_receive_ends_as_its_sender_goes_with_a_channel(rt: HostRuntime) -> Result<(), Fail> {
+    for capacity in [None, Some(1)] {
+        let ((outer, outer_rx), (tx, rx)) = opened_both(rt, capacity)?;
+        let receiving = thread::spawn(&rt, move || rx.recv())?;
+        assert!(rt; outer.send(tx).is_ok());
+        drop(outer_rx);
+        drop(outer);
+        assert_eq!(rt; receiving.join(&rt), Err(RecvError::Disconnected));
+    }
+    Ok(())
+}
+
+#[test]
+fn a_receiver_left_in_a_channel_goes_with_it(rt: HostRuntime) -> Result<(), Fail> {
+    for capacity in [None, Some(1)] {
+        let ((outer, outer_rx), (tx, rx)) = opened_both(rt, capacity)?;
+        assert!(rt; outer.send(rx).is_ok());
+        drop(outer_rx);
+        assert!(rt; tx.try_send(1).is_ok());
+        drop(outer);
+        assert!(rt; matches!(tx.try_send(2), Err(TrySendError::Disconnected(2))));
+        assert!(rt; matches!(tx.send(3), Err(SendError::Disconnected(3))));
+    }
+    Ok(())
+}
+
+#[test]
+fn a_blocked_sender_goes_with_its_send(rt: HostRuntime) -> Result<(), Fail> {
+    let ((outer, outer_rx), (tx, rx)) = opened_both(rt, Some(0))?;
+    let sending = thread::spawn(&rt, move || outer.send(tx).is_ok())?;
+    drop(outer_rx);
+    assert_eq!(rt; rx.recv(), Err(RecvError::Disconnected));
+    assert!(rt; !sending.join(&rt));
+    Ok(())
+}
+
+#[test]
+fn a_weak_sender_left_in_a_channel_closes_nothing(rt: HostRuntime) -> Result<(), Fail> {
+    for capacity in [None, Some(1)] {
+        let ((outer, outer_rx), (tx, rx)) = opened_both(rt, capacity)?;
+        assert!(rt; outer.send(tx.downgrade()?).is_ok());
+        drop(outer);
+        drop(outer_rx);
+        assert!(rt; tx.send(1).is_ok());
+        assert_eq!(rt; rx.recv(), Ok(1));
+        drop(tx);
+        assert_eq!(rt; rx.recv(), Err(RecvError::Disconnected));
+    }
+    Ok(())
+}
+
+// Receives a weak sender, and sends through it. None is there once its channel has no sender.
+fn send_through<R: Waits>(outer: &Receiver<WeakSender<u64, R>, R>) -> [bool; 2] {
+    let mut sent = [false; 2];
+    for answer in &mut sent {
+        if let Ok(weak) = outer.recv()
+            && let Ok(Some(tx)) = weak.upgrade()
+        {
+            *answer = tx.send(7).is_ok();
+        }
+    }
+    sent
+}
+
+#[test]
+fn a_received_weak_sender_upgrades_while_a_sender_lives(rt: HostRuntime) -> Result<(), Fail> {
+    for capacity in [None, Some(0)] {
+        let ((outer, outer_rx), (tx, rx)) = opened_both(rt, capacity)?;
+        let weak = tx.downgrade()?;
+        let sending = thread::spawn(&rt, move || send_through(&outer_rx))?;
+        assert!(rt; outer.send(weak.clone()?).is_ok());
+        assert_eq!(rt; rx.recv(), Ok(7));
+        drop(tx);
+        assert_eq!(rt; rx.recv(), Err(RecvError::Disconnected));
+        assert!(rt; outer.send(weak).is_ok());
+        assert_eq!(rt; sending.join(&rt), [true, false]);
+    }
+    Ok(())
+}

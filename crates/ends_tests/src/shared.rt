@@ -1,0 +1,96 @@
+//! Ends that threads take with them, or share by reference.
+use flume::{Receiver, Sender, Waits, WeakSender, bounded, unbounded};
+use flume_core::error::RecvError;
+use std::sync::atomic::{AtomicU64, Ordering};
+use std::test::Fail;
+use std::thread;
+use std::thread::Threads;
+
+// How many messages each thread sends and takes.
+const EACH: u64 = 1000;
+
+// Sends and takes in turn, and counts the takes that find a message.
+fn send_then_take<R: Waits>(tx: &Sender<u64, R>, rx: &Receiver<u64, R>, found: &AtomicU64) {
+    for message in 0..EACH {
+        if tx.send(message).is_ok() && rx.try_recv().is_ok() {
+            found.fetch_add(1, Ordering::SeqCst);
+        }
+    }
+}
+
+// How many messages four threads find that send and take in turn.
+fn found_by_four<R: Waits + Threads + Send + Sync>(
+    rt: &R,
+    tx: &Sender<u64, R>,
+    rx: &Receiver<u64, R>,
+) -> u64 {
+    let found = AtomicU64::new(0);
+    let count = &found;
+    thread::scope(thread::scope_env(), rt, |scope| {
+        for _ in 0..4 {
+            let _ = scope.spawn(move || send_then_take(tx, rx, count));
+        }
+    });
+    found.into_inner()
+}
+
+#[test]
+fn a_send_is_seen_by_the_next_try(rt: HostRuntime) -> Result<(), Fail> {
+    let (tx, rx) = unbounded::<u64, _, _>(rt, rt.alloc(), 1)?;
+    assert_eq!(rt; found_by_four(&rt, &tx, &rx), 4000);
+    let (tx, rx) = bounded::<u64, _, _>(rt, rt.alloc(), 2, 4)?;
+    assert_eq!(rt; found_by_four(&rt, &tx, &rx), 4000);
+    Ok(())
+}
+
+// Sends by way of a weak sender.
+fn send_by_weak<R: Waits>(weak: &WeakSender<u64, R>, message: u64) -> bool {
+    match weak.upgrade() {
+        Ok(Some(tx)) => tx.send(message).is_ok(),
+        _ => false,
+    }
+}
+
+#[test]
+fn each_end_goes_with_its_thread(rt: HostRuntime) -> Result<(), Fail> {
+    let (tx, rx) = unbounded::<u64, _, _>(rt, rt.alloc(), 1)?;
+    let weak = tx.downgrade()?;
+    let upgrading = thread::spawn(&rt, move || send_by_weak(&weak, 1))?;
+    assert!(rt; upgrading.join(&rt));
+    let sending = thread::spawn(&rt, move || tx.send(2).is_ok())?;
+    let receiving = thread::spawn(&rt, move || [rx.recv(), rx.recv(), rx.recv()])?;
+    assert!(rt; sending.join(&rt));
+    let received = receiving.join(&rt);
+    assert_eq!(rt; received, [Ok(1), Ok(2), Err(RecvError::Disconnected)]);
+    Ok(())
+}
+
+// Receives two messages, and adds them to the sum.
+fn add_two<R: Waits>(rx: &Receiver<u64, R>, sum: &AtomicU64) {
+    for _ in 0..2 {
+        if let Ok(message) = rx.recv() {
+            sum.fetch_add(message, Ordering::SeqCst);
+        }
+    }
+}
+
+#[test]
+fn two_threads_use_each_end_by_reference(rt: HostRuntime) -> Result<(), Fail> {
+    let (tx, rx) = bounded::<u64, _, _>(rt, rt.alloc(), 1, 0)?;
+    let weak = tx.downgrade()?;
+    let sum = AtomicU64::new(0);
+    let (tx, rx, weak, total) = (&tx, &rx, &weak, &sum);
+    let started = thread::scope(thread::scope_env(), &rt, |scope| {
+        scope
+            .spawn(move || tx.send(1).is_ok() && send_by_weak(weak, 10))
+            .is_ok()
+            && scope
+                .spawn(move || tx.send(100).is_ok() && send_by_weak(weak, 1000))
+                .is_ok()
+            && scope.spawn(move || add_two(rx, total)).is_ok()
+            && scope.spawn(move || add_two(rx, total)).is_ok()
+    });
+    assert!(rt; started);
+    assert_eq!(rt; sum.into_inner(), 1111);
+    Ok(())
+}

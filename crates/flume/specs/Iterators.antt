@@ -1,0 +1,41 @@
+-- Iterators over received messages, and drains.
+use Rattle.std.specs.Prelude.{◌≡◌, ℕ, ◌+◌, ◌-◌, ◌^◌, Bool, true, false, List}
+use Rattle.std.specs.Prelude.{Option, None, Result, Ok, Err}
+use Rattle.flume_model.specs.declared.step.Reply.{Reply}
+use Rattle.flume_model.specs.declared.step.Reply.TheVariants.{Drained}
+use Rattle.flume_core.specs.declared.error.RecvError.{RecvError}
+use Rattle.flume_core.specs.declared.error.RecvError.TheVariants.{NoMemory as NoneLeft}
+use Rattle.flume_core.specs.declared.error.NoMemory.{NoMemory}
+
+-- what a contract sees of an iterator over received messages
+pub record Receiving : Type 0 where
+  -- the number of its channel
+  pub channel : ℕ
+  -- whether the last `next` ended for want of memory
+  pub fault : Bool
+  -- how often `next` may still be called; no run uses that up
+  pub left : ℕ
+
+-- the iterator over a channel's messages as it begins
+abbrev pub receiving_from : ℕ → Receiving
+receiving_from channel = record { channel = channel; fault = false; left = 2 ^ 64 - 1 }
+
+-- one `next`, which gave this
+pub record GoesOn {T : Type 0} (old : Receiving) (item : Option T) (new : Receiving) : Type 0 where
+  pub channel : new.channel ≡ old.channel
+  pub left : old.left ≡ new.left + 1
+  -- it may have ended for want of memory only where it gave nothing
+  pub fault : new.fault ≡ true → item ≡ None
+
+module _ {T : Type 0} where
+  -- whether a receive was refused for want of memory
+  abbrev pub is_refused : Result T RecvError → Bool
+  is_refused (Err NoneLeft) = true
+  is_refused _ = false
+
+module _ {T A : Type 0} where
+  -- the answer of a drain by its step's reply: the list that the step took. The last row is of the
+  -- reply for want of memory, and of those that never come of this step.
+  abbrev pub after_drain : Reply T A → Result (List T) NoMemory
+  after_drain (Drained list) = Ok list.items
+  after_drain _ = Err (record {})

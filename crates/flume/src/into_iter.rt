@@ -1,0 +1,85 @@
+//! The iterator over received messages that has its receiver.
+ghost use Rattle.std.specs.Prelude.{◌≡◌};
+ghost use Rattle.std.specs.Iterator.{at_most};
+ghost use Rattle.flume.specs.Iterators.{receiving_from, GoesOn};
+
+use crate::iterators::show;
+use crate::progress::Progress;
+use crate::receiver::Receiver;
+use crate::shared::Waits;
+use std::alloc::{Allocator, Global};
+use std::fmt;
+use std::marker::Model;
+
+/// The same as `Iter`, with the receiver in it, which goes with it.
+///
+/// ```
+/// for message in rx {
+///     // each message, until none is there and all senders are gone
+/// }
+/// ```
+#[derive(Drop)]
+pub struct IntoIter<T, R: Waits, A: Allocator + Copy = Global> {
+    receiver: Receiver<T, R, A>,
+    progress: Progress,
+}
+
+impl<T, R: Waits, A: Allocator + Copy> Model for IntoIter<T, R, A> {
+    ghost use Rattle.flume.specs.Iterators.{Receiving};
+
+    ghost Value = { Receiving };
+
+    ghost view = { λ it. record {
+      channel = it.receiver;
+      fault = it.progress.fault;
+      left = it.progress.left;
+    } };
+}
+
+impl<T: Drop, R: Waits, A: Allocator + Copy> IntoIter<T, R, A> {
+    /// Whether the last `next` ended for want of memory. `next` can be called on after it.
+    ///
+    /// ```
+    /// let mut messages = rx.into_iter();
+    /// messages.next();                   // None
+    /// messages.fault();                  // true: try again; false: all senders are gone
+    /// ```
+    pub fn fault(&self) -> bool
+        ensures fault { result ≡ self.now.fault }
+    {
+        self.progress.fault
+    }
+}
+
+impl<T: Drop, R: Waits, A: Allocator + Copy> Iterator for IntoIter<T, R, A> {
+    type Item = T;
+
+    ghost next_gives = { GoesOn };
+
+    ghost remaining = { λ it. at_most it.left };
+
+    fn next(&mut self) -> Option<T> {
+        self.progress.receive(&self.receiver)
+    }
+}
+
+impl<T: Drop, R: Waits, A: Allocator + Copy> fmt::Debug for IntoIter<T, R, A> {
+    fn fmt<W: fmt::Write>(&self, f: &mut fmt::Formatter<W>) -> fmt::Result {
+        show(f, "IntoIter", &self.receiver)
+    }
+}
+
+impl<T: Drop, R: Waits, A: Allocator + Copy> IntoIterator for Receiver<T, R, A> {
+    type Item = T;
+
+    type IntoIter = IntoIter<T, R, A>;
+
+    ghost into_iter_gives = { λ receiver it. it ≡ receiving_from receiver };
+
+    fn into_iter(self) -> IntoIter<T, R, A> {
+        IntoIter {
+            receiver: self,
+            progress: Progress::new(),
+        }
+    }
+}

@@ -1,0 +1,167 @@
+//! Iterators over the messages of a receiver that they borrow.
+ghost use Rattle.std.specs.Prelude.{◌≡◌, false};
+ghost use Rattle.std.specs.Iterator.{at_most};
+ghost use Rattle.flume.specs.Iterators.{receiving_from, GoesOn};
+
+use crate::progress::Progress;
+use crate::receiver::Receiver;
+use crate::shared::Waits;
+use std::alloc::{Allocator, Global};
+use std::fmt;
+use std::marker::Model;
+
+/// The messages of a receiver, one after the other; it waits for each. `None`: none is there and
+/// all senders are gone, or, where `fault` says so, there was no memory for what a wait needs.
+/// After a `None` there may be more.
+///
+/// ```
+/// for message in rx.iter() {
+///     // each message, until none is there and all senders are gone
+/// }
+/// ```
+#[derive(Drop)]
+pub struct Iter<'a, T, R: Waits, A: Allocator + Copy = Global> {
+    receiver: &'a Receiver<T, R, A>,
+    progress: Progress,
+}
+
+impl<'a, T, R: Waits, A: Allocator + Copy> Model for Iter<'a, T, R, A> {
+    ghost use Rattle.flume.specs.Iterators.{Receiving};
+
+    ghost Value = { Receiving };
+
+    ghost view = { λ it. record {
+      channel = it.receiver.now;
+      fault = it.progress.fault;
+      left = it.progress.left;
+    } };
+}
+
+impl<'a, T: Drop, R: Waits, A: Allocator + Copy> Iter<'a, T, R, A> {
+    /// The messages of this receiver.
+    pub(crate) fn over(receiver: &'a Receiver<T, R, A>) -> Self
+        ensures new { result ≡ receiving_from receiver.now }
+    {
+        Iter {
+            receiver,
+            progress: Progress::new(),
+        }
+    }
+
+    /// Whether the last `next` ended for want of memory. The receiver can be used on after it.
+    ///
+    /// ```
+    /// let mut messages = rx.iter();
+    /// messages.next();                   // None
+    /// messages.fault();                  // true: try again; false: all senders are gone
+    /// ```
+    pub fn fault(&self) -> bool
+        ensures fault { result ≡ self.now.fault }
+    {
+        self.progress.fault
+    }
+}
+
+impl<'a, T: Drop, R: Waits, A: Allocator + Copy> Iterator for Iter<'a, T, R, A> {
+    type Item = T;
+
+    ghost next_gives = { GoesOn };
+
+    ghost remaining = { λ it. at_most it.left };
+
+    fn next(&mut self) -> Option<T> {
+        self.progress.receive(self.receiver)
+    }
+}
+
+impl<'a, T: Drop, R: Waits, A: Allocator + Copy> fmt::Debug for Iter<'a, T, R, A> {
+    fn fmt<W: fmt::Write>(&self, f: &mut fmt::Formatter<W>) -> fmt::Result {
+        show(f, "Iter", self.receiver)
+    }
+}
+
+impl<'a, T: Drop, R: Waits, A: Allocator + Copy> IntoIterator for &'a Receiver<T, R, A> {
+    type Item = T;
+
+    type IntoIter = Iter<'a, T, R, A>;
+
+    ghost into_iter_gives = { λ receiver it. it ≡ receiving_from receiver.now };
+
+    fn into_iter(self) -> Iter<'a, T, R, A> {
+        Iter::over(self)
+    }
+}
+
+/// The messages of a receiver, one after the other; it waits for none. `None`: none is there. After
+/// a `None` there may be more.
+///
+/// ```
+/// for message in rx.try_iter() {
+///     // each message that is there
+/// }
+/// ```
+#[derive(Drop)]
+pub struct TryIter<'a, T, R: Waits, A: Allocator + Copy = Global> {
+    receiver: &'a Receiver<T, R, A>,
+    progress: Progress,
+}
+
+impl<'a, T, R: Waits, A: Allocator + Copy> Model for TryIter<'a, T, R, A> {
+    ghost use Rattle.std.specs.Prelude.{false};
+    ghost use Rattle.flume.specs.Iterators.{Receiving};
+
+    ghost Value = { Receiving };
+
+    ghost view = { λ it. record {
+      channel = it.receiver.now;
+      fault = false;
+      left = it.progress.left;
+    } };
+}
+
+impl<'a, T: Drop, R: Waits, A: Allocator + Copy> TryIter<'a, T, R, A> {
+    /// The messages that this receiver has.
+    pub(crate) fn over(receiver: &'a Receiver<T, R, A>) -> Self
+        ensures new { result ≡ receiving_from receiver.now }
+    {
+        TryIter {
+            receiver,
+            progress: Progress::new(),
+        }
+    }
+
+    /// Whether the last `next` ended for want of memory: never, since it wants none.
+    pub fn fault(&self) -> bool
+        ensures never { result ≡ false }
+    {
+        false
+    }
+}
+
+impl<'a, T: Drop, R: Waits, A: Allocator + Copy> Iterator for TryIter<'a, T, R, A> {
+    type Item = T;
+
+    ghost next_gives = { GoesOn };
+
+    ghost remaining = { λ it. at_most it.left };
+
+    fn next(&mut self) -> Option<T> {
+        self.progress.count(self.receiver.runtime());
+        self.receiver.try_recv().ok()
+    }
+}
+
+impl<'a, T: Drop, R: Waits, A: Allocator + Copy> fmt::Debug for TryIter<'a, T, R, A> {
+    fn fmt<W: fmt::Write>(&self, f: &mut fmt::Formatter<W>) -> fmt::Result {
+        show(f, "TryIter", self.receiver)
+    }
+}
+
+/// Shows an iterator by its receiver.
+pub(crate) fn show<D: fmt::Debug, W: fmt::Write>(
+    f: &mut fmt::Formatter<W>,
+    name: &str,
+    receiver: &D,
+) -> fmt::Result {
+    f.debug_struct(name).field("receiver", receiver).finish()
+}

@@ -1,0 +1,5 @@
+mod Comes
+mod Rest
+mod DueCounts
+mod Ringing
+mod AtRest

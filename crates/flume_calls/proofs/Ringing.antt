@@ -1,0 +1,177 @@
+-- What a round of rings leaves, and which signal each ring has.
+use Rattle.std.proofs.Common.{◌≡◌, ◌≢◌, ℕ, Bool, true, false, eqb, [], ◌∷◌, ◌++◌, map, Option, Some, None, refl, sym, ap, ◌∙◌}
+use Rattle.std.proofs.Common.{suc, cond, eqb-true, arith}
+use Rattle.std.proofs.lemmas.Bool.{eqb-false, eq-eqb}
+use Rattle.std.proofs.lemmas.List.{map-append}
+use Rattle.std.specs.FinMap.{get}
+use Rattle.std.specs.Option.{option_map}
+use Rattle.flume_model.specs.Entries.{entry_of}
+use Rattle.flume_model.specs.declared.entry.Entry.{Entry}
+use Rattle.flume_lists.specs.declared.entries.Notice.{Notice}
+use Rattle.flume_lists.specs.declared.sends.LiveSend.{LiveSend}
+use Rattle.flume_lists.specs.Sends.{SendMap, changed, told, due_in, NoneDue}
+use Rattle.flume_lists.specs.Waits.{Entries, NoneDueIn}
+use Rattle.flume_lists.proofs.SendsLaws.{get-changed_same, get-changed_other}
+use Rattle.flume_core.specs.State.{State}
+use Rattle.flume_core.specs.Told.{Names, Send, Receive, signal_of, signal_or}
+use Rattle.flume_calls.specs.Due.{Rings, Over, Rung, AllTold, told_entry}
+
+module _ {S : Type 0} where
+  -- a due send has a signal
+  due_signal : (o : Option (LiveSend S)) → due_in o ≡ true → (signal : S) × (option_map (λ send. send.signal) o ≡ Some signal)
+  due_signal None due = absurd (let none : ⊥ = cc in none)
+  due_signal (Some send) due = (send.signal, refl)
+
+  -- a send's signal goes before
+  some_signal : (send parked : Option S) → ((signal : S) × (parked ≡ Some signal)) → (signal : S) × (signal_or send parked ≡ Some signal)
+  some_signal None parked is = is
+  some_signal (Some signal) parked is = (signal, refl)
+
+  -- telling keeps its signal
+  told_signal : (o : Option (LiveSend S)) → option_map (λ send. send.signal) (option_map told o) ≡ option_map (λ send. send.signal) o
+  told_signal None = refl
+  told_signal (Some send) = refl
+
+  -- to tell twice is to tell once
+  told_twice : (o : Option (LiveSend S)) → option_map told (option_map told o) ≡ option_map told o
+  told_twice None = refl
+  told_twice (Some send) = refl
+
+  -- telling changes nothing of one that isn't due
+  told_idle : (o : Option (LiveSend S)) → due_in o ≡ false → o ≡ option_map told o
+  told_idle None idle = refl
+  told_idle (Some send) idle = ap (λ (b : Bool). Some (record send { due = b })) idle
+
+  -- all told, with one told before
+  told_after : (m : SendMap S) (k t : ℕ) → option_map told (get (changed m k told) t) ≡ option_map told (get m t)
+  told_after m k t = go (eqb t k) refl
+    where
+      go : (b : Bool) → eqb t k ≡ b → option_map told (get (changed m k told) t) ≡ option_map told (get m t)
+      go true e =
+          let same : t ≡ k = eqb-true t k e in
+          rw same (ap (option_map told) (get-changed_same m k told) ∙ told_twice (get m k))
+      go false e = ap (option_map told) (get-changed_other m k told t (eqb-false t k e))
+
+module _ {T S : Type 0} where
+  -- the signal of the first entry with a ticket
+  abbrev entry_signal : ℕ → Entries T S → Option S
+  entry_signal t entries = option_map (λ e. e.notice.signal) (entry_of t entries)
+
+  -- telling one keeps it
+  signal_kept : (before : Entries T S) (e : Entry T (Notice S)) (later : Entries T S) (t : ℕ)
+      → entry_signal t (before ++ told_entry e ∷ later) ≡ entry_signal t (before ++ e ∷ later)
+  signal_kept [] e later t =
+      elim (eqb e.ticket t) as (λ b. option_map (λ e. e.notice.signal) (cond b (Some (told_entry e)) (entry_of t later))
+      ≡ option_map (λ e. e.notice.signal) (cond b (Some e) (entry_of t later))) [ true ↦ refl | false ↦ refl ]
+  signal_kept (x ∷ before) e later t =
+      elim (eqb x.ticket t) as (λ b. option_map (λ e. e.notice.signal) (cond b (Some x) (entry_of t (before ++ told_entry e ∷ later)))
+      ≡ option_map (λ e. e.notice.signal) (cond b (Some x) (entry_of t (before ++ e ∷ later))))
+      [ true ↦ refl | false ↦ signal_kept before e later t ]
+
+  -- one that is parked has a signal
+  parked_signal : (before : Entries T S) (e : Entry T (Notice S)) (later : Entries T S)
+      → (signal : S) × (entry_signal e.ticket (before ++ e ∷ later) ≡ Some signal)
+  parked_signal [] e later =
+      let same : eqb e.ticket e.ticket ≡ true = eq-eqb e.ticket e.ticket refl in (e.notice.signal, rw same refl)
+  parked_signal (x ∷ before) e later =
+      elim (eqb x.ticket e.ticket) as (λ b. (signal : S)
+      × (option_map (λ e. e.notice.signal) (cond b (Some x) (entry_of e.ticket (before ++ e ∷ later))) ≡ Some signal))
+      [ true ↦ (x.notice.signal, refl) | false ↦ parked_signal before e later ]
+
+  -- the same where it is found so
+  found_signal : (entries before : Entries T S) (e : Entry T (Notice S)) (later : Entries T S) (t : ℕ)
+      → entries ≡ before ++ e ∷ later → e.ticket ≡ t → (signal : S) × (entry_signal t entries ≡ Some signal)
+  found_signal entries before e later t found is =
+      let parked = parked_signal before e later in (parked.0, rw (found, ← is) parked.1)
+
+  -- one that is named has a signal
+  named_signal : (old new : State T S) (t : ℕ) → Names old new t → (signal : S) × (signal_of old t ≡ Some signal)
+  named_signal old new t (Send due is) =
+      let send = due_signal (get old.sends t) due in (send.0, rw send.1 refl)
+  named_signal old new t (Receive tells is) =
+      some_signal _ _ (found_signal old.entries tells.before tells.entry tells.later t tells.found tells.is_it)
+
+  -- and keeps it
+  named_keeps : (old new : State T S) (t : ℕ) → Names old new t → signal_of new t ≡ signal_of old t
+  named_keeps old new t (Send due is) =
+      let sends : get new.sends t ≡ option_map told (get old.sends t) = ap (λ s. get s.sends t) is ∙ get-changed_same old.sends t told in
+      let same = ap (option_map (λ send. send.signal)) sends ∙ told_signal (get old.sends t) in
+      let entries : new.entries ≡ old.entries = ap (λ s. s.entries) is in λ i. signal_or (same i) (entry_signal t (entries i))
+  named_keeps old new t (Receive tells is) =
+      let sends : new.sends ≡ old.sends = ap (λ s. s.sends) is in
+      let kept : entry_signal t new.entries ≡ entry_signal t old.entries =
+      ap (entry_signal t) tells.told ∙ signal_kept tells.before tells.entry tells.later t ∙ sym (ap (entry_signal t) tells.found) in
+      λ i. signal_or (option_map (λ send. send.signal) (get (sends i) t)) (kept i)
+
+  -- so the signal that it has then is the one it left
+  pub same_signal : (old new : State T S) (t : ℕ) (signal : S) → Names old new t
+      → Some signal ≡ signal_of new t → signal_of old t ≡ Some signal
+  same_signal old new t signal named is = sym (named_keeps old new t named) ∙ sym is
+
+  -- and it has one
+  pub still_signal : (old new : State T S) (t : ℕ) → Names old new t → signal_of new t ≢ None
+  still_signal old new t named none =
+      let signal = named_signal old new t named in
+      let kept = named_keeps old new t named in
+      let there : signal_of old t ≡ Some signal.0 = signal.1 in absurd (let none : ⊥ = cc in none)
+
+  -- a state that is another but for its sends and entries is so with its own ones
+  rest_from : (old named : State T S) (m : SendMap S) (es : Entries T S) → named ≡ record old { sends = m; entries = es }
+      → named ≡ record old { sends = named.sends; entries = named.entries }
+  rest_from old named m es e =
+      let back = sym e in e ∙ (λ i. record old { sends = (back i).sends; entries = (back i).entries })
+
+  -- naming one leaves all else
+  named_rest : (old named : State T S) (t : ℕ) → Names old named t → named ≡ record old { sends = named.sends; entries = named.entries }
+  named_rest old named t (Send due is) = rest_from old named (changed old.sends t told) old.entries is
+  named_rest old named t (Receive tells is) = rest_from old named old.sends named.entries is
+
+  -- and all sends told are the same
+  named_sends : (old named : State T S) (t : ℕ) → Names old named t → (k : ℕ)
+      → option_map told (get named.sends k) ≡ option_map told (get old.sends k)
+  named_sends old named t (Send due is) k = ap (λ s. option_map told (get s.sends k)) is ∙ told_after old.sends t k
+  named_sends old named t (Receive tells is) k = ap (λ s. option_map told (get s.sends k)) is
+
+  -- and all entries told
+  named_entries : (old named : State T S) (t : ℕ) → Names old named t → map told_entry named.entries ≡ map told_entry old.entries
+  named_entries old named t (Send due is) = ap (λ s. map told_entry s.entries) is
+  named_entries old named t (Receive tells is) =
+      ap (map told_entry) tells.told ∙ map-append told_entry tells.before _
+      ∙ sym (ap (map told_entry) tells.found ∙ map-append told_entry tells.before _)
+
+  -- all told, with one told before
+  told_first : (old named new : State T S) (t : ℕ) → Names old named t → AllTold named new → AllTold old new
+  told_first old named new t names all =
+      let others = named_rest old named t names in
+      record {
+        rest = all.rest ∙ (λ i. record (others i) { sends = new.sends; entries = new.entries });
+        sends = λ k. all.sends k ∙ named_sends old named t names k;
+        entries = all.entries ∙ named_entries old named t names;
+      }
+
+  -- telling changes no entry that isn't due
+  idle_entries : (entries : Entries T S) → NoneDueIn entries → entries ≡ map told_entry entries
+  idle_entries [] idle = refl
+  idle_entries (e ∷ entries) idle =
+      let first : e ≡ told_entry e =
+      ap (λ (b : Bool). record e { notice = record e.notice { due = b } }) (idle 0 e (omega arith)) in
+      let others = idle_entries entries (λ k d within. idle (suc k) d (omega (arith, within))) in λ i. first i ∷ others i
+
+  -- nothing due: all are told
+  told_over : (s : State T S) → NoneDue s.sends → NoneDueIn s.entries → AllTold s s
+  told_over s sends entries = record {
+    rest = refl;
+    sends = λ t. told_idle (get s.sends t) (sends t);
+    entries = idle_entries s.entries entries;
+  }
+
+module _ {B S : Type 0} (rings : B → ℕ → S → B → Type 0) {T : Type 0} where
+  -- after a round of rings nothing is due
+  pub none_left : {old new : State T S} {bell end : B} → Rings rings old bell new end → NoneDue new.sends × NoneDueIn new.entries
+  none_left (Over sends entries) = (sends, entries)
+  none_left (Rung named signal rung rest) = none_left rest
+
+  -- and all else is as it was
+  pub all_told : {old new : State T S} {bell end : B} → Rings rings old bell new end → AllTold old new
+  all_told (Over sends entries) = told_over _ sends entries
+  all_told (Rung named signal rung rest) = told_first _ _ _ _ named (all_told rest)

@@ -1,0 +1,18 @@
+use Rattle.std.proofs.Common.{◌+◌}
+use Rattle.std.specs.FinMap.{keys}
+use Rattle.flume_model.specs.Log.{Log, Opening}
+use Rattle.flume_core.specs.StandsFor.{StandsFor}
+use Rattle.flume_calls.specs.Due.{Rings}
+use Rattle.flume_calls.proofs.DueCounts.{DueIn, due_sends, due_entries}
+use Rattle.flume_calls.proofs.due.ring_each.Given as goal
+
+-- every round of rings from here is the end of a round of the call
+abbrev pub invariant-loop-ticket : goal.invariant-loop-ticket
+invariant-loop-ticket g l = record {
+  from_here : (new : _) (end : _) → Rings g.B.Bell.rings l.chan l.bell new end → Rings g.B.Bell.rings l.fn.chan l.fn.bell new end;
+  stands : (opening : Opening) (log : Log g.row.T.Denot g.row.A.Denot) → StandsFor opening log l.fn.chan → StandsFor opening log l.chan;
+  before : DueIn l.chan.sends l.fn.chan.sends;
+}
+
+abbrev pub decreases-loop-ticket : goal.decreases-loop-ticket
+decreases-loop-ticket g l = due_sends l.chan.sends (keys l.fn.chan.sends) + due_entries l.chan.entries

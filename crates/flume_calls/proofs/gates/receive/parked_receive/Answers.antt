@@ -1,0 +1,20 @@
+-- Which way each turn takes a parked receive.
+use Rattle.flume_calls.specs.ReceiveGates.{Asked, Withdrawn, Late, Waited}
+use Rattle.flume_calls.proofs.gates.receive.parked_receive.Goals as goal
+
+pub returns-in-Done : goal.returns-in-Done
+returns-in-Done g c = c.loop.invariant.from_here _ _ (Asked c.in-Done.ensures.does)
+
+pub returns-in-Refused : goal.returns-in-Refused
+returns-in-Refused g c =
+    let back = c.withdrawn.ensures in c.loop.invariant.from_here _ _ (Withdrawn c.in-Refused.ensures.does back.1 back.2)
+
+pub returns-then-wait : goal.returns-then-wait
+returns-then-wait g c =
+    c.loop.invariant.from_here _ _ (Late c.in-Park.ensures.does c.if-wait.ensures.does c.in-Done-again.ensures.does)
+
+pub loop-preserved : goal.loop-preserved
+loop-preserved g c = record {
+  from_here = λ new result rest. c.loop.invariant.from_here _ _ (Waited c.in-Park.ensures.does c.if-wait.ensures.does rest);
+  on = (tt, tt);
+}

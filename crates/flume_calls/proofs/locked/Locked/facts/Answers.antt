@@ -1,0 +1,11 @@
+use Rattle.std.proofs.Common.{sym}
+use Rattle.flume_calls.proofs.locked.Locked.facts.Goals as goal
+
+pub returns : goal.returns
+returns g c =
+    let rest = c.self.invariant in
+    rw (sym c.self.view_is) (record {
+      facts = c.facts_of_channel.ensures.facts rest.led.0 rest.led.1 rest.led.2;
+      no_send_is_due = rest.sends;
+      no_receiver_is_due = rest.receivers;
+    })

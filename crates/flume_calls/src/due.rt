@@ -1,0 +1,66 @@
+//! Telling those who are due.
+ghost use Rattle.std.specs.Prelude.{ℕ};
+ghost use Rattle.flume_model.specs.Log.{Log, Opening};
+ghost use Rattle.flume_lists.specs.Sends.{NoneDue};
+ghost use Rattle.flume_lists.specs.Waits.{NoneDueIn};
+ghost use Rattle.flume_core.specs.StandsFor.{StandsFor};
+ghost use Rattle.flume_calls.specs.Due.{Rings, AllTold};
+
+use flume_core::chan::Chan;
+use std::alloc::Allocator;
+
+/// What tells the owner of a signal that its ticket is due.
+pub trait Bell<S> {
+    // The bell before, the ticket, its signal, and the bell after.
+    ghost rings: { Self → ℕ → S → Self → Type 0 };
+
+    /// Rings once, for this ticket and with this signal.
+    fn ring(&mut self, ticket: u64, signal: &S)
+        ensures { rings self.old ticket signal.now self.new };
+}
+
+/// Rings once for each ticket that is due, with the signal that it left last. Then none is due, and
+/// all else of the channel is as it was. No step of its own, and no memory.
+///
+/// ```
+/// let mut chan: Chan<u64, u64> = Chan::new(alloc, Some(0));
+/// chan.send(5, 10);                  // Pending(1)
+/// chan.send(6, 20);                  // Pending(2)
+/// chan.drop_receiver();              // Done
+/// fire_due(&mut chan, &mut bell);    // two rings: ticket 1 with signal 10, ticket 2 with 20
+/// chan.next_due();                   // None
+/// ```
+#[inline(always)]
+pub fn fire_due<T: Drop, S: Drop, A: Allocator + Copy, B: Bell<S>>(
+    chan: &mut Chan<T, S, A>,
+    bell: &mut B,
+)
+    ensures rings { Rings B.rings chan.old bell.old chan.new bell.new }
+    ensures sends { NoneDue chan.new.sends }
+    ensures receivers { NoneDueIn chan.new.entries }
+    ensures told { AllTold chan.old chan.new }
+    ensures stands { (opening : Opening) (log : Log T A) → StandsFor opening log chan.old
+        → StandsFor opening log chan.new }
+{
+    if chan.may_be_due() {
+        ring_each(chan, bell);
+    }
+}
+
+// The rings, where some ticket may be due.
+#[inline(never)]
+fn ring_each<T: Drop, S: Drop, A: Allocator + Copy, B: Bell<S>>(
+    chan: &mut Chan<T, S, A>,
+    bell: &mut B,
+)
+    ensures rings { Rings B.rings chan.old bell.old chan.new bell.new }
+    ensures stands { (opening : Opening) (log : Log T A) → StandsFor opening log chan.old
+        → StandsFor opening log chan.new }
+{
+    while let Some(ticket) = chan.next_due() {
+        let Some(signal) = chan.signal(ticket) else {
+            unreachable!();
+        };
+        bell.ring(ticket, signal);
+    }
+}

@@ -1,0 +1,8 @@
+//! What a blocking call goes through: a gate makes each turn of the call, and does the waiting
+//! between turns. The calls here decide only which turn comes next.
+
+mod receive;
+mod send;
+
+pub use receive::{RecvGate, recv_over};
+pub use send::{SendGate, send_over};

@@ -1,0 +1,137 @@
+//! A receive through a gate.
+ghost use Rattle.std.specs.Prelude.{◌≡◌, ℕ, Bool, true, Result};
+ghost use Rattle.flume_calls.specs.declared.calls.receive.RecvNext.{RecvNext};
+ghost use Rattle.flume_calls.specs.ReceiveGates.{IsFirst, IsParking, IsAgain, got_or_no_memory};
+ghost use Rattle.flume_calls.specs.ReceiveGates.{ParkedReceive, WholeReceive};
+
+use crate::calls::{RecvCall, RecvNext};
+use flume_core::error::RecvTimeoutError::{self, NoMemory};
+use std::sync::Wait;
+
+/// What a blocking receive of messages `T` goes through. Each turn says by its relation what it
+/// does to the gate, from the gate before to the gate after, and what it answers.
+pub trait RecvGate<T> {
+    // The gate before, the gate after, and the answer.
+    ghost firsts: { Self → Self → RecvNext T → Type 0 };
+
+    // The gate before, the gate after, and the answer.
+    ghost arms: { Self → Self → Bool → Type 0 };
+
+    // The gate before, the gate after, and the answer.
+    ghost parks: { Self → Self → RecvNext T → Type 0 };
+
+    // The gate before, the ticket, whether the deadline is reached, the gate after, and the answer.
+    ghost agains: { Self → ℕ → Bool → Self → RecvNext T → Type 0 };
+
+    // The gate before, the gate after, and the answer.
+    ghost waits: { Self → Self → Bool → Type 0 };
+
+    /// The first turn, which doesn't park.
+    fn first(&mut self) -> RecvNext<T>
+        ensures does { firsts self.old self.new result }
+        ensures answers { IsFirst result };
+
+    /// Makes what the call parks on. False: there was no memory for it.
+    fn arm(&mut self) -> bool
+        ensures does { arms self.old self.new result };
+
+    /// The turn that parks the call where it can't end at once.
+    fn park(&mut self) -> RecvNext<T>
+        ensures does { parks self.old self.new result }
+        ensures answers { IsParking result };
+
+    /// A turn of the parked call. Where it is late it ends the call.
+    fn again(&mut self, call: RecvCall, late: bool) -> RecvNext<T>
+        ensures does { agains self.old call late self.new result }
+        ensures answers { IsAgain late result };
+
+    /// Waits for a wake or for the deadline. True, at once, where the deadline is reached.
+    fn wait(&mut self) -> bool
+        ensures does { waits self.old self.new result };
+}
+
+/// A receive that waits. It parks where its first turn doesn't end it, and then asks and waits in
+/// turn until it ends. It ends as its last turn says; where there was no memory for what it parks
+/// on it ends with no memory. Where a turn of the parked call wants memory and there is none, the
+/// call withdraws, and ends with the message if one came, and else with no memory.
+///
+/// ```
+/// // The gate is of an empty channel, and it has a deadline.
+/// recv_over(rt, &mut gate);
+/// // a message 7 comes before the deadline:    Ok(7)
+/// // it is reached before one does:            Err(Timeout)
+/// // the last sender leaves before either:     Err(Disconnected)
+/// // no memory for what the call parks on:     Err(NoMemory)
+/// ```
+#[inline(always)]
+pub fn recv_over<T: Drop, G: RecvGate<T>, R: Wait>(
+    rt: &R,
+    gate: &mut G,
+) -> Result<T, RecvTimeoutError>
+    ensures run { WholeReceive G.firsts G.arms G.parks G.agains G.waits gate.old gate.new result }
+{
+    match gate.first() {
+        RecvNext::Done(result) => result,
+        RecvNext::NeedSignal => waiting_receive(rt, gate),
+        RecvNext::Park(_) | RecvNext::Refused(_) => unreachable!(),
+    }
+}
+
+// A receive whose first turn didn't end it.
+#[inline(always)]
+fn waiting_receive<T: Drop, G: RecvGate<T>, R: Wait>(
+    rt: &R,
+    gate: &mut G,
+) -> Result<T, RecvTimeoutError>
+    ensures run { (start : G) → G.firsts start gate.old RecvNext.NeedSignal
+        → WholeReceive G.firsts G.arms G.parks G.agains G.waits start gate.new result }
+{
+    if !gate.arm() {
+        return Err(NoMemory);
+    }
+    match gate.park() {
+        RecvNext::Done(result) => result,
+        RecvNext::Park(call) => parked_receive(rt, gate, call),
+        RecvNext::NeedSignal | RecvNext::Refused(_) => unreachable!(),
+    }
+}
+
+// A parked receive, to its end.
+#[inline(always)]
+fn parked_receive<T: Drop, G: RecvGate<T>, R: Wait>(
+    rt: &R,
+    gate: &mut G,
+    mut call: RecvCall,
+) -> Result<T, RecvTimeoutError>
+    ensures { ParkedReceive G.agains G.waits gate.old call gate.new result }
+{
+    for _ in rt.forever() {
+        call = match gate.again(call, false) {
+            RecvNext::Done(result) => return result,
+            RecvNext::Park(same) => same,
+            RecvNext::Refused(same) => return withdrawn(gate, same),
+            RecvNext::NeedSignal => unreachable!(),
+        };
+        if gate.wait() {
+            return match gate.again(call, true) {
+                RecvNext::Done(result) => result,
+                _ => unreachable!(),
+            };
+        }
+    }
+    unreachable!()
+}
+
+// A parked receive that was refused for want of memory withdraws.
+#[inline(always)]
+fn withdrawn<T: Drop, G: RecvGate<T>>(gate: &mut G, call: RecvCall) -> Result<T, RecvTimeoutError>
+    ensures { (answer : Result T RecvTimeoutError)
+        × G.agains gate.old call true gate.new (RecvNext.Done answer)
+        × (result ≡ got_or_no_memory answer) }
+{
+    match gate.again(call, true) {
+        RecvNext::Done(Ok(message)) => Ok(message),
+        RecvNext::Done(Err(_)) => Err(NoMemory),
+        _ => unreachable!(),
+    }
+}

@@ -1,0 +1,128 @@
+//! A send through a gate.
+ghost use Rattle.std.specs.Prelude.{◌≡◌, ◌≢◌, ℕ, Bool};
+ghost use Rattle.flume_calls.specs.declared.calls.send.SendNext.{SendNext};
+ghost use Rattle.flume_calls.specs.SendGates.{IsFirst, IsParking, IsAgain, ParkedSend, WholeSend};
+
+use crate::calls::{SendCall, SendNext};
+use flume_core::error::SendTimeoutError;
+use flume_core::error::SendTimeoutError::NoMemory;
+use std::sync::Wait;
+
+/// What a blocking send of messages `T` goes through. Each turn says by its relation what it does
+/// to the gate, from the gate before to the gate after, and what it answers.
+pub trait SendGate<T> {
+    // The gate before, the message, the gate after, and the answer.
+    ghost firsts: { Self → T → Self → SendNext T → Type 0 };
+
+    // The gate before, the gate after, and the answer.
+    ghost arms: { Self → Self → Bool → Type 0 };
+
+    // The gate before, the message, the gate after, and the answer.
+    ghost parks: { Self → T → Self → SendNext T → Type 0 };
+
+    // The gate before, the ticket, whether the deadline is reached, the gate after, and the answer.
+    ghost agains: { Self → ℕ → Bool → Self → SendNext T → Type 0 };
+
+    // The gate before, the gate after, and the answer.
+    ghost waits: { Self → Self → Bool → Type 0 };
+
+    /// The first turn, which doesn't park.
+    fn first(&mut self, message: T) -> SendNext<T>
+        ensures does { firsts self.old message self.new result }
+        ensures answers { IsFirst message result };
+
+    /// Makes what the call parks on. False: there was no memory for it.
+    fn arm(&mut self) -> bool
+        ensures does { arms self.old self.new result };
+
+    /// The turn that parks the call where it can't end at once.
+    fn park(&mut self, message: T) -> SendNext<T>
+        ensures does { parks self.old message self.new result }
+        ensures answers { IsParking message result };
+
+    /// A turn of the parked call. Where it is late it ends the call.
+    fn again(&mut self, call: SendCall, late: bool) -> SendNext<T>
+        ensures does { agains self.old call late self.new result }
+        ensures answers { IsAgain late result };
+
+    /// Waits for a wake or for the deadline. True, at once, where the deadline is reached.
+    fn wait(&mut self) -> bool
+        ensures does { waits self.old self.new result };
+}
+
+/// A send that waits. It parks where its first turn doesn't end it, and then asks and waits in turn
+/// until it ends. It ends as its last turn says; where there was no memory for what it parks on it
+/// ends with no memory, and the message comes back.
+///
+/// ```
+/// // The gate is of a full channel, and it has a deadline.
+/// send_over(rt, &mut gate, 7);
+/// // a message is taken out before the deadline: Ok(())
+/// // it is reached before one is:                Err(Timeout(7))
+/// // no memory for what the call parks on:       Err(NoMemory(7))
+/// ```
+#[inline(always)]
+pub fn send_over<T, G: SendGate<T>, R: Wait>(
+    rt: &R,
+    gate: &mut G,
+    message: T,
+) -> Result<(), SendTimeoutError<T>>
+    ensures run { WholeSend G.firsts G.arms G.parks G.agains G.waits
+        gate.old message gate.new result }
+    ensures no_memory_holds { (back : T) → result ≡ Err (SendTimeoutError.NoMemory back)
+        → back ≡ message }
+{
+    match gate.first(message) {
+        SendNext::Done(result) => result,
+        SendNext::NeedSignal(message) => waiting_send(rt, gate, message),
+        SendNext::Park(_) => unreachable!(),
+    }
+}
+
+// A send whose first turn didn't end it.
+#[inline(always)]
+fn waiting_send<T, G: SendGate<T>, R: Wait>(
+    rt: &R,
+    gate: &mut G,
+    message: T,
+) -> Result<(), SendTimeoutError<T>>
+    ensures run { (start : G) → G.firsts start message gate.old (SendNext.NeedSignal message)
+        → WholeSend G.firsts G.arms G.parks G.agains G.waits start message gate.new result }
+    ensures no_memory_holds { (back : T) → result ≡ Err (SendTimeoutError.NoMemory back)
+        → back ≡ message }
+{
+    if !gate.arm() {
+        return Err(NoMemory(message));
+    }
+    match gate.park(message) {
+        SendNext::Done(result) => result,
+        SendNext::Park(call) => parked_send(rt, gate, call),
+        SendNext::NeedSignal(_) => unreachable!(),
+    }
+}
+
+// A parked send, to its end.
+#[inline(always)]
+fn parked_send<T, G: SendGate<T>, R: Wait>(
+    rt: &R,
+    gate: &mut G,
+    mut call: SendCall,
+) -> Result<(), SendTimeoutError<T>>
+    ensures run { ParkedSend G.agains G.waits gate.old call gate.new result }
+    ensures wants_no_memory { (back : T) → result ≢ Err (SendTimeoutError.NoMemory back) }
+{
+    for _ in rt.forever() {
+        call = match gate.again(call, false) {
+            SendNext::Done(result) => return result,
+            SendNext::Park(same) => same,
+            SendNext::NeedSignal(_) => unreachable!(),
+        };
+        if gate.wait() {
+            return match gate.again(call, true) {
+                SendNext::Done(result) => result,
+                SendNext::NeedSignal(_) | SendNext::Park(_) => unreachable!(),
+            };
+        }
+    }
+    unreachable!()
+}
