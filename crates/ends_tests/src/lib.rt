@@ -1,4 +1,4 @@
-//! Tests of the ends of `flume`, in threads.
+//! Tests of the ends of `flume`, in one thread and in several.
 #![tactic(auto)]
 
 #[cfg(test)]

@@ -9,7 +9,7 @@ use Rattle.std.proofs.lemmas.List.{length-append, length-map, length-take, map-a
 use Rattle.std.proofs.lemmas.List.Elements.{All-map}
 use Rattle.std.proofs.lemmas.List.Quantifiers.{position-Some}
 use Rattle.std.proofs.lemmas.List.Sums.{fails_before_first}
-use Rattle.flume_lists.specs.Messages.{Admits, Blocked, Messages, TakesBack}
+use Rattle.flume_lists.specs.Messages.{Blocked, Messages, TakesBack}
 use Rattle.flume_lists.specs.LineEntry.{blocked_of, line_of}
 use Rattle.flume_lists.specs.declared.line.LineEntry.{LineEntry}
 
@@ -39,12 +39,6 @@ module _ {X : Type 0} where
       rw (← rest) (sym (take-append-drop i xs))
 
 module _ {T : Type 0} where
-  -- the first blocked message joins the queue
-  pub admits_first : (queued joined : List T) (es rest : List (LineEntry T)) (e : LineEntry T) → es ≡ e ∷ rest
-      → joined ≡ queued ++ e.message ∷ [] → Admits (line_of queued es) (line_of joined rest) e.ticket
-  admits_first queued joined es rest e first joins =
-      record { message = e.message; leaves = ap (map blocked_of) first; joins = joins }
-
   -- where no entry has the ticket, no blocked message has it
   pub none_has_ticket : (es : List (LineEntry T)) (ticket : ℕ) → position (λ e. eqb e.ticket ticket) es ≡ None
       → All (λ b. b.ticket ≢ ticket) (map blocked_of es)
@@ -87,14 +81,9 @@ module _ {T : Type 0} where
       let ends : map blocked_of es ++ blocked_of e ∷ [] ≡ before ++ last ∷ [] =
       sym (ap (map blocked_of) split ∙ map-append blocked_of es (e ∷ [])) ∙ ap (λ (x : Messages T). x.blocked) view ∙ is in
       let same = push_inj _ _ _ _ ends in
-      (ap (λ (b : Blocked T). Some b.message) same.1, ap (λ (b : List (Blocked T)). let left : Messages T = record { queued = queued; blocked = b } in left) same.0 ∙ ap (λ (x : Messages T). record x { blocked = before }) view)
-
-  -- where an entry is left to be popped, some message is blocked
-  pub some_blocked : (queued : List T) (all es : List (LineEntry T)) (e : LineEntry T) (line : Messages T)
-      → line_of queued all ≡ line → all ≡ es ++ e ∷ [] → line.blocked ≢ []
-  some_blocked queued all es e line view split none =
-      let here : map blocked_of all ≡ [] = ap (λ (x : Messages T). x.blocked) view ∙ none in
-      omega (arith, length-map all blocked_of, length-append es (e ∷ []), ap length split, ap length here)
+      let left : line_of queued es ≡ record (line_of queued all) { blocked = before } =
+      ap (λ (b : List (Blocked T)). record (line_of queued all) { blocked = b }) same.0 in
+      (ap (λ (b : Blocked T). Some b.message) same.1, left ∙ ap (λ (x : Messages T). record x { blocked = before }) view)
 
   -- a line with nothing queued
   pub none_left : (line new : Messages T) (blocked : List (Blocked T)) → new ≡ line → line.queued ≡ [] → line.blocked ≡ blocked

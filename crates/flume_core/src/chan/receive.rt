@@ -118,8 +118,8 @@ impl<T: Drop, S: Drop, A: Allocator + Copy> Chan<T, S, A> {
         Reply::Drained(list)
     }
 
-    // Hands out the message at the front. It takes no memory: a blocked message stands in the line
-    // already, and moves in where it stands.
+    // Hands out the message at the front. It takes no memory: the queue has room for the blocked
+    // messages too.
     #[inline(always)]
     pub(super) fn take_front(&mut self) -> Option<T>
         ensures some { IfSome result (λ message. (rest : List T)
