@@ -1,8 +1,8 @@
 //! The lists of a channel's state, call by call: parked receivers and live sends.
 use flume_core::step::Kind;
-use flume_lists::entries::{Entries, Standing};
-use flume_lists::line::Line;
-use flume_lists::sends::Sends;
+use flume_state::entries::{Entries, Standing};
+use flume_state::line::Line;
+use flume_state::sends::Sends;
 use std::test::Fail;
 
 #[test]

@@ -3,9 +3,9 @@ use Rattle.std.proofs.Common.{ℕ, ◌∷◌, refl}
 use Rattle.flume_model.specs.declared.step.Step.{Step}
 use Rattle.flume_model.specs.declared.step.Reply.{Reply}
 use Rattle.flume_model.specs.Log.{Log, Opening}
-use Rattle.flume_lists.specs.Sends.{NoneDue}
-use Rattle.flume_lists.specs.Waits.{NoneDueIn}
-use Rattle.flume_core.specs.State.{State}
+use Rattle.flume_state.specs.Sends.{NoneDue}
+use Rattle.flume_state.specs.Receivers.{NoneDueIn}
+use Rattle.flume_state.specs.State.{State}
 use Rattle.flume_core.specs.StandsFor.{StandsFor}
 use Rattle.flume_calls.specs.Turns.{Turn}
 use Rattle.flume_calls.specs.Due.{Rings}

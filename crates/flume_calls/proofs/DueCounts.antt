@@ -7,12 +7,12 @@ use Rattle.std.specs.FinMap.{get, keys, contains_key-keys}
 use Rattle.std.specs.List.{list_any}
 use Rattle.std.specs.Option.{is_some, option_map}
 use Rattle.std.specs.Ordering.{nat_cmp, eq_by_cmp}
-use Rattle.flume_lists.specs.declared.sends.LiveSend.{LiveSend}
-use Rattle.flume_lists.specs.Sends.{SendMap, changed, told, due_in, is_due}
-use Rattle.flume_lists.specs.Waits.{Entries, Tells, not_due}
-use Rattle.flume_lists.proofs.SendsLaws.{get-changed_same, get-changed_other}
-use Rattle.flume_core.specs.State.{State}
-use Rattle.flume_core.specs.Told.{Names, Send, Receive}
+use Rattle.flume_state.specs.declared.sends.LiveSend.{LiveSend}
+use Rattle.flume_state.specs.Sends.{SendMap, changed, told, due_in, is_due}
+use Rattle.flume_state.specs.Receivers.{Entries, Tells, not_due}
+use Rattle.flume_state.proofs.SendsLaws.{get-changed_same, get-changed_other}
+use Rattle.flume_state.specs.State.{State}
+use Rattle.flume_state.specs.Told.{Names, Send, Receive}
 
 -- what counts where a test holds counts no more where another does that it follows from
 weight_le : (a b : Bool) → (a ≡ true → b ≡ true) → cond a 1 0 ≤ cond b 1 0

@@ -7,13 +7,13 @@ use Rattle.std.specs.FinMap.{get}
 use Rattle.std.specs.Option.{option_map}
 use Rattle.flume_model.specs.Entries.{entry_of}
 use Rattle.flume_model.specs.declared.entry.Entry.{Entry}
-use Rattle.flume_lists.specs.declared.entries.Notice.{Notice}
-use Rattle.flume_lists.specs.declared.sends.LiveSend.{LiveSend}
-use Rattle.flume_lists.specs.Sends.{SendMap, changed, told, due_in, NoneDue}
-use Rattle.flume_lists.specs.Waits.{Entries, NoneDueIn}
-use Rattle.flume_lists.proofs.SendsLaws.{get-changed_same, get-changed_other}
-use Rattle.flume_core.specs.State.{State}
-use Rattle.flume_core.specs.Told.{Names, Send, Receive, signal_of, signal_or}
+use Rattle.flume_state.specs.declared.entries.Notice.{Notice}
+use Rattle.flume_state.specs.declared.sends.LiveSend.{LiveSend}
+use Rattle.flume_state.specs.Sends.{SendMap, changed, told, due_in, NoneDue}
+use Rattle.flume_state.specs.Receivers.{Entries, NoneDueIn}
+use Rattle.flume_state.proofs.SendsLaws.{get-changed_same, get-changed_other}
+use Rattle.flume_state.specs.State.{State}
+use Rattle.flume_state.specs.Told.{Names, Send, Receive, signal_of, signal_or}
 use Rattle.flume_calls.specs.Due.{Rings, Over, Rung, AllTold, told_entry}
 
 module _ {S : Type 0} where

@@ -3,11 +3,11 @@ use Rattle.std.specs.Prelude.{◌≡◌, ℕ, Some, map}
 use Rattle.std.specs.Option.{option_map}
 use Rattle.std.specs.FinMap.{get}
 use Rattle.flume_model.specs.declared.entry.Entry.{Entry}
-use Rattle.flume_lists.specs.declared.entries.Notice.{Notice}
-use Rattle.flume_lists.specs.Sends.{NoneDue, told}
-use Rattle.flume_lists.specs.Waits.{NoneDueIn, not_due}
-use Rattle.flume_core.specs.State.{State}
-use Rattle.flume_core.specs.Told.{Names, signal_of}
+use Rattle.flume_state.specs.declared.entries.Notice.{Notice}
+use Rattle.flume_state.specs.Sends.{NoneDue, told}
+use Rattle.flume_state.specs.Receivers.{NoneDueIn, not_due}
+use Rattle.flume_state.specs.State.{State}
+use Rattle.flume_state.specs.Told.{Names, signal_of}
 
 module _ {B S : Type 0} (rings : B → ℕ → S → B → Type 0) {T : Type 0} where
   -- From a channel and a bell to both as they are after: each due ticket is named, and isn't due

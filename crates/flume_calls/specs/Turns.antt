@@ -3,7 +3,7 @@ use Rattle.std.specs.Prelude.{◌≡◌, ◌∷◌}
 use Rattle.flume_model.specs.declared.step.Step.{Step}
 use Rattle.flume_model.specs.declared.step.Reply.{Reply}
 use Rattle.flume_model.specs.Log.{Log, Opening}
-use Rattle.flume_core.specs.State.{State}
+use Rattle.flume_state.specs.State.{State}
 use Rattle.flume_core.specs.StandsFor.{StandsFor}
 
 module _ {T S : Type 0} where

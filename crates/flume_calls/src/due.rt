@@ -1,8 +1,8 @@
 //! Telling those who are due.
 ghost use Rattle.std.specs.Prelude.{ℕ};
 ghost use Rattle.flume_model.specs.Log.{Log, Opening};
-ghost use Rattle.flume_lists.specs.Sends.{NoneDue};
-ghost use Rattle.flume_lists.specs.Waits.{NoneDueIn};
+ghost use Rattle.flume_state.specs.Sends.{NoneDue};
+ghost use Rattle.flume_state.specs.Receivers.{NoneDueIn};
 ghost use Rattle.flume_core.specs.StandsFor.{StandsFor};
 ghost use Rattle.flume_calls.specs.Due.{Rings, AllTold};
 

@@ -1,9 +1,9 @@
 //! What stands behind a channel's lock.
 ghost use Rattle.std.specs.Prelude.{◌≡◌};
 ghost use Rattle.flume_model.specs.Log.{opens};
-ghost use Rattle.flume_lists.specs.Sends.{NoneDue};
-ghost use Rattle.flume_lists.specs.Waits.{NoneDueIn};
-ghost use Rattle.flume_core.specs.State.{State, state_code, opened};
+ghost use Rattle.flume_state.specs.Sends.{NoneDue};
+ghost use Rattle.flume_state.specs.Receivers.{NoneDueIn};
+ghost use Rattle.flume_state.specs.State.{State, state_code, opened};
 ghost use Rattle.flume_core.specs.StateFacts.{ChannelFacts};
 ghost use Rattle.flume_calls.specs.SendTurns.{after_try_send, after_send, after_parked_send};
 ghost use Rattle.flume_calls.specs.SendTurns.{step_of_parked_send};

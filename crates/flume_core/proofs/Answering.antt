@@ -17,13 +17,13 @@ use Rattle.flume_model.specs.Channel.{TakesIn, TakesNoneIn, has_ticket, IsAccept
 use Rattle.flume_model.specs.Replies.{IsReply}
 use Rattle.flume_model.specs.Limits.{is_closed}
 use Rattle.flume_model.specs.Limits.{IsOpen, IsClosed, HasRoom, IsAtCapacity}
-use Rattle.flume_lists.specs.Messages.{Blocked}
-use Rattle.flume_core.specs.State.{State}
+use Rattle.flume_state.specs.Messages.{Blocked}
+use Rattle.flume_state.specs.State.{State}
 use Rattle.flume_core.specs.StandsFor.{StandsFor}
 use Rattle.flume_model.specs.Entries.{some_wait, round_fills, round_for_fills}
 use Rattle.flume_model.specs.Parked.{entries}
 use Rattle.flume_core.proofs.Bare.{bare_fills}
-use Rattle.flume_core.specs.Effects.{fronted, Returns}
+use Rattle.flume_state.specs.Effects.{fronted, Returns}
 use Rattle.flume_core.proofs.Views.{open_at_log, full_at_log, room_at_log, waiting_at_log}
 use Rattle.flume_core.proofs.Views.{live_by, none_blocked_if_absent, is_blocked, line_messages, blocked_is}
 use Rattle.flume_core.proofs.Moves.{withdraws}

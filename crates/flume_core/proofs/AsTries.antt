@@ -10,7 +10,7 @@ use Rattle.flume_model.specs.Log.{Log, Opening, change}
 use Rattle.flume_model.specs.Line.{capacity, boundary}
 use Rattle.flume_model.specs.Channel.{channel}
 use Rattle.flume_model.specs.Replies.{IsReply}
-use Rattle.flume_core.specs.State.{State}
+use Rattle.flume_state.specs.State.{State}
 use Rattle.flume_core.specs.StandsFor.{StandsFor}
 use Rattle.flume_core.proofs.Views.{room_or_full}
 

@@ -8,10 +8,10 @@ use Rattle.flume_model.specs.declared.step.Reply.{Reply}
 use Rattle.flume_model.specs.declared.step.Reply.TheVariants.{NoTicket, Got, Ended, Waiting as WaitsOn, Gone}
 use Rattle.flume_model.specs.declared.entry.Entry.{Entry}
 use Rattle.flume_model.specs.declared.entry.Mark.TheVariants.{Filled}
-use Rattle.flume_lists.specs.declared.entries.Notice.{Notice}
-use Rattle.flume_lists.specs.declared.entries.Standing.{Standing}
-use Rattle.flume_lists.specs.declared.entries.Standing.TheVariants.{Filled as IsFilled, BlockWaiting}
-use Rattle.flume_lists.specs.declared.entries.Standing.TheVariants.{Waiting as Waits, Woken as IsWoken}
+use Rattle.flume_state.specs.declared.entries.Notice.{Notice}
+use Rattle.flume_state.specs.declared.entries.Standing.{Standing}
+use Rattle.flume_state.specs.declared.entries.Standing.TheVariants.{Filled as IsFilled, BlockWaiting}
+use Rattle.flume_state.specs.declared.entries.Standing.TheVariants.{Waiting as Waits, Woken as IsWoken}
 use Rattle.flume_model.specs.Log.{Log, Opening, was_filled}
 use Rattle.flume_model.specs.Counts.{senders, receivers}
 use Rattle.flume_model.specs.Limits.{IsOpen, IsClosed, is_closed}
@@ -20,11 +20,11 @@ use Rattle.flume_model.specs.Entries.{is_woken, is_filled, entry_of, again, left
 use Rattle.flume_model.specs.Parked.{LogEntry, entries}
 use Rattle.flume_model.specs.Channel.{channel}
 use Rattle.flume_model.specs.WaitLaws.{is_block, block_woken}
-use Rattle.flume_lists.specs.Waits.{standing_of, standing, looks, blocks, noticed}
+use Rattle.flume_state.specs.Receivers.{standing_of, standing, looks, blocks, noticed}
 use Rattle.flume_model.specs.Entries.{held_by, held_in}
-use Rattle.flume_core.specs.State.{State, bare}
+use Rattle.flume_state.specs.State.{State, bare}
 use Rattle.flume_core.specs.StandsFor.{StandsFor}
-use Rattle.flume_core.specs.Effects.{fronted, taken, unparked, departed, waiting_so}
+use Rattle.flume_state.specs.Effects.{fronted, taken, unparked, departed, waiting_so}
 use Rattle.flume_model.proofs.Fits.{fills_none}
 use Rattle.flume_model.proofs.EntryShape.{told_filled}
 use Rattle.flume_model.proofs.WokenBlocks.{woken_block_while_closed}

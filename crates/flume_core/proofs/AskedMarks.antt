@@ -6,15 +6,15 @@ use Rattle.flume_model.specs.declared.step.Kind.TheVariants.{Block}
 use Rattle.flume_model.specs.declared.step.Reply.TheVariants.{Got, Ended, Waiting as WaitsOn, Gone}
 use Rattle.flume_model.specs.declared.entry.Mark.{Mark}
 use Rattle.flume_model.specs.declared.entry.Mark.TheVariants.{Waiting, Woken, Filled}
-use Rattle.flume_lists.specs.declared.entries.Standing.{Standing}
-use Rattle.flume_lists.specs.declared.entries.Standing.TheVariants.{Filled as IsFilled, BlockWaiting, BlockWoken}
-use Rattle.flume_lists.specs.declared.entries.Standing.TheVariants.{Waiting as Waits, Woken as IsWoken}
+use Rattle.flume_state.specs.declared.entries.Standing.{Standing}
+use Rattle.flume_state.specs.declared.entries.Standing.TheVariants.{Filled as IsFilled, BlockWaiting, BlockWoken}
+use Rattle.flume_state.specs.declared.entries.Standing.TheVariants.{Waiting as Waits, Woken as IsWoken}
 use Rattle.flume_model.specs.Limits.{IsOpen, IsClosed, is_closed}
 use Rattle.flume_model.specs.Entries.{is_woken, is_filled, left_fills}
 use Rattle.flume_model.specs.Channel.{Channel, IsFront}
 use Rattle.flume_model.specs.Asking.{IsPolledMark, IsGoneMark}
 use Rattle.flume_model.specs.WaitLaws.{is_block}
-use Rattle.flume_lists.specs.Waits.{standing_as, looks, blocks}
+use Rattle.flume_state.specs.Receivers.{standing_as, looks, blocks}
 
 -- one that neither is filled nor blocks as it waits looks
 pub looks_else : (st : Standing) → st ≢ IsFilled → st ≢ BlockWaiting → looks (Some st) ≡ true

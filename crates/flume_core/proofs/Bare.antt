@@ -7,12 +7,12 @@ use Rattle.flume_model.specs.declared.step.Kind.{Kind}
 use Rattle.flume_model.specs.declared.step.Kind.TheVariants.{Block, Plain, Stream, Arm}
 use Rattle.flume_model.specs.declared.entry.Entry.{Entry}
 use Rattle.flume_model.specs.declared.entry.Mark.TheVariants.{Waiting}
-use Rattle.flume_lists.specs.declared.entries.Notice.{Notice}
+use Rattle.flume_state.specs.declared.entries.Notice.{Notice}
 use Rattle.flume_model.specs.Entries.{is_waiting, is_woken, some_wait, waiting_count, round, round_fills, round_for}
 use Rattle.flume_model.specs.Entries.{round_for_fills, all_woken, entry_of, without, again_as, again, passes_on, left, left_fills}
 use Rattle.flume_model.specs.Parked.{untold}
-use Rattle.flume_lists.specs.Waits.{noticed}
-use Rattle.flume_core.specs.State.{bare}
+use Rattle.flume_state.specs.Receivers.{noticed}
+use Rattle.flume_state.specs.State.{bare}
 
 module _ {T N : Type 0} where
   -- who waits

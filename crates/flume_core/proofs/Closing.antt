@@ -12,14 +12,14 @@ use Rattle.flume_model.specs.Line.{issued}
 use Rattle.flume_model.specs.Channel.{channel}
 use Rattle.flume_model.specs.Replies.{IsReply}
 use Rattle.flume_model.specs.Limits.{is_closed}
-use Rattle.flume_core.specs.State.{State, bare}
+use Rattle.flume_state.specs.State.{State, bare}
 use Rattle.flume_core.specs.StandsFor.{StandsFor}
 use Rattle.flume_model.specs.Entries.{all_woken}
 use Rattle.flume_model.specs.Parked.{LogEntry, untold, entries_after, is_shut}
-use Rattle.flume_lists.specs.Waits.{tell_now}
+use Rattle.flume_state.specs.Receivers.{tell_now}
 use Rattle.flume_core.proofs.Bare.{bare_all_woken}
 use Rattle.flume_model.proofs.WaitingCounts.{fewer_woken}
-use Rattle.flume_core.specs.Effects.{all_due, after_leaving}
+use Rattle.flume_state.specs.Effects.{all_due, after_leaving}
 use Rattle.flume_core.proofs.Keeping.{moves_none, counts_open, counts_over}
 use Rattle.flume_core.proofs.Telling.{same_marks_due}
 

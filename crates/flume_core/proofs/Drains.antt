@@ -12,11 +12,11 @@ use Rattle.flume_model.specs.Line.{line, is_live}
 use Rattle.flume_model.specs.Channel.{channel, has_ticket}
 use Rattle.flume_model.specs.Replies.{IsReply}
 use Rattle.flume_model.specs.Limits.{HasRoom, IsAtCapacity, is_full}
-use Rattle.flume_lists.specs.Messages.{Blocked}
-use Rattle.flume_lists.specs.Sends.{SendMap, changed, accepted_now}
-use Rattle.flume_core.specs.State.{State, offers_of}
+use Rattle.flume_state.specs.Messages.{Blocked}
+use Rattle.flume_state.specs.Sends.{SendMap, changed, accepted_now}
+use Rattle.flume_state.specs.State.{State, offers_of}
 use Rattle.flume_core.specs.StandsFor.{StandsFor}
-use Rattle.flume_core.specs.Effects.{filled_up, filled_up_from}
+use Rattle.flume_state.specs.Effects.{filled_up, filled_up_from}
 use Rattle.flume_model.proofs.LineSteps.{line_drains, apart_in_line, line_over}
 use Rattle.flume_core.proofs.Views.{mark, status, status_is, queued_length, queue_at_log, offered_messages, line_length, nil_by}
 use Rattle.flume_core.proofs.Marks.{marks_moved_in}

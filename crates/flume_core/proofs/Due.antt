@@ -2,9 +2,9 @@
 use Rattle.std.proofs.Common.{◌≡◌, ℕ, zero, suc, ◌+◌, List, [], ◌∷◌, drop, Option, Some, None, refl, add-one}
 use Rattle.std.specs.List.{slice_get}
 use Rattle.std.specs.Option.{option_map}
-use Rattle.flume_lists.specs.Messages.{Blocked}
-use Rattle.flume_lists.specs.Sends.{SendMap, changed, due_now}
-use Rattle.flume_core.specs.Effects.{all_due}
+use Rattle.flume_state.specs.Messages.{Blocked}
+use Rattle.flume_state.specs.Sends.{SendMap, changed, due_now}
+use Rattle.flume_state.specs.Effects.{all_due}
 
 -- the sends with this ticket marked, if there is one
 abbrev pub marked_at : {S : Type 0} → Option ℕ → SendMap S → SendMap S

@@ -12,9 +12,9 @@ use Rattle.flume_model.specs.Channel.{channel, has_ticket}
 use Rattle.flume_model.specs.Replies.{IsReply}
 use Rattle.flume_model.specs.Entries.{waiting_count}
 use Rattle.flume_model.specs.Parked.{entries_after, is_shut}
-use Rattle.flume_lists.specs.Sends.{SendMap}
-use Rattle.flume_lists.specs.Waits.{Entries}
-use Rattle.flume_core.specs.State.{State, emptied, offers_of, bare}
+use Rattle.flume_state.specs.Sends.{SendMap}
+use Rattle.flume_state.specs.Receivers.{Entries}
+use Rattle.flume_state.specs.State.{State, emptied, offers_of, bare}
 use Rattle.flume_core.specs.StandsFor.{StandsFor}
 use Rattle.flume_model.proofs.EntryShape.{told_filled}
 use Rattle.flume_model.proofs.Fits.{not_over_yet}

@@ -8,7 +8,7 @@ use Rattle.flume_model.specs.Log.{Log, Opening, Offer}
 use Rattle.flume_model.specs.Offers.{after, kept, hand_outs}
 use Rattle.flume_model.specs.Counts.{is_over}
 use Rattle.flume_model.specs.Line.{line, boundary, messages}
-use Rattle.flume_core.specs.State.{State, offers_of}
+use Rattle.flume_state.specs.State.{State, offers_of}
 use Rattle.flume_core.specs.StandsFor.{StandsFor}
 use Rattle.flume_core.specs.Headline.{Headline}
 use Rattle.flume_model.proofs.FillsOrder.{in_order}

@@ -6,18 +6,18 @@ use Rattle.std.specs.FinMap.{get, insert, remove}
 use Rattle.std.proofs.Math.Bool.{and-true, or-true, or-false}
 use Rattle.std.proofs.lemmas.Bool.{cases_eq}
 use Rattle.std.proofs.lemmas.List.{map-append, map_push}
-use Rattle.flume_lists.specs.declared.sends.LiveSend.{LiveSend}
+use Rattle.flume_state.specs.declared.sends.LiveSend.{LiveSend}
 use Rattle.flume_model.specs.Log.{Log, Opening}
 use Rattle.flume_model.specs.Line.{line, is_live}
 use Rattle.flume_model.specs.Channel.{has_ticket}
-use Rattle.flume_lists.specs.Messages.{Blocked}
-use Rattle.flume_lists.specs.Sends.{SendMap, blocked as blocked_send, changed, accepted_now}
-use Rattle.flume_core.specs.State.{State, offers_of}
+use Rattle.flume_state.specs.Messages.{Blocked}
+use Rattle.flume_state.specs.Sends.{SendMap, blocked as blocked_send, changed, accepted_now}
+use Rattle.flume_state.specs.State.{State, offers_of}
 use Rattle.flume_core.specs.StandsFor.{StandsFor}
 use Rattle.flume_model.proofs.Tickets.{has_ticket-append}
 use Rattle.flume_model.proofs.LineSteps.{apart_in_line}
-use Rattle.flume_lists.proofs.SendsLaws.{get-insert_same, get-insert_other, get-remove_same, get-remove_other, get-changed_same}
-use Rattle.flume_lists.proofs.SendsLaws.{get-changed_other}
+use Rattle.flume_state.proofs.SendsLaws.{get-insert_same, get-insert_other, get-remove_same, get-remove_other, get-changed_same}
+use Rattle.flume_state.proofs.SendsLaws.{get-changed_other}
 use Rattle.flume_core.proofs.Views.{mark, status, status_is}
 use Rattle.flume_core.proofs.Stands.{still_live, not_live_now}
 

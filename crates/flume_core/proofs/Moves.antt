@@ -13,13 +13,13 @@ use Rattle.flume_model.specs.Line.{line, is_live, how_many}
 use Rattle.flume_model.specs.Channel.{channel, has_ticket, TakesIn}
 use Rattle.flume_model.specs.Replies.{IsReply}
 use Rattle.flume_model.specs.Entries.{some_wait, round_for_fills}
-use Rattle.flume_lists.specs.Messages.{Blocked}
-use Rattle.flume_lists.specs.Sends.{blocked as blocked_send}
-use Rattle.flume_lists.specs.Waits.{tell_now}
-use Rattle.flume_core.specs.State.{State, offers_of}
+use Rattle.flume_state.specs.Messages.{Blocked}
+use Rattle.flume_state.specs.Sends.{blocked as blocked_send}
+use Rattle.flume_state.specs.Receivers.{tell_now}
+use Rattle.flume_state.specs.State.{State, offers_of}
 use Rattle.flume_core.specs.StandsFor.{StandsFor}
-use Rattle.flume_core.specs.Effects.{rounded}
-use Rattle.flume_lists.specs.Waits.{unfilled}
+use Rattle.flume_state.specs.Effects.{rounded}
+use Rattle.flume_state.specs.Receivers.{unfilled}
 use Rattle.flume_model.proofs.Kept.{keeps_line}
 use Rattle.flume_model.proofs.Parts.{at_most}
 use Rattle.flume_model.proofs.LineSteps.{line_queues, line_blocks, line_withdraws, line_stays}

@@ -6,7 +6,7 @@ use Rattle.flume_model.specs.declared.step.Kind.{Kind}
 use Rattle.flume_model.specs.declared.step.Step.{Step}
 use Rattle.flume_model.specs.declared.step.Reply.{Reply}
 use Rattle.flume_model.specs.declared.entry.Entry.{Entry}
-use Rattle.flume_lists.specs.declared.entries.Notice.{Notice}
+use Rattle.flume_state.specs.declared.entries.Notice.{Notice}
 use Rattle.flume_model.specs.Log.{Log, Opening, Parks, Asks, Collects, Leaves, change}
 use Rattle.flume_model.specs.Counts.{is_over}
 use Rattle.flume_model.specs.Line.{is_live, how_many}
@@ -14,11 +14,11 @@ use Rattle.flume_model.specs.Channel.{channel, has_ticket}
 use Rattle.flume_model.specs.Replies.{IsReply, IsRun}
 use Rattle.flume_model.specs.Entries.{entry_of, without, again, left, left_fills, passes_on, round_for, round_for_fills, waiting_count}
 use Rattle.flume_model.specs.Parked.{LogEntry, entries}
-use Rattle.flume_lists.specs.Waits.{tell_now, begins, noticed}
-use Rattle.flume_core.specs.State.{State, offers_of, bare}
+use Rattle.flume_state.specs.Receivers.{tell_now, begins, noticed}
+use Rattle.flume_state.specs.State.{State, offers_of, bare}
 use Rattle.flume_core.specs.StandsFor.{StandsFor}
-use Rattle.flume_core.specs.Effects.{unparked, departed, waiting_so}
-use Rattle.flume_lists.specs.Waits.{unfilled}
+use Rattle.flume_state.specs.Effects.{unparked, departed, waiting_so}
+use Rattle.flume_state.specs.Receivers.{unfilled}
 use Rattle.flume_model.proofs.LineSteps.{line_leaves}
 use Rattle.flume_model.proofs.WaitingOpen.{nothing_once_over}
 use Rattle.flume_model.proofs.WaitingCounts.{fewer_without, fewer_left}

@@ -15,8 +15,8 @@ use Rattle.flume_model.specs.Entries.{waiting_count}
 use Rattle.flume_model.specs.Parked.{entries, entries_after, is_shut}
 use Rattle.flume_model.proofs.EntryShape.{told_filled}
 use Rattle.flume_core.proofs.Bare.{bare_waiting}
-use Rattle.flume_lists.specs.Waits.{Entries}
-use Rattle.flume_core.specs.State.{State, offers_of, bare}
+use Rattle.flume_state.specs.Receivers.{Entries}
+use Rattle.flume_state.specs.State.{State, offers_of, bare}
 use Rattle.flume_core.specs.StandsFor.{StandsFor}
 use Rattle.flume_model.proofs.Fits.{Fits, fits}
 use Rattle.flume_model.proofs.LineSteps.{line_over}

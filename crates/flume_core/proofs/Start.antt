@@ -2,7 +2,7 @@
 use Rattle.std.proofs.Common.{◌≡◌, [], refl, sym, subst}
 use Rattle.std.specs.FinMap.{get-empty}
 use Rattle.flume_model.specs.Log.{Opening}
-use Rattle.flume_core.specs.State.{State, opened}
+use Rattle.flume_state.specs.State.{State, opened}
 use Rattle.flume_core.specs.StandsFor.{StandsFor}
 
 module _ {T A S : Type 0} where

@@ -14,10 +14,10 @@ use Rattle.flume_model.specs.Limits.{IsOpen, IsClosed}
 use Rattle.flume_model.specs.Entries.{some_wait, waiting_count, woken_count, entry_of}
 use Rattle.flume_model.specs.Parked.{entries}
 use Rattle.flume_model.specs.Channel.{has_ticket}
-use Rattle.flume_lists.specs.Messages.{Blocked}
+use Rattle.flume_state.specs.Messages.{Blocked}
 use Rattle.flume_model.specs.Laws.{Rising}
 use Rattle.flume_model.specs.WaitLaws.{Apart, block_woken}
-use Rattle.flume_core.specs.State.{State, offers_of, bare}
+use Rattle.flume_state.specs.State.{State, offers_of, bare}
 use Rattle.flume_core.specs.StandsFor.{StandsFor}
 use Rattle.flume_core.specs.StateFacts.{accepted_at, SendersBlockAtCapacity, ReceiversWaitWhileOpen, WokenCoverQueued}
 use Rattle.flume_core.specs.StateFacts.{QueuedAndWaitingAreBounded, ReceiverTicketsApart, SendTicketsApart, BlockedTicketsRise}

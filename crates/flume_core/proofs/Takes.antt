@@ -13,11 +13,11 @@ use Rattle.flume_model.specs.Line.{line, messages, is_live}
 use Rattle.flume_model.specs.Channel.{channel, has_ticket}
 use Rattle.flume_model.specs.Replies.{IsReply}
 use Rattle.flume_model.specs.Limits.{HasRoom, IsAtCapacity, is_full}
-use Rattle.flume_lists.specs.Messages.{Blocked}
-use Rattle.flume_lists.specs.Sends.{changed, accepted_now}
-use Rattle.flume_core.specs.State.{State, offers_of, bare}
+use Rattle.flume_state.specs.Messages.{Blocked}
+use Rattle.flume_state.specs.Sends.{changed, accepted_now}
+use Rattle.flume_state.specs.State.{State, offers_of, bare}
 use Rattle.flume_core.specs.StandsFor.{StandsFor}
-use Rattle.flume_core.specs.Effects.{admitted, admitted_from, refilled, fronted, fronted_from, taken as taken_state}
+use Rattle.flume_state.specs.Effects.{admitted, admitted_from, refilled, fronted, fronted_from, taken as taken_state}
 use Rattle.flume_model.specs.declared.entry.Entry.{Entry}
 use Rattle.flume_model.specs.Entries.{waiting_count, without}
 use Rattle.flume_model.specs.Parked.{entries_after, is_shut}

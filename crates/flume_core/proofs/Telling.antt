@@ -7,16 +7,16 @@ use Rattle.std.proofs.lemmas.Bool.{eqb-false}
 use Rattle.std.proofs.lemmas.List.{map-append}
 use Rattle.std.specs.Option.{option_map}
 use Rattle.std.specs.FinMap.{get}
-use Rattle.flume_lists.specs.declared.sends.LiveSend.{LiveSend}
+use Rattle.flume_state.specs.declared.sends.LiveSend.{LiveSend}
 use Rattle.flume_model.specs.Log.{Log, Opening}
-use Rattle.flume_lists.specs.Messages.{Blocked}
-use Rattle.flume_lists.specs.Sends.{SendMap, changed, with_signal, told, due_now}
-use Rattle.flume_core.specs.State.{State, bare}
+use Rattle.flume_state.specs.Messages.{Blocked}
+use Rattle.flume_state.specs.Sends.{SendMap, changed, with_signal, told, due_now}
+use Rattle.flume_state.specs.State.{State, bare}
 use Rattle.flume_core.specs.StandsFor.{StandsFor}
-use Rattle.flume_lists.specs.Waits.{Entries, Tells}
-use Rattle.flume_core.specs.Effects.{resignalled, all_due}
+use Rattle.flume_state.specs.Receivers.{Entries, Tells}
+use Rattle.flume_state.specs.Effects.{resignalled, all_due}
 use Rattle.flume_core.proofs.Views.{mark, SameMarks}
-use Rattle.flume_lists.proofs.SendsLaws.{get-changed_same, get-changed_other}
+use Rattle.flume_state.proofs.SendsLaws.{get-changed_same, get-changed_other}
 
 module _ {S : Type 0} where
   -- a change of a send that keeps its mark

@@ -6,7 +6,7 @@ use Rattle.flume_model.specs.Counts.{is_over}
 use Rattle.flume_model.specs.Line.{boundary, messages}
 use Rattle.flume_model.specs.Replies.{IsRun}
 use Rattle.flume_model.specs.Laws.{InOrder}
-use Rattle.flume_core.specs.State.{State, offers_of}
+use Rattle.flume_state.specs.State.{State, offers_of}
 use Rattle.flume_core.specs.StateFacts.{WokenCoverQueued, QueuedAndWaitingAreBounded}
 
 module _ {T A S : Type 0} where

@@ -16,7 +16,7 @@ use Rattle.flume_model.specs.Line.{is_live}
 use Rattle.flume_model.specs.Parked.{entries, peak}
 use Rattle.flume_model.specs.Channel.{has_ticket}
 use Rattle.flume_model.specs.Replies.{IsRun}
-use Rattle.flume_core.specs.State.{State, offers_of, bare}
+use Rattle.flume_state.specs.State.{State, offers_of, bare}
 
 module _ {T A : Type 0} where
   -- how a send ticket stands: not live, or live and accepted, or live and not

@@ -8,7 +8,7 @@ use Rattle.flume_model.specs.Limits.{IsAtCapacity, IsOpen, IsClosed}
 use Rattle.flume_model.specs.Entries.{some_wait, waiting_count, woken_count, entry_of}
 use Rattle.flume_model.specs.Laws.{Rising}
 use Rattle.flume_model.specs.WaitLaws.{IsWithin, Apart, block_woken}
-use Rattle.flume_core.specs.State.{State, offers_of}
+use Rattle.flume_state.specs.State.{State, offers_of}
 
 module _ {T S : Type 0} where
   -- how a send ticket stands: none where it isn't live, else whether its message was accepted

@@ -2,7 +2,7 @@
 ghost use Rattle.std.specs.Prelude.{◌≡◌, ◌∷◌, [], length, IsTrue, ◌↔◌};
 ghost use Rattle.flume_model.specs.Log.{Log, Opening, opens};
 ghost use Rattle.flume_model.specs.Limits.{IsOpen, HasRoom};
-ghost use Rattle.flume_core.specs.State.{State, state_code, opened};
+ghost use Rattle.flume_state.specs.State.{State, state_code, opened};
 ghost use Rattle.flume_core.specs.StandsFor.{StandsFor};
 ghost use Rattle.flume_core.specs.StandsFor.{IsRefusalOf};
 
@@ -12,9 +12,9 @@ mod queries;
 mod receive;
 mod send;
 
-use flume_lists::entries::Entries;
-use flume_lists::line::Line;
-use flume_lists::sends::Sends;
+use flume_state::entries::Entries;
+use flume_state::line::Line;
+use flume_state::sends::Sends;
 use flume_model::step::{Reply, Step};
 use std::alloc::{Allocator, Global};
 use std::marker::Model;

@@ -1,7 +1,7 @@
 //! A channel that some run led to.
 ghost use Rattle.std.specs.Prelude.{◌≡◌, ◌∷◌};
 ghost use Rattle.flume_model.specs.Log.{Log, Opening, opens};
-ghost use Rattle.flume_core.specs.State.{State, state_code, opened};
+ghost use Rattle.flume_state.specs.State.{State, state_code, opened};
 ghost use Rattle.flume_core.specs.StandsFor.{StandsFor, IsRefusalOf};
 
 pub mod facts;

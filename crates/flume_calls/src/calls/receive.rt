@@ -3,10 +3,10 @@ ghost use Rattle.std.specs.Prelude.{◌≡◌, ◌≢◌, ℕ, ◌≤◌, ◌↔
 ghost use Rattle.std.specs.Prelude.{Option, List, ◌∷◌, [], ◌⊎◌};
 ghost use Rattle.flume_model.specs.Limits.{IsOpen, IsClosed, most};
 ghost use Rattle.flume_model.specs.Entries.{entry_of, held_by, again};
-ghost use Rattle.flume_lists.specs.Waits.{standing, looks, blocks, noticed, waits_on};
-ghost use Rattle.flume_lists.specs.declared.entries.Standing.TheVariants.{BlockWaiting};
-ghost use Rattle.flume_core.specs.State.{State};
-ghost use Rattle.flume_core.specs.Effects.{fronted, taken, unparked, waiting_so, Begins, Departs};
+ghost use Rattle.flume_state.specs.Receivers.{standing, looks, blocks, noticed, waits_on};
+ghost use Rattle.flume_state.specs.declared.entries.Standing.TheVariants.{BlockWaiting};
+ghost use Rattle.flume_state.specs.State.{State};
+ghost use Rattle.flume_state.specs.Effects.{fronted, taken, unparked, waiting_so, Begins, Departs};
 ghost use Rattle.flume_calls.specs.Turns.{Turn, IsLedTo};
 ghost use Rattle.flume_calls.specs.ReceiveTurns.{after_try_recv, after_recv, after_parked_receive};
 ghost use Rattle.flume_calls.specs.ReceiveTurns.{step_of_parked_receive, IsNone};

@@ -2,13 +2,13 @@
 ghost use Rattle.std.specs.Prelude.{not, ◌≡◌, ◌+◌, ◌-◌, ◌<◌, ◌↔◌, ◌∷◌};
 ghost use Rattle.flume_model.specs.Log.{Log, Opening};
 ghost use Rattle.flume_model.specs.Limits.{is_closed, most};
-ghost use Rattle.flume_core.specs.Effects.{after_leaving, all_due};
-ghost use Rattle.flume_core.specs.State.{State};
+ghost use Rattle.flume_state.specs.Effects.{after_leaving, all_due};
+ghost use Rattle.flume_state.specs.State.{State};
 ghost use Rattle.flume_core.specs.StandsFor.{StandsFor, IsRefusal};
 
 use super::Chan;
-use flume_lists::line::Line;
-use flume_lists::sends::Sends;
+use flume_state::line::Line;
+use flume_state::sends::Sends;
 use flume_model::step::{Reply, Step};
 use std::alloc::Allocator;
 

@@ -5,17 +5,17 @@ ghost use Rattle.flume_model.specs.Log.{Log, Opening};
 ghost use Rattle.flume_model.specs.Limits.{IsOpen, IsClosed, is_closed};
 ghost use Rattle.flume_model.specs.Entries.{entry_of, again, passes_on, left_fills};
 ghost use Rattle.flume_model.specs.Entries.{round_for_fills};
-ghost use Rattle.flume_lists.specs.Waits.{standing, looks, blocks, noticed, waits_on};
-ghost use Rattle.flume_lists.specs.Waits.{only_leaves};
+ghost use Rattle.flume_state.specs.Receivers.{standing, looks, blocks, noticed, waits_on};
+ghost use Rattle.flume_state.specs.Receivers.{only_leaves};
 ghost use Rattle.flume_model.specs.Entries.{held_by};
-ghost use Rattle.flume_lists.specs.declared.entries.Standing.TheVariants.{BlockWaiting, Filled};
-ghost use Rattle.flume_core.specs.Effects.{fronted, taken, unparked, departed, rounded};
-ghost use Rattle.flume_core.specs.Effects.{waiting_so, Departs};
-ghost use Rattle.flume_core.specs.State.{State};
+ghost use Rattle.flume_state.specs.declared.entries.Standing.TheVariants.{BlockWaiting, Filled};
+ghost use Rattle.flume_state.specs.Effects.{fronted, taken, unparked, departed, rounded};
+ghost use Rattle.flume_state.specs.Effects.{waiting_so, Departs};
+ghost use Rattle.flume_state.specs.State.{State};
 ghost use Rattle.flume_core.specs.StandsFor.{StandsFor, IsRefusalOf};
 
 use super::Chan;
-use flume_lists::entries::Standing;
+use flume_state::entries::Standing;
 use flume_model::step::{Reply, Step};
 use std::alloc::Allocator;
 

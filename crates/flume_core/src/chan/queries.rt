@@ -3,10 +3,10 @@ ghost use Rattle.std.specs.Prelude.{◌≡◌, ◌==◌, ◌∷◌, length, IfNo
 ghost use Rattle.std.specs.Option.{option_copied};
 ghost use Rattle.flume_model.specs.Log.{Log, Opening};
 ghost use Rattle.flume_model.specs.Limits.{is_closed, is_full};
-ghost use Rattle.flume_lists.specs.Sends.{NoneDue};
-ghost use Rattle.flume_lists.specs.Waits.{NoneDueIn};
-ghost use Rattle.flume_core.specs.Told.{Names, signal_of};
-ghost use Rattle.flume_core.specs.State.{State};
+ghost use Rattle.flume_state.specs.Sends.{NoneDue};
+ghost use Rattle.flume_state.specs.Receivers.{NoneDueIn};
+ghost use Rattle.flume_state.specs.Told.{Names, signal_of};
+ghost use Rattle.flume_state.specs.State.{State};
 ghost use Rattle.flume_core.specs.StandsFor.{StandsFor};
 
 use super::Chan;

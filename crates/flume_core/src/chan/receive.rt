@@ -4,9 +4,9 @@ ghost use Rattle.std.specs.Prelude.{IfNone, IfSome, Option};
 ghost use Rattle.std.specs.Prelude.{None, Vec};
 ghost use Rattle.flume_model.specs.Log.{Log, Opening};
 ghost use Rattle.flume_model.specs.Limits.{IsOpen, IsClosed, most};
-ghost use Rattle.flume_core.specs.Effects.{admitted, fronted, refilled, taken, filled_up};
-ghost use Rattle.flume_core.specs.Effects.{waiting_so, Begins};
-ghost use Rattle.flume_core.specs.State.{State};
+ghost use Rattle.flume_state.specs.Effects.{admitted, fronted, refilled, taken, filled_up};
+ghost use Rattle.flume_state.specs.Effects.{waiting_so, Begins};
+ghost use Rattle.flume_state.specs.State.{State};
 ghost use Rattle.flume_core.specs.StandsFor.{StandsFor, IsRefusal};
 
 use super::Chan;

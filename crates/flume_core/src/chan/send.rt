@@ -4,12 +4,12 @@ ghost use Rattle.std.specs.Prelude.{length, Option, Some, None, true, false};
 ghost use Rattle.std.specs.FinMap.{get, insert, remove};
 ghost use Rattle.flume_model.specs.Log.{Log, Opening};
 ghost use Rattle.flume_model.specs.Limits.{IsOpen, IsClosed, IsAtCapacity, most};
-ghost use Rattle.flume_lists.specs.Sends.{blocked};
+ghost use Rattle.flume_state.specs.Sends.{blocked};
 ghost use Rattle.flume_model.specs.Entries.{some_wait};
-ghost use Rattle.flume_core.specs.Effects.{resignalled, Joins, Returns};
+ghost use Rattle.flume_state.specs.Effects.{resignalled, Joins, Returns};
 ghost use Rattle.std.specs.List.{All};
 ghost use Rattle.std.specs.Option.{option_map};
-ghost use Rattle.flume_core.specs.State.{State};
+ghost use Rattle.flume_state.specs.State.{State};
 ghost use Rattle.flume_core.specs.StandsFor.{StandsFor, HoldsIfRefused, IsRefusal};
 
 use super::Chan;

@@ -1,5 +1,5 @@
 use Rattle.std.proofs.Common.{◌≡◌, length}
-use Rattle.flume_core.specs.Effects.{filled_up}
+use Rattle.flume_state.specs.Effects.{filled_up}
 use Rattle.flume_core.proofs.chan.Chan.fill_up.Given as goal
 
 abbrev pub invariant-loop-self : goal.invariant-loop-self

@@ -1,8 +1,8 @@
 -- How a parked receiver is answered that asks again.
 use Rattle.std.proofs.Common.{◌≡◌, true, [], Some, refl, rules}
 use Rattle.flume_model.specs.Limits.{IsOpen, IsClosed}
-use Rattle.flume_lists.specs.Waits.{standing, looks, waits_on}
-use Rattle.flume_core.specs.Effects.{fronted}
+use Rattle.flume_state.specs.Receivers.{standing, looks, waits_on}
+use Rattle.flume_state.specs.Effects.{fronted}
 use Rattle.flume_core.proofs.Answering.{closed_where}
 use Rattle.flume_core.proofs.Asked.{poll_none, poll_collects, poll_waits, poll_takes, poll_waits_on, poll_ends}
 use Rattle.flume_core.proofs.AskedMarks.{looks_else}

@@ -1,7 +1,7 @@
 -- How a send stands, as it is answered.
 use Rattle.std.proofs.Common.{refl, ◌∙◌, rules, eq-eqb}
 use Rattle.flume_model.specs.Limits.{IsClosed}
-use Rattle.flume_core.specs.Effects.{resignalled}
+use Rattle.flume_state.specs.Effects.{resignalled}
 use Rattle.flume_core.proofs.Keeping.{still, still_signal}
 use Rattle.flume_core.proofs.Moves.{accepts}
 use Rattle.flume_core.proofs.Views.{open_at_log, closed_at_log}

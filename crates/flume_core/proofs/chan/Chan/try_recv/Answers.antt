@@ -1,6 +1,6 @@
 -- The front is handed out, or nothing is found.
 use Rattle.std.proofs.Common.{◌≡◌, [], None, refl, rules}
-use Rattle.flume_core.specs.Effects.{fronted}
+use Rattle.flume_state.specs.Effects.{fronted}
 use Rattle.flume_core.proofs.Keeping.{still}
 use Rattle.flume_core.proofs.Takes.{takes}
 use Rattle.flume_core.proofs.Views.{open_at_log, closed_at_log}

@@ -1,6 +1,6 @@
 -- How a parked receiver is answered that leaves.
 use Rattle.std.proofs.Common.{refl, rules, inl, inr}
-use Rattle.flume_lists.specs.declared.entries.Standing.TheVariants.{Waiting, Woken}
+use Rattle.flume_state.specs.declared.entries.Standing.TheVariants.{Waiting, Woken}
 use Rattle.flume_core.proofs.Asked.{withdraw_none, withdraw_collects, withdraw_takes, withdraw_leaves, withdraw_passes}
 use Rattle.flume_core.proofs.AskedMarks.{blocks_else}
 use Rattle.flume_core.proofs.chan.Chan.withdraw.Goals as goal

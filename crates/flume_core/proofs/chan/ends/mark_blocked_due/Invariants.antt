@@ -1,5 +1,5 @@
 use Rattle.std.proofs.Common.{◌≡◌, drop}
-use Rattle.flume_core.specs.Effects.{all_due}
+use Rattle.flume_state.specs.Effects.{all_due}
 use Rattle.flume_core.proofs.chan.ends.mark_blocked_due.Given as goal
 
 abbrev pub invariant-loop-place : goal.invariant-loop-place

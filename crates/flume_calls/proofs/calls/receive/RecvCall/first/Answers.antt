@@ -1,7 +1,7 @@
 -- A receive that doesn't wait gets the front, or else learns whether the channel is open.
 use Rattle.std.proofs.Common.{◌≡◌, Ok, refl, sym, ap, rules}
 use Rattle.flume_model.specs.declared.step.Reply.TheVariants.{Ended}
-use Rattle.flume_core.specs.Effects.{fronted}
+use Rattle.flume_state.specs.Effects.{fronted}
 use Rattle.flume_calls.specs.declared.calls.receive.RecvNext.TheVariants.{Done}
 use Rattle.flume_calls.specs.ReceiveTurns.{after_try_recv}
 use Rattle.flume_calls.proofs.Rest.{told_end, got_same}

@@ -1,7 +1,7 @@
 -- A receive that may park gets the front, or parks, or learns why not.
 use Rattle.std.proofs.Common.{◌≡◌, None, Ok, refl, sym, ap, subst, rules}
 use Rattle.flume_model.specs.Channel.{channel}
-use Rattle.flume_core.specs.Effects.{Begins}
+use Rattle.flume_state.specs.Effects.{Begins}
 use Rattle.flume_calls.specs.declared.calls.receive.RecvNext.TheVariants.{Done}
 use Rattle.flume_calls.proofs.Comes.{recv_settles}
 use Rattle.flume_calls.proofs.Rest.{rest_recv, got_same, refused_or_got}

@@ -1,6 +1,6 @@
 -- A message that comes back before the deadline comes back since the channel is closed.
 use Rattle.std.proofs.Common.{sym, ◌∙◌, rules}
-use Rattle.flume_core.specs.Effects.{Returns}
+use Rattle.flume_state.specs.Effects.{Returns}
 use Rattle.flume_model.specs.Channel.{channel}
 use Rattle.flume_calls.proofs.Comes.{taken_by_poll, taken_by_withdraw, rest_poll_send, rest_withdraw_send}
 use Rattle.flume_calls.proofs.calls.send.SendCall.again.Goals as goal

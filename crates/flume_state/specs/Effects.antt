@@ -1,0 +1,129 @@
+-- What some steps leave, as functions of the state before them.
+use Rattle.std.specs.Prelude.{◌≡◌, ◌==◌, ℕ, ◌+◌, Bool, not, ◌&&◌, if◌then◌else◌, List, [], ◌∷◌}
+use Rattle.std.specs.Prelude.{◌++◌}
+use Rattle.std.specs.Prelude.{length, max, ◌<◌, Option, Some, None}
+use Rattle.std.specs.FinMap.{remove}
+use Rattle.flume_model.specs.Limits.{is_closed, is_full, IsOpen, most}
+use Rattle.flume_model.specs.declared.step.Kind.{Kind}
+use Rattle.flume_state.specs.Messages.{Blocked}
+use Rattle.flume_state.specs.Sends.{SendMap, changed, accepted_now, due_now, with_signal}
+use Rattle.flume_model.specs.Entries.{all_woken, entry_of, without, round_for, round_for_fills}
+use Rattle.flume_model.specs.Entries.{passes_on, left_fills, waiting_count}
+use Rattle.flume_state.specs.Receivers.{Entries, begins, tell_now, unfilled}
+use Rattle.flume_state.specs.State.{State, emptied}
+
+module _ {S : Type 0} where
+  -- the live sends with a signal replaced, where one is given
+  abbrev pub resignalled : SendMap S → ℕ → Option S → SendMap S
+  resignalled sends ticket None = sends
+  resignalled sends ticket (Some signal) = changed sends ticket (with_signal signal)
+
+module _ {T S : Type 0} where
+  -- the live sends, where each of these blocked ones is to be told
+  abbrev pub all_due : List (Blocked T) → SendMap S → SendMap S
+  all_due [] sends = sends
+  all_due (b ∷ blocked) sends = all_due blocked (changed sends b.ticket due_now)
+
+  -- the state whose first blocked message, of these, has joined the queue
+  abbrev pub admitted_from : List (Blocked T) → State T S → State T S
+  admitted_from [] s = s
+  admitted_from (b ∷ later) s = record s {
+    queue = s.queue ++ b.message ∷ [];
+    blocked = later;
+    sends = changed s.sends b.ticket accepted_now;
+  }
+
+  -- the state whose first blocked message, if one is blocked, has joined the queue
+  abbrev pub admitted : State T S → State T S
+  admitted s = admitted_from s.blocked s
+
+  -- the same where the queue has room
+  abbrev pub refilled : State T S → State T S
+  refilled s = if not (is_full s.capacity (length s.queue)) then admitted s else s
+
+  -- the same where this queue is empty
+  abbrev pub fronted_from : List T → State T S → State T S
+  fronted_from [] s = admitted s
+  fronted_from (m ∷ rest) s = s
+
+  -- the same where the queue is empty
+  abbrev pub fronted : State T S → State T S
+  fronted s = fronted_from s.queue s
+
+  -- the state whose queue takes blocked messages in while it has room, of these blocked ones
+  abbrev pub filled_up_from : List (Blocked T) → State T S → State T S
+  filled_up_from [] s = s
+  filled_up_from (b ∷ later) s =
+      if is_full s.capacity (length s.queue) then s else filled_up_from later (record s {
+        queue = s.queue ++ b.message ∷ [];
+        blocked = later;
+        sends = changed s.sends b.ticket accepted_now;
+      })
+
+  -- the same of all blocked ones
+  abbrev pub filled_up : State T S → State T S
+  filled_up s = filled_up_from s.blocked s
+
+  -- the state after a wake round
+  abbrev pub rounded : State T S → State T S
+  rounded s = record s {
+    queue = unfilled (round_for_fills s.queue s.entries) s.queue;
+    entries = round_for tell_now s.queue s.entries;
+  }
+
+  -- the state without the parked receiver that has this ticket
+  abbrev pub unparked : ℕ → State T S → State T S
+  unparked ticket s = record s { entries = without ticket s.entries }
+
+  -- the state after the front of the line was handed out, which left this of the queue
+  abbrev pub taken : List T → State T S → State T S
+  taken rest s = refilled (record (fronted s) { queue = rest })
+
+  -- the same, where its wake is passed on
+  abbrev pub departed : ℕ → State T S → State T S
+  departed ticket s =
+      if passes_on (entry_of ticket s.entries) then rounded (unparked ticket s)
+      else unparked ticket s
+
+  -- the state with these entries, and the peak that they make
+  abbrev pub waiting_so : Entries T S → State T S → State T S
+  waiting_so entries s = record s { entries = entries; peak = max s.peak (waiting_count entries) }
+
+  -- what an end that left leaves: nothing once both are gone; and where the channel was open and is
+  -- closed now, each waiting receiver is woken, and each blocked send is to be told
+  abbrev pub after_leaving : Bool → State T S → State T S
+  after_leaving was_open s =
+      if s.senders + s.receivers == 0 then emptied s
+      else (if was_open && is_closed s.senders s.receivers then record s {
+        sends = all_due s.blocked s.sends;
+        entries = all_woken tell_now s.entries;
+      } else s)
+
+  -- a receiver of this kind parks behind all others, under the next ticket, with this signal
+  pub record Begins (old new : State T S) (ticket : ℕ) (kind : Kind) (signal : S) : Type 0 where
+    pub nothing : (fronted old).queue ≡ []
+    pub is_open : IsOpen old.senders old.receivers
+    pub left : old.next < most
+    pub next_is : ticket ≡ old.next
+    pub parked : new ≡ waiting_so (old.entries ++ begins ticket kind signal ∷ [])
+        (record old { next = old.next + 1 })
+
+  -- a parked receiver leaves with no message, and its wake fills this one, if it fills one
+  pub record Departs (old new : State T S) (ticket : ℕ) (closed : Bool) (filled : Option ℕ)
+      : Type 0 where
+    pub fills : filled ≡ left_fills ticket old.queue old.entries
+    pub left : new ≡ departed ticket old
+    pub told : closed ≡ is_closed old.senders old.receivers
+
+  -- a message joins the queue, and a wake round follows, which fills this receiver, if it fills one
+  pub record Joins (old new : State T S) (message : T) (filled : Option ℕ) : Type 0 where
+    pub fills : filled ≡ round_for_fills (old.queue ++ message ∷ []) old.entries
+    pub left : new ≡ rounded (record old { queue = old.queue ++ message ∷ [] })
+
+  -- the blocked message with this ticket comes back, and the ticket is spent
+  pub record Returns (old new : State T S) (ticket : ℕ) (message : T) (closed : Bool) : Type 0 where
+    pub before : List (Blocked T)
+    pub later : List (Blocked T)
+    pub found : old.blocked ≡ before ++ record { ticket = ticket; message = message } ∷ later
+    pub left : new ≡ record old { blocked = before ++ later; sends = remove old.sends ticket }
+    pub told : closed ≡ is_closed old.senders old.receivers

@@ -1,0 +1,107 @@
+-- What the contracts of the parked receivers cite: their signals, and who is to be told.
+use Rattle.std.specs.Prelude.{◌≡◌, ◌==◌, ℕ, Bool, true, false, if◌then◌else◌, List, [], ◌∷◌, ◌++◌}
+use Rattle.std.specs.Prelude.{Option, Some, None}
+use Rattle.std.specs.List.{All}
+use Rattle.std.specs.Option.{option_map}
+use Rattle.flume_model.specs.Entries.{entry_of}
+use Rattle.flume_model.specs.declared.step.Kind.{Kind}
+use Rattle.flume_model.specs.declared.step.Kind.TheVariants.{Block}
+use Rattle.flume_model.specs.declared.entry.Entry.{Entry}
+use Rattle.flume_model.specs.declared.entry.Mark.{Mark}
+use Rattle.flume_model.specs.declared.entry.Mark.TheVariants.{Waiting, Woken, Filled}
+use Rattle.flume_state.specs.declared.entries.Notice.{Notice}
+use Rattle.flume_state.specs.declared.entries.Standing.{Standing}
+use Rattle.flume_state.specs.declared.entries.Standing.TheVariants.{Filled as IsFilled}
+use Rattle.flume_state.specs.declared.entries.Standing.TheVariants.{BlockWaiting, BlockWoken}
+use Rattle.flume_state.specs.declared.entries.Standing.TheVariants.{Waiting as Waits}
+use Rattle.flume_state.specs.declared.entries.Standing.TheVariants.{Woken as IsWoken}
+
+-- the entries of a state
+abbrev pub Entries : Type 0 → Type 0 → Type 0
+Entries T S = List (Entry T (Notice S))
+
+-- the queue after a wake round: its front is gone where the round filled a receiver
+abbrev pub unfilled : {T : Type 0} → Option ℕ → List T → List T
+unfilled None queue = queue
+unfilled (Some ticket) [] = []
+unfilled (Some ticket) (front ∷ queue) = queue
+
+-- it asks by looking at the line
+abbrev pub looks : Option Standing → Bool
+looks (Some BlockWoken) = true
+looks (Some Waits) = true
+looks (Some IsWoken) = true
+looks _ = false
+
+-- it blocks, and isn't filled: it leaves with the front of the line
+abbrev pub blocks : Option Standing → Bool
+blocks (Some BlockWaiting) = true
+blocks (Some BlockWoken) = true
+blocks _ = false
+
+-- it doesn't block, and isn't filled: it leaves with no message
+abbrev pub only_leaves : Option Standing → Bool
+only_leaves (Some Waits) = true
+only_leaves (Some IsWoken) = true
+only_leaves _ = false
+
+module _ {S : Type 0} where
+  -- one that is to be told of a change
+  abbrev pub tell_now : Notice S → Notice S
+  tell_now n = record n { due = true }
+
+  -- one that was told
+  abbrev pub not_due : Notice S → Notice S
+  not_due n = record n { due = false }
+
+  -- one that waits on, with another signal where one is given
+  abbrev pub waits_on : Option S → Notice S → Notice S
+  waits_on None n = record n { due = false }
+  waits_on (Some signal) n = record { signal = signal; due = false }
+
+module _ {T : Type 0} where
+  -- what decides how a parked receiver is answered
+  abbrev pub standing_as : Kind → Mark T → Standing
+  standing_as kind (Filled message) = IsFilled
+  standing_as Block Waiting = BlockWaiting
+  standing_as Block Woken = BlockWoken
+  standing_as kind Waiting = Waits
+  standing_as kind Woken = IsWoken
+
+module _ {T S : Type 0} where
+  -- a receiver that has just parked, with this signal
+  abbrev pub begins : ℕ → Kind → S → Entry T (Notice S)
+  begins ticket kind signal = record {
+    ticket = ticket;
+    kind = kind;
+    mark = Waiting;
+    notice = record { signal = signal; due = false };
+  }
+
+  -- the entries with the notice of a ticket changed
+  abbrev pub noticed : (Notice S → Notice S) → ℕ → Entries T S → Entries T S
+  noticed f t [] = []
+  noticed f t (e ∷ entries) =
+      if e.ticket == t then record e { notice = f e.notice } ∷ entries else e ∷ noticed f t entries
+
+  -- how an entry stands
+  abbrev pub standing_of : Entry T (Notice S) → Standing
+  standing_of e = standing_as e.kind e.mark
+
+  -- how the receiver with a ticket stands
+  abbrev pub standing : ℕ → Entries T S → Option Standing
+  standing t entries = option_map standing_of (entry_of t entries)
+
+  -- nobody is to be told
+  abbrev pub NoneDueIn : Entries T S → Type 0
+  NoneDueIn entries = All (λ e. e.notice.due ≡ false) entries
+
+  -- one that is to be told, under this ticket, is told
+  pub record Tells (old new : Entries T S) (ticket : ℕ) : Type 0 where
+    pub before : Entries T S
+    pub entry : Entry T (Notice S)
+    pub later : Entries T S
+    pub found : old ≡ before ++ entry ∷ later
+    pub is_it : entry.ticket ≡ ticket
+    pub was_due : entry.notice.due ≡ true
+    pub told : new ≡ before ++ record entry { notice = not_due entry.notice } ∷ later

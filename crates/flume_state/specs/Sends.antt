@@ -1,0 +1,63 @@
+-- What the contracts of the live send tickets cite: a finite map from ticket to live send.
+use Rattle.std.specs.Prelude.{◌≡◌, ℕ, Bool, true, false, Option, Some, None, refl}
+use Rattle.std.specs.Coded.{Coded, code_by, coded×, coded_bool, coded_ℕ}
+use Rattle.std.specs.Ordering.{nat_cmp}
+use Rattle.std.specs.FinMap.{FinMap, get, insert, code}
+use Rattle.flume_state.specs.declared.sends.LiveSend.{LiveSend}
+
+-- the live sends, by ticket
+abbrev pub SendMap : Type 0 → Type 0
+SendMap S = FinMap nat_cmp (LiveSend S)
+
+-- a live send is stored as its three fields
+abbrev pub live_send_code : {S : Type 0} → Coded S → Coded (LiveSend S)
+live_send_code {S} c =
+    code_by (S × (Bool × Bool)) (coded× c (coded× coded_bool coded_bool))
+    (λ s. (s.signal, (s.accepted, s.due)))
+    (λ p. record { signal = p.0; accepted = p.1.0; due = p.1.1 }) (λ _. refl)
+
+-- and the map of them as a list of pairs of a ticket and a live send
+abbrev pub send_map_code : {S : Type 0} → Coded S → Coded (SendMap S)
+send_map_code c = code coded_ℕ (live_send_code c)
+
+-- a send that has just blocked
+abbrev pub blocked : {S : Type 0} → S → LiveSend S
+blocked signal = record { signal = signal; accepted = false; due = false }
+
+-- a send whose message was accepted, of which it must be told
+abbrev pub accepted_now : {S : Type 0} → LiveSend S → LiveSend S
+accepted_now s = record s { accepted = true; due = true }
+
+-- a send that must be told of a change
+abbrev pub due_now : {S : Type 0} → LiveSend S → LiveSend S
+due_now s = record s { due = true }
+
+-- a send that was told
+abbrev pub told : {S : Type 0} → LiveSend S → LiveSend S
+told s = record s { due = false }
+
+-- a send with another signal
+abbrev pub with_signal : {S : Type 0} → S → LiveSend S → LiveSend S
+with_signal signal s = record s { signal = signal }
+
+-- the map with f of a value that stood at k, and as it was where none stood there
+abbrev pub put_changed : {X : Type 0} → FinMap nat_cmp X → ℕ → (X → X) → Option X → FinMap nat_cmp X
+put_changed m k f None = m
+put_changed m k f (Some x) = insert m k (f x)
+
+-- the map with f of its value at k, and as it was where it has none there
+unfoldable pub changed : {X : Type 0} → FinMap nat_cmp X → ℕ → (X → X) → FinMap nat_cmp X
+changed m k f = put_changed m k f (get m k)
+
+-- whether there is a send and it is due
+abbrev pub due_in : {S : Type 0} → Option (LiveSend S) → Bool
+due_in None = false
+due_in (Some s) = s.due
+
+-- whether the ticket is live and due
+abbrev pub is_due : {S : Type 0} → SendMap S → ℕ → Bool
+is_due m t = due_in (get m t)
+
+-- no live ticket is due
+abbrev pub NoneDue : {S : Type 0} → SendMap S → Type 0
+NoneDue m = (t : ℕ) → is_due m t ≡ false
