@@ -4,6 +4,7 @@ use Rattle.flume_model.specs.Log.{Log, Opening}
 use Rattle.flume_model.specs.Offers.{kept, hand_outs}
 use Rattle.flume_model.specs.Counts.{is_over}
 use Rattle.flume_model.specs.Line.{boundary, messages}
+use Rattle.flume_model.specs.Parked.{entries}
 use Rattle.flume_model.specs.Replies.{IsRun}
 use Rattle.flume_model.specs.Laws.{InOrder}
 use Rattle.flume_state.specs.State.{State, offers_of}
@@ -13,7 +14,7 @@ module _ {T A S : Type 0} where
   -- after the steps and replies of the log, the channel is in this state
   pub record Headline (opening : Opening) (log : Log T A) (s : State T S) : Type 0 where
     -- the j-th message handed out is the message of the j-th offer that wasn't withdrawn
-    pub in_order : InOrder opening log
+    pub in_order : InOrder (entries opening log) log
     -- the queued messages are those of the offers that come next
     pub queue_is_front :
         s.queue ≡ messages (take (boundary opening log) (drop (hand_outs log) (kept log)))

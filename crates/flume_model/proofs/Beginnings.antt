@@ -3,6 +3,7 @@ use Rattle.std.proofs.Common.{[], ◌∷◌, ◌++◌, subst}
 use Rattle.flume_model.specs.Log.{Log, Opening}
 use Rattle.flume_model.specs.Replies.{IsRun}
 use Rattle.flume_model.specs.Beginnings.{Holds, HoldsThroughout}
+use Rattle.flume_model.proofs.Runs.{shape_of}
 use Rattle.flume_model.proofs.FillsOrder.{in_order}
 use Rattle.flume_model.proofs.WaitingLaws.{covered, bounded}
 
@@ -17,6 +18,7 @@ module _ {T A : Type 0} where
   holds o log lawful = record {
     replies_lawful = lawful;
     in_order = in_order o log lawful;
+    boundary_within = (shape_of o log lawful).within;
     woken_cover = covered o log lawful;
     queue_bounded = bounded o log lawful;
   }

@@ -74,7 +74,7 @@ module _ {T : Type 0} where
 module _ {T A : Type 0} where
   -- the hand-out that filled the receiver with this ticket is of the message
   abbrev Fill : Opening → Log T A → ℕ → T → Type 0
-  Fill o log t m = IsOf o log (FilledIn t) m
+  Fill o log t m = IsOf (entries o log) log (FilledIn t) m
 
   -- while a receiver is parked the channel isn't over
   stood_open : (o : Opening) (log : Log T A) (t : ℕ) (e : LogEntry T) → entry_of t (entries o log) ≡ Some e → is_over log ≡ false
@@ -216,11 +216,11 @@ module _ {T A : Type 0} where
           fill_new o p past t offer run one.0 (ap (slice_get (kept (p ∷ past))) (sym place) ∙ at)
 
   -- the j-th message handed out is the j-th kept offer's
-  pub in_order : (o : Opening) (log : Log T A) → IsRun o log → InOrder o log
+  pub in_order : (o : Opening) (log : Log T A) → IsRun o log → InOrder (entries o log) log
   in_order o log run j given at_j = by_given given at_j (placed o log run j given at_j)
     where
       by_given : (given : HandOut T) → slice_get (handed_out log) j ≡ Some given
           → (offer : Offer T) × (slice_get (kept log) j ≡ Some offer) × ShownIs given offer.message
-          → (offer : Offer T) × (slice_get (kept log) j ≡ Some offer) × IsOf o log given offer.message
+          → (offer : Offer T) × (slice_get (kept log) j ≡ Some offer) × IsOf (entries o log) log given offer.message
       by_given (Shown m) at h = h
       by_given (FilledIn t) at h = (h.0, h.1, fill_placed o log run j t h.0 at h.1)

@@ -26,6 +26,7 @@ pub mod TicketLaws
 pub mod FillsKept
 pub mod FillsShown
 pub mod FillsOrder
+pub mod FillsBeside
 pub mod Beginnings
 pub mod Giving
 pub mod Holding

@@ -1,6 +1,8 @@
 -- What holds of a run at each moment: of each log that it began with.
-use Rattle.std.specs.Prelude.{◌≡◌, ◌++◌}
+use Rattle.std.specs.Prelude.{◌≡◌, ◌≤◌, ◌++◌, length}
 use Rattle.flume_model.specs.Log.{Log, Opening}
+use Rattle.flume_model.specs.Line.{line, boundary}
+use Rattle.flume_model.specs.Parked.{entries}
 use Rattle.flume_model.specs.Replies.{IsRun}
 use Rattle.flume_model.specs.Laws.{InOrder}
 use Rattle.flume_model.specs.WaitLaws.{Covered, Bounded}
@@ -15,7 +17,9 @@ module _ {T A : Type 0} where
     -- each reply is the abstract channel's
     pub replies_lawful : IsRun opening log
     -- the j-th message handed out is the message of the j-th offer that wasn't withdrawn
-    pub in_order : InOrder opening log
+    pub in_order : InOrder (entries opening log) log
+    -- no more of the line is queued than there is of it
+    pub boundary_within : boundary opening log ≤ length (line log)
     -- while a receiver waits, at least as many stand woken as messages are queued
     pub woken_cover : Covered opening log
     -- queued messages and waiting receivers are at most the greater of the capacity and the peak

@@ -5,13 +5,15 @@ use Rattle.flume_model.specs.declared.step.Step.TheVariants.{Send, Poll, Withdra
 use Rattle.flume_model.specs.declared.step.Step.TheVariants.{Recv, DropSender, DropReceiver}
 use Rattle.flume_model.specs.declared.step.Reply.TheVariants.{Sent, Got, Parked, Done}
 use Rattle.flume_model.specs.Log.{FilledIn, opens}
+use Rattle.flume_model.specs.Parked.{entries}
 use Rattle.flume_model.specs.Fills.{IsOf}
 use Rattle.flume_model.specs.Rows.{Row, as_log}
 
 -- by the definition the fill of this receiver is of the message, after a row of an unbounded
 -- channel
 abbrev pub IsFillOf : Row → ℕ → ℕ → Type 0
-IsFillOf row ticket message = IsOf (opens None 1) (as_log [] row) (FilledIn ticket) message
+IsFillOf row ticket message =
+    IsOf (entries (opens None 1) (as_log [] row)) (as_log [] row) (FilledIn ticket) message
 
 -- it is of this one, and of no other
 abbrev pub IsFillOfOnly : Row → ℕ → ℕ → Type 0

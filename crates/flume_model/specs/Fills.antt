@@ -1,15 +1,14 @@
 -- What a receiver that was filled got, or still holds, and the message that a hand-out is of.
-use Rattle.std.specs.Prelude.{◌≡◌, ◌==◌, ℕ, Bool, true, false, if◌then◌else◌, [], ◌∷◌, Option}
-use Rattle.std.specs.Prelude.{Some, None}
+use Rattle.std.specs.Prelude.{◌≡◌, ◌==◌, ℕ, Bool, true, false, if◌then◌else◌, List, [], ◌∷◌}
+use Rattle.std.specs.Prelude.{Option, Some, None}
 use Rattle.flume_model.specs.declared.step.Step.{Step}
 use Rattle.flume_model.specs.declared.step.Step.TheVariants.{Poll, Withdraw}
 use Rattle.flume_model.specs.declared.step.Reply.{Reply}
 use Rattle.flume_model.specs.declared.step.Reply.TheVariants.{Got}
-use Rattle.flume_model.specs.Log.{Log, Opening, HandOut, Shown, FilledIn}
+use Rattle.flume_model.specs.declared.entry.Entry.{Entry}
+use Rattle.flume_model.specs.Log.{Log, HandOut, Shown, FilledIn}
 use Rattle.flume_model.specs.Counts.{is_over}
-use Rattle.flume_model.specs.Entries.{entry_of}
-use Rattle.flume_model.specs.Parked.{entries}
-use Rattle.flume_model.specs.Entries.{held_by}
+use Rattle.flume_model.specs.Entries.{entry_of, held_by}
 
 module _ {T : Type 0} where
   -- the first of two, or where it isn't there, the second
@@ -38,9 +37,10 @@ module _ {T A : Type 0} where
   shown [] t = None
   shown (p ∷ past) t = or_else (shows_to t p.0 p.1) (shown past t)
 
-  -- the hand-out is of this message: the one that its reply shows; or, where it filled a receiver,
-  -- the one that this receiver got, or holds
-  abbrev pub IsOf : Opening → Log T A → HandOut T → T → Type 0
-  IsOf opening log (Shown given) message = given ≡ message
-  IsOf opening log (FilledIn t) message =
-      FillIs (is_over log) (shown log t) (held_by (entry_of t (entries opening log))) message
+module _ {T A N : Type 0} where
+  -- after a log, with these entries, the hand-out is of this message: the one that its reply shows;
+  -- or, where it filled a receiver, the one that this receiver got, or holds
+  abbrev pub IsOf : List (Entry T N) → Log T A → HandOut T → T → Type 0
+  IsOf entries log (Shown given) message = given ≡ message
+  IsOf entries log (FilledIn t) message =
+      FillIs (is_over log) (shown log t) (held_by (entry_of t entries)) message

@@ -4,6 +4,7 @@ use Rattle.std.specs.Prelude.{None}
 use Rattle.std.specs.List.{All, slice_get}
 use Rattle.flume_model.specs.declared.step.Step.{Step}
 use Rattle.flume_model.specs.declared.step.Reply.{Reply}
+use Rattle.flume_model.specs.declared.entry.Entry.{Entry}
 use Rattle.flume_model.specs.Log.{Log, Opening, Offer, HandOut}
 use Rattle.flume_model.specs.Offers.{offers, kept, handed_out}
 use Rattle.flume_model.specs.Offers.{hand_outs}
@@ -22,13 +23,14 @@ abbrev pub IsEarlier : Option ℕ → Option ℕ → Type 0
 IsEarlier (Some t) (Some u) = t < u
 IsEarlier _ _ = Unit {0}
 
-module _ {T A : Type 0} where
-  -- the j-th message handed out is the message of the j-th offer that wasn't withdrawn
-  abbrev pub InOrder : Opening → Log T A → Type 0
-  InOrder opening log =
+module _ {T A N : Type 0} where
+  -- after a log, with these entries, the j-th message handed out is the message of the j-th offer
+  -- that wasn't withdrawn
+  abbrev pub InOrder : List (Entry T N) → Log T A → Type 0
+  InOrder entries log =
       (j : ℕ) (given : HandOut T) → slice_get (handed_out log) j ≡ Some given
       → (offer : Offer T) × (slice_get (kept log) j ≡ Some offer)
-      × IsOf opening log given offer.message
+      × IsOf entries log given offer.message
 
 module _ {T : Type 0} where
   -- the ticket of each of these offers is below those of the later ones, and below the bound

@@ -1,6 +1,7 @@
 //! Laws of the definitions. These functions do nothing: each contract is a law.
 ghost use Rattle.std.specs.Prelude.{◌≡◌, [], ◌∷◌, Some, None};
 ghost use Rattle.flume_model.specs.Log.{Log, Opening};
+ghost use Rattle.flume_model.specs.Parked.{entries};
 ghost use Rattle.flume_model.specs.Replies.{IsRun};
 ghost use Rattle.flume_model.specs.declared.step.Step.{Step};
 ghost use Rattle.flume_model.specs.declared.step.Reply.{Reply};
@@ -75,7 +76,7 @@ use std::alloc::Allocator;
 /// those that filled receivers.
 pub fn hands_out_in_order<T, A: Allocator>()
     ensures law { (opening : Opening) (log : Log T A)
-        → IsRun opening log → InOrder opening log }
+        → IsRun opening log → InOrder (entries opening log) log }
 {}
 
 /// What holds of each run held at each moment of it: order, the bound on woken receivers, and the
