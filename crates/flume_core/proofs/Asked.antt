@@ -16,7 +16,7 @@ use Rattle.flume_model.specs.Log.{Log, Opening, was_filled}
 use Rattle.flume_model.specs.Counts.{senders, receivers}
 use Rattle.flume_model.specs.Limits.{IsOpen, IsClosed, is_closed}
 use Rattle.flume_model.specs.Line.{queue}
-use Rattle.flume_model.specs.Entries.{is_woken, is_filled, entry_of, again, left_fills}
+use Rattle.flume_model.specs.Entries.{is_woken, is_filled, entry_of, again, leave_fills}
 use Rattle.flume_model.specs.Parked.{LogEntry, entries}
 use Rattle.flume_model.specs.Channel.{channel}
 use Rattle.flume_model.specs.WaitLaws.{is_block, block_woken}
@@ -28,7 +28,7 @@ use Rattle.flume_state.specs.Effects.{fronted, taken, unparked, departed, waitin
 use Rattle.flume_model.proofs.Fits.{fills_none}
 use Rattle.flume_model.proofs.EntryShape.{told_filled}
 use Rattle.flume_model.proofs.WokenBlocks.{woken_block_while_closed}
-use Rattle.flume_core.proofs.Bare.{bare_left_fills}
+use Rattle.flume_core.proofs.Bare.{bare_leave_fills}
 use Rattle.flume_core.proofs.Views.{entry_at_log, queue_at_log, open_at_log, closed_at_log, none_mapped}
 use Rattle.flume_core.proofs.Keeping.{still}
 use Rattle.flume_core.proofs.Takes.{takes}
@@ -197,13 +197,13 @@ module _ {T A S : Type 0} where
   -- one of another kind leaves, and passes its wake on
   pub withdraw_passes : (o : Opening) (log : Log T A) (s new : State T S) (t : ℕ) (st : Standing) (closed : Bool) (filled : Option ℕ)
       → StandsFor o log s → standing t s.entries ≡ Some st → (st ≡ Waits) ⊎ (st ≡ IsWoken)
-      → closed ≡ is_closed s.senders s.receivers → filled ≡ left_fills t s.queue s.entries → new ≡ departed t s
+      → closed ≡ is_closed s.senders s.receivers → filled ≡ leave_fills t s.queue s.entries → new ≡ departed t s
       → StandsFor o ((Withdraw t, Gone closed filled) ∷ log) new
   withdraw_passes o log s new t st closed filled h stands other told fills is =
       let at = one_found (entry_of t s.entries) st stands in
       let parts = other_parts at.0.kind at.0.mark (⊎_elim (λ a. inl (at.2 ∙ a)) (λ b. inr (at.2 ∙ b)) other) in
-      let same : left_fills t s.queue s.entries ≡ left_fills t (queue o log) (entries o log) =
-      sym (bare_left_fills t s.queue s.entries) ∙ ap₂ (λ q es. left_fills t q es) (sym (queue_at_log h)) h.entries_are in
+      let same : leave_fills t s.queue s.entries ≡ leave_fills t (queue o log) (entries o log) =
+      sym (bare_leave_fills t s.queue s.entries) ∙ ap₂ (λ q es. leave_fills t q es) (sym (queue_at_log h)) h.entries_are in
       departs o log _ s new t filled h
       (rw (entry_in_log h t at.0 at.1)
       (gone_other A (channel o log) t at.0.kind at.0.mark closed filled parts.0 parts.1 (told ∙ closed_as o log s h) (fills ∙ same)))

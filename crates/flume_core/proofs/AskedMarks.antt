@@ -10,7 +10,7 @@ use Rattle.flume_state.specs.declared.entries.Standing.{Standing}
 use Rattle.flume_state.specs.declared.entries.Standing.TheVariants.{Filled as IsFilled, BlockWaiting, BlockWoken}
 use Rattle.flume_state.specs.declared.entries.Standing.TheVariants.{Waiting as Waits, Woken as IsWoken}
 use Rattle.flume_model.specs.Limits.{IsOpen, IsClosed, is_closed}
-use Rattle.flume_model.specs.Entries.{is_woken, is_filled, left_fills}
+use Rattle.flume_model.specs.Entries.{is_woken, is_filled, leave_fills}
 use Rattle.flume_model.specs.Channel.{Channel, IsFront}
 use Rattle.flume_model.specs.Asking.{IsPolledMark, IsGoneMark}
 use Rattle.flume_model.specs.WaitLaws.{is_block}
@@ -122,7 +122,7 @@ module _ {T : Type 0} (A : Type 0) where
   -- one of another kind leaves with none, and passes its wake on
   pub gone_other : (c : Channel T) (t : ℕ) (k : Kind) (mark : Mark T) (closed : Bool) (filled : Option ℕ)
       → blocks (Some (standing_as k mark)) ≡ false → is_filled mark ≡ false → closed ≡ is_closed c.senders c.receivers
-      → filled ≡ left_fills t c.queue c.entries → IsGoneMark {A = A} c t k mark (Gone closed filled)
+      → filled ≡ leave_fills t c.queue c.entries → IsGoneMark {A = A} c t k mark (Gone closed filled)
   gone_other c t k (Filled x) closed filled e empty is fills = absurd (let no : ⊥ = cc in no)
   gone_other c t Block Waiting closed filled e empty is fills = absurd (let no : ⊥ = cc in no)
   gone_other c t Block Woken closed filled e empty is fills = absurd (let no : ⊥ = cc in no)

@@ -9,7 +9,7 @@ use Rattle.flume_model.specs.declared.entry.Entry.{Entry}
 use Rattle.flume_model.specs.declared.entry.Mark.TheVariants.{Waiting}
 use Rattle.flume_state.specs.declared.entries.Notice.{Notice}
 use Rattle.flume_model.specs.Entries.{is_waiting, is_woken, some_wait, waiting_count, round, round_fills, round_for}
-use Rattle.flume_model.specs.Entries.{round_for_fills, all_woken, entry_of, without, again_as, again, passes_on, left, left_fills}
+use Rattle.flume_model.specs.Entries.{round_for_fills, all_woken, entry_of, without, again_as, again, passes_on, after_leave, leave_fills}
 use Rattle.flume_model.specs.Parked.{untold}
 use Rattle.flume_state.specs.Receivers.{noticed}
 use Rattle.flume_state.specs.State.{bare}
@@ -106,19 +106,19 @@ module _ {T N : Type 0} where
       go (Some e) = refl
 
   -- one leaves
-  pub bare_left : (tell : N → N) (t : ℕ) (queue : List T) (es : List (Entry T N))
-      → map bare (left tell t queue es) ≡ left untold t queue (map bare es)
-  bare_left tell t queue es = go (passes_on (entry_of t es)) refl
+  pub bare_after_leave : (tell : N → N) (t : ℕ) (queue : List T) (es : List (Entry T N))
+      → map bare (after_leave tell t queue es) ≡ after_leave untold t queue (map bare es)
+  bare_after_leave tell t queue es = go (passes_on (entry_of t es)) refl
     where
-      go : (b : Bool) → passes_on (entry_of t es) ≡ b → map bare (left tell t queue es) ≡ left untold t queue (map bare es)
+      go : (b : Bool) → passes_on (entry_of t es) ≡ b → map bare (after_leave tell t queue es) ≡ after_leave untold t queue (map bare es)
       go true e =
           rw (bare_passes t es, e) (bare_round_for tell queue (without t es) ∙ ap (round_for untold queue) (bare_without t es))
       go false e = rw (bare_passes t es, e) (bare_without t es)
 
-  pub bare_left_fills : (t : ℕ) (queue : List T) (es : List (Entry T N)) → left_fills t queue (map bare es) ≡ left_fills t queue es
-  bare_left_fills t queue es = go (passes_on (entry_of t es)) refl
+  pub bare_leave_fills : (t : ℕ) (queue : List T) (es : List (Entry T N)) → leave_fills t queue (map bare es) ≡ leave_fills t queue es
+  bare_leave_fills t queue es = go (passes_on (entry_of t es)) refl
     where
-      go : (b : Bool) → passes_on (entry_of t es) ≡ b → left_fills t queue (map bare es) ≡ left_fills t queue es
+      go : (b : Bool) → passes_on (entry_of t es) ≡ b → leave_fills t queue (map bare es) ≡ leave_fills t queue es
       go true e =
           rw (bare_passes t es, e) (ap (round_for_fills queue) (sym (bare_without t es)) ∙ bare_round_for_fills queue (without t es))
       go false e = rw (bare_passes t es, e) refl

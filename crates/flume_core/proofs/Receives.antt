@@ -12,7 +12,8 @@ use Rattle.flume_model.specs.Counts.{is_over}
 use Rattle.flume_model.specs.Line.{is_live, how_many}
 use Rattle.flume_model.specs.Channel.{channel, has_ticket}
 use Rattle.flume_model.specs.Replies.{IsReply, IsRun}
-use Rattle.flume_model.specs.Entries.{entry_of, without, again, left, left_fills, passes_on, round_for, round_for_fills, waiting_count}
+use Rattle.flume_model.specs.Entries.{entry_of, without, again, after_leave, leave_fills, passes_on, round_for, round_for_fills}
+use Rattle.flume_model.specs.Entries.{waiting_count}
 use Rattle.flume_model.specs.Parked.{LogEntry, entries}
 use Rattle.flume_state.specs.Receivers.{tell_now, begins, noticed}
 use Rattle.flume_state.specs.State.{State, offers_of, bare}
@@ -21,8 +22,8 @@ use Rattle.flume_state.specs.Effects.{unparked, departed, waiting_so}
 use Rattle.flume_state.specs.Receivers.{unfilled}
 use Rattle.flume_model.proofs.LineSteps.{line_leaves}
 use Rattle.flume_model.proofs.WaitingOpen.{nothing_once_over}
-use Rattle.flume_model.proofs.WaitingCounts.{fewer_without, fewer_left}
-use Rattle.flume_core.proofs.Bare.{bare_without, bare_again, bare_noticed, bare_left}
+use Rattle.flume_model.proofs.WaitingCounts.{fewer_without, fewer_after_leave}
+use Rattle.flume_core.proofs.Bare.{bare_without, bare_again, bare_noticed, bare_after_leave}
 use Rattle.flume_core.proofs.Views.{status, status_is, queued_length}
 use Rattle.flume_core.proofs.Stands.{stands_as, stands_open, fits_as, open_not_over, over_same, still_live}
 use Rattle.flume_model.proofs.Parts.{at_most}
@@ -37,24 +38,24 @@ fills_within (m ∷ queue) es = let one = at_most (round_for_fills (m ∷ queue)
 
 module _ {T N : Type 0} where
   -- so does the wake of one that leaves
-  left_within : (t : ℕ) (queue : List T) (es : List (Entry T N)) → how_many (left_fills t queue es) ≤ length queue
-  left_within t queue es = by_case (passes_on (entry_of t es)) refl
+  leave_within : (t : ℕ) (queue : List T) (es : List (Entry T N)) → how_many (leave_fills t queue es) ≤ length queue
+  leave_within t queue es = by_case (passes_on (entry_of t es)) refl
     where
-      by_case : (b : Bool) → passes_on (entry_of t es) ≡ b → how_many (left_fills t queue es) ≤ length queue
+      by_case : (b : Bool) → passes_on (entry_of t es) ≡ b → how_many (leave_fills t queue es) ≤ length queue
       by_case true passes = rw passes (fills_within queue (without t es))
       by_case false stays = rw stays (omega arith)
 
 module _ {T S : Type 0} where
   -- what a receiver that leaves with no message leaves
   departed_is : (t : ℕ) (s : State T S) → departed t s ≡ record s {
-    queue = unfilled (left_fills t s.queue s.entries) s.queue;
-    entries = left tell_now t s.queue s.entries;
+    queue = unfilled (leave_fills t s.queue s.entries) s.queue;
+    entries = after_leave tell_now t s.queue s.entries;
   }
   departed_is t s = by_case (passes_on (entry_of t s.entries)) refl
     where
       by_case : (b : Bool) → passes_on (entry_of t s.entries) ≡ b → departed t s ≡ record s {
-        queue = unfilled (left_fills t s.queue s.entries) s.queue;
-        entries = left tell_now t s.queue s.entries;
+        queue = unfilled (leave_fills t s.queue s.entries) s.queue;
+        entries = after_leave tell_now t s.queue s.entries;
       }
       by_case true passes = rw passes refl
       by_case false stays = rw stays refl
@@ -123,7 +124,7 @@ module _ {T A S : Type 0} where
   -- a receiver leaves with no message, and its wake is passed on
   pub departs : (o : Opening) (past : Log T A) (p : Step T × Reply T A) (old new : State T S) (t : ℕ) (filled : Option ℕ)
       → StandsFor o past old
-      → IsReply (channel o past) p.0 p.1 → change past p.0 p.1 ≡ Leaves t filled → filled ≡ left_fills t old.queue old.entries
+      → IsReply (channel o past) p.0 p.1 → change past p.0 p.1 ≡ Leaves t filled → filled ≡ leave_fills t old.queue old.entries
       → new ≡ departed t old → StandsFor o (p ∷ past) new
   departs o past p old new t filled h reply e fills is =
       let fit = fits_as o past p (Leaves t filled) h.run reply e in
@@ -132,9 +133,9 @@ module _ {T A S : Type 0} where
       let n = how_many filled in
       let few : n ≤ length h.queued =
       let long = queued_length h in
-      let within : how_many (left_fills t old.queue old.entries) ≤ length old.queue = left_within t old.queue old.entries in
-      let same : n ≡ how_many (left_fills t old.queue old.entries) = ap how_many fills in omega arith in
-      let rest : unfilled (left_fills t old.queue old.entries) old.queue ≡ drop n old.queue =
+      let within : how_many (leave_fills t old.queue old.entries) ≤ length old.queue = leave_within t old.queue old.entries in
+      let same : n ≡ how_many (leave_fills t old.queue old.entries) = ap how_many fills in omega arith in
+      let rest : unfilled (leave_fills t old.queue old.entries) old.queue ≡ drop n old.queue =
       ap (λ f. unfilled f old.queue) (sym fills) ∙ unfilled_is filled old.queue in
       stands_as o (p ∷ past) new _ (is ∙ departed_is t old) (stands_open o past p (Leaves t filled) old _ h reply e still_open record {
         capacity_kept = refl;
@@ -145,8 +146,8 @@ module _ {T A S : Type 0} where
         length_is = ap length rest ∙ length-drop n old.queue;
         marks = λ q. status_is h q
             ∙ sym (ap (λ b. status b (has_ticket q (offers_of old.blocked))) (still_live false (is_live past q) false refl refl));
-        entries_are = bare_left tell_now t old.queue old.entries;
-        peak_is = peak_kept h _ (fewer_left tell_now t old.queue old.entries);
+        entries_are = bare_after_leave tell_now t old.queue old.entries;
+        peak_is = peak_kept h _ (fewer_after_leave tell_now t old.queue old.entries);
         next_is = omega arith;
         senders_are = refl;
         receivers_are = refl;

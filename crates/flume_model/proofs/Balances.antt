@@ -14,13 +14,14 @@ use Rattle.flume_model.specs.Offers.{offered}
 use Rattle.flume_model.specs.Counts.{is_over}
 use Rattle.flume_model.specs.Limits.{HasRoom}
 use Rattle.flume_model.specs.Line.{line, boundary, queue, messages, how_many}
-use Rattle.flume_model.specs.Entries.{is_woken, is_filled, some_wait, round_fills, all_woken, entry_of, without, again, left, left_fills}
+use Rattle.flume_model.specs.Entries.{is_woken, is_filled, some_wait, round_fills, all_woken, entry_of, without, again}
+use Rattle.flume_model.specs.Entries.{after_leave, leave_fills}
 use Rattle.flume_model.specs.Parked.{LogEntry, untold, parks, entries_after, entries}
 use Rattle.flume_model.specs.Channel.{channel}
 use Rattle.flume_model.specs.Replies.{IsRun}
 use Rattle.flume_model.specs.Conserved.{held}
 use Rattle.flume_model.proofs.Fits.{Fits}
-use Rattle.flume_model.proofs.EntryLists.{again_cases, left_cases}
+use Rattle.flume_model.proofs.EntryLists.{again_cases, leave_cases}
 use Rattle.flume_model.proofs.Kept.{keeps_line}
 use Rattle.flume_model.proofs.Parts.{front_at, blocked_at}
 use Rattle.flume_model.proofs.RoomAfter.{room_or_full}
@@ -110,13 +111,13 @@ module _ {T A : Type 0} where
   -- where one that leaves passes its wake on, or doesn't
   balanced_left : (weight : T → ℕ) (o : Opening) (past : Log T A) (t : ℕ) (e : LogEntry T) → entry_of t (entries o past) ≡ Some e
       → is_filled e.mark ≡ false
-      → sum_by weight (drop (how_many (left_fills t (queue o past) (entries o past))) (messages (line past)))
-      + sum_by weight (held (left untold t (queue o past) (entries o past)))
+      → sum_by weight (drop (how_many (leave_fills t (queue o past) (entries o past))) (messages (line past)))
+      + sum_by weight (held (after_leave untold t (queue o past) (entries o past)))
       ≡ weighs weight (line past) + sum_by weight (held (entries o past))
   balanced_left weight o past t e found empty =
       let others = held_without weight t e (entries o past) found in
       let none_held = unfilled_weighs weight e.mark empty in
-      left_cases (λ es f. sum_by weight (drop (how_many f) (messages (line past))) + sum_by weight (held es)
+      leave_cases (λ es f. sum_by weight (drop (how_many f) (messages (line past))) + sum_by weight (held es)
       ≡ weighs weight (line past) + sum_by weight (held (entries o past))) untold t (queue o past) (entries o past)
       (λ none. omega arith)
       (λ passes front rest queued.
@@ -190,7 +191,7 @@ module _ {T A : Type 0} where
       omega arith
   balanced_by weight o past p closes (Leaves t filled) e run h given g open_ still =
       let unfilled = h.0 in
-      let next : messages (line (p ∷ past)) ≡ drop (how_many (left_fills t (queue o past) (entries o past))) (messages (line past)) =
+      let next : messages (line (p ∷ past)) ≡ drop (how_many (leave_fills t (queue o past) (entries o past))) (messages (line past)) =
       ap messages (line_leaves o past p t filled run e open_)
       ∙ sym (drop-map (λ offer. offer.message) (how_many filled) (line past)) ∙ ap (λ f. drop (how_many f) (messages (line past))) h.1 in
       let after = ap (sum_by weight) next in

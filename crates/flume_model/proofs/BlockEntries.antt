@@ -10,7 +10,7 @@ use Rattle.flume_model.specs.Line.{how_many}
 use Rattle.flume_model.specs.Entries.{some_wait, woken_count, round, round_for, round_fills, all_woken, entry_of, without}
 use Rattle.flume_model.specs.Parked.{LogEntry, untold, parks, entries_after}
 use Rattle.flume_model.specs.WaitLaws.{is_block, block_woken}
-use Rattle.flume_model.proofs.EntryLists.{again_cases, left_cases}
+use Rattle.flume_model.proofs.EntryLists.{again_cases, leave_cases}
 
 module _ {T N : Type 0} where
   -- all of these entries block
@@ -123,7 +123,7 @@ module _ {T : Type 0} where
       again_cases AllBlock t es h (λ x found woken. block_push (without t es) _ (block_without t es h) (block_found t x es h found))
   block_after queue_ closes es (Collects t) h e = block_without t es h
   block_after queue_ closes es (Leaves t filled) h e =
-      left_cases (λ after f. AllBlock after) untold t queue_ es (λ none. block_without t es h)
+      leave_cases (λ after f. AllBlock after) untold t queue_ es (λ none. block_without t es h)
       (λ passes front rest same. block_round untold front (without t es) (block_without t es h))
   block_after queue_ closes es SenderLeaves h e = block_closes closes es h
   block_after queue_ closes es ReceiverLeaves h e = block_closes closes es h

@@ -17,7 +17,7 @@ use Rattle.flume_model.specs.WaitLaws.{IsWithin, Bounded}
 use Rattle.flume_model.proofs.Fits.{Fits}
 use Rattle.flume_model.proofs.WaitingCounts.{wait_woken}
 use Rattle.flume_model.proofs.WaitLists.{fills_waiting}
-use Rattle.flume_model.proofs.EntryLists.{round_for_push, again_cases, left_cases}
+use Rattle.flume_model.proofs.EntryLists.{round_for_push, again_cases, leave_cases}
 use Rattle.flume_model.proofs.EntryCounts.{round_counts, without_counts, counted_none}
 use Rattle.flume_model.proofs.WaitingSteps.{Stood, Long, stepped, nobody_once_over}
 
@@ -139,7 +139,7 @@ module _ {T : Type 0} where
       NoMore (let fewer = fewer_without t h.0 c.entries h.2 in omega arith)
   leaves_by c closes (Leaves t filled) n stood h long within =
       let fewer = fewer_without t h.0.entry c.entries h.0.found in
-      NoMore (left_cases (λ es f. c.boundary - how_many filled + waiting_count es ≤ c.boundary + waiting_count c.entries)
+      NoMore (leave_cases (λ es f. c.boundary - how_many filled + waiting_count es ≤ c.boundary + waiting_count c.entries)
       untold t c.queue c.entries (λ none. omega arith)
       (λ passes front rest e.
       (let no_more = (round_counts untold front (without t c.entries)).no_more in omega arith)))

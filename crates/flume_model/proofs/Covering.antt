@@ -9,15 +9,15 @@ use Rattle.flume_model.specs.Log.{Log, Opening, Change, Queues, Blocks, Accepts,
 use Rattle.flume_model.specs.Log.{SenderJoins, ReceiverJoins, SenderLeaves, ReceiverLeaves, Stays, change}
 use Rattle.flume_model.specs.Counts.{is_over}
 use Rattle.flume_model.specs.Line.{boundary, boundary_after, how_many}
-use Rattle.flume_model.specs.Entries.{is_woken, some_wait, woken_count, round, round_fills, all_woken, entry_of, without, passes_on, left}
-use Rattle.flume_model.specs.Entries.{left_fills}
+use Rattle.flume_model.specs.Entries.{is_woken, some_wait, woken_count, round, round_fills, all_woken, entry_of, without, passes_on}
+use Rattle.flume_model.specs.Entries.{after_leave, leave_fills}
 use Rattle.flume_model.specs.Parked.{LogEntry, untold, entries_after, entries}
 use Rattle.flume_model.specs.Channel.{Channel, channel}
 use Rattle.flume_model.specs.Replies.{IsRun}
 use Rattle.flume_model.specs.WaitLaws.{Covered}
 use Rattle.flume_model.proofs.Fits.{Fits}
 use Rattle.flume_model.proofs.WaitingCounts.{wait_round, wait_round_for, wait_without, wait_woken}
-use Rattle.flume_model.proofs.EntryLists.{round_for_push, again_cases, left_cases}
+use Rattle.flume_model.proofs.EntryLists.{round_for_push, again_cases, leave_cases}
 use Rattle.flume_model.proofs.EntryCounts.{woken_one, round_counts, without_counts}
 use Rattle.flume_model.proofs.WaitingSteps.{Stood, Long, stepped, nobody_once_over}
 
@@ -114,8 +114,8 @@ module _ {T : Type 0} where
   covered_by c closes (Leaves t filled) n stood h long within before some =
       let unfilled = h.0 in
       let fills = ap how_many h.1 in
-      let main : c.boundary - how_many (left_fills t c.queue c.entries) ≤ woken_count (left untold t c.queue c.entries) =
-      left_cases (λ es f. some_wait es ≡ true → c.boundary - how_many f ≤ woken_count es) untold t c.queue c.entries
+      let main : c.boundary - how_many (leave_fills t c.queue c.entries) ≤ woken_count (after_leave untold t c.queue c.entries) =
+      leave_cases (λ es f. some_wait es ≡ true → c.boundary - how_many f ≤ woken_count es) untold t c.queue c.entries
       (λ none waits.
       (let le = covered_left c t unfilled.entry stood unfilled.found none (before (wait_without t c.entries waits)) in omega arith))
       (λ passes front rest e waits.

@@ -11,7 +11,7 @@ use Rattle.flume_model.specs.Parked.{LogEntry, untold, entries_after}
 use Rattle.flume_model.specs.Channel.{Channel}
 use Rattle.flume_model.specs.WaitLaws.{Apart}
 use Rattle.flume_model.proofs.EntryLists.{tickets_round, tickets_woken, ticket_of, fills_none_else, none_same, none_without, none_push}
-use Rattle.flume_model.proofs.EntryLists.{round_for_push, again_cases, left_cases}
+use Rattle.flume_model.proofs.EntryLists.{round_for_push, again_cases, leave_cases}
 use Rattle.flume_model.proofs.EntryMarks.{FilledBy, filled_found, filled_without, filled_push, filled_woken, filled_round, apart_above}
 use Rattle.flume_model.proofs.EntryMarks.{none_past, found_below, apart_same, apart_without, left_out, apart_push}
 use Rattle.flume_model.proofs.Fits.{Fits}
@@ -67,7 +67,7 @@ module _ {T : Type 0} where
   apart_by c closes (Collects t) h apart = apart_above c.next (c.next + 0) _ (omega arith) (apart_without c.next t c.entries apart)
   apart_by c closes (Leaves t filled) h apart =
       let others = apart_without c.next t c.entries apart in
-      apart_above c.next (c.next + 0) _ (omega arith) (left_cases (λ es f. Apart c.next es) untold t c.queue c.entries
+      apart_above c.next (c.next + 0) _ (omega arith) (leave_cases (λ es f. Apart c.next es) untold t c.queue c.entries
       (λ none. others) (λ passes front rest e. apart_round c.next front (without t c.entries) others))
   apart_by c closes SenderLeaves h apart = apart_close c.next closes c.entries apart
   apart_by c closes ReceiverLeaves h apart = apart_close c.next closes c.entries apart
@@ -84,7 +84,7 @@ module _ {T : Type 0} where
   pub fills_none : (c : Channel T) (done : Change T) (t : ℕ) → Fits c done → entry_of t c.entries ≡ None → is_ticket t (fills done) ≡ false
   fills_none c (Queues m filled) t h none = ap (is_ticket t) h.1 ∙ fills_none_else t c.entries none
   fills_none c (Leaves u filled) t h none =
-      ap (is_ticket t) h.1 ∙ left_cases (λ es f. is_ticket t f ≡ false) untold u c.queue c.entries (λ e. refl)
+      ap (is_ticket t) h.1 ∙ leave_cases (λ es f. is_ticket t f ≡ false) untold u c.queue c.entries (λ e. refl)
       (λ passes front rest e. fills_none_else t (without u c.entries) (none_without t u c.entries none))
   fills_none c _ t h none = refl
 
@@ -111,7 +111,7 @@ module _ {T : Type 0} where
   filled_by_change c closes (Collects t) was h apart past all = filled_without was t c.entries all
   filled_by_change c closes (Leaves t filled) was h apart past all =
       let others = filled_without was t c.entries all in
-      rw h.1 (left_cases (λ es f. FilledBy (λ u. is_ticket u f || was u) es) untold t c.queue c.entries (λ e. others)
+      rw h.1 (leave_cases (λ es f. FilledBy (λ u. is_ticket u f || was u) es) untold t c.queue c.entries (λ e. others)
       (λ passes front rest e.
       filled_round untold front c.next was (without t c.entries) (apart_without c.next t c.entries apart) others))
   filled_by_change c closes SenderLeaves was h apart past all = filled_close was closes c.entries all
@@ -152,7 +152,7 @@ module _ {T : Type 0} where
   none_by c closes (Collects u) t e none = none_without t u c.entries none
   none_by c closes (Leaves u filled) t e none =
       let others = none_without t u c.entries none in
-      left_cases (λ es f. entry_of t es ≡ None) untold u c.queue c.entries (λ e2. others)
+      leave_cases (λ es f. entry_of t es ≡ None) untold u c.queue c.entries (λ e2. others)
       (λ passes front rest e2. none_round t front (without u c.entries) others)
   none_by c closes SenderLeaves t e none = none_close t closes c.entries none
   none_by c closes ReceiverLeaves t e none = none_close t closes c.entries none

@@ -8,7 +8,7 @@ use Rattle.flume_model.specs.declared.entry.Mark.{Mark}
 use Rattle.flume_model.specs.declared.entry.Mark.TheVariants.{Waiting, Woken, Filled}
 use Rattle.flume_model.specs.Log.{is_ticket}
 use Rattle.flume_model.specs.Entries.{is_woken, round, round_fills, round_for, round_for_fills, all_woken, entry_of, without, again_as}
-use Rattle.flume_model.specs.Entries.{again, passes_on, left, left_fills}
+use Rattle.flume_model.specs.Entries.{again, passes_on, after_leave, leave_fills}
 
 module _ {T N : Type 0} where
   -- the tickets of entries, in order
@@ -163,12 +163,12 @@ module _ {T N : Type 0} where
           by_case false waits = stays
 
   -- a receiver that leaves leaves the others as they are, or passes a round on
-  pub left_cases : (P : List (Entry T N) → Option ℕ → Type 0) (tell : N → N) (t : ℕ) (queue_ : List T) (es : List (Entry T N))
+  pub leave_cases : (P : List (Entry T N) → Option ℕ → Type 0) (tell : N → N) (t : ℕ) (queue_ : List T) (es : List (Entry T N))
       → ((passes_on (entry_of t es) ≡ true → queue_ ≡ []) → P (without t es) None)
       → (passes_on (entry_of t es) ≡ true → (front : T) (rest : List T) → queue_ ≡ front ∷ rest
       → P (round tell front (without t es)) (round_fills (without t es)))
-      → P (left tell t queue_ es) (left_fills t queue_ es)
-  left_cases P tell t queue_ es stays passes = by_case (passes_on (entry_of t es)) refl
+      → P (after_leave tell t queue_ es) (leave_fills t queue_ es)
+  leave_cases P tell t queue_ es stays passes = by_case (passes_on (entry_of t es)) refl
     where
       by_case : (b : Bool) → passes_on (entry_of t es) ≡ b
           → P (if b then round_for tell queue_ (without t es) else without t es)

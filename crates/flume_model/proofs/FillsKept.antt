@@ -13,7 +13,7 @@ use Rattle.flume_model.specs.Parked.{LogEntry, untold, entries_after}
 use Rattle.flume_model.specs.Channel.{Channel}
 use Rattle.flume_model.specs.Entries.{held_in, held_by}
 use Rattle.flume_model.specs.WaitLaws.{Apart}
-use Rattle.flume_model.proofs.EntryLists.{fills_none_else, round_for_push, again_cases, left_cases}
+use Rattle.flume_model.proofs.EntryLists.{fills_none_else, round_for_push, again_cases, leave_cases}
 use Rattle.flume_model.proofs.EntryMarks.{apart_without}
 use Rattle.flume_model.proofs.EntryChanges.{fills, fills_none}
 use Rattle.flume_model.proofs.Fits.{Fits}
@@ -144,7 +144,7 @@ module _ {T : Type 0} where
   held_by_change c closes (Leaves u filled) t m h stays held =
       let nothing = empty_holds h.0.entry.mark h.0.empty in
       let others = held_without u t m c.entries (unlike u t m h.0.entry c.entries h.0.found nothing held) held in
-      left_cases (λ es f. Holds t m es) untold u c.queue c.entries (λ none. others)
+      leave_cases (λ es f. Holds t m es) untold u c.queue c.entries (λ none. others)
       (λ passes front rest e. held_round untold front t m (without u c.entries) others)
   held_by_change c closes SenderLeaves t m h stays held = held_close closes t m c.entries held
   held_by_change c closes ReceiverLeaves t m h stays held = held_close closes t m c.entries held
@@ -199,7 +199,7 @@ module _ {T : Type 0} where
       by_queue [] = (m, [], refl, round_holds m c.next t c.entries apart (sym h.1 ∙ is))
       by_queue (x ∷ waiting) = (x, waiting ++ m ∷ [], refl, round_holds x c.next t c.entries apart (sym h.1 ∙ is))
   filled_holds c closes (Leaves u filled) t h apart is =
-      left_cases (λ es f. f ≡ Some t → (front : T) × (rest : List T) × (c.queue ≡ front ∷ rest) × Holds t front es) untold u c.queue
+      leave_cases (λ es f. f ≡ Some t → (front : T) × (rest : List T) × (c.queue ≡ front ∷ rest) × Holds t front es) untold u c.queue
       c.entries (λ none by. absurd (let none : ⊥ = cc in none)) (λ passes front rest e by. (
         front,
         rest,

@@ -12,12 +12,12 @@ use Rattle.flume_model.specs.declared.step.Reply.TheVariants.{Sent, Pending, Acc
 use Rattle.flume_model.specs.declared.step.Reply.TheVariants.{Got, Ended, Parked, Gone, Drained, Done}
 use Rattle.flume_model.specs.declared.entry.Entry.{Entry}
 use Rattle.flume_model.specs.declared.entry.Mark.{Mark}
-use Rattle.flume_model.specs.declared.entry.Mark.TheVariants.{Waiting as Waits, Woken, Filled}
+use Rattle.flume_model.specs.declared.entry.Mark.TheVariants.{Waiting as StillWaits, Woken, Filled}
 use Rattle.flume_model.specs.Log.{Log, Opening, Offer, Change, Queues, Blocks, Accepts, Withdraws, Takes, Drains, Parks, Asks, Collects}
 use Rattle.flume_model.specs.Log.{Leaves, SenderJoins, ReceiverJoins, SenderLeaves, ReceiverLeaves, Stays, was_filled, change}
 use Rattle.flume_model.specs.Counts.{senders, receivers, senders_after, receivers_after, is_over}
 use Rattle.flume_model.specs.Line.{line, boundary, queue, messages}
-use Rattle.flume_model.specs.Entries.{is_filled, is_woken, entry_of, round_fills, left_fills, passes_on}
+use Rattle.flume_model.specs.Entries.{is_filled, is_woken, entry_of, round_fills, leave_fills, passes_on}
 use Rattle.flume_model.specs.Parked.{LogEntry, entries}
 use Rattle.flume_model.specs.Channel.{Channel, TakesIn, TakesNoneIn, IsAccepted, IsBlocked, IsFront, channel}
 use Rattle.flume_model.specs.Asking.{IsPolledOther, IsPolledMark, IsPolled, IsGoneBlock, IsGoneOther, IsGoneMark, IsGone}
@@ -46,7 +46,7 @@ module _ {T : Type 0} where
       (e : LogEntry T) × (entry_of t c.entries ≡ Some e)
       × (is_woken e.mark ≡ true → (c.line ≡ []) × IsOpen c.senders c.receivers)
   Fits c (Collects t) = (e : LogEntry T) × (held : T) × (entry_of t c.entries ≡ Some e) × (e.mark ≡ Filled held)
-  Fits c (Leaves t filled) = Unfilled c t × (filled ≡ left_fills t c.queue c.entries)
+  Fits c (Leaves t filled) = Unfilled c t × (filled ≡ leave_fills t c.queue c.entries)
   Fits c SenderJoins = 0 < c.senders
   Fits c ReceiverJoins = 0 < c.receivers
   Fits c SenderLeaves = 0 < c.senders
@@ -59,7 +59,7 @@ module _ {T : Type 0} where
   none_taken n (x ∷ xs) e = absurd (let none : ⊥ = cc in none)
 
   -- a receiver that leaves where nothing is queued fills nobody
-  pub fills_none : {N : Type 0} (t : ℕ) (queue_ : List T) (es : List (Entry T N)) → queue_ ≡ [] → left_fills t queue_ es ≡ None
+  pub fills_none : {N : Type 0} (t : ℕ) (queue_ : List T) (es : List (Entry T N)) → queue_ ≡ [] → leave_fills t queue_ es ≡ None
   fills_none t queue_ es e =
       rw e (elim (passes_on (entry_of t es)) as (λ b. cond {A = Option ℕ} b None None ≡ None) [ true ↦ refl | false ↦ refl ])
 
@@ -87,7 +87,7 @@ module _ {T A : Type 0} where
     sym (fills_none t (queue o past) (entries o past) (none_taken (boundary o past) (line past) empty)),
   )
 
-  -- one that looks at the line, whether it was woken or not
+  -- one that is answered by the line, whether it was woken or not
   polled_other : (o : Opening) (past : Log T A) (t : ℕ) (reply : Reply T A) (e : LogEntry T) → ToldFilled o past
       → entry_of t (entries o past) ≡ Some e → is_filled e.mark ≡ false → IsPolledOther (channel o past) reply
       → Fits (channel o past) (change past (Poll t) reply)
@@ -102,17 +102,17 @@ module _ {T A : Type 0} where
       → ToldFilled o past → entry_of t (entries o past) ≡ Some e → e.mark ≡ mark → IsPolledMark (channel o past) kind mark reply
       → Fits (channel o past) (change past (Poll t) reply)
   polled_mark o past t (Got m) e kind (Filled held) told found is h = collects o past t m held e told found is
-  polled_mark o past t Waiting e Block Waits told found is h = (e, found, λ woken. absurd (let none : ⊥ = cc in none))
+  polled_mark o past t Waiting e Block StillWaits told found is h = (e, found, λ woken. absurd (let none : ⊥ = cc in none))
   polled_mark o past t (Got m) e Block Woken told found is h = takes o past t m e told found (ap is_filled is) h
   polled_mark o past t Ended e Block Woken told found is h = ends o past t e found (ap is_filled is) h
-  polled_mark o past t reply e Plain Waits told found is h = polled_other o past t reply e told found (ap is_filled is) h
+  polled_mark o past t reply e Plain StillWaits told found is h = polled_other o past t reply e told found (ap is_filled is) h
   polled_mark o past t reply e Plain Woken told found is h = polled_other o past t reply e told found (ap is_filled is) h
-  polled_mark o past t reply e Stream Waits told found is h = polled_other o past t reply e told found (ap is_filled is) h
+  polled_mark o past t reply e Stream StillWaits told found is h = polled_other o past t reply e told found (ap is_filled is) h
   polled_mark o past t reply e Stream Woken told found is h = polled_other o past t reply e told found (ap is_filled is) h
-  polled_mark o past t reply e Arm Waits told found is h = polled_other o past t reply e told found (ap is_filled is) h
+  polled_mark o past t reply e Arm StillWaits told found is h = polled_other o past t reply e told found (ap is_filled is) h
   polled_mark o past t reply e Arm Woken told found is h = polled_other o past t reply e told found (ap is_filled is) h
   polled_mark o past t _ e kind (Filled held) told found is h = absurd h
-  polled_mark o past t _ e Block Waits told found is h = absurd h
+  polled_mark o past t _ e Block StillWaits told found is h = absurd h
   polled_mark o past t _ e Block Woken told found is h = absurd h
 
   -- a parked receiver that asks
@@ -148,13 +148,13 @@ module _ {T A : Type 0} where
       → ToldFilled o past → entry_of t (entries o past) ≡ Some e → e.mark ≡ mark → IsGoneMark (channel o past) t kind mark reply
       → Fits (channel o past) (change past (Withdraw t) reply)
   gone_mark o past t (Got m) e kind (Filled held) told found is h = collects o past t m held e told found is
-  gone_mark o past t reply e Block Waits told found is h = gone_block o past t reply e told found (ap is_filled is) h
+  gone_mark o past t reply e Block StillWaits told found is h = gone_block o past t reply e told found (ap is_filled is) h
   gone_mark o past t reply e Block Woken told found is h = gone_block o past t reply e told found (ap is_filled is) h
-  gone_mark o past t reply e Plain Waits told found is h = gone_other o past t reply e found (ap is_filled is) h
+  gone_mark o past t reply e Plain StillWaits told found is h = gone_other o past t reply e found (ap is_filled is) h
   gone_mark o past t reply e Plain Woken told found is h = gone_other o past t reply e found (ap is_filled is) h
-  gone_mark o past t reply e Stream Waits told found is h = gone_other o past t reply e found (ap is_filled is) h
+  gone_mark o past t reply e Stream StillWaits told found is h = gone_other o past t reply e found (ap is_filled is) h
   gone_mark o past t reply e Stream Woken told found is h = gone_other o past t reply e found (ap is_filled is) h
-  gone_mark o past t reply e Arm Waits told found is h = gone_other o past t reply e found (ap is_filled is) h
+  gone_mark o past t reply e Arm StillWaits told found is h = gone_other o past t reply e found (ap is_filled is) h
   gone_mark o past t reply e Arm Woken told found is h = gone_other o past t reply e found (ap is_filled is) h
   gone_mark o past t _ e kind (Filled held) told found is h = absurd h
 

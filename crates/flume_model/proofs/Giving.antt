@@ -9,7 +9,7 @@ use Rattle.flume_model.specs.declared.step.Reply.{Reply}
 use Rattle.flume_model.specs.declared.step.Reply.TheVariants.{Sent, Pending, Accepted, Waiting, Returned, NoMemory, NoTicket}
 use Rattle.flume_model.specs.declared.step.Reply.TheVariants.{Got, Ended, Parked, Gone, Drained}
 use Rattle.flume_model.specs.declared.entry.Mark.{Mark}
-use Rattle.flume_model.specs.declared.entry.Mark.TheVariants.{Waiting as Waits, Woken, Filled}
+use Rattle.flume_model.specs.declared.entry.Mark.TheVariants.{Waiting as StillWaits, Woken, Filled}
 use Rattle.flume_model.specs.Log.{Log, Opening, Change, Withdraws, Takes, Drains, Collects, was_filled, change}
 use Rattle.flume_model.specs.Entries.{is_filled, entry_of}
 use Rattle.flume_model.specs.Parked.{LogEntry, entries}
@@ -40,7 +40,7 @@ module _ {T A : Type 0} where
   collected_gives held (Got m) h = inr (m, refl)
   collected_gives held _ h = absurd h
 
-  -- one that looks at the line
+  -- one that is answered by the line
   other_gives : (c : Channel T) (reply : Reply T A) → IsPolledOther c reply → NothingOrGot reply
   other_gives c (Got m) h = inr (m, refl)
   other_gives c (NoMemory back) h = inl refl
@@ -50,23 +50,23 @@ module _ {T A : Type 0} where
 
   -- one that blocks
   block_gives : (c : Channel T) (mark : Mark T) (reply : Reply T A) → IsPolledBlock c mark reply → NothingOrGot reply
-  block_gives c Waits Waiting h = inl refl
+  block_gives c StillWaits Waiting h = inl refl
   block_gives c Woken (Got m) h = inr (m, refl)
   block_gives c Woken Ended h = inl refl
   block_gives c (Filled held) _ h = absurd h
-  block_gives c Waits _ h = absurd h
+  block_gives c StillWaits _ h = absurd h
   block_gives c Woken _ h = absurd h
 
   -- one that asks
   mark_gives : (c : Channel T) (kind : Kind) (mark : Mark T) (reply : Reply T A) → IsPolledMark c kind mark reply → NothingOrGot reply
   mark_gives c kind (Filled held) reply h = collected_gives held reply h
-  mark_gives c Block Waits reply h = block_gives c Waits reply h
+  mark_gives c Block StillWaits reply h = block_gives c StillWaits reply h
   mark_gives c Block Woken reply h = block_gives c Woken reply h
-  mark_gives c Plain Waits reply h = other_gives c reply h
+  mark_gives c Plain StillWaits reply h = other_gives c reply h
   mark_gives c Plain Woken reply h = other_gives c reply h
-  mark_gives c Stream Waits reply h = other_gives c reply h
+  mark_gives c Stream StillWaits reply h = other_gives c reply h
   mark_gives c Stream Woken reply h = other_gives c reply h
-  mark_gives c Arm Waits reply h = other_gives c reply h
+  mark_gives c Arm StillWaits reply h = other_gives c reply h
   mark_gives c Arm Woken reply h = other_gives c reply h
 
   polled_gives : (c : Channel T) (found : Option (LogEntry T)) (reply : Reply T A) → IsPolled c found reply → NothingOrGot reply
@@ -89,13 +89,13 @@ module _ {T A : Type 0} where
   gone_mark_gives : (c : Channel T) (t : ℕ) (kind : Kind) (mark : Mark T) (reply : Reply T A) → IsGoneMark c t kind mark reply
       → NothingOrGot reply
   gone_mark_gives c t kind (Filled held) reply h = collected_gives held reply h
-  gone_mark_gives c t Block Waits reply h = gone_block_gives c reply h
+  gone_mark_gives c t Block StillWaits reply h = gone_block_gives c reply h
   gone_mark_gives c t Block Woken reply h = gone_block_gives c reply h
-  gone_mark_gives c t Plain Waits reply h = gone_other_gives c t reply h
+  gone_mark_gives c t Plain StillWaits reply h = gone_other_gives c t reply h
   gone_mark_gives c t Plain Woken reply h = gone_other_gives c t reply h
-  gone_mark_gives c t Stream Waits reply h = gone_other_gives c t reply h
+  gone_mark_gives c t Stream StillWaits reply h = gone_other_gives c t reply h
   gone_mark_gives c t Stream Woken reply h = gone_other_gives c t reply h
-  gone_mark_gives c t Arm Waits reply h = gone_other_gives c t reply h
+  gone_mark_gives c t Arm StillWaits reply h = gone_other_gives c t reply h
   gone_mark_gives c t Arm Woken reply h = gone_other_gives c t reply h
 
   gone_gives : (c : Channel T) (t : ℕ) (found : Option (LogEntry T)) (reply : Reply T A) → IsGone c t found reply → NothingOrGot reply
@@ -114,7 +114,7 @@ module _ {T A : Type 0} where
       by_mark (Filled held) is told =
           let was : was_filled past t ≡ true = told ∙ ap is_filled is in
           rw was (e, held, found, is, ap (λ x. x ∷ []) (holds held is))
-      by_mark Waits is told = let was : was_filled past t ≡ false = told ∙ ap is_filled is in rw was refl
+      by_mark StillWaits is told = let was : was_filled past t ≡ false = told ∙ ap is_filled is in rw was refl
       by_mark Woken is told = let was : was_filled past t ≡ false = told ∙ ap is_filled is in rw was refl
 
   -- where one that asks got a message
@@ -130,7 +130,7 @@ module _ {T A : Type 0} where
         where
           by_mark : (mark : Mark T) {held : T} → mark ≡ Filled held → IsPolledMark {A = A} (channel o past) e.kind mark (Got m) → m ≡ held
           by_mark (Filled other) is h = h ∙ cc
-          by_mark Waits is h = absurd (let none : ⊥ = cc in none)
+          by_mark StillWaits is h = absurd (let none : ⊥ = cc in none)
           by_mark Woken is h = absurd (let none : ⊥ = cc in none)
 
   -- where one that leaves got a message
@@ -146,7 +146,7 @@ module _ {T A : Type 0} where
         where
           by_mark : (mark : Mark T) {held : T} → mark ≡ Filled held → IsGoneMark {A = A} (channel o past) t e.kind mark (Got m) → m ≡ held
           by_mark (Filled other) is h = h ∙ cc
-          by_mark Waits is h = absurd (let none : ⊥ = cc in none)
+          by_mark StillWaits is h = absurd (let none : ⊥ = cc in none)
           by_mark Woken is h = absurd (let none : ⊥ = cc in none)
 
   -- where one that asks got none

@@ -9,7 +9,7 @@ use Rattle.flume_model.specs.Log.{Log, Opening, Offer, HandOut, Shown, FilledIn}
 use Rattle.flume_model.specs.Offers.{withdrawn, kept, handed_out}
 use Rattle.flume_model.specs.Counts.{is_over}
 use Rattle.flume_model.specs.Line.{line, boundary, queue, messages, next_ticket, how_many}
-use Rattle.flume_model.specs.Entries.{some_wait, left_fills}
+use Rattle.flume_model.specs.Entries.{some_wait, leave_fills}
 use Rattle.flume_model.specs.Parked.{entries}
 use Rattle.flume_model.specs.Channel.{IsBlocked, channel}
 use Rattle.flume_model.specs.Laws.{TicketsRise, BlockedAtCapacity}
@@ -105,12 +105,12 @@ module _ {T A : Type 0} where
       record { front = place.0; later = place.1; rest_are = sym (line_is_rest past shape.parts open_) ∙ place.2; queued = place.3 }
 
   -- where one that leaves fills another, the line isn't empty
-  pub left_within : (o : Opening) (past : Log T A) (t : ℕ) → how_many (left_fills t (queue o past) (entries o past)) ≤ length (line past)
-  left_within o past t = by_case (line past) refl
+  pub leave_within : (o : Opening) (past : Log T A) (t : ℕ) → how_many (leave_fills t (queue o past) (entries o past)) ≤ length (line past)
+  leave_within o past t = by_case (line past) refl
     where
-      by_case : (some : List (Offer T)) → line past ≡ some → how_many (left_fills t (queue o past) (entries o past)) ≤ length (line past)
+      by_case : (some : List (Offer T)) → line past ≡ some → how_many (leave_fills t (queue o past) (entries o past)) ≤ length (line past)
       by_case [] e =
           let none : queue o past ≡ [] = ap (λ l. messages (take (boundary o past) l)) e ∙ ap messages (take-nil (boundary o past)) in
           let nobody = ap how_many (fills_none t (queue o past) (entries o past) none) in
           omega arith
-      by_case (x ∷ rest) e = omega (arith, ap length e, at_most (left_fills t (queue o past) (entries o past)))
+      by_case (x ∷ rest) e = omega (arith, ap length e, at_most (leave_fills t (queue o past) (entries o past)))

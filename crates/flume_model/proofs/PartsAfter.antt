@@ -10,12 +10,12 @@ use Rattle.flume_model.specs.Log.{Log, Opening, Offer, HandOut, Shown, FilledIn,
 use Rattle.flume_model.specs.Offers.{fill, kept, handed_out}
 use Rattle.flume_model.specs.Counts.{is_over}
 use Rattle.flume_model.specs.Line.{line, boundary, queue, messages, next_ticket, how_many}
-use Rattle.flume_model.specs.Entries.{left_fills}
+use Rattle.flume_model.specs.Entries.{leave_fills}
 use Rattle.flume_model.specs.Parked.{entries}
 use Rattle.flume_model.specs.Channel.{IsFront, channel}
 use Rattle.flume_model.proofs.Fits.{Fits}
 use Rattle.flume_model.proofs.Kept.{kept_by, handed_by, open_line, not_withdrawn, kept_more, kept_less, kept_same}
-use Rattle.flume_model.proofs.Parts.{ShownIs, Parts, Shape, at_most, front_at, open_at, line_is_rest, withdrawn_at, left_within}
+use Rattle.flume_model.proofs.Parts.{ShownIs, Parts, Shape, at_most, front_at, open_at, line_is_rest, withdrawn_at, leave_within}
 
 module _ {T : Type 0} where
   -- one more offer
@@ -146,7 +146,7 @@ module _ {T A : Type 0} where
       rw (kept_same past) (drain_more (kept past) (handed_out past) list shape.parts.gone at.0 at.1
       (shape.parts.kept_are ∙ ap (λ l. shape.parts.gone ++ l) at.2) shape.parts.given_are (h ∙ at.3))
   parts_after o past (Leaves t filled) shape h =
-      let many : how_many filled ≡ how_many (left_fills t (queue o past) (entries o past)) = ap how_many h.1 in
+      let many : how_many filled ≡ how_many (leave_fills t (queue o past) (entries o past)) = ap how_many h.1 in
       rw (kept_same past) (fill_more (kept past) (handed_out past) filled shape.parts.gone shape.parts.rest
-      shape.parts.kept_are shape.parts.given_are (omega (arith, many, left_within o past t, line_within past shape.parts)))
+      shape.parts.kept_are shape.parts.given_are (omega (arith, many, leave_within o past t, line_within past shape.parts)))
   parts_after o past _ shape h = rw (append-nil (handed_out past), kept_same past) shape.parts

@@ -8,11 +8,11 @@ use Rattle.flume_model.specs.Log.{Leaves, SenderJoins, ReceiverJoins, SenderLeav
 use Rattle.flume_model.specs.Offers.{kept, handed_out}
 use Rattle.flume_model.specs.Counts.{is_over}
 use Rattle.flume_model.specs.Line.{line, queue, boundary, boundary_after, next_ticket, how_many}
-use Rattle.flume_model.specs.Entries.{some_wait, left_fills}
+use Rattle.flume_model.specs.Entries.{some_wait, leave_fills}
 use Rattle.flume_model.specs.Parked.{entries}
 use Rattle.flume_model.specs.Channel.{IsFront, channel}
 use Rattle.flume_model.specs.Limits.{HasRoom, IsAtCapacity}
-use Rattle.flume_model.proofs.WaitLists.{left_fills_waiting}
+use Rattle.flume_model.proofs.WaitLists.{leave_fills_waiting}
 use Rattle.flume_model.proofs.Fits.{Fits}
 use Rattle.flume_model.proofs.Kept.{open_line, line_by, line_is_open, line_more, line_queued, line_left, line_drained}
 use Rattle.flume_model.proofs.Kept.{line_front, line_less, line_same, keeps_line}
@@ -84,13 +84,13 @@ module _ {T A : Type 0} where
 
   -- where one that leaves fills another, one waits, so no sender is blocked
   full_left : (o : Opening) (past : Log T A) (t : ℕ) (filled : Option ℕ) → Shape o past
-      → filled ≡ left_fills t (queue o past) (entries o past) → boundary o past < length (line past)
+      → filled ≡ leave_fills t (queue o past) (entries o past) → boundary o past < length (line past)
       → IsAtCapacity o.capacity (boundary o past - how_many filled)
   full_left o past t None shape fills lt =
       let same : boundary o past ≡ boundary o past - 0 = omega arith in
       subst (IsAtCapacity o.capacity) same (shape.full lt)
   full_left o past t (Some u) shape fills lt =
-      let some = left_fills_waiting t (queue o past) (entries o past) u (sym fills) in
+      let some = leave_fills_waiting t (queue o past) (entries o past) u (sym fills) in
       absurd (omega (arith, shape.waits some))
 
   -- what is queued after a change that fits

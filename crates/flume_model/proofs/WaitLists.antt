@@ -5,7 +5,7 @@ use Rattle.std.proofs.lemmas.Bool.{or_left, or_right}
 use Rattle.flume_model.specs.declared.entry.Entry.{Entry}
 use Rattle.flume_model.specs.Entries.{is_waiting, is_woken, some_wait, round_fills, round_for_fills}
 use Rattle.flume_model.proofs.WaitingCounts.{wait_without}
-use Rattle.flume_model.specs.Entries.{entry_of, without, again_as, again, passes_on, left_fills}
+use Rattle.flume_model.specs.Entries.{entry_of, without, again_as, again, passes_on, leave_fills}
 
 module _ {T N : Type 0} where
   -- one of these waits if one of those further on does
@@ -29,9 +29,9 @@ module _ {T N : Type 0} where
   fills_waiting_for (front ∷ queue) es u h = fills_waiting es u h
 
   -- one that leaves fills another only where one waits
-  pub left_fills_waiting : (t : ℕ) (queue : List T) (es : List (Entry T N)) (u : ℕ) → left_fills t queue es ≡ Some u
+  pub leave_fills_waiting : (t : ℕ) (queue : List T) (es : List (Entry T N)) (u : ℕ) → leave_fills t queue es ≡ Some u
       → some_wait es ≡ true
-  left_fills_waiting t queue es u h =
+  leave_fills_waiting t queue es u h =
       elim (passes_on (entry_of t es))
       as (λ b. cond b (round_for_fills queue (without t es)) None ≡ Some u → some_wait es ≡ true)
       [ true ↦ λ h. wait_without t es (fills_waiting_for queue (without t es) u h) | false ↦ λ h. absurd (let none : ⊥ = cc in none) ] h

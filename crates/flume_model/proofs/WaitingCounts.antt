@@ -5,7 +5,8 @@ use Rattle.std.proofs.Common.{if◌then◌else◌}
 use Rattle.std.proofs.lemmas.Bool.{or_from}
 use Rattle.flume_model.specs.declared.entry.Entry.{Entry}
 use Rattle.flume_model.specs.declared.entry.Mark.TheVariants.{Woken}
-use Rattle.flume_model.specs.Entries.{is_waiting, some_wait, waiting_count, marked, round, round_for, entry_of, without, passes_on, left}
+use Rattle.flume_model.specs.Entries.{is_waiting, some_wait, waiting_count, marked, round, round_for, entry_of, without, passes_on}
+use Rattle.flume_model.specs.Entries.{after_leave}
 use Rattle.flume_model.specs.Entries.{all_woken}
 use Rattle.flume_model.proofs.EntryCounts.{counted_none, counted_some, round_counts}
 
@@ -35,10 +36,11 @@ module _ {T N : Type 0} where
       by_case false other rest = simp other (omega arith)
 
   -- once that one has left
-  pub fewer_left : (tell : N → N) (t : ℕ) (queue : List T) (es : List (Entry T N)) → waiting_count (left tell t queue es) ≤ waiting_count es
-  fewer_left tell t queue es = by_case (passes_on (entry_of t es)) refl
+  pub fewer_after_leave : (tell : N → N) (t : ℕ) (queue : List T) (es : List (Entry T N))
+      → waiting_count (after_leave tell t queue es) ≤ waiting_count es
+  fewer_after_leave tell t queue es = by_case (passes_on (entry_of t es)) refl
     where
-      by_case : (b : Bool) → passes_on (entry_of t es) ≡ b → waiting_count (left tell t queue es) ≤ waiting_count es
+      by_case : (b : Bool) → passes_on (entry_of t es) ≡ b → waiting_count (after_leave tell t queue es) ≤ waiting_count es
       by_case true passes =
           let a = fewer_rounded tell queue (without t es) in let b = fewer_without t es in rw passes (omega arith)
       by_case false stays = rw stays (fewer_without t es)
@@ -69,6 +71,6 @@ module _ {T N : Type 0} where
   wait_without t es = wait_by (without t es) es (fewer_without t es)
 
   -- and where one waits once a receiver has left
-  pub wait_left : (tell : N → N) (t : ℕ) (queue : List T) (es : List (Entry T N)) → some_wait (left tell t queue es) ≡ true
+  pub wait_after_leave : (tell : N → N) (t : ℕ) (queue : List T) (es : List (Entry T N)) → some_wait (after_leave tell t queue es) ≡ true
       → some_wait es ≡ true
-  wait_left tell t queue es = wait_by (left tell t queue es) es (fewer_left tell t queue es)
+  wait_after_leave tell t queue es = wait_by (after_leave tell t queue es) es (fewer_after_leave tell t queue es)

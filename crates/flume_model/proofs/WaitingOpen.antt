@@ -16,7 +16,7 @@ use Rattle.flume_model.specs.Channel.{Channel, channel}
 use Rattle.flume_model.specs.Replies.{IsRun}
 use Rattle.flume_model.specs.WaitLaws.{WaitsWhileOpen, NothingOnceOver}
 use Rattle.flume_model.proofs.Fits.{Fits}
-use Rattle.flume_model.proofs.WaitingCounts.{wait_without, wait_left, wait_woken}
+use Rattle.flume_model.proofs.WaitingCounts.{wait_without, wait_after_leave, wait_woken}
 use Rattle.flume_model.proofs.EntryLists.{again_cases}
 use Rattle.flume_model.proofs.Runs.{shape_of}
 use Rattle.flume_model.proofs.LineSteps.{line_over}
@@ -61,7 +61,7 @@ module _ {T : Type 0} where
       again_cases (λ es. some_wait es ≡ true → IsOpen c.senders c.receivers) t c.entries before
       (λ x found woken waits. (let same : h.0 ≡ x = cc in (h.2 (ap (λ y. is_woken y.mark) same ∙ woken)).1)) some
   open_by c closes (Collects t) h e before some = before (wait_without t c.entries some)
-  open_by c closes (Leaves t filled) h e before some = before (wait_left untold t c.queue c.entries some)
+  open_by c closes (Leaves t filled) h e before some = before (wait_after_leave untold t c.queue c.entries some)
   open_by c closes SenderJoins h e before some = let is_open = before some in omega arith
   open_by c closes ReceiverJoins h e before some = let is_open = before some in omega arith
   open_by c closes SenderLeaves h e before some = open_close c _ _ closes e before some

@@ -15,7 +15,7 @@ use Rattle.flume_model.specs.Channel.{Channel, channel}
 use Rattle.flume_model.specs.Replies.{IsRun}
 use Rattle.flume_model.proofs.Fits.{Fits, not_over_yet}
 use Rattle.flume_model.proofs.EntryShape.{told_filled, fits_run}
-use Rattle.flume_model.proofs.Parts.{at_most, front_at, blocked_at, left_within}
+use Rattle.flume_model.proofs.Parts.{at_most, front_at, blocked_at, leave_within}
 use Rattle.flume_model.proofs.Runs.{shape_of}
 use Rattle.flume_model.proofs.Kept.{keeps_line}
 use Rattle.flume_model.proofs.LineSteps.{line_queues, line_blocks, line_takes, line_drains, line_leaves, line_withdraws, line_stays}
@@ -108,7 +108,7 @@ module _ {T A : Type 0} where
   long_after o past p (Leaves t filled) e run h open_ still =
       let long = ap length (line_leaves o past p t filled run e open_) ∙ length-drop (how_many filled) (line past) in
       let same = line_long o past in
-      let few = left_within o past t in
+      let few = leave_within o past t in
       let fills = ap how_many h.1 in
       omega arith
   long_after o past p (Accepts t) e run h open_ still = long_same o past p (Accepts t) e refl run open_ still

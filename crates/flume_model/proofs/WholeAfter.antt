@@ -10,7 +10,7 @@ use Rattle.flume_model.specs.Line.{line, queue, boundary, boundary_after}
 use Rattle.flume_model.specs.Entries.{is_woken, some_wait, entry_of, all_woken}
 use Rattle.flume_model.specs.Parked.{LogEntry, untold, entries, entries_after}
 use Rattle.flume_model.specs.Channel.{channel}
-use Rattle.flume_model.proofs.WaitingCounts.{wait_round_for, wait_without, wait_left, wait_woken}
+use Rattle.flume_model.proofs.WaitingCounts.{wait_round_for, wait_without, wait_after_leave, wait_woken}
 use Rattle.flume_model.proofs.WaitLists.{wait_again}
 use Rattle.flume_model.proofs.Fits.{Fits}
 use Rattle.flume_model.proofs.Kept.{line_by, line_is_open}
@@ -96,7 +96,7 @@ module _ {T A : Type 0} where
       waits_same o past (Collects t) shape open_ refl (wait_without t (entries o past) some)
   waits_after o past (Leaves t filled) closes shape h open_ some =
       let long = long_left past t filled open_ in
-      let before = shape.waits (wait_left untold t (queue o past) (entries o past) some) in
+      let before = shape.waits (wait_after_leave untold t (queue o past) (entries o past) some) in
       omega arith
   waits_after o past (Accepts t) closes shape h open_ some = waits_same o past (Accepts t) shape open_ refl some
   waits_after o past SenderJoins closes shape h open_ some = waits_same o past SenderJoins shape open_ refl some

@@ -20,7 +20,7 @@ use Rattle.flume_model.specs.Channel.{Channel, channel}
 use Rattle.flume_model.specs.Replies.{IsRun}
 use Rattle.flume_model.specs.WaitLaws.{is_block, block_woken, WokenBlockWhileClosed}
 use Rattle.flume_model.proofs.Fits.{Fits}
-use Rattle.flume_model.proofs.EntryLists.{round_for_push, again_cases, left_cases}
+use Rattle.flume_model.proofs.EntryLists.{round_for_push, again_cases, leave_cases}
 use Rattle.flume_model.proofs.WaitingSteps.{Stood, Long, stepped, nobody_once_over, line_long}
 use Rattle.flume_model.proofs.WaitingOpen.{whole_by, none_blocked_by}
 
@@ -146,7 +146,7 @@ module _ {T : Type 0} where
   closed_by c closes (Collects t) n stood h long e before some =
       let was = before (block_without t c.entries some) in (was.0, let le = was.1 in omega arith)
   closed_by c closes (Leaves t filled) n stood h long e before some =
-      let was = before (left_cases (λ es f. block_woken es ≡ true → block_woken c.entries ≡ true) untold t c.queue c.entries
+      let was = before (leave_cases (λ es f. block_woken es ≡ true → block_woken c.entries ≡ true) untold t c.queue c.entries
       (λ none others. block_without t c.entries others)
       (λ passes front rest e2 others. block_without t c.entries (block_round front (without t c.entries) others)) some) in
       (was.0, let le = was.1 in omega arith)

@@ -7,9 +7,9 @@ use Rattle.flume_model.specs.declared.step.Reply.TheVariants.{NoMemory, NoTicket
 use Rattle.flume_model.specs.declared.step.Reply.TheVariants.{Waiting}
 use Rattle.flume_model.specs.declared.step.Reply.TheVariants.{Gone}
 use Rattle.flume_model.specs.declared.entry.Mark.{Mark}
-use Rattle.flume_model.specs.declared.entry.Mark.TheVariants.{Waiting as Waits, Woken, Filled}
+use Rattle.flume_model.specs.declared.entry.Mark.TheVariants.{Waiting as StillWaits, Woken, Filled}
 use Rattle.flume_model.specs.Limits.{IsOpen, IsClosed, is_closed}
-use Rattle.flume_model.specs.Entries.{left_fills}
+use Rattle.flume_model.specs.Entries.{leave_fills}
 use Rattle.flume_model.specs.Parked.{LogEntry}
 use Rattle.flume_model.specs.Channel.{Channel, IsFront}
 
@@ -21,12 +21,12 @@ module _ {T A : Type 0} where
 
   -- one that blocks waits on, or was woken as the channel closed
   abbrev pub IsPolledBlock : Channel T → Mark T → Reply T A → Type 0
-  IsPolledBlock c Waits Waiting = Unit {0}
+  IsPolledBlock c StillWaits Waiting = Unit {0}
   IsPolledBlock c Woken (Got m) = IsFront c m
   IsPolledBlock c Woken Ended = c.line ≡ []
   IsPolledBlock c _ _ = ⊥
 
-  -- one of another kind looks at the line, whether it was woken or not
+  -- one of another kind is answered by the line, whether it was woken or not
   abbrev pub IsPolledOther : Channel T → Reply T A → Type 0
   IsPolledOther c (Got m) = IsFront c m
   IsPolledOther c (NoMemory back) = (c.boundary < length c.line) × (back ≡ None)
@@ -44,7 +44,7 @@ module _ {T A : Type 0} where
   -- by its mark, and then by its kind
   abbrev pub IsPolledMark : Channel T → Kind → Mark T → Reply T A → Type 0
   IsPolledMark c kind (Filled held) reply = IsCollected held reply
-  IsPolledMark c kind Waits reply = IsPolledKind c kind Waits reply
+  IsPolledMark c kind StillWaits reply = IsPolledKind c kind StillWaits reply
   IsPolledMark c kind Woken reply = IsPolledKind c kind Woken reply
 
   -- a receiver that asks again, where this is its entry
@@ -63,7 +63,7 @@ module _ {T A : Type 0} where
   -- one of another kind takes no message, and passes its wake on
   abbrev pub IsGoneOther : Channel T → ℕ → Reply T A → Type 0
   IsGoneOther c t (Gone closed filled) =
-      (closed ≡ is_closed c.senders c.receivers) × (filled ≡ left_fills t c.queue c.entries)
+      (closed ≡ is_closed c.senders c.receivers) × (filled ≡ leave_fills t c.queue c.entries)
   IsGoneOther c t _ = ⊥
 
   -- by its kind
@@ -76,7 +76,7 @@ module _ {T A : Type 0} where
   -- by its mark, and then by its kind
   abbrev pub IsGoneMark : Channel T → ℕ → Kind → Mark T → Reply T A → Type 0
   IsGoneMark c t kind (Filled held) reply = IsCollected held reply
-  IsGoneMark c t kind Waits reply = IsGoneKind c t kind reply
+  IsGoneMark c t kind StillWaits reply = IsGoneKind c t kind reply
   IsGoneMark c t kind Woken reply = IsGoneKind c t kind reply
 
   -- a receiver that leaves, where this is its entry

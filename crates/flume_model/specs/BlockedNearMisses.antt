@@ -73,7 +73,7 @@ abbrev pub blocked_below_capacity : Row
 blocked_below_capacity =
     (Send 1, Sent None) ∷ (Send 2, Pending 1) ∷ (TryRecv, Got 1) ∷ (PollSend 1, Waiting) ∷ []
 
--- the same by the length
+-- a take lets no blocked message in, as the length tells, at capacity 1
 abbrev pub none_moved_in : Row
 none_moved_in =
     (Send 1, Sent None) ∷ (Send 2, Pending 1) ∷ (TryRecv, Got 1) ∷ (Len, Number 0) ∷ []

@@ -47,7 +47,7 @@ module _ {T A : Type 0} where
   IsConserved opening log weight true =
       sum_by weight (given_out log) ≤ sum_by weight (messages (offers log))
 
-  -- so it is by every weight: where one message weighs 1 and all others 0, it is counted
+  -- no message is lost by any weight: where one message weighs 1 and all others 0, it is counted
   abbrev pub Conserved : Opening → Log T A → Type 0
   Conserved opening log =
       (weight : T → ℕ) → IsConserved opening log weight (is_over log)

@@ -1,6 +1,6 @@
--- The parked receivers, an entry each: their kinds and marks, wake rounds, and who stands after a
--- log. The waiting ones stand in the order in which they began to wait. N is what an entry has
--- beside: nothing in a log, the signal in a state.
+-- The parked receivers, an entry each: how they stand, what a wake round and closing do to them, and
+-- how one asks again or leaves. The waiting ones stand in the order in which they began to wait. N
+-- is what an entry has beside: nothing in a log, the signal in a state.
 use Rattle.std.specs.Prelude.{◌==◌, ℕ, ◌+◌, Bool, true, false, if◌then◌else◌, List, [], ◌∷◌, ◌++◌}
 use Rattle.std.specs.Prelude.{map, Option, Some, None}
 use Rattle.std.specs.List.{list_any}
@@ -16,17 +16,17 @@ module _ {T : Type 0} where
   is_waiting Waiting = true
   is_waiting _ = false
 
-  -- it was woken, and hasn't asked since
+  -- the receiver was woken, and hasn't asked since
   abbrev pub is_woken : Mark T → Bool
   is_woken Woken = true
   is_woken _ = false
 
-  -- it holds a message
+  -- the receiver holds a message
   abbrev pub is_filled : Mark T → Bool
   is_filled (Filled message) = true
   is_filled _ = false
 
-  -- the message that it holds, if it holds one
+  -- the message that the receiver holds, if it holds one
   abbrev pub held_in : Mark T → Option T
   held_in (Filled message) = Some message
   held_in _ = None
@@ -86,7 +86,7 @@ module _ {T N : Type 0} where
   round_for tell [] entries = entries
   round_for tell (front ∷ queue) entries = round tell front entries
 
-  -- the ticket that it fills, if it fills one
+  -- the ticket that a wake round fills where this is the queue, if it fills one
   abbrev pub round_for_fills : List T → List (Entry T N) → Option ℕ
   round_for_fills [] entries = None
   round_for_fills (front ∷ queue) entries = round_fills entries
@@ -105,7 +105,7 @@ module _ {T N : Type 0} where
   held_by None = None
   held_by (Some e) = held_in e.mark
 
-  -- the entries without that one
+  -- the entries without the first one with a ticket
   abbrev pub without : ℕ → List (Entry T N) → List (Entry T N)
   without t [] = []
   without t (e ∷ entries) = if e.ticket == t then entries else e ∷ without t entries
@@ -125,13 +125,13 @@ module _ {T N : Type 0} where
   passes_on None = false
   passes_on (Some e) = is_woken e.mark
 
-  -- the others once the entry with a ticket has left, where this is the queue
-  abbrev pub left : (N → N) → ℕ → List T → List (Entry T N) → List (Entry T N)
-  left tell t queue entries =
+  -- the other entries after the one with a ticket leaves, where this is the queue
+  abbrev pub after_leave : (N → N) → ℕ → List T → List (Entry T N) → List (Entry T N)
+  after_leave tell t queue entries =
       if passes_on (entry_of t entries) then round_for tell queue (without t entries)
       else without t entries
 
-  -- the ticket that the wake which it passes on fills, if it fills one
-  abbrev pub left_fills : ℕ → List T → List (Entry T N) → Option ℕ
-  left_fills t queue entries =
+  -- the ticket that the wake which the leaving entry passes on fills, if it fills one
+  abbrev pub leave_fills : ℕ → List T → List (Entry T N) → Option ℕ
+  leave_fills t queue entries =
       if passes_on (entry_of t entries) then round_for_fills queue (without t entries) else None

@@ -15,13 +15,13 @@ abbrev pub IsFillOf : Row → ℕ → ℕ → Type 0
 IsFillOf row ticket message =
     IsOf (entries (opens None 1) (as_log [] row)) (as_log [] row) (FilledIn ticket) message
 
--- it is of this one, and of no other
+-- the fill of this receiver is of this message, and of no other
 abbrev pub IsFillOfOnly : Row → ℕ → ℕ → Type 0
 IsFillOfOnly row ticket message =
     IsFillOf row ticket message
     × ((other : ℕ) → IsFillOf row ticket other → other ≡ message)
 
--- it is left out: nothing is said of its message
+-- nothing is said of the message of this receiver's fill
 abbrev pub IsLeftOut : Row → ℕ → Type 0
 IsLeftOut row ticket = (message : ℕ) → IsFillOf row ticket message
 
@@ -29,15 +29,15 @@ IsLeftOut row ticket = (message : ℕ) → IsFillOf row ticket message
 abbrev pub holds : Row
 holds = (Recv Block, Parked 1) ∷ (Send 7, Sent (Some 1)) ∷ []
 
--- it collects it
+-- a receiver that was filled collects its message
 abbrev pub collects : Row
 collects = holds ++ (Poll 1, Got 7) ∷ []
 
--- it leaves with it
+-- a receiver that was filled leaves with its message
 abbrev pub leaves : Row
 leaves = holds ++ (Withdraw 1, Got 7) ∷ []
 
--- the channel is closed by then
+-- the channel is closed while a receiver holds its message
 abbrev pub holds_when_closed : Row
 holds_when_closed = holds ++ (DropSender, Done) ∷ []
 
@@ -47,10 +47,10 @@ two_filled =
     (Recv Block, Parked 1) ∷ (Recv Block, Parked 2) ∷ (Send 7, Sent (Some 1))
     ∷ (Send 8, Sent (Some 2)) ∷ (Poll 2, Got 8) ∷ []
 
--- both ends are gone once it has collected its message
+-- both ends are gone after a receiver has collected its message
 abbrev pub collects_before_the_end : Row
 collects_before_the_end = collects ++ (DropSender, Done) ∷ (DropReceiver, Done) ∷ []
 
--- both ends are gone before, and its message with them
+-- both ends are gone while a receiver holds its message, which goes with them
 abbrev pub holds_until_the_end : Row
 holds_until_the_end = holds ++ (DropSender, Done) ∷ (DropReceiver, Done) ∷ []

@@ -12,7 +12,7 @@ abbrev pub IsAtCapacity : Option ℕ → ℕ → Type 0
 IsAtCapacity None n = ⊥
 IsAtCapacity (Some capacity) n = capacity ≤ n
 
--- the same as a truth value
+-- whether a queue of this length has reached the capacity
 abbrev pub is_full : Option ℕ → ℕ → Bool
 is_full None n = false
 is_full (Some capacity) n = nat_le capacity n
@@ -25,10 +25,10 @@ IsOpen senders receivers = 0 < min senders receivers
 abbrev pub IsClosed : ℕ → ℕ → Type 0
 IsClosed senders receivers = min senders receivers ≡ 0
 
--- the same as a truth value
+-- whether all senders or all receivers are gone
 abbrev pub is_closed : ℕ → ℕ → Bool
 is_closed senders receivers = min senders receivers == 0
 
--- the ticket past the greatest one, and the greatest count
+-- the greatest ticket, which is never issued, and the greatest count
 abbrev pub most : ℕ
 most = 2 ^ 64 - 1

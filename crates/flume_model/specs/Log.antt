@@ -1,4 +1,4 @@
--- A log of steps and replies: what each pair changes, what was offered, and what was handed out.
+-- A log of steps and replies, and what each step changes by its reply.
 use Rattle.std.specs.Prelude.{◌==◌, ℕ, Bool, false, ◌||◌, if◌then◌else◌, List, [], ◌∷◌}
 use Rattle.std.specs.Prelude.{min, Option, Some, None}
 use Rattle.flume_model.specs.declared.step.Kind.{Kind}

@@ -9,7 +9,8 @@ use Rattle.flume_model.specs.Log.{SenderLeaves, ReceiverLeaves, change}
 use Rattle.flume_model.specs.Counts.{senders, receivers, is_over}
 use Rattle.flume_model.specs.Limits.{is_closed}
 use Rattle.flume_model.specs.Line.{queue}
-use Rattle.flume_model.specs.Entries.{waiting_count, round_for, all_woken, without, again, left}
+use Rattle.flume_model.specs.Entries.{waiting_count, round_for, all_woken, without, again}
+use Rattle.flume_model.specs.Entries.{after_leave}
 
 -- an entry of a log: nothing beside ticket, kind and mark
 abbrev pub LogEntry : Type 0 → Type 0
@@ -31,7 +32,8 @@ module _ {T : Type 0} where
   entries_after queue closes entries (Parks ticket kind) = entries ++ parks ticket kind ∷ []
   entries_after queue closes entries (Asks ticket) = again ticket entries
   entries_after queue closes entries (Collects ticket) = without ticket entries
-  entries_after queue closes entries (Leaves ticket filled) = left untold ticket queue entries
+  entries_after queue closes entries (Leaves ticket filled) =
+      after_leave untold ticket queue entries
   entries_after queue closes entries SenderLeaves =
       if closes then all_woken untold entries else entries
   entries_after queue closes entries ReceiverLeaves =

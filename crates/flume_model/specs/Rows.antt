@@ -1,4 +1,4 @@
--- The definitions, tried on worked logs: some are runs, and each near-miss is not.
+-- Rows of steps with their replies as logs, and some that are runs, where none blocks nor parks.
 use Rattle.std.specs.Prelude.{ℕ, List, [], ◌∷◌, Option, None}
 use Rattle.flume_model.specs.declared.step.Step.{Step}
 use Rattle.flume_model.specs.declared.step.Step.TheVariants.{TrySend, TryRecv, DropSender}

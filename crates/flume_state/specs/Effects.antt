@@ -8,7 +8,7 @@ use Rattle.flume_model.specs.declared.step.Kind.{Kind}
 use Rattle.flume_state.specs.Messages.{Blocked}
 use Rattle.flume_state.specs.Sends.{SendMap, changed, accepted_now, due_now, with_signal}
 use Rattle.flume_model.specs.Entries.{all_woken, entry_of, without, round_for, round_for_fills}
-use Rattle.flume_model.specs.Entries.{passes_on, left_fills, waiting_count}
+use Rattle.flume_model.specs.Entries.{passes_on, leave_fills, waiting_count}
 use Rattle.flume_state.specs.Receivers.{Entries, begins, tell_now, unfilled}
 use Rattle.flume_state.specs.State.{State, emptied}
 
@@ -111,7 +111,7 @@ module _ {T S : Type 0} where
   -- a parked receiver leaves with no message, and its wake fills this one, if it fills one
   pub record Departs (old new : State T S) (ticket : ℕ) (closed : Bool) (filled : Option ℕ)
       : Type 0 where
-    pub fills : filled ≡ left_fills ticket old.queue old.entries
+    pub fills : filled ≡ leave_fills ticket old.queue old.entries
     pub left : new ≡ departed ticket old
     pub told : closed ≡ is_closed old.senders old.receivers
 

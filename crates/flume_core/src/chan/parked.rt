@@ -3,7 +3,7 @@ ghost use Rattle.std.specs.Prelude.{◌≡◌, ◌≢◌, ◌↔◌, ◌⊎◌, 
 ghost use Rattle.std.specs.Prelude.{None};
 ghost use Rattle.flume_model.specs.Log.{Log, Opening};
 ghost use Rattle.flume_model.specs.Limits.{IsOpen, IsClosed, is_closed};
-ghost use Rattle.flume_model.specs.Entries.{entry_of, again, passes_on, left_fills};
+ghost use Rattle.flume_model.specs.Entries.{entry_of, again, passes_on, leave_fills};
 ghost use Rattle.flume_model.specs.Entries.{round_for_fills};
 ghost use Rattle.flume_state.specs.Receivers.{standing, looks, blocks, noticed, waits_on};
 ghost use Rattle.flume_state.specs.Receivers.{only_leaves};
@@ -106,7 +106,7 @@ impl<T: Drop, S: Drop, A: Allocator + Copy> Chan<T, S, A> {
         ensures gone { (closed : Bool) (filled : Option ℕ) → result ≡ Reply.Gone closed filled
             → Departs self.old self.new ticket closed filled }
         ensures leaves { (result ≡ Reply.Gone (is_closed self.old.senders self.old.receivers)
-            (left_fills ticket self.old.queue self.old.entries))
+            (leave_fills ticket self.old.queue self.old.entries))
             ↔ (only_leaves (standing ticket self.old.entries) ≡ true)
             ⊎ ((blocks (standing ticket self.old.entries) ≡ true)
             × ((fronted self.old).queue ≡ [])) }
@@ -169,7 +169,7 @@ impl<T: Drop, S: Drop, A: Allocator + Copy> Chan<T, S, A> {
     fn pass_on(&mut self, ticket: u64, woken: bool) -> Reply<T, A>
         requires woken { woken ≡ passes_on (entry_of ticket self.old.entries) }
         ensures gone { result ≡ Reply.Gone (is_closed self.old.senders self.old.receivers)
-            (left_fills ticket self.old.queue self.old.entries) }
+            (leave_fills ticket self.old.queue self.old.entries) }
         ensures left { self.new ≡ departed ticket self.old }
     {
         self.entries.remove(ticket);
