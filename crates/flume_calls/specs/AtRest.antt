@@ -2,12 +2,11 @@
 use Rattle.std.specs.Prelude.{ℕ}
 use Rattle.flume_model.specs.declared.step.Step.{Step}
 use Rattle.flume_model.specs.declared.step.Reply.{Reply}
-use Rattle.flume_model.specs.Log.{Log, Opening}
 use Rattle.flume_state.specs.Sends.{NoneDue}
 use Rattle.flume_state.specs.Receivers.{NoneDueIn}
 use Rattle.flume_state.specs.State.{State}
-use Rattle.flume_core.specs.StandsFor.{StandsFor}
-use Rattle.flume_calls.specs.Turns.{Turn, IsLedTo}
+use Rattle.flume_core.specs.StandsFor.{Keeps, IsLedTo}
+use Rattle.flume_calls.specs.Turns.{Turn}
 use Rattle.flume_calls.specs.Due.{Rings}
 
 module _ {T S : Type 0} where
@@ -27,5 +26,4 @@ module _ {T S A N B : Type 0} (rings : B → ℕ → S → B → Type 0) where
     pub turn : Turn {A = A} step table old between answer
     pub rang : Rings rings between bell new rung
     -- the rings are no steps: each log that stood for the state before them stands for that after
-    pub stands : (opening : Opening) (log : Log T A) → StandsFor opening log between
-        → StandsFor opening log new
+    pub stands : Keeps A between new

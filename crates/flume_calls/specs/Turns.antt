@@ -1,15 +1,9 @@
 -- A turn of a call, whichever call it is.
-use Rattle.std.specs.Prelude.{◌≡◌, ◌∷◌}
+use Rattle.std.specs.Prelude.{◌≡◌}
 use Rattle.flume_model.specs.declared.step.Step.{Step}
 use Rattle.flume_model.specs.declared.step.Reply.{Reply}
-use Rattle.flume_model.specs.Log.{Log, Opening}
 use Rattle.flume_state.specs.State.{State}
-use Rattle.flume_core.specs.StandsFor.{StandsFor}
-
-module _ {T S : Type 0} where
-  -- some log led to the state
-  abbrev pub IsLedTo : Type 0 → State T S → Type 0
-  IsLedTo A s = (opening : Opening) × (log : Log T A) × StandsFor opening log s
+use Rattle.flume_core.specs.StandsFor.{Extends}
 
 module _ {T S A N : Type 0} where
   -- the channel made this one step, and the turn's answer is the table's for the step's reply
@@ -18,6 +12,5 @@ module _ {T S A N : Type 0} where
     pub reply : Reply T A
     -- the log with this step and this reply is a run, so the reply is one that the abstract channel
     -- gives; and the state after is the one that this step leads to
-    pub stepped : (opening : Opening) (log : Log T A) → StandsFor opening log old
-        → StandsFor opening ((step, reply) ∷ log) new
+    pub stepped : Extends old step reply new
     pub answered : answer ≡ table reply

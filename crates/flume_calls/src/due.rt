@@ -1,9 +1,8 @@
 //! Telling those who are due.
 ghost use Rattle.std.specs.Prelude.{ℕ};
-ghost use Rattle.flume_model.specs.Log.{Log, Opening};
 ghost use Rattle.flume_state.specs.Sends.{NoneDue};
 ghost use Rattle.flume_state.specs.Receivers.{NoneDueIn};
-ghost use Rattle.flume_core.specs.StandsFor.{StandsFor};
+ghost use Rattle.flume_core.specs.StandsFor.{Keeps};
 ghost use Rattle.flume_calls.specs.Due.{Rings, AllTold};
 
 use flume_core::chan::Chan;
@@ -39,8 +38,7 @@ pub fn fire_due<T: Drop, S: Drop, A: Allocator + Copy, B: Bell<S>>(
     ensures sends { NoneDue chan.new.sends }
     ensures receivers { NoneDueIn chan.new.entries }
     ensures told { AllTold chan.old chan.new }
-    ensures stands { (opening : Opening) (log : Log T A) → StandsFor opening log chan.old
-        → StandsFor opening log chan.new }
+    ensures stands { Keeps A chan.old chan.new }
 {
     if chan.may_be_due() {
         ring_each(chan, bell);
@@ -54,8 +52,7 @@ fn ring_each<T: Drop, S: Drop, A: Allocator + Copy, B: Bell<S>>(
     bell: &mut B,
 )
     ensures rings { Rings B.rings chan.old bell.old chan.new bell.new }
-    ensures stands { (opening : Opening) (log : Log T A) → StandsFor opening log chan.old
-        → StandsFor opening log chan.new }
+    ensures stands { Keeps A chan.old chan.new }
 {
     while let Some(ticket) = chan.next_due() {
         let Some(signal) = chan.signal(ticket) else {

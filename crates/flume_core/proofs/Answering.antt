@@ -4,8 +4,6 @@ use Rattle.std.proofs.Common.{length, map}
 use Rattle.std.proofs.Common.{Some}
 use Rattle.std.proofs.Common.{None, refl, sym, ◌∙◌, ap, arith}
 use Rattle.std.specs.List.{All}
-use Rattle.std.specs.Option.{option_map}
-use Rattle.std.specs.FinMap.{get}
 use Rattle.flume_model.specs.declared.step.Step.{Step}
 use Rattle.flume_model.specs.declared.step.Reply.{Reply}
 use Rattle.flume_model.specs.declared.step.Reply.TheVariants.{Returned, NoTicket}
@@ -18,7 +16,7 @@ use Rattle.flume_model.specs.Replies.{IsReply}
 use Rattle.flume_model.specs.Limits.{is_closed}
 use Rattle.flume_model.specs.Limits.{IsOpen, IsClosed, HasRoom, IsAtCapacity}
 use Rattle.flume_state.specs.Messages.{Blocked}
-use Rattle.flume_state.specs.State.{State}
+use Rattle.flume_state.specs.State.{State, accepted_at}
 use Rattle.flume_core.specs.StandsFor.{StandsFor}
 use Rattle.flume_model.specs.Entries.{some_wait, round_fills, round_for_fills}
 use Rattle.flume_model.specs.Parked.{entries}
@@ -44,7 +42,7 @@ module _ {T S : Type 0} where
 module _ {T A S : Type 0} where
   -- a ticket that the table doesn't know isn't live
   pub unknown : (o : Opening) (log : Log T A) (s : State T S) (t : ℕ) → StandsFor o log s
-      → option_map (λ x. x.accepted) (get s.sends t) ≡ None → is_live log t ≡ false
+      → accepted_at s t ≡ None → is_live log t ≡ false
   unknown o log s t h e = go (is_live log t) (sym (h.sends_are t) ∙ e)
     where
       go : (b : Bool) → cond b (Some (not (has_ticket t (blocked o log)))) None ≡ None → b ≡ false
@@ -53,12 +51,12 @@ module _ {T A S : Type 0} where
 
   -- one that it has as accepted is accepted
   pub known : (o : Opening) (log : Log T A) (s : State T S) (t : ℕ) → StandsFor o log s
-      → option_map (λ x. x.accepted) (get s.sends t) ≡ Some true → IsAccepted (channel o log) t
+      → accepted_at s t ≡ Some true → IsAccepted (channel o log) t
   known o log s t h e = live_by (is_live log t) (has_ticket t (blocked o log)) true (sym (h.sends_are t) ∙ e)
 
   -- one that it has as not accepted waits
   pub waits : (o : Opening) (log : Log T A) (s : State T S) (t : ℕ) → StandsFor o log s
-      → option_map (λ x. x.accepted) (get s.sends t) ≡ Some false → IsWaiting (channel o log) t
+      → accepted_at s t ≡ Some false → IsWaiting (channel o log) t
   waits o log s t h e = live_by (is_live log t) (has_ticket t (blocked o log)) false (sym (h.sends_are t) ∙ e)
 
 module _ {T A S : Type 0} where

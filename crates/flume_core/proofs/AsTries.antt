@@ -1,10 +1,9 @@
 -- A call that may wait and doesn't is answered as one that doesn't wait.
-use Rattle.std.proofs.Common.{inl, ◌≡◌, ◌≢◌, ◌∷◌}
-use Rattle.std.proofs.Common.{refl}
+use Rattle.std.proofs.Common.{inl, ◌≡◌, ◌≢◌, ◌∷◌, Option, refl}
 use Rattle.flume_model.specs.declared.step.Step.{Step}
 use Rattle.flume_model.specs.declared.step.Step.TheVariants.{TrySend, Send, TryRecv, Recv}
 use Rattle.flume_model.specs.declared.step.Reply.{Reply}
-use Rattle.flume_model.specs.declared.step.Reply.TheVariants.{Sent, Full, Closed, NoMemory, Got, Empty, Ended}
+use Rattle.flume_model.specs.declared.step.Reply.TheVariants.{Sent, Full, Closed, NoMemory, Spent, Got, Empty, Ended}
 use Rattle.flume_model.specs.declared.step.Kind.{Kind}
 use Rattle.flume_model.specs.Log.{Log, Opening, change}
 use Rattle.flume_model.specs.Line.{capacity, boundary}
@@ -12,6 +11,7 @@ use Rattle.flume_model.specs.Channel.{channel}
 use Rattle.flume_model.specs.Replies.{IsReply}
 use Rattle.flume_state.specs.State.{State}
 use Rattle.flume_core.specs.StandsFor.{StandsFor}
+use Rattle.flume_core.specs.Comes.{Comes}
 use Rattle.flume_core.proofs.Views.{room_or_full}
 
 module _ {T A S : Type 0} where
@@ -52,3 +52,23 @@ module _ {T A S : Type 0} where
   recv_as_try o log kind (NoMemory back) s h differs = stands_by o log _ _ s refl (inl h.run.0.0, h.run.0.1) h
   recv_as_try o log kind Empty s h differs = absurd (differs refl)
   recv_as_try o log kind _ s h differs = absurd h.run.0
+
+module _ {T A : Type 0} where
+  -- a send that doesn't find the queue full has a reply that a send has
+  pub send_comes : (m : T) (r : Reply T A) → Comes (TrySend m) r → ((x : T) → r ≢ Full x) → Comes (Send m) r
+  send_comes m (Sent filled) comes differs = comes
+  send_comes m (Closed back) comes differs = comes
+  send_comes m (NoMemory back) comes differs = comes
+  send_comes m (Full back) comes differs = absurd (differs back refl)
+  send_comes m _ comes differs = absurd comes
+
+  -- a receive that finds the line not empty, or the channel closed, has a reply that a receive has
+  pub recv_comes : (kind : Kind) (r : Reply T A) → Comes TryRecv r → r ≢ Empty → Comes (Recv kind) r
+  recv_comes kind (Got m) comes differs = comes
+  recv_comes kind Ended comes differs = comes
+  recv_comes kind Empty comes differs = absurd (differs refl)
+  recv_comes kind _ comes differs = absurd comes
+
+  -- a send that doesn't wait never finds the tickets spent
+  pub try_never_spent : (m : T) (r : Reply T A) → Comes (TrySend m) r → (back : Option T) → r ≢ Spent back
+  try_never_spent m r comes back is = absurd (rw is at comes)

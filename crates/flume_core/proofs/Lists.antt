@@ -9,7 +9,7 @@ use Rattle.flume_model.specs.Offers.{after, kept, hand_outs}
 use Rattle.flume_model.specs.Counts.{is_over}
 use Rattle.flume_model.specs.Line.{line, boundary, messages}
 use Rattle.flume_state.specs.State.{State, offers_of}
-use Rattle.flume_core.specs.StandsFor.{StandsFor}
+use Rattle.flume_core.specs.StandsFor.{StandsFor, Extends}
 use Rattle.flume_core.specs.Headline.{Headline}
 use Rattle.flume_model.proofs.FillsOrder.{in_order}
 use Rattle.flume_core.proofs.Views.{queued_length, line_messages}
@@ -36,7 +36,7 @@ module _ {T A S : Type 0} where
   -- one more is done
   pub one_more : (old now next : State T S) (steps rest : List (Step T)) (replies : List (Reply T A)) (step : Step T) (reply : Reply T A)
       → DoneUpTo old now steps (step ∷ rest) replies
-      → ((o : Opening) (log : Log T A) → StandsFor o log now → StandsFor o ((step, reply) ∷ log) next)
+      → Extends now step reply next
       → DoneUpTo old next steps rest (replies ++ reply ∷ [])
   one_more old now next steps rest replies step reply done moves o log h =
       let so_far = done o log h in

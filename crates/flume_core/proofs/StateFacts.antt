@@ -17,9 +17,9 @@ use Rattle.flume_model.specs.Channel.{has_ticket}
 use Rattle.flume_state.specs.Messages.{Blocked}
 use Rattle.flume_model.specs.Laws.{Rising}
 use Rattle.flume_model.specs.WaitLaws.{Apart, block_woken}
-use Rattle.flume_state.specs.State.{State, offers_of, bare}
+use Rattle.flume_state.specs.State.{State, accepted_at, offers_of, bare}
 use Rattle.flume_core.specs.StandsFor.{StandsFor}
-use Rattle.flume_core.specs.StateFacts.{accepted_at, SendersBlockAtCapacity, ReceiversWaitWhileOpen, WokenCoverQueued}
+use Rattle.flume_core.specs.StateFacts.{SendersBlockAtCapacity, ReceiversWaitWhileOpen, WokenCoverQueued}
 use Rattle.flume_core.specs.StateFacts.{QueuedAndWaitingAreBounded, ReceiverTicketsApart, SendTicketsApart, BlockedTicketsRise}
 use Rattle.flume_core.specs.StateFacts.{BlockedSendsAreLive, AcceptedBeforeBlocked, EmptyOnceOver, BlockingWokenByClosing, ChannelFacts}
 use Rattle.flume_core.proofs.Bare.{bare_waiting, bare_entry}

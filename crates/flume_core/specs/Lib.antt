@@ -1,3 +1,4 @@
 pub mod StandsFor
+pub mod Comes
 pub mod StateFacts
 pub mod Headline

@@ -2,19 +2,14 @@
 use Rattle.std.specs.Prelude.{◌≡◌, ℕ, ◌+◌, ◌<◌, ◌≤◌, Bool, true, false, [], length}
 use Rattle.std.specs.Prelude.{Option, Some, None}
 use Rattle.std.specs.List.{All}
-use Rattle.std.specs.Option.{option_map}
 use Rattle.std.specs.FinMap.{get}
 use Rattle.flume_model.specs.Limits.{IsAtCapacity, IsOpen, IsClosed}
 use Rattle.flume_model.specs.Entries.{some_wait, waiting_count, woken_count, entry_of}
 use Rattle.flume_model.specs.Laws.{Rising}
 use Rattle.flume_model.specs.WaitLaws.{IsWithin, Apart, block_woken}
-use Rattle.flume_state.specs.State.{State, offers_of}
+use Rattle.flume_state.specs.State.{State, accepted_at, offers_of}
 
 module _ {T S : Type 0} where
-  -- how a send ticket stands: none where it isn't live, else whether its message was accepted
-  abbrev pub accepted_at : State T S → ℕ → Option Bool
-  accepted_at s t = option_map (λ send. send.accepted) (get s.sends t)
-
   -- a sender is blocked only where the channel has a capacity and the queue is at or past it, and
   -- only while no receiver waits
   abbrev pub SendersBlockAtCapacity : State T S → Type 0

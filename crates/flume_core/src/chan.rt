@@ -3,8 +3,8 @@ ghost use Rattle.std.specs.Prelude.{◌≡◌, ◌∷◌, [], length, IsTrue, �
 ghost use Rattle.flume_model.specs.Log.{Log, Opening, opens};
 ghost use Rattle.flume_model.specs.Limits.{IsOpen, HasRoom};
 ghost use Rattle.flume_state.specs.State.{State, state_code, opened};
-ghost use Rattle.flume_core.specs.StandsFor.{StandsFor};
-ghost use Rattle.flume_core.specs.StandsFor.{IsRefusalOf};
+ghost use Rattle.flume_core.specs.StandsFor.{StandsFor, Extends, ChangesNothing};
+ghost use Rattle.flume_core.specs.Comes.{Comes};
 
 mod ends;
 mod parked;
@@ -12,10 +12,10 @@ mod queries;
 mod receive;
 mod send;
 
+use flume_model::step::{Reply, Step};
 use flume_state::entries::Entries;
 use flume_state::line::Line;
 use flume_state::sends::Sends;
-use flume_model::step::{Reply, Step};
 use std::alloc::{Allocator, Global};
 use std::marker::Model;
 
@@ -116,9 +116,9 @@ impl<T: Drop, A: Allocator + Copy> Chan<T, (), A> {
     /// chan.step(Step::TrySend(42));      // what chan.try_send(42) answers
     /// ```
     pub fn step(&mut self, step: Step<T>) -> Reply<T, A>
-        ensures step { (opening : Opening) (log : Log T A) → StandsFor opening log self.old
-            → StandsFor opening ((step, result) ∷ log) self.new }
-        ensures unchanged { IsRefusalOf step result → self.new ≡ self.old }
+        ensures step { Extends self.old step result self.new }
+        ensures comes { Comes step result }
+        ensures unchanged { ChangesNothing step result → self.new ≡ self.old }
     {
         match step {
             Step::TrySend(message) => self.try_send(message),

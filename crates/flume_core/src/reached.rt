@@ -2,7 +2,8 @@
 ghost use Rattle.std.specs.Prelude.{◌≡◌, ◌∷◌};
 ghost use Rattle.flume_model.specs.Log.{Log, Opening, opens};
 ghost use Rattle.flume_state.specs.State.{State, state_code, opened};
-ghost use Rattle.flume_core.specs.StandsFor.{StandsFor, IsRefusalOf};
+ghost use Rattle.flume_core.specs.StandsFor.{StandsFor, Extends, ChangesNothing};
+ghost use Rattle.flume_core.specs.Comes.{Comes};
 
 pub mod facts;
 
@@ -90,9 +91,9 @@ impl<T: Drop, A: Allocator + Copy> Reached<T, (), A> {
     /// reached.step(Step::TrySend(42));   // what Chan::step answers
     /// ```
     pub fn step(&mut self, step: Step<T>) -> Reply<T, A>
-        ensures step { (opening : Opening) (log : Log T A) → StandsFor opening log self.old
-            → StandsFor opening ((step, result) ∷ log) self.new }
-        ensures unchanged { IsRefusalOf step result → self.new ≡ self.old }
+        ensures step { Extends self.old step result self.new }
+        ensures comes { Comes step result }
+        ensures unchanged { ChangesNothing step result → self.new ≡ self.old }
     {
         self.chan.step(step)
     }

@@ -1,8 +1,8 @@
--- What a contract sees of a `Chan`, and what ties it to a log.
-use Rattle.std.specs.Prelude.{ℕ, List, [], map, Option}
-use Rattle.std.specs.Prelude.{Some, refl}
+-- What a contract sees of a `Chan`: its state.
+use Rattle.std.specs.Prelude.{ℕ, Bool, List, [], map, Option, Some, refl}
+use Rattle.std.specs.Option.{option_map}
 use Rattle.std.specs.Coded.{Coded, code_by, coded×, coded_ℕ, coded_list, coded_option}
-use Rattle.std.specs.FinMap.{empty}
+use Rattle.std.specs.FinMap.{empty, get}
 use Rattle.flume_model.specs.Log.{Opening, Offer}
 use Rattle.flume_state.specs.Messages.{Blocked, blocked_code}
 use Rattle.flume_state.specs.Sends.{SendMap, send_map_code}
@@ -89,6 +89,10 @@ module _ {T S : Type 0} where
   -- no message and no ticket is left
   abbrev pub emptied : State T S → State T S
   emptied s = record s { queue = []; blocked = []; sends = empty; entries = [] }
+
+  -- how a send ticket stands: none where it isn't live, else whether its message was accepted
+  abbrev pub accepted_at : State T S → ℕ → Option Bool
+  accepted_at s t = option_map (λ send. send.accepted) (get s.sends t)
 
 module _ {T : Type 0} where
   -- blocked messages as offers

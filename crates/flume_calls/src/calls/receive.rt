@@ -7,7 +7,8 @@ ghost use Rattle.flume_state.specs.Receivers.{standing, looks, blocks, noticed, 
 ghost use Rattle.flume_state.specs.declared.entries.Standing.TheVariants.{BlockWaiting};
 ghost use Rattle.flume_state.specs.State.{State};
 ghost use Rattle.flume_state.specs.Effects.{fronted, taken, unparked, waiting_so, Begins, Departs};
-ghost use Rattle.flume_calls.specs.Turns.{Turn, IsLedTo};
+ghost use Rattle.flume_core.specs.StandsFor.{IsLedTo};
+ghost use Rattle.flume_calls.specs.Turns.{Turn};
 ghost use Rattle.flume_calls.specs.ReceiveTurns.{after_try_recv, after_recv, after_parked_receive};
 ghost use Rattle.flume_calls.specs.ReceiveTurns.{step_of_parked_receive, IsNone};
 

@@ -1,14 +1,14 @@
 //! The turns of a send.
 ghost use Rattle.std.specs.Prelude.{◌≡◌, ◌≢◌, ℕ, ◌+◌, ◌↔◌, ◌⊎◌, Bool, true, false, Some, None};
 ghost use Rattle.std.specs.Prelude.{Ok, Err, Option, ◌++◌, ◌∷◌, [], length};
-ghost use Rattle.std.specs.Option.{option_map};
 ghost use Rattle.std.specs.FinMap.{get, insert, remove};
 ghost use Rattle.flume_model.specs.Limits.{IsOpen, IsClosed, IsAtCapacity, most};
 ghost use Rattle.flume_model.specs.Entries.{some_wait};
 ghost use Rattle.flume_state.specs.Sends.{blocked};
-ghost use Rattle.flume_state.specs.State.{State};
+ghost use Rattle.flume_state.specs.State.{State, accepted_at};
 ghost use Rattle.flume_state.specs.Effects.{resignalled, Joins, Returns};
-ghost use Rattle.flume_calls.specs.Turns.{Turn, IsLedTo};
+ghost use Rattle.flume_core.specs.StandsFor.{IsLedTo};
+ghost use Rattle.flume_calls.specs.Turns.{Turn};
 ghost use Rattle.flume_calls.specs.SendTurns.{after_try_send, after_send, after_parked_send};
 ghost use Rattle.flume_calls.specs.SendTurns.{step_of_parked_send, HoldsIfBack, IsBack};
 
@@ -152,17 +152,17 @@ impl SendCall {
         ensures same { (ticket : ℕ) → result ≡ SendNext.Park ticket → ticket ≡ self }
         ensures late { late ≡ true → (ticket : ℕ) → result ≢ SendNext.Park ticket }
         ensures waits { (result ≡ SendNext.Park self) ↔ (late ≡ false)
-            × (option_map (λ send. send.accepted) (get chan.old.sends self) ≡ Some false)
+            × (accepted_at chan.old self ≡ Some false)
             × IsOpen chan.old.senders chan.old.receivers }
         ensures replaced { result ≡ SendNext.Park self → chan.new
             ≡ record chan.old { sends = resignalled chan.old.sends self signal } }
-        ensures accepted { option_map (λ send. send.accepted) (get chan.old.sends self) ≡ Some true
+        ensures accepted { accepted_at chan.old self ≡ Some true
             → (result ≡ SendNext.Done (Ok tt))
             × (chan.new ≡ record chan.old { sends = remove chan.old.sends self }) }
         ensures no_ticket { get chan.old.sends self ≡ None
             → (result ≡ SendNext.Done (Ok tt)) × (chan.new ≡ chan.old) }
         ensures taken_in { IsLedTo A chan.old → result ≡ SendNext.Done (Ok tt)
-            → option_map (λ send. send.accepted) (get chan.old.sends self) ≢ Some false }
+            → accepted_at chan.old self ≢ Some false }
         ensures timeout { (back : T) → result ≡ SendNext.Done (Err (SendTimeoutError.Timeout back))
             → (late ≡ true) × Returns chan.old chan.new self back false }
         ensures disconnected { (back : T)

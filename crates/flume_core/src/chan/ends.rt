@@ -1,23 +1,23 @@
 //! The steps by which ends come and go.
 ghost use Rattle.std.specs.Prelude.{not, ◌≡◌, ◌+◌, ◌-◌, ◌<◌, ◌↔◌, ◌∷◌};
-ghost use Rattle.flume_model.specs.Log.{Log, Opening};
 ghost use Rattle.flume_model.specs.Limits.{is_closed, most};
 ghost use Rattle.flume_state.specs.Effects.{after_leaving, all_due};
 ghost use Rattle.flume_state.specs.State.{State};
-ghost use Rattle.flume_core.specs.StandsFor.{StandsFor, IsRefusal};
+ghost use Rattle.flume_core.specs.StandsFor.{Extends, IsRefusal};
+ghost use Rattle.flume_core.specs.Comes.{Comes};
 
 use super::Chan;
+use flume_model::step::{Reply, Step};
 use flume_state::line::Line;
 use flume_state::sends::Sends;
-use flume_model::step::{Reply, Step};
 use std::alloc::Allocator;
 
 impl<T: Drop, S: Drop, A: Allocator + Copy> Chan<T, S, A> {
     /// One more sender. `NoEnd`: none is left, and a closed channel never opens again. `CountFull`:
     /// no more can be counted. Both leave the channel as it was. Takes no memory.
     pub fn clone_sender(&mut self) -> Reply<T, A>
-        ensures step { (opening : Opening) (log : Log T A) → StandsFor opening log self.old
-            → StandsFor opening ((Step.CloneSender, result) ∷ log) self.new }
+        ensures step { Extends self.old Step.CloneSender result self.new }
+        ensures comes { Comes Step.CloneSender result }
         ensures no_end { (result ≡ Reply.NoEnd) ↔ (self.old.senders ≡ 0) }
         ensures count_full { (result ≡ Reply.CountFull) ↔ (self.old.senders ≡ most) }
         ensures done { (result ≡ Reply.Done)
@@ -38,8 +38,8 @@ impl<T: Drop, S: Drop, A: Allocator + Copy> Chan<T, S, A> {
 
     /// One more receiver; as `clone_sender`.
     pub fn clone_receiver(&mut self) -> Reply<T, A>
-        ensures step { (opening : Opening) (log : Log T A) → StandsFor opening log self.old
-            → StandsFor opening ((Step.CloneReceiver, result) ∷ log) self.new }
+        ensures step { Extends self.old Step.CloneReceiver result self.new }
+        ensures comes { Comes Step.CloneReceiver result }
         ensures no_end { (result ≡ Reply.NoEnd) ↔ (self.old.receivers ≡ 0) }
         ensures count_full { (result ≡ Reply.CountFull) ↔ (self.old.receivers ≡ most) }
         ensures done { (result ≡ Reply.Done)
@@ -63,8 +63,8 @@ impl<T: Drop, S: Drop, A: Allocator + Copy> Chan<T, S, A> {
     /// both ends are gone, the messages left are dropped and every ticket is spent. Takes no
     /// memory.
     pub fn drop_sender(&mut self) -> Reply<T, A>
-        ensures step { (opening : Opening) (log : Log T A) → StandsFor opening log self.old
-            → StandsFor opening ((Step.DropSender, result) ∷ log) self.new }
+        ensures step { Extends self.old Step.DropSender result self.new }
+        ensures comes { Comes Step.DropSender result }
         ensures done { (result ≡ Reply.Done) ↔ (0 < self.old.senders) }
         ensures no_end { (result ≡ Reply.NoEnd) ↔ (self.old.senders ≡ 0) }
         ensures left { 0 < self.old.senders → self.new
@@ -83,8 +83,8 @@ impl<T: Drop, S: Drop, A: Allocator + Copy> Chan<T, S, A> {
 
     /// One receiver leaves; as `drop_sender`.
     pub fn drop_receiver(&mut self) -> Reply<T, A>
-        ensures step { (opening : Opening) (log : Log T A) → StandsFor opening log self.old
-            → StandsFor opening ((Step.DropReceiver, result) ∷ log) self.new }
+        ensures step { Extends self.old Step.DropReceiver result self.new }
+        ensures comes { Comes Step.DropReceiver result }
         ensures done { (result ≡ Reply.Done) ↔ (0 < self.old.receivers) }
         ensures no_end { (result ≡ Reply.NoEnd) ↔ (self.old.receivers ≡ 0) }
         ensures left { 0 < self.old.receivers → self.new

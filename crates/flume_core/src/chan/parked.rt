@@ -1,7 +1,6 @@
 //! The steps of parked receivers, and wake rounds.
 ghost use Rattle.std.specs.Prelude.{◌≡◌, ◌≢◌, ◌↔◌, ◌⊎◌, ℕ, Bool, true, List, [], ◌∷◌, Option, Some};
 ghost use Rattle.std.specs.Prelude.{None};
-ghost use Rattle.flume_model.specs.Log.{Log, Opening};
 ghost use Rattle.flume_model.specs.Limits.{IsOpen, IsClosed, is_closed};
 ghost use Rattle.flume_model.specs.Entries.{entry_of, again, passes_on, leave_fills};
 ghost use Rattle.flume_model.specs.Entries.{round_for_fills};
@@ -12,11 +11,12 @@ ghost use Rattle.flume_state.specs.declared.entries.Standing.TheVariants.{BlockW
 ghost use Rattle.flume_state.specs.Effects.{fronted, taken, unparked, departed, rounded};
 ghost use Rattle.flume_state.specs.Effects.{waiting_so, Departs};
 ghost use Rattle.flume_state.specs.State.{State};
-ghost use Rattle.flume_core.specs.StandsFor.{StandsFor, IsRefusalOf};
+ghost use Rattle.flume_core.specs.StandsFor.{Extends, ChangesNothing};
+ghost use Rattle.flume_core.specs.Comes.{Comes};
 
 use super::Chan;
-use flume_state::entries::Standing;
 use flume_model::step::{Reply, Step};
+use flume_state::entries::Standing;
 use std::alloc::Allocator;
 
 impl<T: Drop, S: Drop, A: Allocator + Copy> Chan<T, S, A> {
@@ -33,8 +33,8 @@ impl<T: Drop, S: Drop, A: Allocator + Copy> Chan<T, S, A> {
     /// chan.poll(1, Some(11));            // Waiting, with the signal 11 from here on
     /// ```
     pub fn poll(&mut self, ticket: u64, signal: Option<S>) -> Reply<T, A>
-        ensures step { (opening : Opening) (log : Log T A) → StandsFor opening log self.old
-            → StandsFor opening ((Step.Poll ticket, result) ∷ log) self.new }
+        ensures step { Extends self.old (Step.Poll ticket) result self.new }
+        ensures comes { Comes (Step.Poll ticket) result }
         ensures no_ticket { (result ≡ Reply.NoTicket)
             ↔ (entry_of ticket self.old.entries ≡ None) }
         ensures collected { (message : T)
@@ -53,8 +53,7 @@ impl<T: Drop, S: Drop, A: Allocator + Copy> Chan<T, S, A> {
         ensures left { result ≡ Reply.Ended → self.new ≡ unparked ticket self.old }
         ensures waits { result ≡ Reply.Waiting → self.new ≡ waiting_so
             (again ticket (noticed (waits_on signal) ticket self.old.entries)) self.old }
-        ensures never_refused { (back : Option T) → result ≢ Reply.NoMemory back }
-        ensures unchanged { IsRefusalOf (Step.Poll ticket) result → self.new ≡ self.old }
+        ensures unchanged { ChangesNothing (Step.Poll ticket) result → self.new ≡ self.old }
     {
         let Some(standing) = self.entries.standing(ticket) else {
             return Reply::NoTicket;
@@ -92,8 +91,8 @@ impl<T: Drop, S: Drop, A: Allocator + Copy> Chan<T, S, A> {
     /// chan.withdraw(1);                  // Gone { closed: false, filled: Some(2) }
     /// ```
     pub fn withdraw(&mut self, ticket: u64) -> Reply<T, A>
-        ensures step { (opening : Opening) (log : Log T A) → StandsFor opening log self.old
-            → StandsFor opening ((Step.Withdraw ticket, result) ∷ log) self.new }
+        ensures step { Extends self.old (Step.Withdraw ticket) result self.new }
+        ensures comes { Comes (Step.Withdraw ticket) result }
         ensures no_ticket { (result ≡ Reply.NoTicket)
             ↔ (entry_of ticket self.old.entries ≡ None) }
         ensures collected { (message : T)
@@ -110,8 +109,7 @@ impl<T: Drop, S: Drop, A: Allocator + Copy> Chan<T, S, A> {
             ↔ (only_leaves (standing ticket self.old.entries) ≡ true)
             ⊎ ((blocks (standing ticket self.old.entries) ≡ true)
             × ((fronted self.old).queue ≡ [])) }
-        ensures never_refused { (back : Option T) → result ≢ Reply.NoMemory back }
-        ensures unchanged { IsRefusalOf (Step.Withdraw ticket) result → self.new ≡ self.old }
+        ensures unchanged { ChangesNothing (Step.Withdraw ticket) result → self.new ≡ self.old }
     {
         let Some(standing) = self.entries.standing(ticket) else {
             return Reply::NoTicket;

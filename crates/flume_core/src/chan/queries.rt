@@ -1,13 +1,13 @@
 //! The queries, each a step that changes nothing, and what is due.
 ghost use Rattle.std.specs.Prelude.{◌≡◌, ◌==◌, ◌∷◌, length, IfNone, IfSome, true, false};
 ghost use Rattle.std.specs.Option.{option_copied};
-ghost use Rattle.flume_model.specs.Log.{Log, Opening};
 ghost use Rattle.flume_model.specs.Limits.{is_closed, is_full};
 ghost use Rattle.flume_state.specs.Sends.{NoneDue};
 ghost use Rattle.flume_state.specs.Receivers.{NoneDueIn};
 ghost use Rattle.flume_state.specs.Told.{Names, signal_of};
 ghost use Rattle.flume_state.specs.State.{State};
-ghost use Rattle.flume_core.specs.StandsFor.{StandsFor};
+ghost use Rattle.flume_core.specs.StandsFor.{Extends, Keeps};
+ghost use Rattle.flume_core.specs.Comes.{Comes};
 
 use super::Chan;
 use flume_model::step::{Reply, Step};
@@ -16,8 +16,8 @@ use std::alloc::Allocator;
 impl<T: Drop, S: Drop, A: Allocator + Copy> Chan<T, S, A> {
     /// How many messages are queued, as a `Number`. Takes no memory.
     pub fn len(&self) -> Reply<T, A>
-        ensures step { (opening : Opening) (log : Log T A) → StandsFor opening log self.now
-            → StandsFor opening ((Step.Len, result) ∷ log) self.now }
+        ensures step { Extends self.now Step.Len result self.now }
+        ensures comes { Comes Step.Len result }
         ensures number { result ≡ Reply.Number (length self.now.queue) }
     {
         Reply::Number(self.line.queued_len())
@@ -25,8 +25,8 @@ impl<T: Drop, S: Drop, A: Allocator + Copy> Chan<T, S, A> {
 
     /// Whether no message is queued, as a `Truth`. Takes no memory.
     pub fn is_empty(&self) -> Reply<T, A>
-        ensures step { (opening : Opening) (log : Log T A) → StandsFor opening log self.now
-            → StandsFor opening ((Step.IsEmpty, result) ∷ log) self.now }
+        ensures step { Extends self.now Step.IsEmpty result self.now }
+        ensures comes { Comes Step.IsEmpty result }
         ensures truth { result ≡ Reply.Truth (length self.now.queue == 0) }
     {
         Reply::Truth(self.line.queued_len() == 0)
@@ -35,8 +35,8 @@ impl<T: Drop, S: Drop, A: Allocator + Copy> Chan<T, S, A> {
     /// Whether the channel is bounded and its queue at or past its capacity, as a `Truth`. Takes no
     /// memory.
     pub fn is_full(&self) -> Reply<T, A>
-        ensures step { (opening : Opening) (log : Log T A) → StandsFor opening log self.now
-            → StandsFor opening ((Step.IsFull, result) ∷ log) self.now }
+        ensures step { Extends self.now Step.IsFull result self.now }
+        ensures comes { Comes Step.IsFull result }
         ensures truth { result ≡ Reply.Truth (is_full self.now.capacity (length self.now.queue)) }
     {
         Reply::Truth(!self.has_room())
@@ -44,8 +44,8 @@ impl<T: Drop, S: Drop, A: Allocator + Copy> Chan<T, S, A> {
 
     /// The capacity, or none of an unbounded channel. Takes no memory.
     pub fn capacity(&self) -> Reply<T, A>
-        ensures step { (opening : Opening) (log : Log T A) → StandsFor opening log self.now
-            → StandsFor opening ((Step.Capacity, result) ∷ log) self.now }
+        ensures step { Extends self.now Step.Capacity result self.now }
+        ensures comes { Comes Step.Capacity result }
         ensures capacity { result ≡ Reply.Capacity self.now.capacity }
     {
         Reply::Capacity(self.capacity)
@@ -53,8 +53,8 @@ impl<T: Drop, S: Drop, A: Allocator + Copy> Chan<T, S, A> {
 
     /// How many senders live, as a `Number`. Takes no memory.
     pub fn sender_count(&self) -> Reply<T, A>
-        ensures step { (opening : Opening) (log : Log T A) → StandsFor opening log self.now
-            → StandsFor opening ((Step.SenderCount, result) ∷ log) self.now }
+        ensures step { Extends self.now Step.SenderCount result self.now }
+        ensures comes { Comes Step.SenderCount result }
         ensures number { result ≡ Reply.Number self.now.senders }
     {
         Reply::Number(self.senders)
@@ -62,8 +62,8 @@ impl<T: Drop, S: Drop, A: Allocator + Copy> Chan<T, S, A> {
 
     /// How many receivers live, as a `Number`. Takes no memory.
     pub fn receiver_count(&self) -> Reply<T, A>
-        ensures step { (opening : Opening) (log : Log T A) → StandsFor opening log self.now
-            → StandsFor opening ((Step.ReceiverCount, result) ∷ log) self.now }
+        ensures step { Extends self.now Step.ReceiverCount result self.now }
+        ensures comes { Comes Step.ReceiverCount result }
         ensures number { result ≡ Reply.Number self.now.receivers }
     {
         Reply::Number(self.receivers)
@@ -71,8 +71,8 @@ impl<T: Drop, S: Drop, A: Allocator + Copy> Chan<T, S, A> {
 
     /// Whether all senders or all receivers are gone, as a `Truth`. Takes no memory.
     pub fn is_disconnected(&self) -> Reply<T, A>
-        ensures step { (opening : Opening) (log : Log T A) → StandsFor opening log self.now
-            → StandsFor opening ((Step.IsDisconnected, result) ∷ log) self.now }
+        ensures step { Extends self.now Step.IsDisconnected result self.now }
+        ensures comes { Comes Step.IsDisconnected result }
         ensures truth { result ≡ Reply.Truth (is_closed self.now.senders self.now.receivers) }
     {
         Reply::Truth(!self.is_open())
@@ -99,8 +99,7 @@ impl<T: Drop, S: Drop, A: Allocator + Copy> Chan<T, S, A> {
         ensures named { IfSome result (λ ticket. Names self.old self.new ticket) }
         ensures none { IfNone result (NoneDue self.old.sends × NoneDueIn self.old.entries) }
         ensures unchanged { IfNone result (self.new ≡ self.old) }
-        ensures stands { (opening : Opening) (log : Log T A) → StandsFor opening log self.old
-            → StandsFor opening log self.new }
+        ensures stands { Keeps A self.old self.new }
     {
         if let Some(ticket) = self.sends.next_due() {
             return Some(ticket);

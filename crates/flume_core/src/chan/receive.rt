@@ -2,12 +2,12 @@
 ghost use Rattle.std.specs.Prelude.{◌≡◌, ◌≢◌, ◌<◌, ◌≤◌, ◌↔◌, ◌⊎◌, ℕ, List, [], ◌∷◌};
 ghost use Rattle.std.specs.Prelude.{IfNone, IfSome, Option};
 ghost use Rattle.std.specs.Prelude.{None, Vec};
-ghost use Rattle.flume_model.specs.Log.{Log, Opening};
 ghost use Rattle.flume_model.specs.Limits.{IsOpen, IsClosed, most};
 ghost use Rattle.flume_state.specs.Effects.{admitted, fronted, refilled, taken, filled_up};
 ghost use Rattle.flume_state.specs.Effects.{waiting_so, Begins};
 ghost use Rattle.flume_state.specs.State.{State};
-ghost use Rattle.flume_core.specs.StandsFor.{StandsFor, IsRefusal};
+ghost use Rattle.flume_core.specs.StandsFor.{Extends, IsRefusal};
+ghost use Rattle.flume_core.specs.Comes.{Comes};
 
 use super::Chan;
 use flume_model::step::{Kind, Reply, Step};
@@ -25,8 +25,8 @@ impl<T: Drop, S: Drop, A: Allocator + Copy> Chan<T, S, A> {
     /// ```
     #[inline(always)]
     pub fn try_recv(&mut self) -> Reply<T, A>
-        ensures step { (opening : Opening) (log : Log T A) → StandsFor opening log self.old
-            → StandsFor opening ((Step.TryRecv, result) ∷ log) self.new }
+        ensures step { Extends self.old Step.TryRecv result self.new }
+        ensures comes { Comes Step.TryRecv result }
         ensures got { (message : T) (rest : List T) → (fronted self.old).queue ≡ message ∷ rest
             → (result ≡ Reply.Got message)
             × (self.new ≡ taken rest self.old) }
@@ -34,9 +34,6 @@ impl<T: Drop, S: Drop, A: Allocator + Copy> Chan<T, S, A> {
             ↔ ((fronted self.old).queue ≡ []) × IsClosed self.old.senders self.old.receivers }
         ensures empty { (result ≡ Reply.Empty)
             ↔ ((fronted self.old).queue ≡ []) × IsOpen self.old.senders self.old.receivers }
-        ensures never_refused { (back : Option T) → result ≢ Reply.NoMemory back }
-        ensures never_spent { (back : Option T) → result ≢ Reply.Spent back }
-        ensures never_parks { (ticket : ℕ) → result ≢ Reply.Parked ticket }
         ensures unchanged { IsRefusal result → self.new ≡ self.old }
     {
         match self.take_front() {
@@ -58,8 +55,8 @@ impl<T: Drop, S: Drop, A: Allocator + Copy> Chan<T, S, A> {
     /// chan.poll(1, None);                // Got(7)
     /// ```
     pub fn recv(&mut self, kind: Kind, signal: S) -> Reply<T, A>
-        ensures step { (opening : Opening) (log : Log T A) → StandsFor opening log self.old
-            → StandsFor opening ((Step.Recv kind, result) ∷ log) self.new }
+        ensures step { Extends self.old (Step.Recv kind) result self.new }
+        ensures comes { Comes (Step.Recv kind) result }
         ensures got { (message : T) (rest : List T) → (fronted self.old).queue ≡ message ∷ rest
             → (result ≡ Reply.Got message) × (self.new ≡ taken rest self.old) }
         ensures ended { (result ≡ Reply.Ended)
@@ -71,7 +68,7 @@ impl<T: Drop, S: Drop, A: Allocator + Copy> Chan<T, S, A> {
             → Begins self.old self.new ticket kind signal }
         ensures refused { (back : Option T) → result ≡ Reply.NoMemory back
             → ((fronted self.old).queue ≡ []) × IsOpen self.old.senders self.old.receivers
-            × (self.old.next < most) × (back ≡ None) }
+            × (self.old.next < most) }
         ensures unchanged { IsRefusal result → self.new ≡ self.old }
     {
         match self.try_recv() {
@@ -100,15 +97,13 @@ impl<T: Drop, S: Drop, A: Allocator + Copy> Chan<T, S, A> {
     /// chan.drain();                      // Drained([1, 2])
     /// ```
     pub fn drain(&mut self) -> Reply<T, A>
-        ensures step { (opening : Opening) (log : Log T A) → StandsFor opening log self.old
-            → StandsFor opening ((Step.Drain, result) ∷ log) self.new }
+        ensures step { Extends self.old Step.Drain result self.new }
+        ensures comes { Comes Step.Drain result }
         ensures drained { (list : Vec T A) → result ≡ Reply.Drained list
             → (list.items ≡ self.old.queue)
             × (self.new ≡ filled_up (record self.old { queue = [] })) }
         ensures refused { (back : Option T) → result ≡ Reply.NoMemory back
-            → (self.old.queue ≢ []) × (back ≡ None) }
-        ensures either { (result ≡ Reply.NoMemory None)
-            ⊎ ((list : Vec T A) × (result ≡ Reply.Drained list)) }
+            → self.old.queue ≢ [] }
         ensures unchanged { IsRefusal result → self.new ≡ self.old }
     {
         let Ok(list) = self.line.drain_queued() else {

@@ -2,15 +2,14 @@
 ghost use Rattle.std.specs.Prelude.{◌≡◌, ◌≢◌, ℕ, ◌+◌, ◌<◌, ◌≤◌, ◌↔◌, ◌⊎◌, Bool, ◌∷◌, ◌++◌, []};
 ghost use Rattle.std.specs.Prelude.{length, Option, Some, None, true, false};
 ghost use Rattle.std.specs.FinMap.{get, insert, remove};
-ghost use Rattle.flume_model.specs.Log.{Log, Opening};
 ghost use Rattle.flume_model.specs.Limits.{IsOpen, IsClosed, IsAtCapacity, most};
 ghost use Rattle.flume_state.specs.Sends.{blocked};
 ghost use Rattle.flume_model.specs.Entries.{some_wait};
 ghost use Rattle.flume_state.specs.Effects.{resignalled, Joins, Returns};
 ghost use Rattle.std.specs.List.{All};
-ghost use Rattle.std.specs.Option.{option_map};
-ghost use Rattle.flume_state.specs.State.{State};
-ghost use Rattle.flume_core.specs.StandsFor.{StandsFor, HoldsIfRefused, IsRefusal};
+ghost use Rattle.flume_state.specs.State.{State, accepted_at};
+ghost use Rattle.flume_core.specs.StandsFor.{Extends, IsRefusal};
+ghost use Rattle.flume_core.specs.Comes.{Comes};
 
 use super::Chan;
 use flume_model::step::{Reply, Step};
@@ -31,18 +30,15 @@ impl<T: Drop, S: Drop, A: Allocator + Copy> Chan<T, S, A> {
     /// ```
     #[inline(always)]
     pub fn try_send(&mut self, message: T) -> Reply<T, A>
-        ensures step { (opening : Opening) (log : Log T A) → StandsFor opening log self.old
-            → StandsFor opening ((Step.TrySend message, result) ∷ log) self.new }
+        ensures step { Extends self.old (Step.TrySend message) result self.new }
+        ensures comes { Comes (Step.TrySend message) result }
         ensures closed { (result ≡ Reply.Closed message)
             ↔ IsClosed self.old.senders self.old.receivers }
         ensures full { (result ≡ Reply.Full message)
             ↔ IsOpen self.old.senders self.old.receivers × (some_wait self.old.entries ≡ false)
             × IsAtCapacity self.old.capacity (length self.old.queue) }
-        ensures returned { HoldsIfRefused message result }
         ensures sent { (filled : Option ℕ) → result ≡ Reply.Sent filled
             → Joins self.old self.new message filled }
-        ensures never_blocks { (ticket : ℕ) → result ≢ Reply.Pending ticket }
-        ensures never_spent { (back : Option T) → result ≢ Reply.Spent back }
         ensures unchanged { IsRefusal result → self.new ≡ self.old }
     {
         if !self.is_open() {
@@ -70,8 +66,8 @@ impl<T: Drop, S: Drop, A: Allocator + Copy> Chan<T, S, A> {
     /// chan.poll_send(1, None);           // Accepted
     /// ```
     pub fn send(&mut self, message: T, signal: S) -> Reply<T, A>
-        ensures step { (opening : Opening) (log : Log T A) → StandsFor opening log self.old
-            → StandsFor opening ((Step.Send message, result) ∷ log) self.new }
+        ensures step { Extends self.old (Step.Send message) result self.new }
+        ensures comes { Comes (Step.Send message) result }
         ensures closed { (result ≡ Reply.Closed message)
             ↔ IsClosed self.old.senders self.old.receivers }
         ensures spent { (result ≡ Reply.Spent (Some message))
@@ -85,7 +81,6 @@ impl<T: Drop, S: Drop, A: Allocator + Copy> Chan<T, S, A> {
           sends = insert self.old.sends self.old.next (blocked signal);
           next = self.old.next + 1;
         } }
-        ensures returned { HoldsIfRefused message result }
         ensures unchanged { IsRefusal result → self.new ≡ self.old }
     {
         let message = match self.try_send(message) {
@@ -114,19 +109,18 @@ impl<T: Drop, S: Drop, A: Allocator + Copy> Chan<T, S, A> {
     /// ticket is spent. `NoTicket`: no live send has this ticket, and nothing changes. Takes no
     /// memory.
     pub fn poll_send(&mut self, ticket: u64, signal: Option<S>) -> Reply<T, A>
-        ensures step { (opening : Opening) (log : Log T A) → StandsFor opening log self.old
-            → StandsFor opening ((Step.PollSend ticket, result) ∷ log) self.new }
+        ensures step { Extends self.old (Step.PollSend ticket) result self.new }
+        ensures comes { Comes (Step.PollSend ticket) result }
         ensures no_ticket { get self.old.sends ticket ≡ None → result ≡ Reply.NoTicket }
         ensures accepted { (result ≡ Reply.Accepted)
-            ↔ (option_map (λ send. send.accepted) (get self.old.sends ticket) ≡ Some true) }
+            ↔ (accepted_at self.old ticket ≡ Some true) }
         ensures spent { result ≡ Reply.Accepted
             → self.new ≡ record self.old { sends = remove self.old.sends ticket } }
         ensures returned { (message : T) (closed : Bool) → result ≡ Reply.Returned message closed
             → Returns self.old self.new ticket message closed }
         ensures waiting { (result ≡ Reply.Waiting)
-            ↔ (option_map (λ send. send.accepted) (get self.old.sends ticket) ≡ Some false)
+            ↔ (accepted_at self.old ticket ≡ Some false)
             × IsOpen self.old.senders self.old.receivers }
-        ensures never_refused { (back : Option T) → result ≢ Reply.NoMemory back }
         ensures replaced { result ≡ Reply.Waiting
             → self.new ≡ record self.old { sends = resignalled self.old.sends ticket signal } }
         ensures unchanged { IsRefusal result → self.new ≡ self.old }
@@ -146,16 +140,15 @@ impl<T: Drop, S: Drop, A: Allocator + Copy> Chan<T, S, A> {
     /// whether the channel is closed. `Accepted`: it was taken in before. Either way the ticket is
     /// spent. `NoTicket`: no live send has this ticket, and nothing changes. Takes no memory.
     pub fn withdraw_send(&mut self, ticket: u64) -> Reply<T, A>
-        ensures step { (opening : Opening) (log : Log T A) → StandsFor opening log self.old
-            → StandsFor opening ((Step.WithdrawSend ticket, result) ∷ log) self.new }
+        ensures step { Extends self.old (Step.WithdrawSend ticket) result self.new }
+        ensures comes { Comes (Step.WithdrawSend ticket) result }
         ensures no_ticket { get self.old.sends ticket ≡ None → result ≡ Reply.NoTicket }
         ensures accepted { (result ≡ Reply.Accepted)
-            ↔ (option_map (λ send. send.accepted) (get self.old.sends ticket) ≡ Some true) }
+            ↔ (accepted_at self.old ticket ≡ Some true) }
         ensures spent { result ≡ Reply.Accepted
             → self.new ≡ record self.old { sends = remove self.old.sends ticket } }
         ensures returned { (message : T) (closed : Bool) → result ≡ Reply.Returned message closed
             → Returns self.old self.new ticket message closed }
-        ensures never_refused { (back : Option T) → result ≢ Reply.NoMemory back }
         ensures unchanged { IsRefusal result → self.new ≡ self.old }
     {
         match self.status(ticket) {
@@ -167,7 +160,7 @@ impl<T: Drop, S: Drop, A: Allocator + Copy> Chan<T, S, A> {
 
     // Whether the live send with this ticket was accepted.
     fn status(&self, ticket: u64) -> Option<bool>
-        ensures status { result ≡ option_map (λ send. send.accepted) (get self.now.sends ticket) }
+        ensures status { result ≡ accepted_at self.now ticket }
     {
         self.sends.accepted(ticket)
     }

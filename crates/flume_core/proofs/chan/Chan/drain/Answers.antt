@@ -1,5 +1,5 @@
 -- All queued messages are handed out, and blocked ones move in.
-use Rattle.std.proofs.Common.{◌≡◌, refl, ◌∙◌, sym, rules, inr}
+use Rattle.std.proofs.Common.{◌≡◌, refl, ◌∙◌, sym, rules}
 use Rattle.flume_core.proofs.Views.{queue_at_log, some_queued}
 use Rattle.flume_core.proofs.Keeping.{still}
 use Rattle.flume_core.proofs.Drains.{drains}
@@ -12,6 +12,3 @@ pub returns-clause-step : goal.returns-clause-step
 returns-clause-step g c o log h =
     let list : c.in-Ok.list.items ≡ c.args.self.now.queue = search rules in
     drains o log _ c.args.self.now _ c.in-Ok.list.items h (list ∙ sym (queue_at_log h)) refl (search rules)
-
-pub returns-clause-either : goal.returns-clause-either
-returns-clause-either g c = inr (c.in-Ok.list, refl)

@@ -28,6 +28,7 @@ returns-in-Some-take_front g c =
     record {
       step = λ o log h. poll_takes o log c.args.self.now _ c.args.ticket st c.in-Some-take_front.message front.0 h is looking front.1
           (search rules);
+      comes = tt;
       no_ticket = search (rules, is);
       collected = search (rules, is, looking);
       got = search (rules, is, front);
@@ -35,7 +36,6 @@ returns-in-Some-take_front g c =
       waiting = search (rules, is, front);
       left = search rules;
       waits = search rules;
-      never_refused = search rules;
       unchanged = search rules;
     }
 
@@ -49,6 +49,7 @@ returns-then-is_open g c =
     record {
       step = λ o log h. poll_waits_on o log c.args.self.now _ c.args.ticket st (waits_on c.args.signal) h is looking none open_
           (search rules);
+      comes = tt;
       no_ticket = search (rules, is);
       collected = search (rules, is, looking);
       got = search (rules, none);
@@ -56,7 +57,6 @@ returns-then-is_open g c =
       waiting = search (rules, is, looking, none, open_);
       left = search rules;
       waits = search rules;
-      never_refused = search rules;
       unchanged = search rules;
     }
 
@@ -69,6 +69,7 @@ returns g c =
     let closed : IsClosed c.args.self.now.senders c.args.self.now.receivers = closed_where _ _ (search rules) in
     record {
       step = λ o log h. poll_ends o log c.args.self.now _ c.args.ticket st h is looking none closed (search rules);
+      comes = tt;
       no_ticket = search (rules, is);
       collected = search (rules, is, looking);
       got = search (rules, none);
@@ -76,6 +77,5 @@ returns g c =
       waiting = search (rules, is, closed);
       left = search rules;
       waits = search rules;
-      never_refused = search rules;
       unchanged = search rules;
     }

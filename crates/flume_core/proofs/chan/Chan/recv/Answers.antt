@@ -4,12 +4,15 @@ use Rattle.flume_model.specs.Limits.{most}
 use Rattle.flume_core.proofs.Receives.{parks}
 use Rattle.flume_core.proofs.Views.{open_at_log}
 use Rattle.flume_core.proofs.Answering.{empty_line}
-use Rattle.flume_core.proofs.AsTries.{recv_as_try}
+use Rattle.flume_core.proofs.AsTries.{recv_as_try, recv_comes}
 use Rattle.flume_core.proofs.chan.Chan.recv.Goals as goal
 
 pub returns-in_default-clause-step : goal.returns-in_default-clause-step
 returns-in_default-clause-step g c o log h =
     recv_as_try o log c.args.kind c.try_recv.result _ (c.try_recv.ensures.step o log h) c.in_default.not-Empty
+
+pub returns-in_default-clause-comes : goal.returns-in_default-clause-comes
+returns-in_default-clause-comes g c = recv_comes c.args.kind c.try_recv.result c.try_recv.ensures.comes c.in_default.not-Empty
 
 pub returns-clause-step : goal.returns-clause-step
 returns-clause-step g c o log h =

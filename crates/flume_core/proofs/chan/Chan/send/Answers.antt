@@ -4,19 +4,22 @@ use Rattle.flume_model.specs.declared.step.Reply.TheVariants.{Full}
 use Rattle.flume_model.specs.Limits.{most}
 use Rattle.flume_core.proofs.Moves.{blocks}
 use Rattle.flume_core.proofs.Answering.{takes_none_in}
-use Rattle.flume_core.proofs.AsTries.{send_as_try}
+use Rattle.flume_core.proofs.AsTries.{send_as_try, send_comes, try_never_spent}
 use Rattle.flume_core.proofs.chan.Chan.send.Goals as goal
 
 pub returns-in_default-clause-step : goal.returns-in_default-clause-step
 returns-in_default-clause-step g c o log h =
     send_as_try o log c.args.message c.try_send.result _ (c.try_send.ensures.step o log h) c.in_default.not-Full
 
+pub returns-in_default-clause-comes : goal.returns-in_default-clause-comes
+returns-in_default-clause-comes g c = send_comes c.args.message c.try_send.result c.try_send.ensures.comes c.in_default.not-Full
+
 pub returns-in_default-clause-closed : goal.returns-in_default-clause-closed
 returns-in_default-clause-closed g c = c.try_send.ensures.closed
 
 pub returns-in_default-clause-spent : goal.returns-in_default-clause-spent
 returns-in_default-clause-spent g c = (
-  (λ is. absurd (c.try_send.ensures.never_spent _ is)),
+  (λ is. absurd (try_never_spent c.args.message c.try_send.result c.try_send.ensures.comes _ is)),
   (λ at. absurd (c.in_default.not-Full _ (c.try_send.ensures.full.1 (at.0, at.1, at.2)))),
 )
 
@@ -24,7 +27,7 @@ pub returns-clause-step : goal.returns-clause-step
 returns-clause-step g c o log h =
     let same = c.self.view_is ∙ c.in-Full.ensures.unchanged tt in
     let next : c.self.inside.next ≡ c.args.self.now.next = ap (λ s. s.next) same in
-    let found = c.in-Full.ensures.full.0 (ap Full c.in-Full.ensures.returned) in
+    let found = c.in-Full.ensures.full.0 (ap Full c.in-Full.ensures.comes) in
     let some_left : c.args.self.now.next < most = rw (← next) (search rules) in
     blocks o log _ c.args.self.now _ c.args.message c.args.signal h
     (takes_none_in h found.0 found.1 found.2, omega (arith, h.next_is, some_left), next ∙ h.next_is)
