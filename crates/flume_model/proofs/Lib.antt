@@ -23,6 +23,7 @@ pub mod WaitingOpen
 pub mod WokenBlocks
 pub mod WaitingLaws
 pub mod TicketLaws
+pub mod WakeRule
 pub mod FillsKept
 pub mod FillsShown
 pub mod FillsOrder

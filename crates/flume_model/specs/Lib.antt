@@ -11,6 +11,7 @@ pub mod Replies
 pub mod Fills
 pub mod Laws
 pub mod WaitLaws
+pub mod WakeRule
 pub mod Conserved
 pub mod Producers
 pub mod AllBlock

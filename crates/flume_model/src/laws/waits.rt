@@ -1,11 +1,28 @@
 //! Laws of the parked receivers. These functions do nothing: each contract is a law.
-ghost use Rattle.flume_model.specs.Log.{Log, Opening};
+ghost use Rattle.std.specs.Prelude.{◌≡◌, ℕ, List, [], Option, None};
+ghost use Rattle.flume_model.specs.declared.entry.Entry.{Entry};
+ghost use Rattle.flume_model.specs.Log.{Log, Opening, opens};
+ghost use Rattle.flume_model.specs.Entries.{round, round_fills};
 ghost use Rattle.flume_model.specs.Replies.{IsRun};
 ghost use Rattle.flume_model.specs.WaitLaws.{Covered, Bounded, WaitsWhileOpen};
 ghost use Rattle.flume_model.specs.WaitLaws.{WokenBlockWhileClosed, EntriesApart, SidesApart};
-ghost use Rattle.flume_model.specs.WaitLaws.{NothingOnceOver};
+ghost use Rattle.flume_model.specs.WaitLaws.{ToldFilled, NothingOnceOver};
+ghost use Rattle.flume_model.specs.WakeRule.{IsWakeRound};
+ghost use Rattle.flume_model.specs.Rows.{as_log};
+ghost use Rattle.flume_model.specs.WakeNearMisses.{plain_filled};
 
 use std::alloc::Allocator;
+
+/// A wake round, over any entries and with any front, follows its rule, and nothing else does: the
+/// waiting entries before the first waiting one that is no stream are woken; that one is filled
+/// with the front where it blocks, and else woken; all others stay as they are.
+pub fn wake_rounds_follow_their_rule<T, N>()
+    ensures law { (tell : N → N) (front : T) (entries : List (Entry T N))
+        → IsWakeRound tell front entries (round tell front entries) (round_fills entries) }
+    ensures only { (tell : N → N) (front : T) (old new : List (Entry T N)) (filled : Option ℕ)
+        → IsWakeRound tell front old new filled
+        → (new ≡ round tell front old) × (filled ≡ round_fills old) }
+{}
 
 /// Of each run, while a receiver waits, at least as many receivers stand woken as messages are
 /// queued.
@@ -39,6 +56,13 @@ pub fn tickets_of_receivers_are_apart<T, A: Allocator>()
         → IsRun opening log → EntriesApart opening log }
     ensures sides { (opening : Opening) (log : Log T A)
         → IsRun opening log → SidesApart opening log }
+{}
+
+/// Of each run, a parked receiver holds a message just where some reply named it as filled. It
+/// isn't so of a log whose reply names one as filled that doesn't block.
+pub fn receivers_are_filled_just_where_told<T, A: Allocator>()
+    ensures law { (opening : Opening) (log : Log T A) → IsRun opening log → ToldFilled opening log }
+    ensures near_miss { ¬ ToldFilled (opens None 1) (as_log [] plain_filled) }
 {}
 
 /// Of each run, once all senders and all receivers are gone, no message, no parked receiver and no

@@ -1,0 +1,47 @@
+-- What a wake round does, by its rule.
+use Rattle.std.specs.Prelude.{◌≡◌, ◌≢◌, ◌⊎◌, ℕ, true, if◌then◌else◌, List, ◌∷◌, ◌++◌, Option, Some}
+use Rattle.std.specs.Prelude.{None}
+use Rattle.std.specs.List.{All}
+use Rattle.flume_model.specs.declared.step.Kind.TheVariants.{Stream}
+use Rattle.flume_model.specs.declared.entry.Entry.{Entry}
+use Rattle.flume_model.specs.declared.entry.Mark.TheVariants.{Woken, Filled}
+use Rattle.flume_model.specs.Entries.{is_waiting, marked, all_woken}
+use Rattle.flume_model.specs.WaitLaws.{is_block}
+
+module _ {T N : Type 0} where
+  -- a round goes past this entry: where it waits, it is a stream
+  abbrev pub IsPassed : Entry T N → Type 0
+  IsPassed e = is_waiting e.mark ≡ true → e.kind ≡ Stream
+
+  -- a round ends at one of the old entries: it left the new ones, and filled this ticket
+  pub record EndsAtOne (tell : N → N) (front : T) (old new : List (Entry T N))
+      (filled : Option ℕ) : Type 0 where
+    -- the first entry that waits and is no stream, those before it, and those behind it
+    pub before : List (Entry T N)
+    pub first : Entry T N
+    pub later : List (Entry T N)
+    pub old_are : old ≡ before ++ first ∷ later
+    pub passed : All IsPassed before
+    pub waits : is_waiting first.mark ≡ true
+    pub no_stream : first.kind ≢ Stream
+    -- those before it that wait are woken; it is filled with the front where it blocks, and else
+    -- woken; all others stay as they are
+    pub new_are :
+        new ≡ all_woken tell before
+        ++ marked tell (if is_block first.kind then Filled front else Woken) first ∷ later
+    -- it is filled where it blocks, and no other is
+    pub fills : filled ≡ (if is_block first.kind then Some first.ticket else None)
+
+  -- a round ends at none of the old entries: it left the new ones, and filled this ticket
+  pub record EndsAtNone (tell : N → N) (old new : List (Entry T N)) (filled : Option ℕ)
+      : Type 0 where
+    pub passed : All IsPassed old
+    -- all that wait are woken, the others stay as they are, and none is filled
+    pub new_are : new ≡ all_woken tell old
+    pub fills : filled ≡ None
+
+  -- a wake round over the old entries, where this is the front, may leave the new ones, and fill
+  -- this ticket
+  abbrev pub IsWakeRound : (N → N) → T → List (Entry T N) → List (Entry T N) → Option ℕ → Type 0
+  IsWakeRound tell front old new filled =
+      EndsAtOne tell front old new filled ⊎ EndsAtNone tell old new filled
