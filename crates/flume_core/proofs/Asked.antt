@@ -27,7 +27,7 @@ use Rattle.flume_core.specs.StandsFor.{StandsFor}
 use Rattle.flume_state.specs.Effects.{fronted, taken, unparked, departed, waiting_so}
 use Rattle.flume_model.proofs.Fits.{fills_none}
 use Rattle.flume_model.proofs.EntryShape.{told_filled}
-use Rattle.flume_model.proofs.WokenBlocks.{woken_block_while_closed}
+use Rattle.flume_model.proofs.waits.WokenBlocks.{woken_block_while_closed}
 use Rattle.flume_core.proofs.Bare.{bare_leave_fills}
 use Rattle.flume_core.proofs.Views.{entry_at_log, queue_at_log, open_at_log, closed_at_log, none_mapped}
 use Rattle.flume_core.proofs.Keeping.{still}

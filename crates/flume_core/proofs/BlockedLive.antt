@@ -18,12 +18,13 @@ use Rattle.flume_model.specs.Replies.{IsRun}
 use Rattle.flume_model.proofs.Tickets.{has_ticket-append}
 use Rattle.flume_model.proofs.Fits.{Fits, fits, not_over_yet}
 use Rattle.flume_model.proofs.EntryShape.{told_filled}
-use Rattle.flume_model.proofs.Kept.{open_line, line_by, line_is_open, line_more, line_left, line_drained, line_front, line_less, line_same}
-use Rattle.flume_model.proofs.Kept.{keeps_line}
-use Rattle.flume_model.proofs.Parts.{at_most, given_within, front_at}
-use Rattle.flume_model.proofs.Runs.{shape_of}
-use Rattle.flume_model.proofs.LineSteps.{apart_in_line}
-use Rattle.flume_model.proofs.RoomAfter.{long_queued, unlike_true}
+use Rattle.flume_model.proofs.order.Kept.{open_line, line_by, line_is_open, line_more, line_left, line_drained, line_front}
+use Rattle.flume_model.proofs.order.Kept.{line_less, line_same}
+use Rattle.flume_model.proofs.order.Kept.{keeps_line}
+use Rattle.flume_model.proofs.order.Parts.{at_most, given_within, front_at}
+use Rattle.flume_model.proofs.order.Runs.{shape_of}
+use Rattle.flume_model.proofs.order.LineSteps.{apart_in_line}
+use Rattle.flume_model.proofs.order.RoomAfter.{long_queued, unlike_true}
 use Rattle.flume_core.proofs.Views.{nil_by, room_or_full}
 
 module _ {T : Type 0} where

@@ -17,7 +17,7 @@ use Rattle.flume_state.specs.Sends.{SendMap, changed, accepted_now}
 use Rattle.flume_state.specs.State.{State, offers_of}
 use Rattle.flume_core.specs.StandsFor.{StandsFor}
 use Rattle.flume_state.specs.Effects.{filled_up, filled_up_from}
-use Rattle.flume_model.proofs.LineSteps.{line_drains, apart_in_line, line_over}
+use Rattle.flume_model.proofs.order.LineSteps.{line_drains, apart_in_line, line_over}
 use Rattle.flume_core.proofs.Views.{mark, status, status_is, queued_length, queue_at_log, offered_messages, line_length, nil_by}
 use Rattle.flume_core.proofs.Marks.{marks_moved_in}
 use Rattle.flume_core.proofs.Stands.{stands_as, stands_open, stands_over, fits_as, over_same, none_live}

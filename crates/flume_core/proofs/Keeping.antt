@@ -18,8 +18,8 @@ use Rattle.flume_state.specs.State.{State, emptied, offers_of, bare}
 use Rattle.flume_core.specs.StandsFor.{StandsFor}
 use Rattle.flume_model.proofs.EntryShape.{told_filled}
 use Rattle.flume_model.proofs.Fits.{not_over_yet}
-use Rattle.flume_model.proofs.Kept.{keeps_line}
-use Rattle.flume_model.proofs.LineSteps.{line_stays, line_over}
+use Rattle.flume_model.proofs.order.Kept.{keeps_line}
+use Rattle.flume_model.proofs.order.LineSteps.{line_stays, line_over}
 use Rattle.flume_core.proofs.Views.{SameMarks, status, status_is, line_length, nil_by}
 use Rattle.flume_core.proofs.Stands.{peak_kept, none_parked, stands_as, stands_open, stands_over, open_not_over, none_live, over_same}
 use Rattle.flume_core.proofs.Stands.{still_live}

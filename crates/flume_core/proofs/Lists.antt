@@ -11,9 +11,9 @@ use Rattle.flume_model.specs.Line.{line, boundary, messages}
 use Rattle.flume_state.specs.State.{State, offers_of}
 use Rattle.flume_core.specs.StandsFor.{StandsFor, Extends}
 use Rattle.flume_core.specs.Headline.{Headline}
-use Rattle.flume_model.proofs.FillsOrder.{in_order}
+use Rattle.flume_model.proofs.fills.FillsOrder.{in_order}
 use Rattle.flume_core.proofs.Views.{queued_length, line_messages}
-use Rattle.flume_model.proofs.LineSteps.{line_over}
+use Rattle.flume_model.proofs.order.LineSteps.{line_over}
 use Rattle.flume_core.proofs.StateFacts.{woken_cover, queued_bounded}
 
 -- two lists that are nothing together

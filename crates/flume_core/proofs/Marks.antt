@@ -15,7 +15,7 @@ use Rattle.flume_state.specs.Sends.{SendMap, blocked as blocked_send, changed, a
 use Rattle.flume_state.specs.State.{State, offers_of}
 use Rattle.flume_core.specs.StandsFor.{StandsFor}
 use Rattle.flume_model.proofs.Tickets.{has_ticket-append}
-use Rattle.flume_model.proofs.LineSteps.{apart_in_line}
+use Rattle.flume_model.proofs.order.LineSteps.{apart_in_line}
 use Rattle.flume_state.proofs.SendsLaws.{get-insert_same, get-insert_other, get-remove_same, get-remove_other, get-changed_same}
 use Rattle.flume_state.proofs.SendsLaws.{get-changed_other}
 use Rattle.flume_core.proofs.Views.{mark, status, status_is}

@@ -20,9 +20,9 @@ use Rattle.flume_state.specs.State.{State, offers_of}
 use Rattle.flume_core.specs.StandsFor.{StandsFor}
 use Rattle.flume_state.specs.Effects.{rounded}
 use Rattle.flume_state.specs.Receivers.{unfilled}
-use Rattle.flume_model.proofs.Kept.{keeps_line}
-use Rattle.flume_model.proofs.Parts.{at_most}
-use Rattle.flume_model.proofs.LineSteps.{line_queues, line_blocks, line_withdraws, line_stays}
+use Rattle.flume_model.proofs.order.Kept.{keeps_line}
+use Rattle.flume_model.proofs.order.Parts.{at_most}
+use Rattle.flume_model.proofs.order.LineSteps.{line_queues, line_blocks, line_withdraws, line_stays}
 use Rattle.flume_model.proofs.WaitingCounts.{fewer_rounded}
 use Rattle.flume_core.proofs.Bare.{bare_round_for}
 use Rattle.flume_core.proofs.Views.{status, status_is, room_at_state, none_blocked, none_blocked_waiting}

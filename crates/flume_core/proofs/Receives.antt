@@ -20,13 +20,13 @@ use Rattle.flume_state.specs.State.{State, offers_of, bare}
 use Rattle.flume_core.specs.StandsFor.{StandsFor}
 use Rattle.flume_state.specs.Effects.{unparked, departed, waiting_so}
 use Rattle.flume_state.specs.Receivers.{unfilled}
-use Rattle.flume_model.proofs.LineSteps.{line_leaves}
-use Rattle.flume_model.proofs.WaitingOpen.{nothing_once_over}
+use Rattle.flume_model.proofs.order.LineSteps.{line_leaves}
+use Rattle.flume_model.proofs.waits.WaitingOpen.{nothing_once_over}
 use Rattle.flume_model.proofs.WaitingCounts.{fewer_without, fewer_after_leave}
 use Rattle.flume_core.proofs.Bare.{bare_without, bare_again, bare_noticed, bare_after_leave}
 use Rattle.flume_core.proofs.Views.{status, status_is, queued_length}
 use Rattle.flume_core.proofs.Stands.{stands_as, stands_open, fits_as, open_not_over, over_same, still_live}
-use Rattle.flume_model.proofs.Parts.{at_most}
+use Rattle.flume_model.proofs.order.Parts.{at_most}
 use Rattle.flume_core.proofs.Stands.{peak_kept}
 use Rattle.flume_core.proofs.Keeping.{keeps_standing}
 use Rattle.flume_core.proofs.Moves.{unfilled_is}

@@ -19,8 +19,8 @@ use Rattle.flume_state.specs.Receivers.{Entries}
 use Rattle.flume_state.specs.State.{State, offers_of, bare}
 use Rattle.flume_core.specs.StandsFor.{StandsFor}
 use Rattle.flume_model.proofs.Fits.{Fits, fits}
-use Rattle.flume_model.proofs.LineSteps.{line_over}
-use Rattle.flume_model.proofs.WaitingOpen.{nothing_once_over}
+use Rattle.flume_model.proofs.order.LineSteps.{line_over}
+use Rattle.flume_model.proofs.waits.WaitingOpen.{nothing_once_over}
 use Rattle.flume_core.proofs.Views.{mark, status, queue_at_log, waiting_within, nil_mapped}
 
 -- what a ticket is, after a change that neither issues nor spends it

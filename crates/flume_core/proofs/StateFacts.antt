@@ -23,13 +23,13 @@ use Rattle.flume_core.specs.StateFacts.{SendersBlockAtCapacity, ReceiversWaitWhi
 use Rattle.flume_core.specs.StateFacts.{QueuedAndWaitingAreBounded, ReceiverTicketsApart, SendTicketsApart, BlockedTicketsRise}
 use Rattle.flume_core.specs.StateFacts.{BlockedSendsAreLive, AcceptedBeforeBlocked, EmptyOnceOver, BlockingWokenByClosing, ChannelFacts}
 use Rattle.flume_core.proofs.Bare.{bare_waiting, bare_entry}
-use Rattle.flume_model.proofs.Kept.{line_is_open}
+use Rattle.flume_model.proofs.order.Kept.{line_is_open}
 use Rattle.flume_model.proofs.Tickets.{rising_filter}
 use Rattle.flume_core.proofs.BlockedLive.{blocked_are_live}
-use Rattle.flume_model.proofs.Runs.{tickets_rise}
-use Rattle.flume_model.proofs.TicketLaws.{accepted_below_blocked}
-use Rattle.flume_model.proofs.WaitingLaws.{covered, bounded, waits_while_open, woken_block_while_closed, nothing_once_over}
-use Rattle.flume_model.proofs.WaitingLaws.{entries_apart, sides_apart}
+use Rattle.flume_model.proofs.order.Runs.{tickets_rise}
+use Rattle.flume_model.proofs.order.TicketLaws.{accepted_below_blocked}
+use Rattle.flume_model.proofs.waits.WaitingLaws.{covered, bounded, waits_while_open, woken_block_while_closed, nothing_once_over}
+use Rattle.flume_model.proofs.waits.WaitingLaws.{entries_apart, sides_apart}
 use Rattle.flume_core.proofs.Views.{at_capacity, none_blocked_waiting, waiting_at_log, entry_at_log, blocked_is, nil_by, status}
 use Rattle.flume_core.proofs.Views.{line_length, none_mapped, nil_mapped, live_by}
 

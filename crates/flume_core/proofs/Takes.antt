@@ -24,8 +24,8 @@ use Rattle.flume_model.specs.Parked.{entries_after, is_shut}
 use Rattle.flume_core.proofs.Bare.{bare_without}
 use Rattle.flume_model.proofs.WaitingCounts.{fewer_without}
 use Rattle.flume_core.proofs.Stands.{peak_kept}
-use Rattle.flume_model.proofs.Parts.{front_at, open_at}
-use Rattle.flume_model.proofs.LineSteps.{line_takes}
+use Rattle.flume_model.proofs.order.Parts.{front_at, open_at}
+use Rattle.flume_model.proofs.order.LineSteps.{line_takes}
 use Rattle.flume_core.proofs.Views.{mark, status, status_is, queued_length, at_capacity, nil_by}
 use Rattle.flume_core.proofs.Marks.{marks_admitted}
 use Rattle.flume_core.proofs.Stands.{stands_as, stands_open, over_same}

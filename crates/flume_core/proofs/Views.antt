@@ -19,7 +19,7 @@ use Rattle.flume_state.specs.Messages.{Blocked}
 use Rattle.flume_state.specs.Sends.{SendMap}
 use Rattle.flume_state.specs.State.{State, offers_of, bare}
 use Rattle.flume_core.specs.StandsFor.{StandsFor}
-use Rattle.flume_model.proofs.Runs.{blocked_at_capacity, waits_whole}
+use Rattle.flume_model.proofs.order.Runs.{blocked_at_capacity, waits_whole}
 use Rattle.flume_core.proofs.Bare.{bare_some_wait, bare_waiting, bare_entry}
 
 -- what isn't there mapped isn't there

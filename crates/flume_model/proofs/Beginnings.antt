@@ -3,9 +3,9 @@ use Rattle.std.proofs.Common.{[], ◌∷◌, ◌++◌, subst}
 use Rattle.flume_model.specs.Log.{Log, Opening}
 use Rattle.flume_model.specs.Replies.{IsRun}
 use Rattle.flume_model.specs.Beginnings.{Holds, HoldsThroughout}
-use Rattle.flume_model.proofs.Runs.{shape_of}
-use Rattle.flume_model.proofs.FillsOrder.{in_order}
-use Rattle.flume_model.proofs.WaitingLaws.{covered, bounded}
+use Rattle.flume_model.proofs.order.Runs.{shape_of}
+use Rattle.flume_model.proofs.fills.FillsOrder.{in_order}
+use Rattle.flume_model.proofs.waits.WaitingLaws.{covered, bounded}
 
 module _ {T A : Type 0} where
   -- what a run began with is a run

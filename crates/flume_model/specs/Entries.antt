@@ -1,6 +1,6 @@
--- The parked receivers, an entry each: how they stand, what a wake round and closing do to them, and
--- how one asks again or leaves. The waiting ones stand in the order in which they began to wait. N
--- is what an entry has beside: nothing in a log, the signal in a state.
+-- The parked receivers, an entry each: how they stand, what a wake round and closing do to them,
+-- and how one asks again or leaves. The waiting ones stand in the order in which they began to
+-- wait. N is what an entry has beside: nothing in a log, the signal in a state.
 use Rattle.std.specs.Prelude.{◌==◌, ℕ, ◌+◌, Bool, true, false, if◌then◌else◌, List, [], ◌∷◌, ◌++◌}
 use Rattle.std.specs.Prelude.{map, Option, Some, None}
 use Rattle.std.specs.List.{list_any}

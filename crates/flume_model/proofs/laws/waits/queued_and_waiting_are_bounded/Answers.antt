@@ -1,4 +1,4 @@
-use Rattle.flume_model.proofs.WaitingLaws.{bounded}
+use Rattle.flume_model.proofs.waits.WaitingLaws.{bounded}
 use Rattle.flume_model.proofs.laws.waits.queued_and_waiting_are_bounded.Goals as goal
 
 pub returns : goal.returns

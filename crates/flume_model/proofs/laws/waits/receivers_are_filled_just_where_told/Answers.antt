@@ -1,15 +1,15 @@
 use Rattle.std.proofs.Common.{refl}
 use Rattle.flume_model.specs.declared.step.Kind.TheVariants.{Plain}
 use Rattle.flume_model.specs.declared.entry.Mark.TheVariants.{Woken}
-use Rattle.flume_model.proofs.WaitingLaws.{told_filled}
+use Rattle.flume_model.proofs.waits.WaitingLaws.{told_filled}
 use Rattle.flume_model.proofs.laws.waits.receivers_are_filled_just_where_told.Goals as goal
 
 pub returns : goal.returns
 returns g c = record {
   law = told_filled;
   near_miss = λ told. (
-    let same = told 1 (record { ticket = 1; kind = Plain; mark = Woken; notice = tt }) refl in
-    let none : ⊥ = cc in
-    none
-  );
+      let same = told 1 (record { ticket = 1; kind = Plain; mark = Woken; notice = tt }) refl in
+      let none : ⊥ = cc in
+      none
+      );
 }

@@ -1,4 +1,4 @@
-use Rattle.flume_model.proofs.WaitingLaws.{entries_apart, sides_apart}
+use Rattle.flume_model.proofs.waits.WaitingLaws.{entries_apart, sides_apart}
 use Rattle.flume_model.proofs.laws.waits.tickets_of_receivers_are_apart.Goals as goal
 
 pub returns : goal.returns

@@ -14,9 +14,9 @@ use Rattle.flume_model.specs.Channel.{IsFront, channel}
 use Rattle.flume_model.specs.Limits.{HasRoom, IsAtCapacity}
 use Rattle.flume_model.proofs.WaitLists.{leave_fills_waiting}
 use Rattle.flume_model.proofs.Fits.{Fits}
-use Rattle.flume_model.proofs.Kept.{open_line, line_by, line_is_open, line_more, line_queued, line_left, line_drained}
-use Rattle.flume_model.proofs.Kept.{line_front, line_less, line_same, keeps_line}
-use Rattle.flume_model.proofs.Parts.{Shape, at_most, given_within, rest_is, front_at, withdrawn_at}
+use Rattle.flume_model.proofs.order.Kept.{open_line, line_by, line_is_open, line_more, line_queued, line_left, line_drained}
+use Rattle.flume_model.proofs.order.Kept.{line_front, line_less, line_same, keeps_line}
+use Rattle.flume_model.proofs.order.Parts.{Shape, at_most, given_within, rest_is, front_at, withdrawn_at}
 
 -- what is queued of a line so long
 pub record Room (capacity : Option ℕ) (n long : ℕ) : Type 0 where

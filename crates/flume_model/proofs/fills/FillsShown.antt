@@ -22,7 +22,7 @@ use Rattle.flume_model.proofs.EntryMarks.{none_past, left_out}
 use Rattle.flume_model.proofs.EntryChanges.{parks_under, none_by}
 use Rattle.flume_model.proofs.EntryShape.{entries_apart, fits_run}
 use Rattle.flume_model.proofs.Fits.{Fits}
-use Rattle.flume_model.proofs.WaitingSteps.{nobody_once_over}
+use Rattle.flume_model.proofs.waits.WaitingSteps.{nobody_once_over}
 use Rattle.std.proofs.lemmas.Bool.{cond-false}
 
 module _ {T : Type 0} where

@@ -22,13 +22,13 @@ use Rattle.flume_model.specs.Replies.{IsRun}
 use Rattle.flume_model.specs.Conserved.{held}
 use Rattle.flume_model.proofs.Fits.{Fits}
 use Rattle.flume_model.proofs.EntryLists.{again_cases, leave_cases}
-use Rattle.flume_model.proofs.Kept.{keeps_line}
-use Rattle.flume_model.proofs.Parts.{front_at, blocked_at}
-use Rattle.flume_model.proofs.RoomAfter.{room_or_full}
-use Rattle.flume_model.proofs.Runs.{shape_of}
-use Rattle.flume_model.proofs.LineSteps.{line_queues, line_blocks, line_takes, line_drains, line_leaves, line_withdraws, line_stays}
-use Rattle.flume_model.proofs.Giving.{GivesOut}
-use Rattle.flume_model.proofs.Holding.{mark_weighs, held_without, held_push, held_woken, round_front, queued_weighs}
+use Rattle.flume_model.proofs.order.Kept.{keeps_line}
+use Rattle.flume_model.proofs.order.Parts.{front_at, blocked_at}
+use Rattle.flume_model.proofs.order.RoomAfter.{room_or_full}
+use Rattle.flume_model.proofs.order.Runs.{shape_of}
+use Rattle.flume_model.proofs.order.LineSteps.{line_queues, line_blocks, line_takes, line_drains, line_leaves, line_withdraws, line_stays}
+use Rattle.flume_model.proofs.users.Giving.{GivesOut}
+use Rattle.flume_model.proofs.users.Holding.{mark_weighs, held_without, held_push, held_woken, round_front, queued_weighs}
 
 module _ {T : Type 0} where
   -- the weight of the messages of some offers

@@ -9,7 +9,7 @@ use Rattle.flume_model.specs.Channel.{channel}
 use Rattle.flume_model.specs.Laws.{Rising}
 use Rattle.flume_model.proofs.Tickets.{below_earlier, earlier_none, rising_filter, rising_below, rising_push, rising_more}
 use Rattle.flume_model.proofs.Fits.{Fits}
-use Rattle.flume_model.proofs.Parts.{Shape, withdrawn_at}
+use Rattle.flume_model.proofs.order.Parts.{Shape, withdrawn_at}
 
 module _ {T A : Type 0} where
   -- no ticket more

@@ -17,12 +17,12 @@ use Rattle.flume_model.specs.Replies.{IsRun}
 use Rattle.flume_model.specs.Conserved.{held, gives, given_out, IsConserved, Conserved}
 use Rattle.flume_model.proofs.Fits.{Fits, not_over_yet}
 use Rattle.flume_model.proofs.EntryShape.{told_filled, fits_run}
-use Rattle.flume_model.proofs.Parts.{front_at, blocked_at, open_at}
-use Rattle.flume_model.proofs.Runs.{shape_of}
-use Rattle.flume_model.proofs.LineSteps.{line_over, over_by}
-use Rattle.flume_model.proofs.WaitingSteps.{stepped, nobody_once_over}
-use Rattle.flume_model.proofs.Giving.{GivesOut, gives_out}
-use Rattle.flume_model.proofs.Balances.{weighs, weighs-append, balanced_by}
+use Rattle.flume_model.proofs.order.Parts.{front_at, blocked_at, open_at}
+use Rattle.flume_model.proofs.order.Runs.{shape_of}
+use Rattle.flume_model.proofs.order.LineSteps.{line_over, over_by}
+use Rattle.flume_model.proofs.waits.WaitingSteps.{stepped, nobody_once_over}
+use Rattle.flume_model.proofs.users.Giving.{GivesOut, gives_out}
+use Rattle.flume_model.proofs.users.Balances.{weighs, weighs-append, balanced_by}
 
 module _ {T A : Type 0} where
   -- once both ends are gone, a change that fits gives out nothing

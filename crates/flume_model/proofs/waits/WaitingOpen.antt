@@ -18,9 +18,9 @@ use Rattle.flume_model.specs.WaitLaws.{WaitsWhileOpen, NothingOnceOver}
 use Rattle.flume_model.proofs.Fits.{Fits}
 use Rattle.flume_model.proofs.WaitingCounts.{wait_without, wait_after_leave, wait_woken}
 use Rattle.flume_model.proofs.EntryLists.{again_cases}
-use Rattle.flume_model.proofs.Runs.{shape_of}
-use Rattle.flume_model.proofs.LineSteps.{line_over}
-use Rattle.flume_model.proofs.WaitingSteps.{stepped, nobody_once_over}
+use Rattle.flume_model.proofs.order.Runs.{shape_of}
+use Rattle.flume_model.proofs.order.LineSteps.{line_over}
+use Rattle.flume_model.proofs.waits.WaitingSteps.{stepped, nobody_once_over}
 
 module _ {X : Type 0} where
   -- where nothing is left behind a front, it is the whole list

@@ -14,7 +14,7 @@ use Rattle.flume_model.specs.Parked.{entries}
 use Rattle.flume_model.specs.Channel.{IsBlocked, channel}
 use Rattle.flume_model.specs.Laws.{TicketsRise, BlockedAtCapacity}
 use Rattle.flume_model.proofs.Fits.{fills_none}
-use Rattle.flume_model.proofs.Kept.{open_line, line_is_open}
+use Rattle.flume_model.proofs.order.Kept.{open_line, line_is_open}
 
 -- the hand-out is of this message where its reply shows one; of a fill nothing is said here
 abbrev pub ShownIs : {T : Type 0} → HandOut T → T → Type 0

@@ -15,12 +15,12 @@ use Rattle.flume_model.specs.Replies.{IsRun}
 use Rattle.flume_model.specs.Laws.{TicketsRise, BlockedAtCapacity}
 use Rattle.flume_model.proofs.Fits.{fits, not_over_yet}
 use Rattle.flume_model.proofs.EntryShape.{told_filled}
-use Rattle.flume_model.proofs.Kept.{line_by, line_is_open}
-use Rattle.flume_model.proofs.Parts.{ShownIs, Shape}
-use Rattle.flume_model.proofs.PartsAfter.{parts_after}
-use Rattle.flume_model.proofs.RoomAfter.{Room, room_after}
-use Rattle.flume_model.proofs.TicketsAfter.{rising_after, unissued_after}
-use Rattle.flume_model.proofs.WholeAfter.{waits_after}
+use Rattle.flume_model.proofs.order.Kept.{line_by, line_is_open}
+use Rattle.flume_model.proofs.order.Parts.{ShownIs, Shape}
+use Rattle.flume_model.proofs.order.PartsAfter.{parts_after}
+use Rattle.flume_model.proofs.order.RoomAfter.{Room, room_after}
+use Rattle.flume_model.proofs.order.TicketsAfter.{rising_after, unissued_after}
+use Rattle.flume_model.proofs.order.WholeAfter.{waits_after}
 
 module _ {T A : Type 0} where
   -- what is queued of the line after one more pair

@@ -20,9 +20,9 @@ use Rattle.flume_model.specs.Laws.{IsEarlier, Rising, HandedOutStay, LiveAreKept
 use Rattle.flume_model.proofs.Tickets.{filter_two, has_ticket-append, ticket_place, All-at_seam, rising_filter}
 use Rattle.flume_model.proofs.Fits.{Fits, fits}
 use Rattle.flume_model.proofs.EntryShape.{told_filled}
-use Rattle.flume_model.proofs.Kept.{kept_by, line_is_open, not_withdrawn, kept_more, kept_less, kept_same}
-use Rattle.flume_model.proofs.Parts.{Shape, given_within, withdrawn_at}
-use Rattle.flume_model.proofs.Runs.{shape_of}
+use Rattle.flume_model.proofs.order.Kept.{kept_by, line_is_open, not_withdrawn, kept_more, kept_less, kept_same}
+use Rattle.flume_model.proofs.order.Parts.{Shape, given_within, withdrawn_at}
+use Rattle.flume_model.proofs.order.Runs.{shape_of}
 
 module _ {T A : Type 0} where
   -- a change that neither offers nor withdraws leaves what was handed out

@@ -19,7 +19,7 @@ use Rattle.flume_model.proofs.WaitingCounts.{wait_woken}
 use Rattle.flume_model.proofs.WaitLists.{fills_waiting}
 use Rattle.flume_model.proofs.EntryLists.{round_for_push, again_cases, leave_cases}
 use Rattle.flume_model.proofs.EntryCounts.{round_counts, without_counts, counted_none}
-use Rattle.flume_model.proofs.WaitingSteps.{Stood, Long, stepped, nobody_once_over}
+use Rattle.flume_model.proofs.waits.WaitingSteps.{Stood, Long, stepped, nobody_once_over}
 
 -- how many are queued and how many wait after a change, where both together were so many before
 data LeavesWithin (capacity : Option ℕ) (was queued waits : ℕ) : Type 0 where

@@ -13,10 +13,10 @@ use Rattle.flume_model.specs.Channel.{channel}
 use Rattle.flume_model.proofs.WaitingCounts.{wait_round_for, wait_without, wait_after_leave, wait_woken}
 use Rattle.flume_model.proofs.WaitLists.{wait_again}
 use Rattle.flume_model.proofs.Fits.{Fits}
-use Rattle.flume_model.proofs.Kept.{line_by, line_is_open}
-use Rattle.flume_model.proofs.Kept.{line_same, keeps_line}
-use Rattle.flume_model.proofs.Parts.{Shape, blocked_at}
-use Rattle.flume_model.proofs.RoomAfter.{long_queued, long_left, long_drained, long_taken}
+use Rattle.flume_model.proofs.order.Kept.{line_by, line_is_open}
+use Rattle.flume_model.proofs.order.Kept.{line_same, keeps_line}
+use Rattle.flume_model.proofs.order.Parts.{Shape, blocked_at}
+use Rattle.flume_model.proofs.order.RoomAfter.{long_queued, long_left, long_drained, long_taken}
 
 -- where the queue was the whole line and one was taken, it is that again
 taken_whole : (capacity : Option ℕ) (n long : ℕ) → n ≡ long → max n (capped capacity long) ≡ long

@@ -6,8 +6,8 @@ use Rattle.flume_model.specs.Log.{Log, Opening, Offer}
 use Rattle.flume_model.specs.Offers.{offers, withdrawn, kept, handed_out, hand_outs}
 use Rattle.flume_model.specs.Replies.{IsRun}
 use Rattle.flume_model.specs.Producers.{HandedOutInOrder}
-use Rattle.flume_model.proofs.Runs.{placed}
-use Rattle.flume_model.proofs.FilterPlaces.{filter_place, at_filter_place, filter_places_rise, place_of_kept}
+use Rattle.flume_model.proofs.order.Runs.{placed}
+use Rattle.flume_model.proofs.users.FilterPlaces.{filter_place, at_filter_place, filter_places_rise, place_of_kept}
 
 module _ {X : Type 0} where
   -- within a list there is an element

@@ -20,9 +20,9 @@ use Rattle.flume_model.specs.Replies.{IsRun}
 use Rattle.flume_model.specs.WaitLaws.{block_woken}
 use Rattle.flume_model.specs.AllBlock.{parks_blocking, OnlyBlockingReceivers, IsAtMostCapacity}
 use Rattle.flume_model.proofs.Fits.{Fits}
-use Rattle.flume_model.proofs.WaitingSteps.{stepped}
-use Rattle.flume_model.proofs.WaitingLaws.{covered, waits_while_open, woken_block_while_closed}
-use Rattle.flume_model.proofs.BlockEntries.{AllBlock, round_fills_one, none_woken, parks_block, block_after}
+use Rattle.flume_model.proofs.waits.WaitingSteps.{stepped}
+use Rattle.flume_model.proofs.waits.WaitingLaws.{covered, waits_while_open, woken_block_while_closed}
+use Rattle.flume_model.proofs.users.BlockEntries.{AllBlock, round_fills_one, none_woken, parks_block, block_after}
 
 -- less is at most the capacity too
 less_within : (c : Option ℕ) (n m : ℕ) → n ≤ m → IsAtMostCapacity c m → IsAtMostCapacity c n

@@ -19,7 +19,7 @@ use Rattle.flume_model.proofs.Fits.{Fits}
 use Rattle.flume_model.proofs.WaitingCounts.{wait_round, wait_round_for, wait_without, wait_woken}
 use Rattle.flume_model.proofs.EntryLists.{round_for_push, again_cases, leave_cases}
 use Rattle.flume_model.proofs.EntryCounts.{woken_one, round_counts, without_counts}
-use Rattle.flume_model.proofs.WaitingSteps.{Stood, Long, stepped, nobody_once_over}
+use Rattle.flume_model.proofs.waits.WaitingSteps.{Stood, Long, stepped, nobody_once_over}
 
 module _ {T : Type 0} where
   -- at most one entry leaves

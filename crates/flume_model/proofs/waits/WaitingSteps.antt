@@ -15,10 +15,10 @@ use Rattle.flume_model.specs.Channel.{Channel, channel}
 use Rattle.flume_model.specs.Replies.{IsRun}
 use Rattle.flume_model.proofs.Fits.{Fits, not_over_yet}
 use Rattle.flume_model.proofs.EntryShape.{told_filled, fits_run}
-use Rattle.flume_model.proofs.Parts.{at_most, front_at, blocked_at, leave_within}
-use Rattle.flume_model.proofs.Runs.{shape_of}
-use Rattle.flume_model.proofs.Kept.{keeps_line}
-use Rattle.flume_model.proofs.LineSteps.{line_queues, line_blocks, line_takes, line_drains, line_leaves, line_withdraws, line_stays}
+use Rattle.flume_model.proofs.order.Parts.{at_most, front_at, blocked_at, leave_within}
+use Rattle.flume_model.proofs.order.Runs.{shape_of}
+use Rattle.flume_model.proofs.order.Kept.{keeps_line}
+use Rattle.flume_model.proofs.order.LineSteps.{line_queues, line_blocks, line_takes, line_drains, line_leaves, line_withdraws, line_stays}
 
 module _ {T : Type 0} where
   -- what holds of the channel before a step of a run

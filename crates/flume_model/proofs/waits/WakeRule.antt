@@ -1,5 +1,5 @@
 -- A wake round follows its rule, and nothing else does.
-use Rattle.std.proofs.Common.{◌≡◌, ◌≢◌, ◌⊎◌, inl, inr, ℕ, Bool, true, false, if◌then◌else◌, List, [], ◌∷◌, ◌++◌, Option, Some, None}
+use Rattle.std.proofs.Common.{◌≡◌, ◌≢◌, inl, inr, ℕ, true, if◌then◌else◌, List, [], ◌∷◌, ◌++◌, Option, Some, None}
 use Rattle.std.proofs.Common.{refl, sym, ◌∙◌, ap}
 use Rattle.std.specs.List.{All}
 use Rattle.std.proofs.lemmas.List.{append-nil}
@@ -11,7 +11,7 @@ use Rattle.flume_model.specs.declared.entry.Mark.{Mark}
 use Rattle.flume_model.specs.declared.entry.Mark.TheVariants.{Waiting, Woken, Filled}
 use Rattle.flume_model.specs.Entries.{is_waiting, marked, round, round_fills, all_woken}
 use Rattle.flume_model.specs.WaitLaws.{is_block}
-use Rattle.flume_model.specs.WakeRule.{IsPassed, EndsAtOne, EndsAtNone, IsWakeRound}
+use Rattle.flume_model.specs.WakeRule.{IsPassed, IsWakeRound}
 
 module _ {T N : Type 0} where
   -- the entry with this kind and mark
@@ -61,13 +61,16 @@ module _ {T N : Type 0} where
   is_wake_round tell front (e ∷ es) = by_mark e.kind e.mark (is_wake_round tell front es)
     where
       by_mark : (k : Kind) (mark : Mark T) → IsWakeRound tell front es (round tell front es) (round_fills es)
-          → IsWakeRound tell front (stands_as e k mark ∷ es) (round tell front (stands_as e k mark ∷ es)) (round_fills (stands_as e k mark ∷ es))
+          → IsWakeRound tell front (stands_as e k mark ∷ es) (round tell front (stands_as e k mark ∷ es))
+          (round_fills (stands_as e k mark ∷ es))
       by_mark Block Waiting rest = ends tell front (stands_as e Block Waiting) es refl (λ is. (let none : ⊥ = cc in none))
       by_mark Plain Waiting rest = ends tell front (stands_as e Plain Waiting) es refl (λ is. (let none : ⊥ = cc in none))
       by_mark Stream Waiting rest = goes_past tell front (stands_as e Stream Waiting) es _ _ (λ is. refl) rest
       by_mark Arm Waiting rest = ends tell front (stands_as e Arm Waiting) es refl (λ is. (let none : ⊥ = cc in none))
-      by_mark k Woken rest = goes_past tell front (stands_as e k Woken) es _ _ (λ is. absurd (let none : ⊥ = cc in none)) rest
-      by_mark k (Filled held) rest = goes_past tell front (stands_as e k (Filled held)) es _ _ (λ is. absurd (let none : ⊥ = cc in none)) rest
+      by_mark k Woken rest =
+          goes_past tell front (stands_as e k Woken) es _ _ (λ is. absurd (let none : ⊥ = cc in none)) rest
+      by_mark k (Filled held) rest =
+          goes_past tell front (stands_as e k (Filled held)) es _ _ (λ is. absurd (let none : ⊥ = cc in none)) rest
 
   -- a round wakes those of these that wait, all streams, and goes on behind them
   round_past : (tell : N → N) (front : T) (before rest : List (Entry T N)) → All IsPassed before
@@ -78,7 +81,8 @@ module _ {T N : Type 0} where
       (round_past tell front before rest (All-tail IsPassed e before passed))
     where
       Passes : List (Entry T N) → Type 0
-      Passes es = (round tell front (es ++ rest) ≡ all_woken tell es ++ round tell front rest) × (round_fills (es ++ rest) ≡ round_fills rest)
+      Passes es =
+          (round tell front (es ++ rest) ≡ all_woken tell es ++ round tell front rest) × (round_fills (es ++ rest) ≡ round_fills rest)
 
       by_mark : (k : Kind) (mark : Mark T) → (is_waiting mark ≡ true → k ≡ Stream) → Passes before → Passes (stands_as e k mark ∷ before)
       by_mark Stream Waiting stream on = (ap (λ l. marked tell Woken (stands_as e Stream Waiting) ∷ l) on.0, on.1)
@@ -108,15 +112,13 @@ module _ {T N : Type 0} where
       → IsWakeRound tell front old new filled → (new ≡ round tell front old) × (filled ≡ round_fills old)
   only_wake_round tell front old new filled (inl one) =
       let past = round_past tell front one.before (one.first ∷ one.later) one.passed in
-      let here = at_first tell front one.first one.later one.waits one.no_stream in
-      (
+      let here = at_first tell front one.first one.later one.waits one.no_stream in (
         one.new_are ∙ sym (ap (round tell front) one.old_are ∙ past.0 ∙ ap (λ l. all_woken tell one.before ++ l) here.0),
         one.fills ∙ sym (ap round_fills one.old_are ∙ past.1 ∙ here.1),
       )
   only_wake_round tell front old new filled (inr none) =
       let past = round_past tell front old [] none.passed in
-      let all = append-nil old in
-      (
+      let all = append-nil old in (
         none.new_are ∙ sym (ap (round tell front) (sym all) ∙ past.0 ∙ append-nil (all_woken tell old)),
         none.fills ∙ sym (ap round_fills (sym all) ∙ past.1),
       )

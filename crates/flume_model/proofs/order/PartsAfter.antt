@@ -14,8 +14,8 @@ use Rattle.flume_model.specs.Entries.{leave_fills}
 use Rattle.flume_model.specs.Parked.{entries}
 use Rattle.flume_model.specs.Channel.{IsFront, channel}
 use Rattle.flume_model.proofs.Fits.{Fits}
-use Rattle.flume_model.proofs.Kept.{kept_by, handed_by, open_line, not_withdrawn, kept_more, kept_less, kept_same}
-use Rattle.flume_model.proofs.Parts.{ShownIs, Parts, Shape, at_most, front_at, open_at, line_is_rest, withdrawn_at, leave_within}
+use Rattle.flume_model.proofs.order.Kept.{kept_by, handed_by, open_line, not_withdrawn, kept_more, kept_less, kept_same}
+use Rattle.flume_model.proofs.order.Parts.{ShownIs, Parts, Shape, at_most, front_at, open_at, line_is_rest, withdrawn_at, leave_within}
 
 module _ {T : Type 0} where
   -- one more offer

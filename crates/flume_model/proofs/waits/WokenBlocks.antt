@@ -21,8 +21,8 @@ use Rattle.flume_model.specs.Replies.{IsRun}
 use Rattle.flume_model.specs.WaitLaws.{is_block, block_woken, WokenBlockWhileClosed}
 use Rattle.flume_model.proofs.Fits.{Fits}
 use Rattle.flume_model.proofs.EntryLists.{round_for_push, again_cases, leave_cases}
-use Rattle.flume_model.proofs.WaitingSteps.{Stood, Long, stepped, nobody_once_over, line_long}
-use Rattle.flume_model.proofs.WaitingOpen.{whole_by, none_blocked_by}
+use Rattle.flume_model.proofs.waits.WaitingSteps.{Stood, Long, stepped, nobody_once_over, line_long}
+use Rattle.flume_model.proofs.waits.WaitingOpen.{whole_by, none_blocked_by}
 
 -- what is shown of a channel that has so many ends: it is closed, and the queue is the whole line
 abbrev ClosedWhole : ℕ → ℕ → ℕ → ℕ → Type 0

@@ -17,17 +17,17 @@ use Rattle.flume_model.specs.Entries.{held_by}
 use Rattle.flume_model.specs.Fills.{FillIs, IsOf, shows_to, shown}
 use Rattle.flume_model.specs.Laws.{InOrder}
 use Rattle.flume_model.proofs.EntryChanges.{fills}
-use Rattle.flume_model.proofs.FillsKept.{held_by_change, first_up, filled_holds, filled_stood}
-use Rattle.flume_model.proofs.FillsShown.{shows_leaves, collects_shows, shows_held, shows_stood, neither, unshown}
+use Rattle.flume_model.proofs.fills.FillsKept.{held_by_change, first_up, filled_holds, filled_stood}
+use Rattle.flume_model.proofs.fills.FillsShown.{shows_leaves, collects_shows, shows_held, shows_stood, neither, unshown}
 use Rattle.flume_model.proofs.Fits.{Fits, not_over_yet}
 use Rattle.flume_model.proofs.EntryShape.{told_filled, entries_apart, fits_run}
-use Rattle.flume_model.proofs.Kept.{kept_by, line_is_open, not_withdrawn, kept_more, kept_same}
-use Rattle.flume_model.proofs.Parts.{ShownIs, Shape, given_within}
+use Rattle.flume_model.proofs.order.Kept.{kept_by, line_is_open, not_withdrawn, kept_more, kept_same}
+use Rattle.flume_model.proofs.order.Parts.{ShownIs, Shape, given_within}
 use Rattle.flume_model.proofs.Places.{rest_at, at_either, at_front}
-use Rattle.flume_model.proofs.Runs.{shape_of, placed}
-use Rattle.flume_model.proofs.TicketLaws.{handed_out_stay}
+use Rattle.flume_model.proofs.order.Runs.{shape_of, placed}
+use Rattle.flume_model.proofs.order.TicketLaws.{handed_out_stay}
 use Rattle.flume_model.proofs.WaitLists.{fills_waiting}
-use Rattle.flume_model.proofs.WaitingSteps.{nobody_once_over}
+use Rattle.flume_model.proofs.waits.WaitingSteps.{nobody_once_over}
 use Rattle.std.proofs.lemmas.Bool.{cond-false}
 use Rattle.std.proofs.lemmas.List.{append-nil, drop-append-le, map-append, take_all, take-append-drop}
 

@@ -1,6 +1,0 @@
--- The laws of parked receivers that hold of each run.
-pub use Rattle.flume_model.proofs.EntryShape.{told_filled, entries_apart, sides_apart}
-pub use Rattle.flume_model.proofs.Covering.{covered}
-pub use Rattle.flume_model.proofs.Bounding.{bounded}
-pub use Rattle.flume_model.proofs.WaitingOpen.{waits_while_open, nothing_once_over}
-pub use Rattle.flume_model.proofs.WokenBlocks.{woken_block_while_closed}

@@ -1,0 +1,5 @@
+-- The message that a hand-out is of.
+pub mod FillsKept
+pub mod FillsShown
+pub mod FillsOrder
+pub mod FillsBeside

@@ -1,0 +1,8 @@
+-- The laws of parked receivers.
+pub mod WaitingSteps
+pub mod Covering
+pub mod Bounding
+pub mod WaitingOpen
+pub mod WokenBlocks
+pub mod WaitingLaws
+pub mod WakeRule
