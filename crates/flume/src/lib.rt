@@ -29,7 +29,7 @@ pub use flume_calls::{calls, due, gates};
 pub use flume_core::error::{
     RecvError, RecvTimeoutError, SendError, SendTimeoutError, TryRecvError, TrySendError,
 };
-pub use flume_core::{chan, error, reached, run, step};
+pub use flume_core::{chan, error, facts, run, step};
 pub use into_iter::IntoIter;
 pub use iterators::{Iter, TryIter};
 pub use opening::{bounded, unbounded};

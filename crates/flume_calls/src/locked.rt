@@ -16,7 +16,7 @@ ghost use Rattle.flume_calls.specs.AtRest.{IsAtRest, IsCall};
 use crate::calls::{RecvCall, RecvNext, SendCall, SendNext};
 use crate::due::{Bell, fire_due};
 use flume_core::chan::Chan;
-use flume_core::reached::facts::facts_of_channel;
+use flume_core::facts::facts;
 use flume_core::step::{Kind, Reply, Step};
 use std::alloc::Allocator;
 use std::marker::Model;
@@ -63,7 +63,7 @@ impl<T: Drop, S: Drop, A: Allocator + Copy> Locked<T, S, A> {
         ensures no_send_is_due { NoneDue self.now.sends }
         ensures no_receiver_is_due { NoneDueIn self.now.entries }
     {
-        facts_of_channel(&self.chan);
+        facts(&self.chan);
     }
 
     /// The channel, to be asked. A query changes nothing.

@@ -73,10 +73,10 @@ module _ {T A S : Type 0} where
   taken_back o log step old new t r h waiting changes replies returns absent (inl none) =
       absurd (none_blocked_if_absent t old.blocked (rw (← blocked_is h) waiting.1) (absent none))
   taken_back o log step old new t r h waiting changes replies returns absent (inr (m, closed, is)) =
-      let left = returns m closed is in
-      let blocked_ = is_blocked h t m left.before left.later left.found waiting.0 in
-      withdraws o log (step, r) old new t m left.before left.later h (replies m closed is blocked_ left.told) (changes m closed is)
-      left.found left.left
+      let back = returns m closed is in
+      let blocked_ = is_blocked h t m back.before back.later back.found waiting.0 in
+      withdraws o log (step, r) old new t m back.before back.later h (replies m closed is blocked_ back.closed_is) (changes m closed is)
+      back.found back.becomes
 
   -- where this message comes to the front, the line begins with it
   pub front_line : (o : Opening) (log : Log T A) (s : State T S) (m : T) (rest : List T) → StandsFor o log s

@@ -9,7 +9,7 @@ use Rattle.flume_model.specs.declared.entry.Entry.{Entry}
 use Rattle.flume_model.specs.declared.entry.Mark.TheVariants.{Waiting}
 use Rattle.flume_state.specs.declared.entries.Notice.{Notice}
 use Rattle.flume_model.specs.Entries.{is_waiting, is_woken, some_wait, waiting_count, round, round_fills, round_for}
-use Rattle.flume_model.specs.Entries.{round_for_fills, all_woken, entry_of, without, again_as, again, passes_on, after_leave, leave_fills}
+use Rattle.flume_model.specs.Entries.{round_for_fills, all_woken, entry_of, held_by, without, again_as, again, passes_on, after_leave, leave_fills}
 use Rattle.flume_model.specs.Parked.{untold}
 use Rattle.flume_state.specs.Receivers.{noticed}
 use Rattle.flume_state.specs.State.{bare}
@@ -34,6 +34,11 @@ module _ {T N : Type 0} where
           → entry_of t (map bare (e ∷ es)) ≡ option_map bare (entry_of t (e ∷ es))
       by_case true same rest = simp same refl
       by_case false other rest = simp other rest
+
+  -- the message that it holds
+  pub bare_held : (found : Option (Entry T N)) → held_by (option_map bare found) ≡ held_by found
+  bare_held None = refl
+  bare_held (Some e) = refl
 
   -- the others
   pub bare_without : (t : ℕ) (es : List (Entry T N)) → map bare (without t es) ≡ without t (map bare es)

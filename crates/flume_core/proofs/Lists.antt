@@ -4,15 +4,20 @@ use Rattle.std.proofs.lemmas.List.{append-nil}
 use Rattle.std.proofs.Math.Seq.{take-append_seam, drop-append_seam}
 use Rattle.flume_model.specs.declared.step.Step.{Step}
 use Rattle.flume_model.specs.declared.step.Reply.{Reply}
-use Rattle.flume_model.specs.Log.{Log, Opening, Offer}
+use Rattle.flume_model.specs.Log.{Log, Opening, Offer, HandOut, Shown, FilledIn}
 use Rattle.flume_model.specs.Offers.{after, kept, hand_outs}
 use Rattle.flume_model.specs.Counts.{is_over}
 use Rattle.flume_model.specs.Line.{line, boundary, messages}
+use Rattle.flume_model.specs.Entries.{entry_of, held_by}
+use Rattle.flume_model.specs.Parked.{entries}
+use Rattle.flume_model.specs.Fills.{FillIs, IsOf, shown}
+use Rattle.flume_model.specs.Laws.{InOrder}
 use Rattle.flume_state.specs.State.{State, offers_of}
 use Rattle.flume_core.specs.StandsFor.{StandsFor, Extends}
 use Rattle.flume_core.specs.Headline.{Headline}
 use Rattle.flume_model.proofs.fills.FillsOrder.{in_order}
-use Rattle.flume_core.proofs.Views.{queued_length, line_messages}
+use Rattle.flume_core.proofs.Bare.{bare_held}
+use Rattle.flume_core.proofs.Views.{entry_at_log, queued_length, line_messages}
 use Rattle.flume_model.proofs.order.LineSteps.{line_over}
 use Rattle.flume_core.proofs.StateFacts.{woken_cover, queued_bounded}
 
@@ -78,10 +83,24 @@ module _ {T A S : Type 0} where
   blocked_are_rest o log s h open_ =
       rw (sym (left_is o log s h open_), ← h.boundary_is, ← queued_length h, drop-append_seam h.queued (offers_of s.blocked)) refl
 
+  -- a hand-out is of the same message by the entries of the state as by those of the log
+  same_hand_out : (o : Opening) (log : Log T A) (s : State T S) → StandsFor o log s
+      → (given : HandOut T) (m : T) → IsOf (entries o log) log given m → IsOf s.entries log given m
+  same_hand_out o log s h (Shown shows) m of_it = of_it
+  same_hand_out o log s h (FilledIn t) m of_it =
+      subst (λ held. FillIs (is_over log) (shown log t) held m)
+      (ap held_by (entry_at_log h t) ∙ bare_held (entry_of t s.entries)) of_it
+
+  -- so the messages are handed out in order by the entries of the state too
+  order : (o : Opening) (log : Log T A) (s : State T S) → StandsFor o log s → InOrder s.entries log
+  order o log s h j given at =
+      let found = in_order o log h.run j given at in
+      (found.0, found.1, same_hand_out o log s h given found.0.message found.2)
+
   -- what stands for a log has the headline
   pub headline : (o : Opening) (log : Log T A) (s : State T S) → StandsFor o log s → Headline o log s
   headline o log s h = record {
-    in_order = in_order o log h.run;
+    in_order = order o log s h;
     queue_is_front = queue_is_front o log s h;
     blocked_are_rest = blocked_are_rest o log s h;
     replies_lawful = h.run;

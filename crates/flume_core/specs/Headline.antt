@@ -4,17 +4,18 @@ use Rattle.flume_model.specs.Log.{Log, Opening}
 use Rattle.flume_model.specs.Offers.{kept, hand_outs}
 use Rattle.flume_model.specs.Counts.{is_over}
 use Rattle.flume_model.specs.Line.{boundary, messages}
-use Rattle.flume_model.specs.Parked.{entries}
 use Rattle.flume_model.specs.Replies.{IsRun}
 use Rattle.flume_model.specs.Laws.{InOrder}
+use Rattle.flume_model.specs.Beginnings.{IsBeginning}
 use Rattle.flume_state.specs.State.{State, offers_of}
+use Rattle.flume_core.specs.StandsFor.{StandsFor}
 use Rattle.flume_core.specs.StateFacts.{WokenCoverQueued, QueuedAndWaitingAreBounded}
 
 module _ {T A S : Type 0} where
   -- after the steps and replies of the log, the channel is in this state
   pub record Headline (opening : Opening) (log : Log T A) (s : State T S) : Type 0 where
     -- the j-th message handed out is the message of the j-th offer that wasn't withdrawn
-    pub in_order : InOrder (entries opening log) log
+    pub in_order : InOrder s.entries log
     -- the queued messages are those of the offers that come next
     pub queue_is_front :
         s.queue ≡ messages (take (boundary opening log) (drop (hand_outs log) (kept log)))
@@ -28,3 +29,10 @@ module _ {T A S : Type 0} where
     pub woken_cover : WokenCoverQueued s
     -- queued messages and waiting receivers are at most the greater of the capacity and the peak
     pub queue_bounded : QueuedAndWaitingAreBounded s
+
+module _ {T A : Type 0} where
+  -- the headline at each moment: of each log that the log began with, and each state that it led to
+  abbrev pub HeadlineThroughout : Type 0 → Opening → Log T A → Type 0
+  HeadlineThroughout S opening log =
+      (before : Log T A) → IsBeginning log before
+      → (s : State T S) → StandsFor opening before s → Headline opening before s

@@ -69,7 +69,7 @@ impl<T: Drop, S: Drop, A: Allocator + Copy> Chan<T, S, A> {
         Chan::starting_at(alloc, capacity, 1)
     }
 
-    /// The same with `ticket` as its first ticket. Takes no memory.
+    /// A channel as `new` makes it, with `ticket` as its first ticket. Takes no memory.
     ///
     /// ```
     /// let mut chan: Chan<u64, ()> = Chan::starting_at(alloc, Some(0), 5);

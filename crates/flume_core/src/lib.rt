@@ -1,8 +1,8 @@
-//! The channel without its lock: its state, its steps, lists of steps, and scripts.
+//! The channel without its lock: its steps, lists of steps, and what holds of its state.
 #![tactic(auto)]
 
 pub mod chan;
-pub mod reached;
+pub mod facts;
 pub mod run;
 
 pub use flume_error::error;

@@ -4,7 +4,7 @@ ghost use Rattle.flume_model.specs.Log.{Log, Opening};
 ghost use Rattle.flume_model.specs.Offers.{after};
 ghost use Rattle.flume_core.specs.StandsFor.{StandsFor};
 ghost use Rattle.flume_model.specs.Beginnings.{HoldsThroughout};
-ghost use Rattle.flume_core.specs.Headline.{Headline};
+ghost use Rattle.flume_core.specs.Headline.{Headline, HeadlineThroughout};
 
 use crate::chan::Chan;
 use flume_model::step::{Reply, Step};
@@ -33,6 +33,9 @@ pub fn run<T: Drop, A: Allocator + Copy>(
     ensures throughout { IfOk result (λ replies. (opening : Opening) (log : Log T A)
         → StandsFor opening log chan.old
         → HoldsThroughout opening (after log steps.items replies.items)) }
+    ensures headline_throughout { IfOk result (λ replies. (opening : Opening) (log : Log T A)
+        → StandsFor opening log chan.old
+        → HeadlineThroughout (Unit {0}) opening (after log steps.items replies.items)) }
     ensures one_each { IfOk result (λ replies. vec_len replies ≡ vec_len steps) }
     ensures returned { IfErr result (λ back. back.items ≡ steps.items) }
     ensures unchanged { OnErr result (chan.new ≡ chan.old) }
@@ -60,4 +63,6 @@ pub fn headline_of_steps<T, S, A: Allocator>(chan: &Chan<T, S, A>)
         → StandsFor opening log chan.now → Headline opening log chan.now }
     ensures throughout { (opening : Opening) (log : Log T A)
         → StandsFor opening log chan.now → HoldsThroughout opening log }
+    ensures headline_throughout { (opening : Opening) (log : Log T A)
+        → StandsFor opening log chan.now → HeadlineThroughout S opening log }
 {}

@@ -37,16 +37,16 @@ module _ {T S : Type 0} where
   abbrev pub admitted : State T S → State T S
   admitted s = admitted_from s.blocked s
 
-  -- the same where the queue has room
+  -- the state whose first blocked message has joined the queue, where the queue has room
   abbrev pub refilled : State T S → State T S
   refilled s = if not (is_full s.capacity (length s.queue)) then admitted s else s
 
-  -- the same where this queue is empty
+  -- the state whose first blocked message has joined the queue, where this queue is empty
   abbrev pub fronted_from : List T → State T S → State T S
   fronted_from [] s = admitted s
   fronted_from (m ∷ rest) s = s
 
-  -- the same where the queue is empty
+  -- the state whose first blocked message has joined the queue, where none is queued
   abbrev pub fronted : State T S → State T S
   fronted s = fronted_from s.queue s
 
@@ -60,7 +60,7 @@ module _ {T S : Type 0} where
         sends = changed s.sends b.ticket accepted_now;
       })
 
-  -- the same of all blocked ones
+  -- the state whose queue takes blocked messages in while it has room
   abbrev pub filled_up : State T S → State T S
   filled_up s = filled_up_from s.blocked s
 
@@ -79,7 +79,8 @@ module _ {T S : Type 0} where
   abbrev pub taken : List T → State T S → State T S
   taken rest s = refilled (record (fronted s) { queue = rest })
 
-  -- the same, where its wake is passed on
+  -- the state without the parked receiver that has this ticket, and after a wake round where it
+  -- passes its wake on
   abbrev pub departed : ℕ → State T S → State T S
   departed ticket s =
       if passes_on (entry_of ticket s.entries) then rounded (unparked ticket s)
@@ -103,7 +104,7 @@ module _ {T S : Type 0} where
   pub record Begins (old new : State T S) (ticket : ℕ) (kind : Kind) (signal : S) : Type 0 where
     pub nothing : (fronted old).queue ≡ []
     pub is_open : IsOpen old.senders old.receivers
-    pub left : old.next < most
+    pub below_most : old.next < most
     pub next_is : ticket ≡ old.next
     pub parked : new ≡ waiting_so (old.entries ++ begins ticket kind signal ∷ [])
         (record old { next = old.next + 1 })
@@ -112,18 +113,18 @@ module _ {T S : Type 0} where
   pub record Departs (old new : State T S) (ticket : ℕ) (closed : Bool) (filled : Option ℕ)
       : Type 0 where
     pub fills : filled ≡ leave_fills ticket old.queue old.entries
-    pub left : new ≡ departed ticket old
-    pub told : closed ≡ is_closed old.senders old.receivers
+    pub becomes : new ≡ departed ticket old
+    pub closed_is : closed ≡ is_closed old.senders old.receivers
 
   -- a message joins the queue, and a wake round follows, which fills this receiver, if it fills one
   pub record Joins (old new : State T S) (message : T) (filled : Option ℕ) : Type 0 where
     pub fills : filled ≡ round_for_fills (old.queue ++ message ∷ []) old.entries
-    pub left : new ≡ rounded (record old { queue = old.queue ++ message ∷ [] })
+    pub becomes : new ≡ rounded (record old { queue = old.queue ++ message ∷ [] })
 
   -- the blocked message with this ticket comes back, and the ticket is spent
   pub record Returns (old new : State T S) (ticket : ℕ) (message : T) (closed : Bool) : Type 0 where
     pub before : List (Blocked T)
     pub later : List (Blocked T)
     pub found : old.blocked ≡ before ++ record { ticket = ticket; message = message } ∷ later
-    pub left : new ≡ record old { blocked = before ++ later; sends = remove old.sends ticket }
-    pub told : closed ≡ is_closed old.senders old.receivers
+    pub becomes : new ≡ record old { blocked = before ++ later; sends = remove old.sends ticket }
+    pub closed_is : closed ≡ is_closed old.senders old.receivers

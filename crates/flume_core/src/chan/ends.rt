@@ -67,7 +67,7 @@ impl<T: Drop, S: Drop, A: Allocator + Copy> Chan<T, S, A> {
         ensures comes { Comes Step.DropSender result }
         ensures done { (result ≡ Reply.Done) ↔ (0 < self.old.senders) }
         ensures no_end { (result ≡ Reply.NoEnd) ↔ (self.old.senders ≡ 0) }
-        ensures left { 0 < self.old.senders → self.new
+        ensures becomes { 0 < self.old.senders → self.new
             ≡ after_leaving (not (is_closed self.old.senders self.old.receivers))
             (record self.old { senders = self.old.senders - 1 }) }
         ensures unchanged { IsRefusal result → self.new ≡ self.old }
@@ -87,7 +87,7 @@ impl<T: Drop, S: Drop, A: Allocator + Copy> Chan<T, S, A> {
         ensures comes { Comes Step.DropReceiver result }
         ensures done { (result ≡ Reply.Done) ↔ (0 < self.old.receivers) }
         ensures no_end { (result ≡ Reply.NoEnd) ↔ (self.old.receivers ≡ 0) }
-        ensures left { 0 < self.old.receivers → self.new
+        ensures becomes { 0 < self.old.receivers → self.new
             ≡ after_leaving (not (is_closed self.old.senders self.old.receivers))
             (record self.old { receivers = self.old.receivers - 1 }) }
         ensures unchanged { IsRefusal result → self.new ≡ self.old }

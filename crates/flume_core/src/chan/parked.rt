@@ -50,7 +50,7 @@ impl<T: Drop, S: Drop, A: Allocator + Copy> Chan<T, S, A> {
             ↔ (standing ticket self.old.entries ≡ Some BlockWaiting)
             ⊎ ((looks (standing ticket self.old.entries) ≡ true)
             × ((fronted self.old).queue ≡ []) × IsOpen self.old.senders self.old.receivers) }
-        ensures left { result ≡ Reply.Ended → self.new ≡ unparked ticket self.old }
+        ensures leaves_at_end { result ≡ Reply.Ended → self.new ≡ unparked ticket self.old }
         ensures waits { result ≡ Reply.Waiting → self.new ≡ waiting_so
             (again ticket (noticed (waits_on signal) ticket self.old.entries)) self.old }
         ensures unchanged { ChangesNothing (Step.Poll ticket) result → self.new ≡ self.old }
@@ -146,7 +146,7 @@ impl<T: Drop, S: Drop, A: Allocator + Copy> Chan<T, S, A> {
         requires filled { standing ticket self.old.entries ≡ Some Filled }
         ensures got { (message : T) × (held_by (entry_of ticket self.old.entries) ≡ Some message)
             × (result ≡ Reply.Got message) }
-        ensures left { self.new ≡ unparked ticket self.old }
+        ensures becomes { self.new ≡ unparked ticket self.old }
     {
         match self.entries.remove(ticket) {
             Some(message) => Reply::Got(message),
@@ -168,7 +168,7 @@ impl<T: Drop, S: Drop, A: Allocator + Copy> Chan<T, S, A> {
         requires woken { woken ≡ passes_on (entry_of ticket self.old.entries) }
         ensures gone { result ≡ Reply.Gone (is_closed self.old.senders self.old.receivers)
             (leave_fills ticket self.old.queue self.old.entries) }
-        ensures left { self.new ≡ departed ticket self.old }
+        ensures becomes { self.new ≡ departed ticket self.old }
     {
         self.entries.remove(ticket);
         let closed = !self.is_open();

@@ -114,7 +114,7 @@ impl<T: Drop, S: Drop, A: Allocator + Copy> Chan<T, S, A> {
         ensures no_ticket { get self.old.sends ticket ≡ None → result ≡ Reply.NoTicket }
         ensures accepted { (result ≡ Reply.Accepted)
             ↔ (accepted_at self.old ticket ≡ Some true) }
-        ensures spent { result ≡ Reply.Accepted
+        ensures removed { result ≡ Reply.Accepted
             → self.new ≡ record self.old { sends = remove self.old.sends ticket } }
         ensures returned { (message : T) (closed : Bool) → result ≡ Reply.Returned message closed
             → Returns self.old self.new ticket message closed }
@@ -145,7 +145,7 @@ impl<T: Drop, S: Drop, A: Allocator + Copy> Chan<T, S, A> {
         ensures no_ticket { get self.old.sends ticket ≡ None → result ≡ Reply.NoTicket }
         ensures accepted { (result ≡ Reply.Accepted)
             ↔ (accepted_at self.old ticket ≡ Some true) }
-        ensures spent { result ≡ Reply.Accepted
+        ensures removed { result ≡ Reply.Accepted
             → self.new ≡ record self.old { sends = remove self.old.sends ticket } }
         ensures returned { (message : T) (closed : Bool) → result ≡ Reply.Returned message closed
             → Returns self.old self.new ticket message closed }
@@ -168,7 +168,7 @@ impl<T: Drop, S: Drop, A: Allocator + Copy> Chan<T, S, A> {
     // Tells a sender that its message was taken in.
     fn learn(&mut self, ticket: u64) -> Reply<T, A>
         ensures accepted { result ≡ Reply.Accepted }
-        ensures spent { self.new ≡ record self.old { sends = remove self.old.sends ticket } }
+        ensures removed { self.new ≡ record self.old { sends = remove self.old.sends ticket } }
     {
         self.sends.spend(ticket);
         Reply::Accepted

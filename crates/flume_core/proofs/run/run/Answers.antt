@@ -15,6 +15,9 @@ returns-clause-headline g c o log h = headline o _ _ (returns-clause-steps g c o
 pub returns-clause-throughout : goal.returns-clause-throughout
 returns-clause-throughout g c o log h = throughout o _ (returns-clause-steps g c o log h).run
 
+pub returns-clause-headline_throughout : goal.returns-clause-headline_throughout
+returns-clause-headline_throughout g c o log h before is s stands = headline o before s stands
+
 pub loop-step-init : goal.loop-step-init
 loop-step-init g c = record {
   done = rw (c.from_vec-rest.ensures.items, (let none : c.in-Ok.replies.items ≡ [] = search rules in none))

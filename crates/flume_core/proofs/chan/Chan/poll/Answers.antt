@@ -34,7 +34,7 @@ returns-in-Some-take_front g c =
       got = search (rules, is, front);
       ended = search (rules, is, front);
       waiting = search (rules, is, front);
-      left = search rules;
+      leaves_at_end = search rules;
       waits = search rules;
       unchanged = search rules;
     }
@@ -55,7 +55,7 @@ returns-then-is_open g c =
       got = search (rules, none);
       ended = search (rules, open_);
       waiting = search (rules, is, looking, none, open_);
-      left = search rules;
+      leaves_at_end = search rules;
       waits = search rules;
       unchanged = search rules;
     }
@@ -75,7 +75,7 @@ returns g c =
       got = search (rules, none);
       ended = search (rules, is, looking, none, closed);
       waiting = search (rules, is, closed);
-      left = search rules;
+      leaves_at_end = search rules;
       waits = search rules;
       unchanged = search rules;
     }
