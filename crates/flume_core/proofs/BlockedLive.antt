@@ -18,7 +18,7 @@ use Rattle.flume_model.specs.Replies.{IsRun}
 use Rattle.flume_model.proofs.Tickets.{has_ticket-append}
 use Rattle.flume_model.proofs.Fits.{Fits, fits, not_over_yet}
 use Rattle.flume_model.proofs.EntryShape.{told_filled}
-use Rattle.flume_model.proofs.order.Kept.{open_line, line_by, line_is_open, line_more, line_left, line_drained, line_front}
+use Rattle.flume_model.proofs.order.Kept.{open_line, line_by, line_is_open, line_more, line_after_leave, line_drained, line_front}
 use Rattle.flume_model.proofs.order.Kept.{line_less, line_same}
 use Rattle.flume_model.proofs.order.Kept.{keeps_line}
 use Rattle.flume_model.proofs.order.Parts.{at_most, given_within, front_at}
@@ -145,7 +145,7 @@ module _ {T A : Type 0} where
   left_by o past (Leaves u filled) run h open_ t is =
       let k = boundary o past - how_many filled in
       let all : blocked_by o past (Leaves u filled) ≡ drop (how_many filled + k) (line past) =
-      ap (drop k) (line_left past u filled ∙ ap (drop (how_many filled)) (sym (line_is_open past open_)))
+      ap (drop k) (line_after_leave past u filled ∙ ap (drop (how_many filled)) (sym (line_is_open past open_)))
       ∙ drop-drop k (how_many filled) (line past) in
       inr (has_behind t (boundary o past) (how_many filled + k) (line past) (omega arith) (sym (ap (has_ticket t) all) ∙ is), refl)
   left_by o past (Accepts u) run h open_ t is =

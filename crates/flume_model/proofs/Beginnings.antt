@@ -23,6 +23,6 @@ module _ {T A : Type 0} where
     queue_bounded = bounded o log lawful;
   }
 
-  -- they hold at each moment of it
+  -- the laws of a run hold at each moment of it
   pub throughout : (o : Opening) (log : Log T A) → IsRun o log → HoldsThroughout o log
   throughout o log lawful before began = holds o before (run_before o began.0 before (subst (IsRun o) began.1 lawful))

@@ -27,7 +27,7 @@ module _ {T : Type 0} where
   apart_round : (n : ℕ) (front : T) (es : List (LogEntry T)) → Apart n es → Apart n (round untold front es)
   apart_round n front es h = apart_same n es (round untold front es) (sym (tickets_round untold front es)) h
 
-  -- it gives no entry a ticket that none had
+  -- a wake round gives no entry a ticket that none had
   none_round : (t : ℕ) (front : T) (es : List (LogEntry T)) → entry_of t es ≡ None → entry_of t (round untold front es) ≡ None
   none_round t front es h = none_same t es (round untold front es) (sym (tickets_round untold front es)) h
 
@@ -42,7 +42,7 @@ module _ {T : Type 0} where
   none_close t true es h = none_same t es _ (sym (tickets_woken untold es)) h
   none_close t false es h = h
 
-  -- and those entries are filled that were
+  -- where an end leaves, those entries are filled that were
   filled_close : (was : ℕ → Bool) (closes : Bool) (es : List (LogEntry T)) → FilledBy was es
       → FilledBy was (if closes then all_woken untold es else es)
   filled_close was true es h = filled_woken untold was es h

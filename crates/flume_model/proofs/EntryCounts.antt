@@ -1,5 +1,5 @@
 -- How many entries wait and how many stand woken, after a wake round, a leave and one more entry.
-use Rattle.std.proofs.Common.{◌≡◌, ℕ, ◌+◌, ◌<◌, ◌≤◌, Bool, true, false, if◌then◌else◌, eqb, List, [], ◌∷◌, ◌++◌, Option, Some, refl, ap}
+use Rattle.std.proofs.Common.{◌≡◌, ℕ, ◌+◌, ◌<◌, ◌≤◌, Bool, true, false, if◌then◌else◌, eqb, List, [], ◌∷◌, Option, Some, refl, ap}
 use Rattle.std.proofs.Common.{arith}
 use Rattle.flume_model.specs.declared.step.Kind.{Kind}
 use Rattle.flume_model.specs.declared.step.Kind.TheVariants.{Block, Plain, Stream, Arm}
@@ -67,17 +67,17 @@ module _ {T N : Type 0} where
           record { total = omega arith; no_more = omega arith; fewer = λ some. (let less = rest.fewer some in omega arith) }
 
   -- what a leave does to the counts
-  pub record Left (es after : List (Entry T N)) (m : Mark T) : Type 0 where
+  pub record OneFewer (es after : List (Entry T N)) (m : Mark T) : Type 0 where
     pub waiting : waiting_count after + waits_one m ≡ waiting_count es
     pub woken : woken_count after + woken_one m ≡ woken_count es
 
   -- where an entry leaves, it is no longer counted
-  pub without_counts : (t : ℕ) (e : Entry T N) (es : List (Entry T N)) → entry_of t es ≡ Some e → Left es (without t es) e.mark
+  pub without_counts : (t : ℕ) (e : Entry T N) (es : List (Entry T N)) → entry_of t es ≡ Some e → OneFewer es (without t es) e.mark
   without_counts t e [] h = absurd (let none : ⊥ = cc in none)
   without_counts t e (x ∷ es) h = by_case (eqb x.ticket t) refl (without_counts t e es)
     where
-      by_case : (b : Bool) → eqb x.ticket t ≡ b → (entry_of t es ≡ Some e → Left es (without t es) e.mark)
-          → Left (x ∷ es) (without t (x ∷ es)) e.mark
+      by_case : (b : Bool) → eqb x.ticket t ≡ b → (entry_of t es ≡ Some e → OneFewer es (without t es) e.mark)
+          → OneFewer (x ∷ es) (without t (x ∷ es)) e.mark
       by_case true f rest =
           let h2 = simp f at h in
           let same : x ≡ e = cc in
@@ -85,13 +85,3 @@ module _ {T N : Type 0} where
           let same_woken : woken_one x.mark ≡ woken_one e.mark = ap (λ y. woken_one y.mark) same in
           simp f (record { waiting = omega arith; woken = omega arith })
       by_case false f rest = let more = rest (simp f at h) in simp f (record { waiting = omega arith; woken = omega arith })
-
-  -- one more entry is counted where it waits
-  pub push_waiting : (es : List (Entry T N)) (x : Entry T N) → waiting_count (es ++ x ∷ []) ≡ waiting_count es + waits_one x.mark
-  push_waiting [] x = omega arith
-  push_waiting (y ∷ es) x = let more = push_waiting es x in omega arith
-
-  -- and counted as woken where it is
-  pub push_woken : (es : List (Entry T N)) (x : Entry T N) → woken_count (es ++ x ∷ []) ≡ woken_count es + woken_one x.mark
-  push_woken [] x = omega arith
-  push_woken (y ∷ es) x = let more = push_woken es x in omega arith

@@ -56,7 +56,7 @@ module _ {T N : Type 0} where
       by_mark k Woken rest = rest
       by_mark k (Filled held) rest = rest
 
-  -- nor does a wake of all
+  -- a wake of all changes no ticket
   pub tickets_woken : (tell : N → N) (es : List (Entry T N)) → tickets (all_woken tell es) ≡ tickets es
   tickets_woken tell [] = refl
   tickets_woken tell (x ∷ es) = by_mark x.mark (ap (λ l. x.ticket ∷ l) (tickets_woken tell es))
@@ -95,21 +95,13 @@ module _ {T N : Type 0} where
       by_case true e first others rest = simp e others
       by_case false e first others rest = simp e (none_more t x (without u es) first rest)
 
-  -- nor of the list with one more of another ticket
+  -- what has no ticket of a list has none of the list with one more of another ticket
   pub none_push : (t : ℕ) (es : List (Entry T N)) (x : Entry T N) → entry_of t es ≡ None → eqb x.ticket t ≡ false
       → entry_of t (es ++ x ∷ []) ≡ None
   none_push t [] x h e = none_more t x [] e refl
   none_push t (y ∷ es) x h e =
       let parts = none_parts t y es h in
       none_more t y (es ++ x ∷ []) parts.0 (none_push t es x parts.1 e)
-
-  -- where no entry has the ticket, none leaves
-  pub without_none : (t : ℕ) (es : List (Entry T N)) → entry_of t es ≡ None → without t es ≡ es
-  without_none t [] h = refl
-  without_none t (x ∷ es) h =
-      let parts = none_parts t x es h in
-      let first : eqb x.ticket t ≡ false = parts.0 in
-      simp first (ap (λ l. x ∷ l) (without_none t es parts.1))
 
   -- where none had its ticket, the one more is found by it
   pub entry_last : (es : List (Entry T N)) (x : Entry T N) → entry_of x.ticket es ≡ None → entry_of x.ticket (es ++ x ∷ []) ≡ Some x

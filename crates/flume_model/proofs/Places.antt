@@ -33,7 +33,7 @@ module _ {X : Type 0} where
   read_at xs ys i n e within long is same =
       rw (← same) (slice_get-get_or xs i e (omega (arith, within, long)) ∙ ap Some (sym is))
 
-  -- and nothing else does
+  -- at a place stands nothing else
   pub same_at : (ys : List X) (i : ℕ) (e x : X) → slice_get ys i ≡ Some e → slice_get ys i ≡ Some x → x ≡ e
   same_at ys i e x at here = cc
 

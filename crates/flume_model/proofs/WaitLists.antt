@@ -23,7 +23,7 @@ module _ {T N : Type 0} where
           let same : round_fills (e ∷ es) ≡ round_fills es = rw is refl in
           wait_later e es (rest (sym same ∙ h))
 
-  -- the same of a round that takes place only where something is queued
+  -- a round for a queue fills only where one waits
   pub fills_waiting_for : (queue : List T) (es : List (Entry T N)) (u : ℕ) → round_for_fills queue es ≡ Some u → some_wait es ≡ true
   fills_waiting_for [] es u h = absurd (let none : ⊥ = cc in none)
   fills_waiting_for (front ∷ queue) es u h = fills_waiting es u h

@@ -57,11 +57,11 @@ module _ {T N : Type 0} where
       by_case true is = is
       by_case false is = absurd (omega (arith, fewer, counted_some after some, counted_none es is))
 
-  -- so where one waits after a round
+  -- where one waits after a round, one waited before
   pub wait_round : (tell : N → N) (front : T) (es : List (Entry T N)) → some_wait (round tell front es) ≡ true → some_wait es ≡ true
   wait_round tell front es = wait_by (round tell front es) es (round_counts tell front es).no_more
 
-  -- the same of a round that takes place only where something is queued
+  -- where one waits after a round for a queue, one waited before
   pub wait_round_for : (tell : N → N) (queue : List T) (es : List (Entry T N)) → some_wait (round_for tell queue es) ≡ true
       → some_wait es ≡ true
   wait_round_for tell queue es = wait_by (round_for tell queue es) es (fewer_rounded tell queue es)
@@ -70,7 +70,7 @@ module _ {T N : Type 0} where
   pub wait_without : (t : ℕ) (es : List (Entry T N)) → some_wait (without t es) ≡ true → some_wait es ≡ true
   wait_without t es = wait_by (without t es) es (fewer_without t es)
 
-  -- and where one waits once a receiver has left
+  -- where one waits after another leaves, one waited before
   pub wait_after_leave : (tell : N → N) (t : ℕ) (queue : List T) (es : List (Entry T N)) → some_wait (after_leave tell t queue es) ≡ true
       → some_wait es ≡ true
   wait_after_leave tell t queue es = wait_by (after_leave tell t queue es) es (fewer_after_leave tell t queue es)

@@ -121,6 +121,10 @@ three_kinds =
     ∷ (Withdraw 1, Gone false None) ∷ (Poll 3, Got 1) ∷ (TryRecv, Got 3) ∷ (PollSend 4, Accepted)
     ∷ (Len, Number 0) ∷ []
 
+-- two receivers wait at capacity 0, and one is woken for a message
+abbrev pub one_woken_of_two : Row
+one_woken_of_two = (Recv Plain, Parked 1) ∷ (Recv Plain, Parked 2) ∷ (Send 1, Sent None) ∷ []
+
 -- no ticket is left for a send nor for a receive
 abbrev pub tickets_spent : Row
 tickets_spent = (Send 7, Spent (Some 7)) ∷ (Recv Block, Spent None) ∷ (Len, Number 0) ∷ []

@@ -47,6 +47,16 @@ module _ {T A : Type 0} where
       IsWithin (capacity opening log) (peak opening log)
       (boundary opening log + waiting_count (entries opening log))
 
+  -- a receiver waits, as many stand woken as messages are queued, and what is queued and who waits
+  -- are together the greater of the capacity and the peak
+  pub record MeetsBounds (opening : Opening) (log : Log T A) : Type 0 where
+    pub waits : some_wait (entries opening log) ≡ true
+    pub woken : boundary opening log ≡ woken_count (entries opening log)
+    pub limit : ℕ
+    pub bounded : capacity opening log ≡ Some limit
+    pub queued :
+        boundary opening log + waiting_count (entries opening log) ≡ max limit (peak opening log)
+
   -- a receiver waits only in an open channel, and only while no sender is blocked
   abbrev pub WaitsWhileOpen : Opening → Log T A → Type 0
   WaitsWhileOpen opening log =

@@ -20,15 +20,15 @@ use Rattle.flume_model.proofs.Fits.{Fits}
 
 module _ {T N : Type 0} where
   -- the entry under this ticket holds the message
-  abbrev pub Holds : ℕ → T → List (Entry T N) → Type 0
-  Holds t m es = held_by (entry_of t es) ≡ Some m
+  abbrev pub IsHeld : ℕ → T → List (Entry T N) → Type 0
+  IsHeld t m es = held_by (entry_of t es) ≡ Some m
 
   -- an entry still holds the message after a change of the first entry and of the others, if it does in each of the two
   same_first : (t : ℕ) (m : T) (x y : Entry T N) (es fs : List (Entry T N)) → x.ticket ≡ y.ticket
-      → (held_in x.mark ≡ Some m → held_in y.mark ≡ Some m) → (Holds t m es → Holds t m fs) → Holds t m (x ∷ es) → Holds t m (y ∷ fs)
+      → (held_in x.mark ≡ Some m → held_in y.mark ≡ Some m) → (IsHeld t m es → IsHeld t m fs) → IsHeld t m (x ∷ es) → IsHeld t m (y ∷ fs)
   same_first t m x y es fs ticket first others h = by_case (eqb x.ticket t) refl
     where
-      by_case : (b : Bool) → eqb x.ticket t ≡ b → Holds t m (y ∷ fs)
+      by_case : (b : Bool) → eqb x.ticket t ≡ b → IsHeld t m (y ∷ fs)
       by_case true e =
           let same : eqb y.ticket t ≡ true = ap (λ u. eqb u t) (sym ticket) ∙ e in
           simp same (first (simp e at h))
@@ -37,15 +37,15 @@ module _ {T N : Type 0} where
           simp same (others (simp e at h))
 
   -- a wake round takes no message from an entry
-  pub held_round : (tell : N → N) (front : T) (t : ℕ) (m : T) (es : List (Entry T N)) → Holds t m es → Holds t m (round tell front es)
+  pub held_round : (tell : N → N) (front : T) (t : ℕ) (m : T) (es : List (Entry T N)) → IsHeld t m es → IsHeld t m (round tell front es)
   held_round tell front t m [] h = h
   held_round tell front t m (x ∷ es) h = by_mark x.kind x.mark (held_round tell front t m es) h
     where
       as_marked : Kind → Mark T → Entry T N
       as_marked k mark = record x { kind = k; mark = mark }
 
-      by_mark : (k : Kind) (mark : Mark T) → (Holds t m es → Holds t m (round tell front es))
-          → Holds t m (as_marked k mark ∷ es) → Holds t m (round tell front (as_marked k mark ∷ es))
+      by_mark : (k : Kind) (mark : Mark T) → (IsHeld t m es → IsHeld t m (round tell front es))
+          → IsHeld t m (as_marked k mark ∷ es) → IsHeld t m (round tell front (as_marked k mark ∷ es))
       by_mark Block Waiting rest h =
           let y = as_marked Block Waiting in
           same_first t m y (marked tell (Filled front) y) es es refl (λ e. absurd (let none : ⊥ = cc in none)) (λ e. e) h
@@ -65,16 +65,16 @@ module _ {T N : Type 0} where
           let y = as_marked k (Filled held) in
           same_first t m y y es (round tell front es) refl (λ e. e) rest h
 
-  -- nor does the wake of all
-  pub held_woken : (tell : N → N) (t : ℕ) (m : T) (es : List (Entry T N)) → Holds t m es → Holds t m (all_woken tell es)
+  -- the wake of all takes no message from an entry
+  pub held_woken : (tell : N → N) (t : ℕ) (m : T) (es : List (Entry T N)) → IsHeld t m es → IsHeld t m (all_woken tell es)
   held_woken tell t m [] h = h
   held_woken tell t m (x ∷ es) h = by_mark x.mark (held_woken tell t m es) h
     where
       as_marked : Mark T → Entry T N
       as_marked mark = record x { mark = mark }
 
-      by_mark : (mark : Mark T) → (Holds t m es → Holds t m (all_woken tell es)) → Holds t m (as_marked mark ∷ es)
-          → Holds t m (all_woken tell (as_marked mark ∷ es))
+      by_mark : (mark : Mark T) → (IsHeld t m es → IsHeld t m (all_woken tell es)) → IsHeld t m (as_marked mark ∷ es)
+          → IsHeld t m (all_woken tell (as_marked mark ∷ es))
       by_mark Waiting rest h =
           let y = as_marked Waiting in
           same_first t m y (marked tell Woken y) es (all_woken tell es) refl (λ e. e) rest h
@@ -83,24 +83,24 @@ module _ {T N : Type 0} where
           let y = as_marked (Filled held) in
           same_first t m y y es (all_woken tell es) refl (λ e. e) rest h
 
-  -- nor does the leaving of another
-  pub held_without : (u t : ℕ) (m : T) (es : List (Entry T N)) → eqb u t ≡ false → Holds t m es → Holds t m (without u es)
+  -- the leaving of another takes no message from an entry
+  pub held_without : (u t : ℕ) (m : T) (es : List (Entry T N)) → eqb u t ≡ false → IsHeld t m es → IsHeld t m (without u es)
   held_without u t m [] other h = h
   held_without u t m (x ∷ es) other h = by_case (eqb x.ticket u) refl (held_without u t m es other)
     where
-      by_case : (b : Bool) → eqb x.ticket u ≡ b → (Holds t m es → Holds t m (without u es)) → Holds t m (without u (x ∷ es))
+      by_case : (b : Bool) → eqb x.ticket u ≡ b → (IsHeld t m es → IsHeld t m (without u es)) → IsHeld t m (without u (x ∷ es))
       by_case true e rest =
           let first : eqb x.ticket t ≡ false = ap (λ v. eqb v t) (eqb-true x.ticket u e) ∙ other in
           simp e (simp first at h)
       by_case false e rest = simp e (same_first t m x x es (without u es) refl (λ e. e) rest h)
 
-  -- nor does one more entry
-  pub held_push : (t : ℕ) (m : T) (es : List (Entry T N)) (x : Entry T N) → Holds t m es → Holds t m (es ++ x ∷ [])
+  -- one more entry takes no message from another
+  pub held_push : (t : ℕ) (m : T) (es : List (Entry T N)) (x : Entry T N) → IsHeld t m es → IsHeld t m (es ++ x ∷ [])
   held_push t m [] x h = absurd (let none : ⊥ = cc in none)
   held_push t m (y ∷ es) x h = same_first t m y y es (es ++ x ∷ []) refl (λ e. e) (held_push t m es x) h
 
   -- the ticket of an entry that holds nothing is another
-  pub unlike : (u t : ℕ) (m : T) (e : Entry T N) (es : List (Entry T N)) → entry_of u es ≡ Some e → held_in e.mark ≡ None → Holds t m es
+  pub unlike : (u t : ℕ) (m : T) (e : Entry T N) (es : List (Entry T N)) → entry_of u es ≡ Some e → held_in e.mark ≡ None → IsHeld t m es
       → eqb u t ≡ false
   unlike u t m e es found nothing h = ne_eqb u t (λ same.
       (let there : held_by (entry_of u es) ≡ held_by (entry_of t es) = ap (λ v. held_by (entry_of v es)) same in
@@ -114,29 +114,29 @@ module _ {T : Type 0} where
   empty_holds Woken e = refl
   empty_holds (Filled held) e = absurd (let none : ⊥ = cc in none)
 
-  -- nor does one that is woken
+  -- an entry that is woken holds nothing
   woken_holds : (mark : Mark T) → is_woken mark ≡ true → held_in mark ≡ None
   woken_holds Woken e = refl
   woken_holds Waiting e = refl
   woken_holds (Filled held) e = absurd (let none : ⊥ = cc in none)
 
   -- where an end leaves, a filled entry keeps its message
-  held_close : (closes : Bool) (t : ℕ) (m : T) (es : List (LogEntry T)) → Holds t m es
-      → Holds t m (if closes then all_woken untold es else es)
+  held_close : (closes : Bool) (t : ℕ) (m : T) (es : List (LogEntry T)) → IsHeld t m es
+      → IsHeld t m (if closes then all_woken untold es else es)
   held_close true t m es h = held_woken untold t m es h
   held_close false t m es h = h
 
   -- through a change that fits, but its own leaving, a filled entry keeps its message
   pub held_by_change : (c : Channel T) (closes : Bool) (done : Change T) (t : ℕ) (m : T) → Fits c done
-      → (done ≡ Collects t → ⊥) → Holds t m c.entries → Holds t m (entries_after c.queue closes c.entries done)
+      → (done ≡ Collects t → ⊥) → IsHeld t m c.entries → IsHeld t m (entries_after c.queue closes c.entries done)
   held_by_change c closes (Queues x filled) t m h stays held =
-      round_for_push (Holds t m) untold c.queue x c.entries (λ front. held_round untold front t m c.entries held)
+      round_for_push (IsHeld t m) untold c.queue x c.entries (λ front. held_round untold front t m c.entries held)
   held_by_change c closes (Takes x (Some u)) t m h stays held =
       let nothing = empty_holds h.1.entry.mark h.1.empty in
       held_without u t m c.entries (unlike u t m h.1.entry c.entries h.1.found nothing held) held
   held_by_change c closes (Parks u kind) t m h stays held = held_push t m c.entries _ held
   held_by_change c closes (Asks u) t m h stays held =
-      again_cases (Holds t m) u c.entries held (λ e found woken. held_push t m (without u c.entries) _
+      again_cases (IsHeld t m) u c.entries held (λ e found woken. held_push t m (without u c.entries) _
       (held_without u t m c.entries (unlike u t m e c.entries found (woken_holds e.mark woken) held) held))
   held_by_change c closes (Collects u) t m h stays held =
       held_without u t m c.entries (ne_eqb u t (λ same.
@@ -144,7 +144,7 @@ module _ {T : Type 0} where
   held_by_change c closes (Leaves u filled) t m h stays held =
       let nothing = empty_holds h.0.entry.mark h.0.empty in
       let others = held_without u t m c.entries (unlike u t m h.0.entry c.entries h.0.found nothing held) held in
-      leave_cases (λ es f. Holds t m es) untold u c.queue c.entries (λ none. others)
+      leave_cases (λ es f. IsHeld t m es) untold u c.queue c.entries (λ none. others)
       (λ passes front rest e. held_round untold front t m (without u c.entries) others)
   held_by_change c closes SenderLeaves t m h stays held = held_close closes t m c.entries held
   held_by_change c closes ReceiverLeaves t m h stays held = held_close closes t m c.entries held
@@ -159,7 +159,7 @@ module _ {T : Type 0} where
 
   -- the entry that a round fills holds the front after it
   round_holds : (front : T) (n t : ℕ) (es : List (LogEntry T)) → Apart n es → round_fills es ≡ Some t
-      → Holds t front (round untold front es)
+      → IsHeld t front (round untold front es)
   round_holds front n t [] apart is = absurd (let none : ⊥ = cc in none)
   round_holds front n t (x ∷ es) apart is = by_mark x.kind x.mark is (round_holds front n t es apart.2)
     where
@@ -172,8 +172,8 @@ module _ {T : Type 0} where
           ne_eqb x.ticket t (λ same. (let is_it = eq-eqb t x.ticket (sym same) in let none : ⊥ = cc in none))
 
       by_mark : (k : Kind) (mark : Mark T) → round_fills (as_marked k mark ∷ es) ≡ Some t
-          → (round_fills es ≡ Some t → Holds t front (round untold front es))
-          → Holds t front (round untold front (as_marked k mark ∷ es))
+          → (round_fills es ≡ Some t → IsHeld t front (round untold front es))
+          → IsHeld t front (round untold front (as_marked k mark ∷ es))
       by_mark Block Waiting is rest =
           let same : x.ticket ≡ t = cc in
           let found = eq-eqb x.ticket t same in
@@ -191,15 +191,15 @@ module _ {T : Type 0} where
 
   -- after a change that fits, the entry that it fills holds the first of them
   pub filled_holds : (c : Channel T) (closes : Bool) (done : Change T) (t : ℕ) → Fits c done → Apart c.next c.entries → fills done ≡ Some t
-      → (front : T) × (rest : List T) × (first_up c done ≡ front ∷ rest) × Holds t front (entries_after c.queue closes c.entries done)
+      → (front : T) × (rest : List T) × (first_up c done ≡ front ∷ rest) × IsHeld t front (entries_after c.queue closes c.entries done)
   filled_holds c closes (Queues m filled) t h apart is = by_queue c.queue
     where
       by_queue : (waiting : List T) → (front : T) × (rest : List T) × (waiting ++ m ∷ [] ≡ front ∷ rest)
-          × Holds t front (round_for untold (waiting ++ m ∷ []) c.entries)
+          × IsHeld t front (round_for untold (waiting ++ m ∷ []) c.entries)
       by_queue [] = (m, [], refl, round_holds m c.next t c.entries apart (sym h.1 ∙ is))
       by_queue (x ∷ waiting) = (x, waiting ++ m ∷ [], refl, round_holds x c.next t c.entries apart (sym h.1 ∙ is))
   filled_holds c closes (Leaves u filled) t h apart is =
-      leave_cases (λ es f. f ≡ Some t → (front : T) × (rest : List T) × (c.queue ≡ front ∷ rest) × Holds t front es) untold u c.queue
+      leave_cases (λ es f. f ≡ Some t → (front : T) × (rest : List T) × (c.queue ≡ front ∷ rest) × IsHeld t front es) untold u c.queue
       c.entries (λ none by. absurd (let none : ⊥ = cc in none)) (λ passes front rest e by. (
         front,
         rest,
@@ -208,7 +208,7 @@ module _ {T : Type 0} where
       )) (sym h.1 ∙ is)
   filled_holds c closes _ t h apart is = absurd (let none : ⊥ = cc in none)
 
-  -- it stood before the change
+  -- the entry that a change fills stood before it
   pub filled_stood : (c : Channel T) (done : Change T) (t : ℕ) → Fits c done → fills done ≡ Some t
       → (e : LogEntry T) × (entry_of t c.entries ≡ Some e)
   filled_stood c done t h is = by_found (entry_of t c.entries) refl

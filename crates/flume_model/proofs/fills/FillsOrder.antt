@@ -57,7 +57,7 @@ module _ {T : Type 0} where
   by_shown : (over : Bool) (got held : Option T) (x m : T) → got ≡ Some x → x ≡ m → FillIs over got held m
   by_shown over got held x m is same = rw is same
 
-  -- and what was shown is of it
+  -- where a message was shown, the fill is of it
   shown_is : (over : Bool) (got held : Option T) (x m : T) → got ≡ Some x → FillIs over got held m → x ≡ m
   shown_is over got held x m is h = rw is at h
 
@@ -66,7 +66,7 @@ module _ {T : Type 0} where
   by_held true got held m is holds = rw is tt
   by_held false got held m is holds = rw is (holds refl)
 
-  -- and while the channel isn't over, an entry holds it
+  -- where nothing was shown, and the channel isn't over, an entry holds the message that the fill is of
   held_is : (over : Bool) (got held : Option T) (m : T) → got ≡ None → over ≡ false → FillIs over got held m → held ≡ Some m
   held_is true got held m is open_ h = absurd (let none : ⊥ = cc in none)
   held_is false got held m is open_ h = rw is at h
@@ -86,7 +86,7 @@ module _ {T A : Type 0} where
           let missing : entry_of t (entries o log) ≡ None = ap (entry_of t) (nobody_once_over o log over) in
           absurd (let none : ⊥ = cc in none)
 
-  -- it is so still after one more pair of a run
+  -- a fill is of the same message after one more pair of a run
   fill_stays : (o : Opening) (p : Step T × Reply T A) (past : Log T A) (t : ℕ) (m : T) → IsRun o (p ∷ past) → Fill o past t m
       → Fill o (p ∷ past) t m
   fill_stays o p past t m run h = by_both (shows_to t p.0 p.1) (shown past t) refl refl
@@ -192,7 +192,7 @@ module _ {T A : Type 0} where
           cond-false (is_over (p ∷ past)) [] _ open_ in
           ap (λ es. held_by (entry_of t es)) after ∙ filled.3 ∙ ap (λ m. Some m) same
 
-  -- so is each
+  -- each fill is of the kept offer at its place
   fill_placed : (o : Opening) (log : Log T A) → IsRun o log → (j t : ℕ) (offer : Offer T) → slice_get (handed_out log) j ≡ Some (FilledIn t)
       → slice_get (kept log) j ≡ Some offer → Fill o log t offer.message
   fill_placed o [] run j t offer given at = absurd (let none : ⊥ = cc in none)

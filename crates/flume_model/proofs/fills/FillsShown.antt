@@ -53,24 +53,24 @@ module _ {T : Type 0} where
   asked_held A c k Waiting y m h holds = absurd (let none : ⊥ = cc in none)
   asked_held A c k Woken y m h holds = absurd (let none : ⊥ = cc in none)
 
-  -- by its entry
+  -- a filled receiver that asks gets what its entry holds
   polled_held : (A : Type 0) (c : Channel T) (found : Option (LogEntry T)) (y m : T) → IsPolled {A = A} c found (Got y)
       → held_by found ≡ Some m → y ≡ m
   polled_held A c None y m h holds = absurd h
   polled_held A c (Some e) y m h holds = asked_held A c e.kind e.mark y m h holds
 
-  -- and one that withdraws
-  left_held : (A : Type 0) (c : Channel T) (t : ℕ) (k : Kind) (mark : Mark T) (y m : T) → IsGoneMark {A = A} c t k mark (Got y)
+  -- a filled receiver that withdraws gets what its entry holds, by its mark
+  withdraw_held : (A : Type 0) (c : Channel T) (t : ℕ) (k : Kind) (mark : Mark T) (y m : T) → IsGoneMark {A = A} c t k mark (Got y)
       → held_in mark ≡ Some m → y ≡ m
-  left_held A c t k (Filled held) y m h holds = h ∙ (let same : held ≡ m = cc in same)
-  left_held A c t k Waiting y m h holds = absurd (let none : ⊥ = cc in none)
-  left_held A c t k Woken y m h holds = absurd (let none : ⊥ = cc in none)
+  withdraw_held A c t k (Filled held) y m h holds = h ∙ (let same : held ≡ m = cc in same)
+  withdraw_held A c t k Waiting y m h holds = absurd (let none : ⊥ = cc in none)
+  withdraw_held A c t k Woken y m h holds = absurd (let none : ⊥ = cc in none)
 
-  -- by its entry
+  -- a filled receiver that withdraws gets what its entry holds
   gone_held : (A : Type 0) (c : Channel T) (t : ℕ) (found : Option (LogEntry T)) (y m : T) → IsGone {A = A} c t found (Got y)
       → held_by found ≡ Some m → y ≡ m
   gone_held A c t None y m h holds = absurd h
-  gone_held A c t (Some e) y m h holds = left_held A c t e.kind e.mark y m h holds
+  gone_held A c t (Some e) y m h holds = withdraw_held A c t e.kind e.mark y m h holds
 
   -- of two messages, where the first isn't there nor the second, there is none
   pub neither : (first second : Option T) → ((x : T) → first ≡ Some x → ⊥) → second ≡ None → or_else first second ≡ None
@@ -119,7 +119,7 @@ module _ {T A : Type 0} where
       by_change (inl is) = let fit = subst (Fits (channel o past)) is (fits_run o past p run) in (fit.0, fit.2)
       by_change (inr is) = let fit = subst (Fits (channel o past)) is (fits_run o past p run) in (fit.1.entry, fit.1.found)
 
-  -- and is gone after
+  -- the entry of one that is shown a message is gone after
   shows_goes : (o : Opening) (past : Log T A) (p : Step T × Reply T A) (t : ℕ) (x : T) (closes : Bool) → IsRun o (p ∷ past)
       → shows_to t p.0 p.1 ≡ Some x → entry_of t (entries_after (queue o past) closes (entries o past) (change past p.0 p.1)) ≡ None
   shows_goes o past p t x closes run shows = by_change (shows_leaves past p.0 p.1 t x shows)
@@ -137,7 +137,7 @@ module _ {T A : Type 0} where
     pub parked : (t : ℕ) (e : LogEntry T) → entry_of t (entries o log) ≡ Some e → shown log t ≡ None
     pub unissued : (t : ℕ) → next_ticket o log ≤ t → shown log t ≡ None
 
-  -- so it is after one more pair of a run
+  -- after one more pair of a run nothing was shown to receivers that are parked
   unshown_more : (o : Opening) (past : Log T A) (p : Step T × Reply T A) → IsRun o (p ∷ past) → Unshown o past → Unshown o (p ∷ past)
   unshown_more o past p run before = record { parked = parked_now; unissued = unissued_now }
     where
@@ -178,7 +178,7 @@ module _ {T A : Type 0} where
               (λ x shows. (let goes = shows_goes o past p t x closes run shows in let none : ⊥ = cc in none))
               (parked_then t (entry_of t (entries o past)) refl e at_now)
 
-  -- so it is in each run
+  -- in each run nothing was shown to receivers that are parked
   pub unshown : (o : Opening) (log : Log T A) → IsRun o log → Unshown o log
   unshown o [] run = record { parked = λ t e found. refl; unissued = λ t le. refl }
   unshown o (p ∷ past) run = unshown_more o past p run (unshown o past run.1)

@@ -64,7 +64,7 @@ module _ {T A : Type 0} where
   not_withdrawn [] m = refl
   not_withdrawn (p ∷ past) m = or_from _ _ (withdraws_no (change past p.0 p.1) m) (not_withdrawn past m)
 
-  -- one more offer, which wasn't withdrawn
+  -- one more offer, which wasn't withdrawn, is kept last
   pub kept_more : (past : Log T A) (x : Offer T) → withdrawn past x ≡ false
       → filter (λ offer. not (withdrawn past offer)) (offers past ++ x ∷ []) ≡ kept past ++ x ∷ []
   kept_more past x e = rw (filter-append, e)
@@ -81,7 +81,7 @@ module _ {T A : Type 0} where
   pub kept_same : (past : Log T A) → filter (λ offer. not (withdrawn past offer)) (offers past ++ []) ≡ kept past
   kept_same past = ap (filter (λ offer. not (withdrawn past offer))) (append-nil (offers past))
 
-  -- one more offer stands last
+  -- one more offer stands last in the line
   pub line_more : (past : Log T A) (x : Offer T) → withdrawn past x ≡ false → hand_outs past ≤ length (kept past)
       → drop (length (handed_out past ++ [])) (filter (λ offer. not (withdrawn past offer)) (offers past ++ x ∷ []))
       ≡ open_line past ++ x ∷ []
@@ -106,13 +106,13 @@ module _ {T A : Type 0} where
       ∙ ap (λ n. drop n (open_line past ++ x ∷ [])) (length_fill T filled)
 
   -- a receiver leaves, and the front offer goes where another one is filled
-  pub line_left : (past : Log T A) (t : ℕ) (filled : Option ℕ) → line_by past (Leaves t filled) ≡ drop (how_many filled) (open_line past)
-  line_left past t filled =
+  pub line_after_leave : (past : Log T A) (t : ℕ) (filled : Option ℕ) → line_by past (Leaves t filled) ≡ drop (how_many filled) (open_line past)
+  line_after_leave past t filled =
       line_moved past (Leaves t filled)
       ∙ ap (λ l. drop (length (fill {T = T} filled)) (drop (hand_outs past) l)) (kept_same past)
       ∙ ap (λ n. drop n (open_line past)) (length_fill T filled)
 
-  -- so many offers are handed out
+  -- a drain hands out as many offers as messages
   pub line_drained : (past : Log T A) (list : List T) → line_by past (Drains list) ≡ drop (length list) (open_line past)
   line_drained past list =
       line_moved past (Drains list)

@@ -13,7 +13,7 @@ use Rattle.flume_model.specs.Line.{line, next_ticket, how_many}
 use Rattle.flume_model.specs.Channel.{has_ticket}
 use Rattle.flume_model.specs.Replies.{IsRun}
 use Rattle.flume_model.proofs.Tickets.{apart, none_apart, rising_filter}
-use Rattle.flume_model.proofs.order.Kept.{open_line, line_by, line_is_open, line_more, line_queued, line_left, line_drained, line_front}
+use Rattle.flume_model.proofs.order.Kept.{open_line, line_by, line_is_open, line_more, line_queued, line_after_leave, line_drained, line_front}
 use Rattle.flume_model.proofs.order.Kept.{line_less, line_same, keeps_line}
 use Rattle.flume_model.proofs.order.Parts.{given_within, open_at}
 use Rattle.flume_model.proofs.order.Runs.{shape_of}
@@ -79,7 +79,7 @@ module _ {T A : Type 0} where
       → change past p.0 p.1 ≡ Leaves t filled → is_over past ≡ false → line (p ∷ past) ≡ drop (how_many filled) (line past)
   line_leaves o past p t filled run e open_ =
       line_next past p (Leaves t filled) e (over_as_before past p (Leaves t filled) e refl open_)
-      ∙ line_left past t filled ∙ ap (drop (how_many filled)) (sym (line_is_open past open_))
+      ∙ line_after_leave past t filled ∙ ap (drop (how_many filled)) (sym (line_is_open past open_))
 
   -- a message that is withdrawn leaves the others
   pub line_withdraws : (o : Opening) (past : Log T A) (p : Step T × Reply T A) (t : ℕ) (m : T)

@@ -18,7 +18,7 @@ use Rattle.flume_model.proofs.order.Kept.{kept_by, handed_by, open_line, not_wit
 use Rattle.flume_model.proofs.order.Parts.{ShownIs, Parts, Shape, at_most, front_at, open_at, line_is_rest, withdrawn_at, leave_within}
 
 module _ {T : Type 0} where
-  -- one more offer
+  -- one more offer stands among the rest
   offer_more : (all : List (Offer T)) (given : List (HandOut T)) (x : Offer T) → Parts all given → Parts (all ++ x ∷ []) given
   offer_more all given x parts = record {
     gone = parts.gone;

@@ -14,7 +14,7 @@ use Rattle.flume_model.specs.Channel.{IsFront, channel}
 use Rattle.flume_model.specs.Limits.{HasRoom, IsAtCapacity}
 use Rattle.flume_model.proofs.WaitLists.{leave_fills_waiting}
 use Rattle.flume_model.proofs.Fits.{Fits}
-use Rattle.flume_model.proofs.order.Kept.{open_line, line_by, line_is_open, line_more, line_queued, line_left, line_drained}
+use Rattle.flume_model.proofs.order.Kept.{open_line, line_by, line_is_open, line_more, line_queued, line_after_leave, line_drained}
 use Rattle.flume_model.proofs.order.Kept.{line_front, line_less, line_same, keeps_line}
 use Rattle.flume_model.proofs.order.Parts.{Shape, at_most, given_within, rest_is, front_at, withdrawn_at}
 
@@ -64,7 +64,7 @@ module _ {T A : Type 0} where
   pub long_left : (past : Log T A) (t : ℕ) (filled : Option ℕ) → is_over past ≡ false
       → length (line_by past (Leaves t filled)) ≡ length (line past) - how_many filled
   long_left past t filled open_ =
-      ap length (line_left past t filled ∙ ap (drop (how_many filled)) (sym (line_is_open past open_)))
+      ap length (line_after_leave past t filled ∙ ap (drop (how_many filled)) (sym (line_is_open past open_)))
       ∙ length-drop (how_many filled) (line past)
 
   -- how long it is where so many messages are drained
@@ -74,7 +74,7 @@ module _ {T A : Type 0} where
       ap length (line_drained past list ∙ ap (drop (length list)) (sym (line_is_open past open_)))
       ∙ length-drop (length list) (line past)
 
-  -- it is one shorter where its front is taken
+  -- the line is one shorter where its front is taken
   pub long_taken : (o : Opening) (past : Log T A) (m : T) (receiver : Option ℕ) → Shape o past → IsFront (channel o past) m
       → is_over past ≡ false → length (line past) ≡ suc (length (line_by past (Takes m receiver)))
   long_taken o past m receiver shape h open_ =

@@ -50,7 +50,7 @@ module _ {T : Type 0} where
   unfilled_weighs weight Woken e = refl
   unfilled_weighs weight (Filled held) e = absurd (let none : ⊥ = cc in none)
 
-  -- nor does one that is woken
+  -- one that is woken holds nothing
   woken_weighs : (weight : T → ℕ) (m : Mark T) → is_woken m ≡ true → mark_weighs weight m ≡ 0
   woken_weighs weight Waiting e = refl
   woken_weighs weight Woken e = refl
@@ -129,7 +129,7 @@ module _ {T A : Type 0} where
       let dropped = ap (λ l. sum_by weight (drop (how_many (round_fills (without t (entries o past)))) l)) all in
       omega arith))
 
-  -- by its change
+  -- a step of a run keeps the balance, by its change
   pub balanced_by : (weight : T → ℕ) (o : Opening) (past : Log T A) (p : Step T × Reply T A) (closes : Bool) (done : Change T)
       → change past p.0 p.1 ≡ done → IsRun o past → Fits (channel o past) done → (given : List T) → GivesOut (channel o past) done given
       → is_over past ≡ false → is_over (p ∷ past) ≡ false

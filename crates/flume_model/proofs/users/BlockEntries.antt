@@ -18,7 +18,7 @@ module _ {T N : Type 0} where
   AllBlock [] = Unit {0}
   AllBlock (e ∷ es) = (is_block e.kind ≡ true) × AllBlock es
 
-  -- so do they after a round
+  -- all entries block after a wake round, if they did before
   block_round : (tell : N → N) (front : T) (es : List (Entry T N)) → AllBlock es → AllBlock (round tell front es)
   block_round tell front [] h = tt
   block_round tell front (x ∷ es) h = by_mark x.kind x.mark h (block_round tell front es h.1)

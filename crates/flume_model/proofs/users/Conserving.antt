@@ -48,7 +48,7 @@ module _ {T A : Type 0} where
       absurd (let none : ⊥ = cc in none)
   open_gives o past run _ h given g over = g
 
-  -- nor does one that leaves both ends gone
+  -- a step that leaves both ends gone gives out no message
   over_gives : (o : Opening) (past : Log T A) → IsRun o past → (done : Change T) → Fits (channel o past) done → (given : List T)
       → GivesOut (channel o past) done given → over_by past done ≡ true → given ≡ []
   over_gives o past run SenderJoins h given g over = g

@@ -40,7 +40,7 @@ module _ {T A : Type 0} where
   collected_gives held (Got m) h = inr (m, refl)
   collected_gives held _ h = absurd h
 
-  -- one that is answered by the line
+  -- one that doesn't block and asks is given nothing, or gets a message
   other_gives : (c : Channel T) (reply : Reply T A) → IsPolledOther c reply → NothingOrGot reply
   other_gives c (Got m) h = inr (m, refl)
   other_gives c (NoMemory back) h = inl refl
@@ -48,7 +48,7 @@ module _ {T A : Type 0} where
   other_gives c Waiting h = inl refl
   other_gives c _ h = absurd h
 
-  -- one that blocks
+  -- one that blocks and asks is given nothing, or gets a message
   block_gives : (c : Channel T) (mark : Mark T) (reply : Reply T A) → IsPolledBlock c mark reply → NothingOrGot reply
   block_gives c StillWaits Waiting h = inl refl
   block_gives c Woken (Got m) h = inr (m, refl)
@@ -57,7 +57,7 @@ module _ {T A : Type 0} where
   block_gives c StillWaits _ h = absurd h
   block_gives c Woken _ h = absurd h
 
-  -- one that asks
+  -- one that asks is given nothing, or gets a message
   mark_gives : (c : Channel T) (kind : Kind) (mark : Mark T) (reply : Reply T A) → IsPolledMark c kind mark reply → NothingOrGot reply
   mark_gives c kind (Filled held) reply h = collected_gives held reply h
   mark_gives c Block StillWaits reply h = block_gives c StillWaits reply h
@@ -74,18 +74,18 @@ module _ {T A : Type 0} where
   polled_gives c None NoTicket h = inl refl
   polled_gives c None _ h = absurd h
 
-  -- one that blocks and leaves
+  -- one that blocks and leaves is given nothing, or gets a message
   gone_block_gives : (c : Channel T) (reply : Reply T A) → IsGoneBlock c reply → NothingOrGot reply
   gone_block_gives c (Got m) h = inr (m, refl)
   gone_block_gives c (Gone closed filled) h = inl refl
   gone_block_gives c _ h = absurd h
 
-  -- one of another kind
+  -- one that doesn't block and leaves is given nothing, or gets a message
   gone_other_gives : (c : Channel T) (t : ℕ) (reply : Reply T A) → IsGoneOther c t reply → NothingOrGot reply
   gone_other_gives c t (Gone closed filled) h = inl refl
   gone_other_gives c t _ h = absurd h
 
-  -- one that leaves
+  -- one that leaves is given nothing, or gets a message
   gone_mark_gives : (c : Channel T) (t : ℕ) (kind : Kind) (mark : Mark T) (reply : Reply T A) → IsGoneMark c t kind mark reply
       → NothingOrGot reply
   gone_mark_gives c t kind (Filled held) reply h = collected_gives held reply h
@@ -175,11 +175,11 @@ module _ {T A : Type 0} where
       subst Gives (sym got.1) (polled_got o past t got.0 told) h
 
   -- what a reply to one that leaves gives out
-  left_gives : (o : Opening) (past : Log T A) (t : ℕ) (reply : Reply T A) → ToldFilled o past
+  withdraw_gives : (o : Opening) (past : Log T A) (t : ℕ) (reply : Reply T A) → ToldFilled o past
       → IsGone (channel o past) t (entry_of t (entries o past)) reply → NothingOrGot reply
       → GivesOut (channel o past) (change past (Withdraw t) reply) (gives reply)
-  left_gives o past t reply told h (inl none) = gone_none o past t reply none
-  left_gives o past t reply told h (inr got) =
+  withdraw_gives o past t reply told h (inl none) = gone_none o past t reply none
+  withdraw_gives o past t reply told h (inr got) =
       let Gives : Reply T A → Type 0 = λ r. IsGone (channel o past) t (entry_of t (entries o past)) r
       → GivesOut (channel o past) (change past (Withdraw t) r) (gives r) in
       subst Gives (sym got.1) (gone_got o past t got.0 told) h
@@ -200,7 +200,7 @@ module _ {T A : Type 0} where
   gives_out o past (Poll t) reply told h =
       asked_gives o past t reply told h (polled_gives (channel o past) (entry_of t (entries o past)) reply h)
   gives_out o past (Withdraw t) reply told h =
-      left_gives o past t reply told h (gone_gives (channel o past) t (entry_of t (entries o past)) reply h)
+      withdraw_gives o past t reply told h (gone_gives (channel o past) t (entry_of t (entries o past)) reply h)
   gives_out o past Drain (Drained list) told h = refl
   gives_out o past _ (Got m) told h = absurd h
   gives_out o past _ (Returned m closed) told h = absurd h

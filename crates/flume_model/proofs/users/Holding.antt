@@ -110,7 +110,7 @@ module _ {T N : Type 0} where
       by_fills None e = omega arith
       by_fills (Some t) e = let all = sum_by-cons weight front rest in omega arith
 
-  -- the same where one more message was queued
+  -- what a round hands to a receiver, where one more message was queued, it takes from the queue
   pub queued_weighs : (weight : T → ℕ) (tell : N → N) (queue_ : List T) (m : T) (es : List (Entry T N))
       → sum_by weight (drop (how_many (round_fills es)) (queue_ ++ m ∷ [])) + sum_by weight (held (round_for tell (queue_ ++ m ∷ []) es))
       ≡ sum_by weight (queue_ ++ m ∷ []) + sum_by weight (held es)

@@ -30,13 +30,13 @@ data LeavesWithin (capacity : Option ℕ) (was queued waits : ℕ) : Type 0 wher
   -- nobody waits, and no more is queued than the capacity, or than before
   NoneWaits : waits ≡ 0 → IsWithin capacity was queued → LeavesWithin capacity was queued waits
 
--- then they are within the bound
-left_within_bound : (capacity : Option ℕ) (highest was queued waits : ℕ) → IsWithin capacity highest was
+-- what is queued and who waits, left within the bound so, are within it
+within_after : (capacity : Option ℕ) (highest was queued waits : ℕ) → IsWithin capacity highest was
     → LeavesWithin capacity was queued waits → IsWithin capacity (max highest waits) (queued + waits)
-left_within_bound None highest was queued waits before leaves = tt
-left_within_bound (Some c) highest was queued waits before (NoMore le) = omega arith
-left_within_bound (Some c) highest was queued waits before (OnlyWaits none) = omega arith
-left_within_bound (Some c) highest was queued waits before (NoneWaits none le) = omega arith
+within_after None highest was queued waits before leaves = tt
+within_after (Some c) highest was queued waits before (NoMore le) = omega arith
+within_after (Some c) highest was queued waits before (OnlyWaits none) = omega arith
+within_after (Some c) highest was queued waits before (NoneWaits none le) = omega arith
 
 -- where the queue has room, one more is within the capacity
 room_within : (capacity : Option ℕ) (was n : ℕ) → HasRoom capacity n → IsWithin capacity was (n + 1)
@@ -171,7 +171,7 @@ module _ {T A : Type 0} where
           let s = stepped o past p run still in
           let leaves = leaves_by (channel o past) s.closes (change past p.0 p.1) s.long s.stood s.fit s.line_is s.in_line in
           let LeftBy : ℕ → ℕ → Type 0 = λ n waits. LeavesWithin o.capacity (boundary o past + waiting_count (entries o past)) n waits in
-          left_within_bound o.capacity (peak o past) (boundary o past + waiting_count (entries o past)) (boundary o (p ∷ past))
+          within_after o.capacity (peak o past) (boundary o past + waiting_count (entries o past)) (boundary o (p ∷ past))
           (waiting_count (entries o (p ∷ past))) before
           (subst₂ LeftBy (sym s.boundary_is) (sym (ap waiting_count s.entries_are)) leaves)
 

@@ -1,14 +1,15 @@
 //! Laws of the parked receivers. These functions do nothing: each contract is a law.
-ghost use Rattle.std.specs.Prelude.{◌≡◌, ℕ, List, [], Option, None};
+ghost use Rattle.std.specs.Prelude.{◌≡◌, ℕ, List, [], Option, Some, None};
 ghost use Rattle.flume_model.specs.declared.entry.Entry.{Entry};
 ghost use Rattle.flume_model.specs.Log.{Log, Opening, opens};
 ghost use Rattle.flume_model.specs.Entries.{round, round_fills};
 ghost use Rattle.flume_model.specs.Replies.{IsRun};
-ghost use Rattle.flume_model.specs.WaitLaws.{Covered, Bounded, WaitsWhileOpen};
+ghost use Rattle.flume_model.specs.WaitLaws.{Covered, Bounded, MeetsBounds, WaitsWhileOpen};
 ghost use Rattle.flume_model.specs.WaitLaws.{WokenBlockWhileClosed, EntriesApart, SidesApart};
 ghost use Rattle.flume_model.specs.WaitLaws.{ToldFilled, NothingOnceOver};
 ghost use Rattle.flume_model.specs.WakeRule.{IsWakeRound};
-ghost use Rattle.flume_model.specs.Rows.{as_log};
+ghost use Rattle.flume_model.specs.Rows.{Runs, as_log};
+ghost use Rattle.flume_model.specs.ParkedRows.{one_woken_of_two};
 ghost use Rattle.flume_model.specs.WakeNearMisses.{plain_filled};
 
 use std::alloc::Allocator;
@@ -34,6 +35,12 @@ pub fn waiting_receivers_are_covered<T, A: Allocator>()
 /// many as the capacity, or as ever waited at once, whichever is greater.
 pub fn queued_and_waiting_are_bounded<T, A: Allocator>()
     ensures law { (opening : Opening) (log : Log T A) → IsRun opening log → Bounded opening log }
+{}
+
+/// After a worked row a receiver waits and both bounds are met, so no stricter ones hold.
+pub fn bounds_are_met()
+    ensures runs { Runs (Some 0) one_woken_of_two }
+    ensures met { MeetsBounds (opens (Some 0) 1) (as_log [] one_woken_of_two) }
 {}
 
 /// Of each run, a receiver waits only while the channel is open and no sender is blocked.
