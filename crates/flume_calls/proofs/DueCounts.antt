@@ -8,10 +8,12 @@ use Rattle.std.specs.List.{list_any}
 use Rattle.std.specs.Option.{is_some, option_map}
 use Rattle.std.specs.Ordering.{nat_cmp, eq_by_cmp}
 use Rattle.flume_state.specs.declared.sends.LiveSend.{LiveSend}
-use Rattle.flume_state.specs.Sends.{SendMap, changed, told, due_in, is_due}
-use Rattle.flume_state.specs.Receivers.{Entries, Tells, not_due}
+use Rattle.flume_state.specs.Notices.{told}
+use Rattle.flume_state.specs.Sends.{SendMap, noticed_send, due_in, is_due}
+use Rattle.flume_state.specs.Receivers.{Entries, Tells}
 use Rattle.flume_state.proofs.SendsLaws.{get-changed_same, get-changed_other}
 use Rattle.flume_state.specs.State.{State}
+use Rattle.flume_calls.specs.Due.{told_send}
 use Rattle.flume_state.specs.Told.{Names, Send, Receive}
 
 -- what counts where a test holds counts no more where another does that it follows from
@@ -30,24 +32,24 @@ module _ {S : Type 0} where
   DueIn n m = (t : ℕ) → is_due n t ≡ true → is_due m t ≡ true
 
   -- one that was told isn't due
-  told_not_due : (o : Option (LiveSend S)) → due_in (option_map told o) ≡ false
+  told_not_due : (o : Option (LiveSend S)) → due_in (option_map told_send o) ≡ false
   told_not_due None = refl
   told_not_due (Some send) = refl
 
   -- so it isn't in the map where it was told
-  named_not_due : (m : SendMap S) (k : ℕ) → is_due (changed m k told) k ≡ false
-  named_not_due m k = ap due_in (get-changed_same m k told) ∙ told_not_due (get m k)
+  named_not_due : (m : SendMap S) (k : ℕ) → is_due (noticed_send told k m) k ≡ false
+  named_not_due m k = ap due_in (get-changed_same m k told_send) ∙ told_not_due (get m k)
 
   -- and no other became due
-  pub none_became_due : (m : SendMap S) (k : ℕ) → DueIn (changed m k told) m
+  pub none_became_due : (m : SendMap S) (k : ℕ) → DueIn (noticed_send told k m) m
   none_became_due m k t due = go (eqb t k) refl
     where
       go : (b : Bool) → eqb t k ≡ b → is_due m t ≡ true
       go true e =
           let same : t ≡ k = eqb-true t k e in
-          let over : is_due (changed m k told) t ≡ false = rw same (named_not_due m k) in
+          let over : is_due (noticed_send told k m) t ≡ false = rw same (named_not_due m k) in
           absurd (let none : ⊥ = cc in none)
-      go false e = rw (← get-changed_other m k told t (eqb-false t k e)) due
+      go false e = rw (← get-changed_other m k told_send t (eqb-false t k e)) due
 
   -- where none became due, no more are
   due_sends_le : (m n : SendMap S) (tickets : List ℕ) → DueIn n m → due_sends n tickets ≤ due_sends m tickets
@@ -97,14 +99,14 @@ module _ {T S : Type 0} where
   due_entries_less old new t tells =
       let e = tells.entry in
       let before = due_entries-append tells.before (e ∷ tells.later) in
-      let after = due_entries-append tells.before (record e { notice = not_due e.notice } ∷ tells.later) in
+      let after = due_entries-append tells.before (record e { notice = told e.notice } ∷ tells.later) in
       rw (tells.found, tells.told, before, after, tells.was_due) (omega arith)
 
   -- where one is named, one less is due of all that were due at first
   pub fewer_due : (first old new : State T S) (t : ℕ) → Names old new t → DueIn old.sends first.sends
       → due_sends new.sends (keys first.sends) + due_entries new.entries < due_sends old.sends (keys first.sends) + due_entries old.entries
   fewer_due first old new t (Send due is) before =
-      let less = due_sends_less old.sends (changed old.sends t told) t (keys first.sends) (none_became_due old.sends t) due
+      let less = due_sends_less old.sends (noticed_send told t old.sends) t (keys first.sends) (none_became_due old.sends t) due
       (named_not_due old.sends t) (due_listed first.sends t (before t due)) in
       rw is (omega (arith, less))
   fewer_due first old new t (Receive tells is) before =
@@ -115,7 +117,7 @@ module _ {T S : Type 0} where
   -- and none of them became due
   pub still_due_before : (first old new : State T S) (t : ℕ) → Names old new t → DueIn old.sends first.sends → DueIn new.sends first.sends
   still_due_before first old new t (Send due is) before k now =
-      let same : new.sends ≡ changed old.sends t told = ap (λ s. s.sends) is in
+      let same : new.sends ≡ noticed_send told t old.sends = ap (λ s. s.sends) is in
       before k (none_became_due old.sends t k (rw same at now))
   still_due_before first old new t (Receive tells is) before k now =
       let same : new.sends ≡ old.sends = ap (λ s. s.sends) is in before k (rw same at now)

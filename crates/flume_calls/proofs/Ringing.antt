@@ -7,20 +7,21 @@ use Rattle.std.specs.FinMap.{get}
 use Rattle.std.specs.Option.{option_map}
 use Rattle.flume_model.specs.Entries.{entry_of}
 use Rattle.flume_model.specs.declared.entry.Entry.{Entry}
-use Rattle.flume_state.specs.declared.entries.Notice.{Notice}
+use Rattle.flume_state.specs.declared.notice.Notice.{Notice}
 use Rattle.flume_state.specs.declared.sends.LiveSend.{LiveSend}
-use Rattle.flume_state.specs.Sends.{SendMap, changed, told, due_in, NoneDue}
+use Rattle.flume_state.specs.Notices.{told}
+use Rattle.flume_state.specs.Sends.{SendMap, noticed_send, due_in, NoneDue}
 use Rattle.flume_state.specs.Receivers.{Entries, NoneDueIn}
 use Rattle.flume_state.proofs.SendsLaws.{get-changed_same, get-changed_other}
 use Rattle.flume_state.specs.State.{State}
 use Rattle.flume_state.specs.Told.{Names, Send, Receive, signal_of, signal_or}
-use Rattle.flume_calls.specs.Due.{Rings, Over, Rung, AllTold, told_entry}
+use Rattle.flume_calls.specs.Due.{Rings, Over, Rung, AllTold, told_entry, told_send}
 
 module _ {S : Type 0} where
   -- a due send has a signal
-  due_signal : (o : Option (LiveSend S)) → due_in o ≡ true → (signal : S) × (option_map (λ send. send.signal) o ≡ Some signal)
+  due_signal : (o : Option (LiveSend S)) → due_in o ≡ true → (signal : S) × (option_map (λ send. send.notice.signal) o ≡ Some signal)
   due_signal None due = absurd (let none : ⊥ = cc in none)
-  due_signal (Some send) due = (send.signal, refl)
+  due_signal (Some send) due = (send.notice.signal, refl)
 
   -- a send's signal goes before
   some_signal : (send parked : Option S) → ((signal : S) × (parked ≡ Some signal)) → (signal : S) × (signal_or send parked ≡ Some signal)
@@ -28,29 +29,29 @@ module _ {S : Type 0} where
   some_signal (Some signal) parked is = (signal, refl)
 
   -- telling keeps its signal
-  told_signal : (o : Option (LiveSend S)) → option_map (λ send. send.signal) (option_map told o) ≡ option_map (λ send. send.signal) o
+  told_signal : (o : Option (LiveSend S)) → option_map (λ send. send.notice.signal) (option_map told_send o) ≡ option_map (λ send. send.notice.signal) o
   told_signal None = refl
   told_signal (Some send) = refl
 
   -- to tell twice is to tell once
-  told_twice : (o : Option (LiveSend S)) → option_map told (option_map told o) ≡ option_map told o
+  told_twice : (o : Option (LiveSend S)) → option_map told_send (option_map told_send o) ≡ option_map told_send o
   told_twice None = refl
   told_twice (Some send) = refl
 
   -- telling changes nothing of one that isn't due
-  told_idle : (o : Option (LiveSend S)) → due_in o ≡ false → o ≡ option_map told o
+  told_idle : (o : Option (LiveSend S)) → due_in o ≡ false → o ≡ option_map told_send o
   told_idle None idle = refl
-  told_idle (Some send) idle = ap (λ (b : Bool). Some (record send { due = b })) idle
+  told_idle (Some send) idle = ap (λ (b : Bool). Some (record send { notice = record send.notice { due = b } })) idle
 
   -- all told, with one told before
-  told_after : (m : SendMap S) (k t : ℕ) → option_map told (get (changed m k told) t) ≡ option_map told (get m t)
+  told_after : (m : SendMap S) (k t : ℕ) → option_map told_send (get (noticed_send told k m) t) ≡ option_map told_send (get m t)
   told_after m k t = go (eqb t k) refl
     where
-      go : (b : Bool) → eqb t k ≡ b → option_map told (get (changed m k told) t) ≡ option_map told (get m t)
+      go : (b : Bool) → eqb t k ≡ b → option_map told_send (get (noticed_send told k m) t) ≡ option_map told_send (get m t)
       go true e =
           let same : t ≡ k = eqb-true t k e in
-          rw same (ap (option_map told) (get-changed_same m k told) ∙ told_twice (get m k))
-      go false e = ap (option_map told) (get-changed_other m k told t (eqb-false t k e))
+          rw same (ap (option_map told_send) (get-changed_same m k told_send) ∙ told_twice (get m k))
+      go false e = ap (option_map told_send) (get-changed_other m k told_send t (eqb-false t k e))
 
 module _ {T S : Type 0} where
   -- the signal of the first entry with a ticket
@@ -94,14 +95,14 @@ module _ {T S : Type 0} where
   -- and keeps it
   named_keeps : (old new : State T S) (t : ℕ) → Names old new t → signal_of new t ≡ signal_of old t
   named_keeps old new t (Send due is) =
-      let sends : get new.sends t ≡ option_map told (get old.sends t) = ap (λ s. get s.sends t) is ∙ get-changed_same old.sends t told in
-      let same = ap (option_map (λ send. send.signal)) sends ∙ told_signal (get old.sends t) in
+      let sends : get new.sends t ≡ option_map told_send (get old.sends t) = ap (λ s. get s.sends t) is ∙ get-changed_same old.sends t told_send in
+      let same = ap (option_map (λ send. send.notice.signal)) sends ∙ told_signal (get old.sends t) in
       let entries : new.entries ≡ old.entries = ap (λ s. s.entries) is in λ i. signal_or (same i) (entry_signal t (entries i))
   named_keeps old new t (Receive tells is) =
       let sends : new.sends ≡ old.sends = ap (λ s. s.sends) is in
       let kept : entry_signal t new.entries ≡ entry_signal t old.entries =
       ap (entry_signal t) tells.told ∙ signal_kept tells.before tells.entry tells.later t ∙ sym (ap (entry_signal t) tells.found) in
-      λ i. signal_or (option_map (λ send. send.signal) (get (sends i) t)) (kept i)
+      λ i. signal_or (option_map (λ send. send.notice.signal) (get (sends i) t)) (kept i)
 
   -- so the signal that it has then is the one it left
   pub same_signal : (old new : State T S) (t : ℕ) (signal : S) → Names old new t
@@ -123,14 +124,14 @@ module _ {T S : Type 0} where
 
   -- naming one leaves all else
   named_rest : (old named : State T S) (t : ℕ) → Names old named t → named ≡ record old { sends = named.sends; entries = named.entries }
-  named_rest old named t (Send due is) = rest_from old named (changed old.sends t told) old.entries is
+  named_rest old named t (Send due is) = rest_from old named (noticed_send told t old.sends) old.entries is
   named_rest old named t (Receive tells is) = rest_from old named old.sends named.entries is
 
   -- and all sends told are the same
   named_sends : (old named : State T S) (t : ℕ) → Names old named t → (k : ℕ)
-      → option_map told (get named.sends k) ≡ option_map told (get old.sends k)
-  named_sends old named t (Send due is) k = ap (λ s. option_map told (get s.sends k)) is ∙ told_after old.sends t k
-  named_sends old named t (Receive tells is) k = ap (λ s. option_map told (get s.sends k)) is
+      → option_map told_send (get named.sends k) ≡ option_map told_send (get old.sends k)
+  named_sends old named t (Send due is) k = ap (λ s. option_map told_send (get s.sends k)) is ∙ told_after old.sends t k
+  named_sends old named t (Receive tells is) k = ap (λ s. option_map told_send (get s.sends k)) is
 
   -- and all entries told
   named_entries : (old named : State T S) (t : ℕ) → Names old named t → map told_entry named.entries ≡ map told_entry old.entries

@@ -3,9 +3,11 @@ use Rattle.std.specs.Prelude.{◌≡◌, ℕ, Some, map}
 use Rattle.std.specs.Option.{option_map}
 use Rattle.std.specs.FinMap.{get}
 use Rattle.flume_model.specs.declared.entry.Entry.{Entry}
-use Rattle.flume_state.specs.declared.entries.Notice.{Notice}
-use Rattle.flume_state.specs.Sends.{NoneDue, told}
-use Rattle.flume_state.specs.Receivers.{NoneDueIn, not_due}
+use Rattle.flume_state.specs.declared.notice.Notice.{Notice}
+use Rattle.flume_state.specs.declared.sends.LiveSend.{LiveSend}
+use Rattle.flume_state.specs.Notices.{told}
+use Rattle.flume_state.specs.Sends.{NoneDue, with_notice}
+use Rattle.flume_state.specs.Receivers.{NoneDueIn}
 use Rattle.flume_state.specs.State.{State}
 use Rattle.flume_state.specs.Told.{Names, signal_of}
 
@@ -21,13 +23,17 @@ module _ {B S : Type 0} (rings : B → ℕ → S → B → Type 0) {T : Type 0} 
         → Names old named ticket → signal_of old ticket ≡ Some signal
         → rings bell ticket signal rung → Rings named rung new end → Rings old bell new end
 
+-- a send that isn't due, and is otherwise this one
+abbrev pub told_send : {S : Type 0} → LiveSend S → LiveSend S
+told_send = with_notice told
+
 module _ {T S : Type 0} where
   -- an entry that isn't due, and is otherwise this one
   abbrev pub told_entry : Entry T (Notice S) → Entry T (Notice S)
-  told_entry e = record e { notice = not_due e.notice }
+  told_entry e = record e { notice = told e.notice }
 
   -- nothing is due any more, and all else is as it was
   pub record AllTold (old new : State T S) : Type 0 where
     pub rest : new ≡ record old { sends = new.sends; entries = new.entries }
-    pub sends : (ticket : ℕ) → get new.sends ticket ≡ option_map told (get old.sends ticket)
+    pub sends : (ticket : ℕ) → get new.sends ticket ≡ option_map told_send (get old.sends ticket)
     pub entries : new.entries ≡ map told_entry old.entries

@@ -7,7 +7,7 @@ use Rattle.flume_model.specs.declared.step.Kind.{Kind}
 use Rattle.flume_model.specs.declared.step.Kind.TheVariants.{Block, Plain, Stream, Arm}
 use Rattle.flume_model.specs.declared.entry.Entry.{Entry}
 use Rattle.flume_model.specs.declared.entry.Mark.TheVariants.{Waiting}
-use Rattle.flume_state.specs.declared.entries.Notice.{Notice}
+use Rattle.flume_state.specs.declared.notice.Notice.{Notice}
 use Rattle.flume_model.specs.Entries.{is_waiting, is_woken, some_wait, waiting_count, round, round_fills, round_for}
 use Rattle.flume_model.specs.Entries.{round_for_fills, all_woken, entry_of, held_by, without, again_as, again, passes_on, after_leave, leave_fills}
 use Rattle.flume_model.specs.Parked.{untold}

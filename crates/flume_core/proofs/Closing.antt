@@ -16,7 +16,7 @@ use Rattle.flume_state.specs.State.{State, bare}
 use Rattle.flume_core.specs.StandsFor.{StandsFor}
 use Rattle.flume_model.specs.Entries.{all_woken}
 use Rattle.flume_model.specs.Parked.{LogEntry, untold, entries_after, is_shut}
-use Rattle.flume_state.specs.Receivers.{tell_now}
+use Rattle.flume_state.specs.Notices.{due_now}
 use Rattle.flume_core.proofs.Bare.{bare_all_woken}
 use Rattle.flume_model.proofs.WaitingCounts.{fewer_woken}
 use Rattle.flume_state.specs.Effects.{all_due, after_leaving}
@@ -84,11 +84,11 @@ module _ {T A S : Type 0} where
           counts_over o log p done old new h reply e (leaving_issues done ends) left (eqb-true (n + m) 0 over)
       go false true over closed =
           let left = rw (over, closed) at is in
-          counts_open o log p done old new (all_due old.blocked old.sends) (all_woken tell_now old.entries) h reply e
+          counts_open o log p done old new (all_due old.blocked old.sends) (all_woken due_now old.entries) h reply e
           (leaving_moves done ends) left (same_marks_due old.blocked old.sends)
-          (bare_all_woken tell_now old.entries
+          (bare_all_woken due_now old.entries
           ∙ sym (entries_leaving done ends old.queue _ (map bare old.entries) true (sym (closes_as o log p done old h e) ∙ closed)))
-          (fewer_woken tell_now old.entries) (leaving_issues done ends) (above_zero (n + m) (eqb-false (n + m) 0 over))
+          (fewer_woken due_now old.entries) (leaving_issues done ends) (above_zero (n + m) (eqb-false (n + m) 0 over))
       go false false over closed =
           let left = rw (over, closed) at is in
           counts_open o log p done old new old.sends old.entries h reply e (leaving_moves done ends) left (λ t. refl)

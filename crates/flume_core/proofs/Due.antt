@@ -3,13 +3,14 @@ use Rattle.std.proofs.Common.{◌≡◌, ℕ, zero, suc, ◌+◌, List, [], ◌�
 use Rattle.std.specs.List.{slice_get}
 use Rattle.std.specs.Option.{option_map}
 use Rattle.flume_state.specs.Messages.{Blocked}
-use Rattle.flume_state.specs.Sends.{SendMap, changed, due_now}
+use Rattle.flume_state.specs.Notices.{due_now}
+use Rattle.flume_state.specs.Sends.{SendMap, noticed_send}
 use Rattle.flume_state.specs.Effects.{all_due}
 
 -- the sends with this ticket marked, if there is one
 abbrev pub marked_at : {S : Type 0} → Option ℕ → SendMap S → SendMap S
 marked_at None sends = sends
-marked_at (Some ticket) sends = changed sends ticket due_now
+marked_at (Some ticket) sends = noticed_send due_now ticket sends
 
 module _ {T S : Type 0} where
   -- the blocked message at a place, and then those behind it

@@ -15,7 +15,7 @@ use Rattle.flume_model.specs.Replies.{IsReply}
 use Rattle.flume_model.specs.Entries.{some_wait, round_for_fills}
 use Rattle.flume_state.specs.Messages.{Blocked}
 use Rattle.flume_state.specs.Sends.{blocked as blocked_send}
-use Rattle.flume_state.specs.Receivers.{tell_now}
+use Rattle.flume_state.specs.Notices.{due_now}
 use Rattle.flume_state.specs.State.{State, offers_of}
 use Rattle.flume_core.specs.StandsFor.{StandsFor}
 use Rattle.flume_state.specs.Effects.{rounded}
@@ -78,8 +78,8 @@ module _ {T A S : Type 0} where
         length_is = ap length left ∙ length-drop n (old.queue ++ m ∷ []) ∙ ap (λ k. k - n) (length_push old.queue m);
         marks = λ t. status_is h t
             ∙ sym (ap (λ b. status b (has_ticket t (offers_of old.blocked))) (still_live false (is_live past t) false refl refl));
-        entries_are = bare_round_for tell_now (old.queue ++ m ∷ []) old.entries;
-        peak_is = peak_kept h _ (fewer_rounded tell_now (old.queue ++ m ∷ []) old.entries);
+        entries_are = bare_round_for due_now (old.queue ++ m ∷ []) old.entries;
+        peak_is = peak_kept h _ (fewer_rounded due_now (old.queue ++ m ∷ []) old.entries);
         next_is = omega arith;
         senders_are = refl;
         receivers_are = refl;

@@ -6,7 +6,7 @@ use Rattle.flume_model.specs.declared.step.Kind.{Kind}
 use Rattle.flume_model.specs.declared.step.Step.{Step}
 use Rattle.flume_model.specs.declared.step.Reply.{Reply}
 use Rattle.flume_model.specs.declared.entry.Entry.{Entry}
-use Rattle.flume_state.specs.declared.entries.Notice.{Notice}
+use Rattle.flume_state.specs.declared.notice.Notice.{Notice}
 use Rattle.flume_model.specs.Log.{Log, Opening, Parks, Asks, Collects, Leaves, change}
 use Rattle.flume_model.specs.Counts.{is_over}
 use Rattle.flume_model.specs.Line.{is_live, how_many}
@@ -15,7 +15,8 @@ use Rattle.flume_model.specs.Replies.{IsReply, IsRun}
 use Rattle.flume_model.specs.Entries.{entry_of, without, again, after_leave, leave_fills, passes_on, round_for, round_for_fills}
 use Rattle.flume_model.specs.Entries.{waiting_count}
 use Rattle.flume_model.specs.Parked.{LogEntry, entries}
-use Rattle.flume_state.specs.Receivers.{tell_now, begins, noticed}
+use Rattle.flume_state.specs.Notices.{due_now}
+use Rattle.flume_state.specs.Receivers.{begins, noticed}
 use Rattle.flume_state.specs.State.{State, offers_of, bare}
 use Rattle.flume_core.specs.StandsFor.{StandsFor}
 use Rattle.flume_state.specs.Effects.{unparked, departed, waiting_so}
@@ -49,13 +50,13 @@ module _ {T S : Type 0} where
   -- what a receiver that leaves with no message leaves
   departed_is : (t : ℕ) (s : State T S) → departed t s ≡ record s {
     queue = unfilled (leave_fills t s.queue s.entries) s.queue;
-    entries = after_leave tell_now t s.queue s.entries;
+    entries = after_leave due_now t s.queue s.entries;
   }
   departed_is t s = by_case (passes_on (entry_of t s.entries)) refl
     where
       by_case : (b : Bool) → passes_on (entry_of t s.entries) ≡ b → departed t s ≡ record s {
         queue = unfilled (leave_fills t s.queue s.entries) s.queue;
-        entries = after_leave tell_now t s.queue s.entries;
+        entries = after_leave due_now t s.queue s.entries;
       }
       by_case true passes = rw passes refl
       by_case false stays = rw stays refl
@@ -68,7 +69,7 @@ module _ {T S : Type 0} where
       by_case true passes =
           rw passes (ap (λ q. record (unparked t s) {
             queue = unfilled (round_for_fills q (without t s.entries)) q;
-            entries = round_for tell_now q (without t s.entries);
+            entries = round_for due_now q (without t s.entries);
           }) none
           ∙ sym (ap (λ q. record (unparked t s) { queue = q }) none))
       by_case false stays = rw stays refl
@@ -146,8 +147,8 @@ module _ {T A S : Type 0} where
         length_is = ap length rest ∙ length-drop n old.queue;
         marks = λ q. status_is h q
             ∙ sym (ap (λ b. status b (has_ticket q (offers_of old.blocked))) (still_live false (is_live past q) false refl refl));
-        entries_are = bare_after_leave tell_now t old.queue old.entries;
-        peak_is = peak_kept h _ (fewer_after_leave tell_now t old.queue old.entries);
+        entries_are = bare_after_leave due_now t old.queue old.entries;
+        peak_is = peak_kept h _ (fewer_after_leave due_now t old.queue old.entries);
         next_is = omega arith;
         senders_are = refl;
         receivers_are = refl;

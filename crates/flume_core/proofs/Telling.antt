@@ -7,14 +7,16 @@ use Rattle.std.proofs.lemmas.Bool.{eqb-false}
 use Rattle.std.proofs.lemmas.List.{map-append}
 use Rattle.std.specs.Option.{option_map}
 use Rattle.std.specs.FinMap.{get}
+use Rattle.flume_state.specs.declared.notice.Notice.{Notice}
 use Rattle.flume_state.specs.declared.sends.LiveSend.{LiveSend}
 use Rattle.flume_model.specs.Log.{Log, Opening}
 use Rattle.flume_state.specs.Messages.{Blocked}
-use Rattle.flume_state.specs.Sends.{SendMap, changed, with_signal, told, due_now}
+use Rattle.flume_state.specs.Notices.{told, due_now}
+use Rattle.flume_state.specs.Sends.{SendMap, changed, noticed_send, with_notice}
 use Rattle.flume_state.specs.State.{State, bare}
 use Rattle.flume_core.specs.StandsFor.{StandsFor}
 use Rattle.flume_state.specs.Receivers.{Entries, Tells}
-use Rattle.flume_state.specs.Effects.{resignalled, all_due}
+use Rattle.flume_state.specs.Effects.{all_due}
 use Rattle.flume_core.proofs.Views.{mark, SameMarks}
 use Rattle.flume_state.proofs.SendsLaws.{get-changed_same, get-changed_other}
 
@@ -37,23 +39,22 @@ module _ {S : Type 0} where
           rw (same, get-changed_same m k f) (mark_kept f keeps (get m k))
       go false e = rw (get-changed_other m k f t (eqb-false t k e)) refl
 
-  -- so does a replaced signal
-  pub same_marks_signal : (m : SendMap S) (k : ℕ) (signal : Option S) → SameMarks (resignalled m k signal) m
-  same_marks_signal m k None t = refl
-  same_marks_signal m k (Some signal) t = same_marks_changed m k (with_signal signal) (λ x. refl) t
+  -- so does a change of a notice
+  pub same_marks_noticed : (f : Notice S → Notice S) (m : SendMap S) (k : ℕ) → SameMarks (noticed_send f k m) m
+  same_marks_noticed f m k t = same_marks_changed m k (with_notice f) (λ x. refl) t
 
   -- naming what is due keeps all marks
-  pub same_marks_told : (m n : SendMap S) (named : Option ℕ) → IfSome named (λ t. n ≡ changed m t told) → IfNone named (n ≡ m)
+  pub same_marks_told : (m n : SendMap S) (named : Option ℕ) → IfSome named (λ t. n ≡ noticed_send told t m) → IfNone named (n ≡ m)
       → SameMarks n m
   same_marks_told m n None some none t = rw none refl
-  same_marks_told m n (Some k) some none t = rw some (same_marks_changed m k told (λ x. refl) t)
+  same_marks_told m n (Some k) some none t = rw some (same_marks_noticed told m k t)
 
 module _ {T S : Type 0} where
   -- and so do all marks of what is due
   pub same_marks_due : (some : List (Blocked T)) (m : SendMap S) → SameMarks (all_due some m) m
   same_marks_due [] m t = refl
   same_marks_due (b ∷ some) m t =
-      same_marks_due some (changed m b.ticket due_now) t ∙ same_marks_changed m b.ticket due_now (λ x. refl) t
+      same_marks_due some (noticed_send due_now b.ticket m) t ∙ same_marks_noticed due_now m b.ticket t
 
 module _ {T S : Type 0} where
   -- telling one receiver changes nothing that a log knows

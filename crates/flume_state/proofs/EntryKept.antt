@@ -5,15 +5,10 @@ use Rattle.std.specs.List.{remove, slice_get}
 use Rattle.std.proofs.lemmas.List.Elements.{All-append, All-cons, All-drop, All-nil, All-set, All-take}
 use Rattle.std.proofs.lemmas.Option.{get_or_from_slice_get, slice_get_within}
 use Rattle.flume_model.specs.Entries.{is_waiting, waiting_count}
-use Rattle.flume_state.specs.Receivers.{Entries, NoneDueIn, waits_on}
+use Rattle.flume_state.specs.Receivers.{Entries, NoneDueIn}
 use Rattle.flume_model.specs.declared.entry.Entry.{Entry}
-use Rattle.flume_state.specs.declared.entries.Notice.{Notice}
+use Rattle.flume_state.specs.declared.notice.Notice.{Notice}
 use Rattle.flume_state.proofs.EntryListLemmas.{count-append, count-remove, count-set, count_at, weight}
-
--- one that waits on isn't to be told
-pub waits_not_due : {S : Type 0} (signal : Option S) (n : Notice S) → (waits_on signal n).due ≡ false
-waits_not_due None n = refl
-waits_not_due (Some signal) n = refl
 
 module _ {T S : Type 0} where
   -- nobody is to be told in a list with one entry more that isn't

@@ -10,7 +10,7 @@ use Rattle.flume_state.specs.Receivers.{Entries, noticed}
 use Rattle.flume_model.specs.declared.entry.Entry.{Entry}
 use Rattle.flume_model.specs.declared.entry.Mark.{Mark}
 use Rattle.flume_model.specs.declared.entry.Mark.TheVariants.{Waiting, Woken, Filled}
-use Rattle.flume_state.specs.declared.entries.Notice.{Notice}
+use Rattle.flume_state.specs.declared.notice.Notice.{Notice}
 use Rattle.std.proofs.lemmas.List.Sums.{fails_before_first}
 
 -- one number of two is 1 at most

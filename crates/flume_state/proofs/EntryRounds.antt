@@ -3,8 +3,9 @@ use Rattle.std.proofs.Common.{◌≡◌, ℕ, ◌+◌, ◌≤◌, Bool, true, fa
 use Rattle.std.proofs.Common.{Option, Some, None, refl, sym, ap, ◌∙◌, arith}
 use Rattle.std.specs.List.{position, slice_get}
 use Rattle.std.proofs.lemmas.List.Quantifiers.{position-Some}
-use Rattle.flume_state.specs.Receivers.{Entries, Tells, not_due}
-use Rattle.flume_state.specs.declared.entries.Notice.{Notice}
+use Rattle.flume_state.specs.Notices.{told}
+use Rattle.flume_state.specs.Receivers.{Entries, Tells}
+use Rattle.flume_state.specs.declared.notice.Notice.{Notice}
 use Rattle.std.proofs.lemmas.List.{append-nil, drop_all, length-set, set-set, take_all}
 use Rattle.std.proofs.lemmas.Option.{get_or_from_slice_get, slice_get_within}
 use Rattle.flume_model.specs.declared.entry.Entry.{Entry}
@@ -177,7 +178,7 @@ module _ {T N : Type 0} where
 module _ {T S : Type 0} where
   -- the first that is to be told is told
   pub tells_at : (xs ys new : Entries T S) (i : ℕ) (e : Entry T (Notice S)) → xs ≡ ys → position (λ x. x.notice.due) ys ≡ Some i
-      → slice_get ys i ≡ Some e → new ≡ set xs i (record e { notice = not_due e.notice }) → Tells ys new e.ticket
+      → slice_get ys i ≡ Some e → new ≡ set xs i (record e { notice = told e.notice }) → Tells ys new e.ticket
   tells_at xs ys new i e view found at is = record {
     before = take i ys;
     entry = e;
@@ -186,5 +187,5 @@ module _ {T S : Type 0} where
     is_it = refl;
     was_due = ap (λ (x : Entry T (Notice S)). x.notice.due) (sym (get_or_from_slice_get ys i e e at))
         ∙ (position-Some (λ x. x.notice.due) ys i e found).1;
-    told = is ∙ rw view (whole_set ys i (record e { notice = not_due e.notice }) (slice_get_within ys i e at));
+    told = is ∙ rw view (whole_set ys i (record e { notice = told e.notice }) (slice_get_within ys i e at));
   }

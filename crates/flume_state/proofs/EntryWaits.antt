@@ -8,7 +8,7 @@ use Rattle.flume_model.specs.Entries.{again, is_woken}
 use Rattle.flume_state.specs.Receivers.{Entries, noticed}
 use Rattle.flume_model.specs.declared.entry.Entry.{Entry}
 use Rattle.flume_model.specs.declared.entry.Mark.TheVariants.{Waiting}
-use Rattle.flume_state.specs.declared.entries.Notice.{Notice}
+use Rattle.flume_state.specs.declared.notice.Notice.{Notice}
 use Rattle.flume_model.proofs.Places.{get_set, same_at}
 use Rattle.flume_state.proofs.EntryListLemmas.{FirstAt, entry_absent, entry_found, first_at, noticed_absent, noticed_found, without_found}
 

@@ -67,6 +67,15 @@ module _ {X : Type 0} where
         | Some x ↦ λ e. ap (λ n. get n q) (changed_some m k f x e) ∙ get-insert_other m k (f x) q ne
       ] refl
 
+  -- a change that leaves the value as it was changes nothing
+  pub changed_same : (m : FinMap nat_cmp X) (k : ℕ) → changed m k (λ x. x) ≡ m
+  changed_same m k =
+      same_by _ _ k (get-changed_same m k (λ x. x) ∙ map_same (get m k)) (λ q ne. get-changed_other m k (λ x. x) q ne)
+    where
+      map_same : (o : Option X) → option_map (λ x. x) o ≡ o
+      map_same None = refl
+      map_same (Some x) = refl
+
   -- a key just inserted, and then removed, leaves the map that had not got it
   pub remove-insert : (m : FinMap nat_cmp X) (k : ℕ) (v : X) → get m k ≡ None → remove (insert m k v) k ≡ m
   remove-insert m k v none =

@@ -70,7 +70,7 @@ module _ {S : Type 0} where
   due_in_either false x y h k = k
 
   -- nor after one that is not due was put in
-  pub none_due_insert : (m : SendMap S) (k : ℕ) (s : LiveSend S) → NoneDue m → s.due ≡ false → NoneDue (insert m k s)
+  pub none_due_insert : (m : SendMap S) (k : ℕ) (s : LiveSend S) → NoneDue m → s.notice.due ≡ false → NoneDue (insert m k s)
   none_due_insert m k s h e t =
       ap due_in (get-insert nat_cmp_total m k s t) ∙ due_in_either (eq_by_cmp nat_cmp t k) (Some s) (get m t) e (h t)
 
@@ -81,7 +81,7 @@ module _ {S : Type 0} where
 
   -- nor after a change that keeps what is not due so
   pub none_due_changed : (m : SendMap S) (k : ℕ) (f : LiveSend S → LiveSend S) → NoneDue m
-      → ((s : LiveSend S) → s.due ≡ false → (f s).due ≡ false) → NoneDue (changed m k f)
+      → ((s : LiveSend S) → s.notice.due ≡ false → (f s).notice.due ≡ false) → NoneDue (changed m k f)
   none_due_changed m k f h keeps =
       elim (get m k) as (λ o. get m k ≡ o → NoneDue (changed m k f)) [
         | None ↦ λ e. subst NoneDue (sym (changed_none m k f e)) h
@@ -95,13 +95,13 @@ module _ {S : Type 0} where
 
   -- nor in a list whose first send and others are not due
   pub none_due_cons : (es fs : List (ℕ × LiveSend S)) (k : ℕ) (s : LiveSend S) → es ≡ (k, s) ∷ fs
-      → NoneDue (seen fs) → s.due ≡ false → NoneDue (seen es)
+      → NoneDue (seen fs) → s.notice.due ≡ false → NoneDue (seen es)
   none_due_cons es fs k s e h not_due =
       subst (λ (xs : List (ℕ × LiveSend S)). NoneDue (seen xs)) (sym e) (none_due_insert _ k s h not_due)
 
   -- nor in a tree into which one that is not due was inserted
   pub none_due_inserted : (m n : BTreeMap ℕ (LiveSend S)) (k : ℕ) (s : LiveSend S) → NoneDue (seen m.entries)
-      → s.due ≡ false → tree.Updates nat_cmp m n k (Some s) → NoneDue (seen n.entries)
+      → s.notice.due ≡ false → tree.Updates nat_cmp m n k (Some s) → NoneDue (seen n.entries)
   none_due_inserted m n k s h e u = subst NoneDue (sym (inserted m n _ k s refl u)) (none_due_insert _ k s h e)
 
   -- nor in a tree from which one was removed
@@ -113,7 +113,7 @@ module _ {S : Type 0} where
   pub none_due_written : (m : BTreeMap ℕ (LiveSend S)) (lender : LiveSend S → BTreeMap ℕ (LiveSend S)) (k : ℕ)
       (f : LiveSend S → LiveSend S) (x : LiveSend S) → NoneDue (seen m.entries) → Some x ≡ tree.get nat_cmp m k
       → ((w : LiveSend S) → tree.WritesThrough nat_cmp (nat_cmp k) m w (lender w))
-      → ((s : LiveSend S) → s.due ≡ false → (f s).due ≡ false) → NoneDue (seen (lender (f x)).entries)
+      → ((s : LiveSend S) → s.notice.due ≡ false → (f s).notice.due ≡ false) → NoneDue (seen (lender (f x)).entries)
   none_due_written m lender k f x h e w keeps =
       subst NoneDue (sym (written m lender _ k f x refl e w)) (none_due_changed _ k f h keeps)
 

@@ -6,23 +6,18 @@ use Rattle.std.specs.FinMap.{remove}
 use Rattle.flume_model.specs.Limits.{is_closed, is_full, IsOpen, most}
 use Rattle.flume_model.specs.declared.step.Kind.{Kind}
 use Rattle.flume_state.specs.Messages.{Blocked}
-use Rattle.flume_state.specs.Sends.{SendMap, changed, accepted_now, due_now, with_signal}
+use Rattle.flume_state.specs.Notices.{due_now}
+use Rattle.flume_state.specs.Sends.{SendMap, changed, accepted_now, noticed_send}
 use Rattle.flume_model.specs.Entries.{all_woken, entry_of, without, round_for, round_for_fills}
 use Rattle.flume_model.specs.Entries.{passes_on, leave_fills, waiting_count}
-use Rattle.flume_state.specs.Receivers.{Entries, begins, tell_now, unfilled}
+use Rattle.flume_state.specs.Receivers.{Entries, begins, unfilled}
 use Rattle.flume_state.specs.State.{State, emptied}
 
-module _ {S : Type 0} where
-  -- the live sends with a signal replaced, where one is given
-  abbrev pub resignalled : SendMap S → ℕ → Option S → SendMap S
-  resignalled sends ticket None = sends
-  resignalled sends ticket (Some signal) = changed sends ticket (with_signal signal)
-
 module _ {T S : Type 0} where
-  -- the live sends, where each of these blocked ones is to be told
+  -- the live sends, where each of these blocked ones is due
   abbrev pub all_due : List (Blocked T) → SendMap S → SendMap S
   all_due [] sends = sends
-  all_due (b ∷ blocked) sends = all_due blocked (changed sends b.ticket due_now)
+  all_due (b ∷ blocked) sends = all_due blocked (noticed_send due_now b.ticket sends)
 
   -- the state whose first blocked message, of these, has joined the queue
   abbrev pub admitted_from : List (Blocked T) → State T S → State T S
@@ -68,7 +63,7 @@ module _ {T S : Type 0} where
   abbrev pub rounded : State T S → State T S
   rounded s = record s {
     queue = unfilled (round_for_fills s.queue s.entries) s.queue;
-    entries = round_for tell_now s.queue s.entries;
+    entries = round_for due_now s.queue s.entries;
   }
 
   -- the state without the parked receiver that has this ticket
@@ -91,13 +86,13 @@ module _ {T S : Type 0} where
   waiting_so entries s = record s { entries = entries; peak = max s.peak (waiting_count entries) }
 
   -- what an end that left leaves: nothing once both are gone; and where the channel was open and is
-  -- closed now, each waiting receiver is woken, and each blocked send is to be told
+  -- closed now, each waiting receiver is woken, and each blocked send is due
   abbrev pub after_leaving : Bool → State T S → State T S
   after_leaving was_open s =
       if s.senders + s.receivers == 0 then emptied s
       else (if was_open && is_closed s.senders s.receivers then record s {
         sends = all_due s.blocked s.sends;
-        entries = all_woken tell_now s.entries;
+        entries = all_woken due_now s.entries;
       } else s)
 
   -- a receiver of this kind parks behind all others, under the next ticket, with this signal

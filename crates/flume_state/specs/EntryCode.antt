@@ -6,7 +6,7 @@ use Rattle.flume_model.specs.declared.step.Kind.TheVariants.{Block, Plain, Strea
 use Rattle.flume_model.specs.declared.entry.Entry.{Entry}
 use Rattle.flume_model.specs.declared.entry.Mark.{Mark}
 use Rattle.flume_model.specs.declared.entry.Mark.TheVariants.{Waiting, Woken, Filled}
-use Rattle.flume_state.specs.declared.entries.Notice.{Notice}
+use Rattle.flume_state.specs.declared.notice.Notice.{Notice}
 
 -- a kind as two truth values
 abbrev pub kind_bits : Kind → Bool × Bool

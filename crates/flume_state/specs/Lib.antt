@@ -1,8 +1,10 @@
 pub mod Messages
 pub mod LineEntry
+pub mod Notices
 pub mod Sends
 pub mod Receivers
 pub mod EntryCode
 pub mod State
 pub mod Effects
 pub mod Told
+pub mod Due

@@ -9,7 +9,8 @@ use Rattle.flume_model.specs.declared.step.Kind.TheVariants.{Block}
 use Rattle.flume_model.specs.declared.entry.Entry.{Entry}
 use Rattle.flume_model.specs.declared.entry.Mark.{Mark}
 use Rattle.flume_model.specs.declared.entry.Mark.TheVariants.{Waiting, Woken, Filled}
-use Rattle.flume_state.specs.declared.entries.Notice.{Notice}
+use Rattle.flume_state.specs.declared.notice.Notice.{Notice}
+use Rattle.flume_state.specs.Notices.{fresh, told, resignalled}
 use Rattle.flume_state.specs.declared.entries.Standing.{Standing}
 use Rattle.flume_state.specs.declared.entries.Standing.TheVariants.{Filled as IsFilled}
 use Rattle.flume_state.specs.declared.entries.Standing.TheVariants.{BlockWaiting, BlockWoken}
@@ -46,18 +47,9 @@ only_leaves (Some IsWoken) = true
 only_leaves _ = false
 
 module _ {S : Type 0} where
-  -- one that is to be told of a change
-  abbrev pub tell_now : Notice S → Notice S
-  tell_now n = record n { due = true }
-
-  -- one that was told
-  abbrev pub not_due : Notice S → Notice S
-  not_due n = record n { due = false }
-
-  -- one that waits on, with another signal where one is given
+  -- the notice of one that waits on, with another signal where one is given
   abbrev pub waits_on : Option S → Notice S → Notice S
-  waits_on None n = record n { due = false }
-  waits_on (Some signal) n = record { signal = signal; due = false }
+  waits_on given n = told (resignalled given n)
 
 module _ {T : Type 0} where
   -- what decides how a parked receiver is answered
@@ -75,7 +67,7 @@ module _ {T S : Type 0} where
     ticket = ticket;
     kind = kind;
     mark = Waiting;
-    notice = record { signal = signal; due = false };
+    notice = fresh signal;
   }
 
   -- the entries with the notice of a ticket changed
@@ -92,11 +84,11 @@ module _ {T S : Type 0} where
   abbrev pub standing : ℕ → Entries T S → Option Standing
   standing t entries = option_map standing_of (entry_of t entries)
 
-  -- nobody is to be told
+  -- no receiver is due
   abbrev pub NoneDueIn : Entries T S → Type 0
   NoneDueIn entries = All (λ e. e.notice.due ≡ false) entries
 
-  -- one that is to be told, under this ticket, is told
+  -- one that was due, under this ticket, is due no more
   pub record Tells (old new : Entries T S) (ticket : ℕ) : Type 0 where
     pub before : Entries T S
     pub entry : Entry T (Notice S)
@@ -104,4 +96,4 @@ module _ {T S : Type 0} where
     pub found : old ≡ before ++ entry ∷ later
     pub is_it : entry.ticket ≡ ticket
     pub was_due : entry.notice.due ≡ true
-    pub told : new ≡ before ++ record entry { notice = not_due entry.notice } ∷ later
+    pub told : new ≡ before ++ record entry { notice = told entry.notice } ∷ later

@@ -3,18 +3,20 @@ use Rattle.std.specs.Prelude.{◌≡◌, ℕ, Bool, true, false, Option, Some, N
 use Rattle.std.specs.Coded.{Coded, code_by, coded×, coded_bool, coded_ℕ}
 use Rattle.std.specs.Ordering.{nat_cmp}
 use Rattle.std.specs.FinMap.{FinMap, get, insert, code}
+use Rattle.flume_state.specs.declared.notice.Notice.{Notice}
 use Rattle.flume_state.specs.declared.sends.LiveSend.{LiveSend}
+use Rattle.flume_state.specs.Notices.{fresh, due_now}
 
 -- the live sends, by ticket
 abbrev pub SendMap : Type 0 → Type 0
 SendMap S = FinMap nat_cmp (LiveSend S)
 
--- a live send is stored as its three fields
+-- a live send is stored as its two fields, the second as a pair
 abbrev pub live_send_code : {S : Type 0} → Coded S → Coded (LiveSend S)
 live_send_code {S} c =
-    code_by (S × (Bool × Bool)) (coded× c (coded× coded_bool coded_bool))
-    (λ s. (s.signal, (s.accepted, s.due)))
-    (λ p. record { signal = p.0; accepted = p.1.0; due = p.1.1 }) (λ _. refl)
+    code_by (Bool × (S × Bool)) (coded× coded_bool (coded× c coded_bool))
+    (λ s. (s.accepted, (s.notice.signal, s.notice.due)))
+    (λ p. record { accepted = p.0; notice = record { signal = p.1.0; due = p.1.1 } }) (λ _. refl)
 
 -- and the map of them as a list of pairs of a ticket and a live send
 abbrev pub send_map_code : {S : Type 0} → Coded S → Coded (SendMap S)
@@ -22,23 +24,15 @@ send_map_code c = code coded_ℕ (live_send_code c)
 
 -- a send that has just blocked
 abbrev pub blocked : {S : Type 0} → S → LiveSend S
-blocked signal = record { signal = signal; accepted = false; due = false }
+blocked signal = record { accepted = false; notice = fresh signal }
 
--- a send whose message was accepted, of which it must be told
+-- a send whose message was accepted, which is due
 abbrev pub accepted_now : {S : Type 0} → LiveSend S → LiveSend S
-accepted_now s = record s { accepted = true; due = true }
+accepted_now s = record { accepted = true; notice = due_now s.notice }
 
--- a send that must be told of a change
-abbrev pub due_now : {S : Type 0} → LiveSend S → LiveSend S
-due_now s = record s { due = true }
-
--- a send that was told
-abbrev pub told : {S : Type 0} → LiveSend S → LiveSend S
-told s = record s { due = false }
-
--- a send with another signal
-abbrev pub with_signal : {S : Type 0} → S → LiveSend S → LiveSend S
-with_signal signal s = record s { signal = signal }
+-- a send with its notice changed
+abbrev pub with_notice : {S : Type 0} → (Notice S → Notice S) → LiveSend S → LiveSend S
+with_notice f s = record s { notice = f s.notice }
 
 -- the map with f of a value that stood at k, and as it was where none stood there
 abbrev pub put_changed : {X : Type 0} → FinMap nat_cmp X → ℕ → (X → X) → Option X → FinMap nat_cmp X
@@ -49,10 +43,14 @@ put_changed m k f (Some x) = insert m k (f x)
 unfoldable pub changed : {X : Type 0} → FinMap nat_cmp X → ℕ → (X → X) → FinMap nat_cmp X
 changed m k f = put_changed m k f (get m k)
 
+-- the live sends with the notice of a ticket changed
+abbrev pub noticed_send : {S : Type 0} → (Notice S → Notice S) → ℕ → SendMap S → SendMap S
+noticed_send f t sends = changed sends t (with_notice f)
+
 -- whether there is a send and it is due
 abbrev pub due_in : {S : Type 0} → Option (LiveSend S) → Bool
 due_in None = false
-due_in (Some s) = s.due
+due_in (Some s) = s.notice.due
 
 -- whether the ticket is live and due
 abbrev pub is_due : {S : Type 0} → SendMap S → ℕ → Bool

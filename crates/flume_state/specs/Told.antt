@@ -3,7 +3,8 @@ use Rattle.std.specs.Prelude.{◌≡◌, ℕ, true, Option, Some, None}
 use Rattle.std.specs.Option.{option_map}
 use Rattle.std.specs.FinMap.{get}
 use Rattle.flume_model.specs.Entries.{entry_of}
-use Rattle.flume_state.specs.Sends.{changed, told, is_due}
+use Rattle.flume_state.specs.Notices.{told}
+use Rattle.flume_state.specs.Sends.{noticed_send, is_due}
 use Rattle.flume_state.specs.Receivers.{Tells}
 use Rattle.flume_state.specs.State.{State}
 
@@ -17,12 +18,12 @@ module _ {T S : Type 0} where
   -- the signal that a live ticket left last
   abbrev pub signal_of : State T S → ℕ → Option S
   signal_of s t =
-      signal_or (option_map (λ send. send.signal) (get s.sends t))
+      signal_or (option_map (λ send. send.notice.signal) (get s.sends t))
       (option_map (λ e. e.notice.signal) (entry_of t s.entries))
 
   -- a ticket that was due is named: one of a send, or of a parked receiver
   pub data Names (old new : State T S) (ticket : ℕ) : Type 0 where
     Send : is_due old.sends ticket ≡ true
-        → new ≡ record old { sends = changed old.sends ticket told } → Names old new ticket
+        → new ≡ record old { sends = noticed_send told ticket old.sends } → Names old new ticket
     Receive : Tells old.entries new.entries ticket
         → new ≡ record old { entries = new.entries } → Names old new ticket

@@ -11,20 +11,12 @@ ghost use Rattle.flume_state.specs.Receivers.{NoneDueIn};
 
 mod wakes;
 
+use crate::notice::Notice;
 use flume_model::entry::{Entry, Mark};
 use flume_model::step::Kind;
 use std::alloc::{AllocError, Allocator};
 use std::collections::VecDeque;
 use std::marker::Model;
-
-/// The signal that a parked receiver left, and whether it is to be told of a change.
-#[derive(Drop)]
-pub struct Notice<S> {
-    /// What the receiver left to be told by.
-    pub signal: S,
-    /// Whether it is to be told.
-    pub due: bool,
-}
 
 /// What decides how a parked receiver is answered.
 #[derive(Clone, Copy, Drop)]
@@ -47,7 +39,7 @@ pub struct Entries<T, S, A: Allocator> {
     entries: VecDeque<Entry<T, Notice<S>>, A>,
     // How many wait, so that a send needn't look.
     waiting: usize,
-    // False only where nobody is to be told, so that `next_due` needn't look.
+    // False only where nobody is due, so that `next_due` needn't look.
     some_due: bool,
 }
 

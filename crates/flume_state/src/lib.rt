@@ -8,4 +8,5 @@
 
 pub mod entries;
 pub mod line;
+pub mod notice;
 pub mod sends;

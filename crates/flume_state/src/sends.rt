@@ -2,9 +2,10 @@
 ghost use Rattle.std.specs.Prelude.{◌≡◌, ℕ, true, false, OnOk, OnErr, IfSome, IfNone};
 ghost use Rattle.std.specs.Option.{option_map, option_copied};
 ghost use Rattle.std.specs.FinMap.{empty, get, insert, remove};
-ghost use Rattle.flume_state.specs.Sends.{blocked, accepted_now, due_now, told, with_signal};
-ghost use Rattle.flume_state.specs.Sends.{changed, is_due, NoneDue};
+ghost use Rattle.flume_state.specs.Notices.{due_now, told, resignalled};
+ghost use Rattle.flume_state.specs.Sends.{blocked, accepted_now, changed, noticed_send, is_due, NoneDue};
 
+use crate::notice::Notice;
 use std::alloc::{AllocError, Allocator};
 use std::collections::BTreeMap;
 use std::marker::Model;
@@ -12,12 +13,10 @@ use std::marker::Model;
 /// A send that blocked and hasn't asked yet how it ended.
 #[derive(Drop)]
 pub struct LiveSend<S> {
-    /// What the sender left to be told by.
-    pub signal: S,
     /// Whether its message was taken into the queue.
     pub accepted: bool,
-    /// Whether the sender is to be told of a change.
-    pub due: bool,
+    /// What the sender left to be told by, and whether it is due.
+    pub notice: Notice<S>,
 }
 
 /// The live send of each live ticket.
@@ -71,10 +70,10 @@ impl<S: Drop, A: Allocator + Clone> Sends<S, A> {
         ensures ok { OnOk result (self.new ≡ insert self.old ticket (blocked signal)) }
         ensures err { OnErr result (self.new ≡ self.old) }
     {
+        let notice = Notice { signal, due: false };
         let send = LiveSend {
-            signal,
             accepted: false,
-            due: false,
+            notice,
         };
         self.table.insert(ticket, send)?;
         Ok(())
@@ -94,10 +93,10 @@ impl<S: Drop, A: Allocator + Clone> Sends<S, A> {
     /// The signal that the sender of a live ticket left last. `None` where the ticket isn't live.
     #[tactic(auto, using(crate::proofs::SendsLemmas::get_of_tree))]
     pub fn signal(&self, ticket: u64) -> Option<&S>
-        ensures value { option_copied result ≡ option_map (λ s. s.signal) (get self.now ticket) }
+        ensures value { option_copied result ≡ option_map (λ s. s.notice.signal) (get self.now ticket) }
     {
         match self.table.get(&ticket) {
-            Some(send) => Some(&send.signal),
+            Some(send) => Some(&send.notice.signal),
             None => None,
         }
     }
@@ -106,12 +105,12 @@ impl<S: Drop, A: Allocator + Clone> Sends<S, A> {
     /// memory.
     #[tactic(auto, using(crate::proofs::SendsLemmas::not_written))]
     pub fn set_signal(&mut self, ticket: u64, signal: S)
-        ensures replaced { self.new ≡ changed self.old ticket (with_signal signal) }
+        ensures replaced { self.new ≡ noticed_send (resignalled (Some signal)) ticket self.old }
     {
         let Some(send) = self.table.get_mut(&ticket) else {
             return;
         };
-        send.signal = signal;
+        send.notice.signal = signal;
     }
 
     /// The message of a live ticket was taken into the queue: the ticket is accepted, and due.
@@ -123,7 +122,7 @@ impl<S: Drop, A: Allocator + Clone> Sends<S, A> {
     {
         if let Some(send) = self.table.get_mut(&ticket) {
             send.accepted = true;
-            send.due = true;
+            send.notice.due = true;
             self.some_due = true;
         }
     }
@@ -132,12 +131,12 @@ impl<S: Drop, A: Allocator + Clone> Sends<S, A> {
     /// ticket isn't live. Takes no memory.
     #[tactic(auto, using(crate::proofs::SendsLemmas::not_written))]
     pub fn mark_due(&mut self, ticket: u64)
-        ensures marked { self.new ≡ changed self.old ticket due_now }
+        ensures marked { self.new ≡ noticed_send due_now ticket self.old }
     {
         let Some(send) = self.table.get_mut(&ticket) else {
             return;
         };
-        send.due = true;
+        send.notice.due = true;
         self.some_due = true;
     }
 
@@ -162,7 +161,7 @@ impl<S: Drop, A: Allocator + Clone> Sends<S, A> {
     /// no memory.
     pub fn next_due(&mut self) -> Option<u64>
         ensures was_due { IfSome result (λ t. is_due self.old t ≡ true) }
-        ensures taken { IfSome result (λ t. self.new ≡ changed self.old t told) }
+        ensures taken { IfSome result (λ t. self.new ≡ noticed_send told t self.old) }
         ensures none_due { IfNone result (NoneDue self.old) }
         ensures unchanged { IfNone result (self.new ≡ self.old) }
     {
@@ -174,7 +173,7 @@ impl<S: Drop, A: Allocator + Clone> Sends<S, A> {
             return None;
         };
         if let Some(send) = self.table.get_mut(&ticket) {
-            send.due = false;
+            send.notice.due = false;
         }
         Some(ticket)
     }
@@ -185,7 +184,7 @@ impl<S: Drop, A: Allocator + Clone> Sends<S, A> {
         ensures none_due { IfNone result (NoneDue self.now) }
     {
         for (&ticket, send) in &self.table {
-            if send.due {
+            if send.notice.due {
                 return Some(ticket);
             }
         }

@@ -4,9 +4,10 @@ ghost use Rattle.std.specs.Prelude.{Ok, Err, Option, ◌++◌, ◌∷◌, [], le
 ghost use Rattle.std.specs.FinMap.{get, insert, remove};
 ghost use Rattle.flume_model.specs.Limits.{IsOpen, IsClosed, IsAtCapacity, most};
 ghost use Rattle.flume_model.specs.Entries.{some_wait};
-ghost use Rattle.flume_state.specs.Sends.{blocked};
+ghost use Rattle.flume_state.specs.Sends.{blocked, noticed_send};
+ghost use Rattle.flume_state.specs.Notices.{resignalled};
 ghost use Rattle.flume_state.specs.State.{State, accepted_at};
-ghost use Rattle.flume_state.specs.Effects.{resignalled, Joins, Returns};
+ghost use Rattle.flume_state.specs.Effects.{Joins, Returns};
 ghost use Rattle.flume_core.specs.StandsFor.{IsLedTo};
 ghost use Rattle.flume_calls.specs.Turns.{Turn};
 ghost use Rattle.flume_calls.specs.SendTurns.{after_try_send, after_send, after_parked_send};
@@ -155,7 +156,7 @@ impl SendCall {
             × (accepted_at chan.old self ≡ Some false)
             × IsOpen chan.old.senders chan.old.receivers }
         ensures replaced { result ≡ SendNext.Park self → chan.new
-            ≡ record chan.old { sends = resignalled chan.old.sends self signal } }
+            ≡ record chan.old { sends = noticed_send (resignalled signal) self chan.old.sends } }
         ensures accepted { accepted_at chan.old self ≡ Some true
             → (result ≡ SendNext.Done (Ok tt))
             × (chan.new ≡ record chan.old { sends = remove chan.old.sends self }) }

@@ -3,9 +3,10 @@ ghost use Rattle.std.specs.Prelude.{◌≡◌, ◌≢◌, ℕ, ◌+◌, ◌<◌,
 ghost use Rattle.std.specs.Prelude.{length, Option, Some, None, true, false};
 ghost use Rattle.std.specs.FinMap.{get, insert, remove};
 ghost use Rattle.flume_model.specs.Limits.{IsOpen, IsClosed, IsAtCapacity, most};
-ghost use Rattle.flume_state.specs.Sends.{blocked};
+ghost use Rattle.flume_state.specs.Notices.{resignalled};
+ghost use Rattle.flume_state.specs.Sends.{blocked, noticed_send};
 ghost use Rattle.flume_model.specs.Entries.{some_wait};
-ghost use Rattle.flume_state.specs.Effects.{resignalled, Joins, Returns};
+ghost use Rattle.flume_state.specs.Effects.{Joins, Returns};
 ghost use Rattle.std.specs.List.{All};
 ghost use Rattle.flume_state.specs.State.{State, accepted_at};
 ghost use Rattle.flume_core.specs.StandsFor.{Extends, IsRefusal};
@@ -121,8 +122,9 @@ impl<T: Drop, S: Drop, A: Allocator + Copy> Chan<T, S, A> {
         ensures waiting { (result ≡ Reply.Waiting)
             ↔ (accepted_at self.old ticket ≡ Some false)
             × IsOpen self.old.senders self.old.receivers }
-        ensures replaced { result ≡ Reply.Waiting
-            → self.new ≡ record self.old { sends = resignalled self.old.sends ticket signal } }
+        ensures replaced { result ≡ Reply.Waiting → self.new ≡ record self.old {
+          sends = noticed_send (resignalled signal) ticket self.old.sends;
+        } }
         ensures unchanged { IsRefusal result → self.new ≡ self.old }
     {
         match self.status(ticket) {
@@ -195,8 +197,9 @@ impl<T: Drop, S: Drop, A: Allocator + Copy> Chan<T, S, A> {
     }
 
     fn replace_signal(&mut self, ticket: u64, signal: Option<S>)
-        ensures replaced { self.new
-            ≡ record self.old { sends = resignalled self.old.sends ticket signal } }
+        ensures replaced { self.new ≡ record self.old {
+          sends = noticed_send (resignalled signal) ticket self.old.sends;
+        } }
     {
         if let Some(signal) = signal {
             self.sends.set_signal(ticket, signal);

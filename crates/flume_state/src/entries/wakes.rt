@@ -6,7 +6,8 @@ ghost use Rattle.std.specs.List.{position};
 ghost use Rattle.flume_model.specs.Entries.{is_waiting, marked, all_woken};
 ghost use Rattle.flume_model.specs.Entries.{round_for, round_for_fills};
 ghost use Rattle.flume_model.specs.declared.entry.Mark.TheVariants.{Woken, Filled};
-ghost use Rattle.flume_state.specs.Receivers.{tell_now, unfilled, NoneDueIn, Tells};
+ghost use Rattle.flume_state.specs.Notices.{due_now};
+ghost use Rattle.flume_state.specs.Receivers.{unfilled, NoneDueIn, Tells};
 
 use super::Entries;
 use crate::line::Line;
@@ -22,7 +23,7 @@ impl<T: Drop, S: Drop, A: Allocator + Copy> Entries<T, S, A> {
     #[inline(always)]
     pub fn wake(&mut self, line: &mut Line<T, A>) -> Option<u64>
         ensures fills { result ≡ round_for_fills line.old.queued self.old }
-        ensures woken { self.new ≡ round_for tell_now line.old.queued self.old }
+        ensures woken { self.new ≡ round_for due_now line.old.queued self.old }
         ensures queue { line.new ≡ record line.old {
           queued = unfilled
               (round_for_fills line.old.queued self.old) line.old.queued;
@@ -39,7 +40,7 @@ impl<T: Drop, S: Drop, A: Allocator + Copy> Entries<T, S, A> {
     fn wake_round(&mut self, line: &mut Line<T, A>) -> Option<u64>
         requires queued { length line.old.queued ≢ 0 }
         ensures fills { result ≡ round_for_fills line.old.queued self.old }
-        ensures woken { self.new ≡ round_for tell_now line.old.queued self.old }
+        ensures woken { self.new ≡ round_for due_now line.old.queued self.old }
         ensures queue { line.new ≡ record line.old {
           queued = unfilled
               (round_for_fills line.old.queued self.old) line.old.queued;
@@ -60,7 +61,7 @@ impl<T: Drop, S: Drop, A: Allocator + Copy> Entries<T, S, A> {
     // Wakes the receiver at this place, if it waits. The kind of the one that was woken.
     fn wake_at(&mut self, place: usize) -> Option<Kind>
         ensures woken { ForSome (slice_get self.old place) (λ e. self.new ≡ slice_set self.old place
-            (if is_waiting e.mark then marked tell_now Woken e else e)) }
+            (if is_waiting e.mark then marked due_now Woken e else e)) }
         ensures kind { ForSome (slice_get self.old place) (λ e.
             result ≡ (if is_waiting e.mark then Some e.kind else None)) }
     {
@@ -93,7 +94,7 @@ impl<T: Drop, S: Drop, A: Allocator + Copy> Entries<T, S, A> {
 
     /// Wakes all that wait, and makes them due. Filled ones keep their message. Takes no memory.
     pub fn wake_all(&mut self)
-        ensures woken { self.new ≡ all_woken tell_now self.old }
+        ensures woken { self.new ≡ all_woken due_now self.old }
     {
         for place in 0..self.entries.len() {
             self.wake_at(place);
@@ -128,7 +129,7 @@ impl<T: Drop, S: Drop, A: Allocator + Copy> Entries<T, S, A> {
         Some(entry.ticket)
     }
 
-    // Where the first receiver stands that is to be told.
+    // Where the first receiver stands that is due.
     fn first_due(&self) -> Option<usize>
         ensures first { result ≡ position (λ e. e.notice.due) self.now }
     {

@@ -1,12 +1,13 @@
 -- How a send stands, as it is answered.
 use Rattle.std.proofs.Common.{refl, ◌∙◌, rules, eq-eqb}
 use Rattle.flume_model.specs.Limits.{IsClosed}
-use Rattle.flume_state.specs.Effects.{resignalled}
+use Rattle.flume_state.specs.Notices.{resignalled}
+use Rattle.flume_state.specs.Sends.{noticed_send}
 use Rattle.flume_core.proofs.Keeping.{still, still_signal}
 use Rattle.flume_core.proofs.Moves.{accepts}
 use Rattle.flume_core.proofs.Views.{open_at_log, closed_at_log}
 use Rattle.flume_core.proofs.Answering.{unknown, known, waits, taken_back, closed_where}
-use Rattle.flume_core.proofs.Telling.{same_marks_signal}
+use Rattle.flume_core.proofs.Telling.{same_marks_noticed}
 use Rattle.flume_core.proofs.chan.Chan.poll_send.Goals as goal
 
 pub returns-in-None-clause-step : goal.returns-in-None-clause-step
@@ -29,6 +30,6 @@ returns-in-Some-false-clause-step g c o log h =
 pub returns-in-Some-false-2-clause-step : goal.returns-in-Some-false-2-clause-step
 returns-in-Some-false-2-clause-step g c o log h =
     let waiting = waits o log c.args.self.now c.args.ticket h cc in
-    still_signal o log _ c.args.self.now _ (resignalled c.args.self.now.sends c.args.ticket c.args.signal) h
+    still_signal o log _ c.args.self.now _ (noticed_send (resignalled c.args.signal) c.args.ticket c.args.self.now.sends) h
     (waiting, open_at_log h (search rules)) refl c.replace_signal.ensures.replaced
-    (same_marks_signal c.args.self.now.sends c.args.ticket c.args.signal)
+    (same_marks_noticed (resignalled c.args.signal) c.args.self.now.sends c.args.ticket)

@@ -3,7 +3,7 @@ use Rattle.flume_model.specs.Entries.{is_woken}
 use Rattle.flume_state.specs.Receivers.{waits_on}
 use Rattle.flume_model.proofs.Places.{read_at, same_at}
 use Rattle.flume_state.proofs.EntryListLemmas.{noticed_set, not_woken}
-use Rattle.flume_state.proofs.EntryKept.{kept_set, waits_not_due}
+use Rattle.flume_state.proofs.EntryKept.{kept_set}
 use Rattle.flume_state.proofs.entries.Entries.notice.Goals as goal
 use Rattle.flume_state.proofs.entries.Entries.notice.Goals.{in-Some-signal, in_default-signal, in-Woken, in_default-mark}
 
@@ -17,8 +17,8 @@ invariant_of-self-2 g c =
       | in_default-signal w ↦ rw w.in_default-signal.is w.entry-is
     ] in
     elim c.match-entry.branch [
-      | in-Woken w ↦ rw (w.self-inside-is, is) (kept_set _ _ _ _ _ _ c.self.invariant at refl (λ _. waits_not_due c.args.signal _))
-      | in_default-mark w ↦ rw (w.self-inside-is, is) (kept_set _ _ _ _ _ _ c.self.invariant at refl (λ _. waits_not_due c.args.signal _))
+      | in-Woken w ↦ rw (w.self-inside-is, is) (kept_set _ _ _ _ _ _ c.self.invariant at refl (λ _. refl))
+      | in_default-mark w ↦ rw (w.self-inside-is, is) (kept_set _ _ _ _ _ _ c.self.invariant at refl (λ _. refl))
     ]
 
 pub returns-clause-noticed : goal.returns-clause-noticed

@@ -1,6 +1,6 @@
 use Rattle.std.proofs.Common.{ap, refl}
 use Rattle.flume_model.specs.Entries.{is_waiting}
-use Rattle.flume_state.specs.Receivers.{tell_now}
+use Rattle.flume_state.specs.Notices.{due_now}
 use Rattle.flume_model.proofs.Places.{read_at, same_at}
 use Rattle.flume_state.proofs.EntryListLemmas.{not_waiting}
 use Rattle.flume_state.proofs.EntryKept.{counted_waiting, kept_set, kept_woken}
@@ -29,7 +29,7 @@ pub returns-in-Waiting-clause-woken : goal.returns-in-Waiting-clause-woken
 returns-in-Waiting-clause-woken g c = λ x at.
     let e = c.in_ok-entry.ensures in
     let here = read_at _ _ _ _ _ (e.variant.0 refl) c.self.inside.entries.ok.0 e.value c.self.view_is in
-    woken_set tell_now _ _ _ _ _ c.self.view_is (same_at c.args.self.now c.args.place _ _ here at) (ap is_waiting c.in-Waiting.is)
+    woken_set due_now _ _ _ _ _ c.self.view_is (same_at c.args.self.now c.args.place _ _ here at) (ap is_waiting c.in-Waiting.is)
 
 pub returns-in-Waiting-clause-kind : goal.returns-in-Waiting-clause-kind
 returns-in-Waiting-clause-kind g c = λ x at.
@@ -43,7 +43,7 @@ returns-in_default g c =
     let here = read_at _ _ _ _ _ (e.variant.0 refl) c.self.inside.entries.ok.0 e.value c.self.view_is in
     record {
       woken = λ x at.
-          awake_set tell_now _ _ _ _ _ c.self.view_is (same_at c.args.self.now c.args.place _ _ here at)
+          awake_set due_now _ _ _ _ _ c.self.view_is (same_at c.args.self.now c.args.place _ _ here at)
           (not_waiting _ c.in_default.not-Waiting);
       kind = λ x at. awake_kind _ _ (same_at c.args.self.now c.args.place _ _ here at) (not_waiting _ c.in_default.not-Waiting);
     }

@@ -1,0 +1,72 @@
+-- Who is due after a step. It speaks of the states before and after, the step and its reply alone.
+use Rattle.std.specs.Prelude.{◌≡◌, ◌==◌, ℕ, Bool, true, false, not, ◌&&◌, ◌||◌, Option, Some, None}
+use Rattle.std.specs.Option.{is_some}
+use Rattle.std.specs.FinMap.{get}
+use Rattle.flume_model.specs.declared.step.Step.{Step}
+use Rattle.flume_model.specs.declared.step.Step.TheVariants.{Poll}
+use Rattle.flume_model.specs.declared.step.Reply.{Reply}
+use Rattle.flume_model.specs.declared.step.Reply.TheVariants.{Waiting}
+use Rattle.flume_model.specs.declared.entry.Entry.{Entry}
+use Rattle.flume_model.specs.Limits.{is_closed}
+use Rattle.flume_model.specs.Entries.{is_waiting, entry_of}
+use Rattle.flume_state.specs.declared.notice.Notice.{Notice}
+use Rattle.flume_state.specs.declared.sends.LiveSend.{LiveSend}
+use Rattle.flume_state.specs.Sends.{due_in}
+use Rattle.flume_state.specs.State.{State}
+
+module _ {T A : Type 0} where
+  -- by this step the parked receiver with this ticket waits on, or again
+  abbrev pub waits_by : Step T → Reply T A → ℕ → Bool
+  waits_by (Poll ticket) Waiting t = ticket == t
+  waits_by _ _ t = false
+
+module _ {S : Type 0} where
+  -- the live send that may be there is blocked
+  abbrev pub blocked_in : Option (LiveSend S) → Bool
+  blocked_in None = false
+  blocked_in (Some send) = not send.accepted
+
+  -- its message was accepted
+  abbrev pub accepted_in : Option (LiveSend S) → Bool
+  accepted_in None = false
+  accepted_in (Some send) = send.accepted
+
+  -- Given the closing and the send as it was and as it is: it is due exactly where it is live, and
+  -- was due before, or was accepted meanwhile, or was blocked as the channel was closed.
+  abbrev pub SendDue : Bool → Option (LiveSend S) → Option (LiveSend S) → Type 0
+  SendDue closed old new =
+      due_in new
+      ≡ (is_some new && (due_in old || (blocked_in old && accepted_in new)
+      || (closed && blocked_in old)))
+
+module _ {T S : Type 0} where
+  -- the parked receiver that may be there waits
+  abbrev pub waits_in : Option (Entry T (Notice S)) → Bool
+  waits_in None = false
+  waits_in (Some e) = is_waiting e.mark
+
+  -- it is due
+  abbrev pub entry_due_in : Option (Entry T (Notice S)) → Bool
+  entry_due_in None = false
+  entry_due_in (Some e) = e.notice.due
+
+  -- between these states the channel was closed
+  abbrev pub closed_between : State T S → State T S → Bool
+  closed_between old new =
+      not (is_closed old.senders old.receivers) && is_closed new.senders new.receivers
+
+  -- Given whether it waits on or again, and the receiver as it was and as it is: it is due exactly
+  -- where it is parked, doesn't so, and was due before, or was woken or filled meanwhile.
+  abbrev pub ReceiverDue : Bool → Option (Entry T (Notice S)) → Option (Entry T (Notice S)) → Type 0
+  ReceiverDue waits old new =
+      entry_due_in new
+      ≡ (is_some new && not waits && (entry_due_in old || (waits_in old && not (waits_in new))))
+
+  -- After the step a ticket is due exactly where it is live, doesn't wait on or again by the step,
+  -- and was due before, or was accepted, woken or filled by it, or was blocked as it closed the
+  -- channel.
+  pub record BecomesDue {A : Type 0} (old : State T S) (step : Step T) (reply : Reply T A)
+      (new : State T S) : Type 0 where
+    pub sends : (t : ℕ) → SendDue (closed_between old new) (get old.sends t) (get new.sends t)
+    pub receivers : (t : ℕ)
+        → ReceiverDue (waits_by step reply t) (entry_of t old.entries) (entry_of t new.entries)

@@ -1,0 +1,21 @@
+-- What becomes of the notice that a blocked send or a parked receiver left: its signal, and whether it is due.
+use Rattle.std.specs.Prelude.{true, false, Option, Some, None}
+use Rattle.flume_state.specs.declared.notice.Notice.{Notice}
+
+module _ {S : Type 0} where
+  -- a new one, with this signal: it isn't due
+  abbrev pub fresh : S → Notice S
+  fresh signal = record { signal = signal; due = false }
+
+  -- one that becomes due
+  abbrev pub due_now : Notice S → Notice S
+  due_now n = record n { due = true }
+
+  -- one that is due no more
+  abbrev pub told : Notice S → Notice S
+  told n = record n { due = false }
+
+  -- one with another signal, where one is given
+  abbrev pub resignalled : Option S → Notice S → Notice S
+  resignalled None n = n
+  resignalled (Some signal) n = record n { signal = signal }
