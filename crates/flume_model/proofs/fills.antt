@@ -2,4 +2,3 @@
 pub mod FillsKept
 pub mod FillsShown
 pub mod FillsOrder
-pub mod FillsBeside
