@@ -29,19 +29,19 @@ leaves_end SenderLeaves = true
 leaves_end ReceiverLeaves = true
 leaves_end _ = false
 
--- such a change moves no message
+-- an end that leaves moves no message
 leaving_moves : {T : Type 0} (done : Change T) → leaves_end done ≡ true → moves_none done ≡ true
 leaving_moves SenderLeaves e = refl
 leaving_moves ReceiverLeaves e = refl
 leaving_moves _ e = absurd (let none : ⊥ = cc in none)
 
--- and it issues no ticket
+-- an end that leaves issues no ticket
 leaving_issues : {T : Type 0} (done : Change T) → leaves_end done ≡ true → issued done ≡ 0
 leaving_issues SenderLeaves e = refl
 leaving_issues ReceiverLeaves e = refl
 leaving_issues _ e = absurd (let none : ⊥ = cc in none)
 
--- and all who wait are woken just where it closes the channel
+-- where an end leaves, all who wait are woken just where that closes the channel
 entries_leaving : {T : Type 0} (done : Change T) → leaves_end done ≡ true → (queue : List T) (closes : Bool) (es : List (LogEntry T))
     (b : Bool)
     → closes ≡ b → entries_after queue closes es done ≡ (if b then all_woken untold es else es)
@@ -54,7 +54,7 @@ above_zero : (n : ℕ) → n ≢ 0 → 0 < n
 above_zero n some = omega (arith, some)
 
 module _ {T A S : Type 0} where
-  -- the same of the end that left closing the channel
+  -- whether an end that left closed the channel is the same by the state and by the log
   closes_as : (o : Opening) (log : Log T A) (p : Step T × Reply T A) (done : Change T) (s : State T S) → StandsFor o log s
       → change log p.0 p.1 ≡ done
       → (not (is_closed s.senders s.receivers) && is_closed (senders_after s.senders done) (receivers_after s.receivers done))

@@ -24,7 +24,7 @@ use Rattle.flume_core.proofs.Stands.{stands_as, stands_open, stands_over, fits_a
 use Rattle.flume_core.proofs.Stands.{peak_kept, none_parked}
 use Rattle.flume_core.proofs.Takes.{full_or_room, full_known}
 
--- so many messages are no more than the capacity
+-- this many messages are no more than the capacity
 abbrev pub IsInCapacity : Option ℕ → ℕ → Type 0
 IsInCapacity None n = Unit {0}
 IsInCapacity (Some c) n = n ≤ c

@@ -22,7 +22,7 @@ module _ {T S : Type 0} where
   mark_suc (b ∷ blocked) zero found sends e = rw (← e) refl
   mark_suc (b ∷ blocked) (suc place) found sends e = mark_suc blocked place found sends e
 
-  -- the same at a place that counts up by one
+  -- the blocked message at a place, and then those from the place plus one
   pub mark_next : (blocked : List (Blocked T)) (place : ℕ) (found : Option ℕ) (sends : SendMap S)
       → option_map (λ b. b.ticket) (slice_get blocked place) ≡ found
       → all_due (drop place blocked) sends ≡ all_due (drop (place + 1) blocked) (marked_at found sends)

@@ -91,7 +91,7 @@ module _ {T A S : Type 0} where
       subst (λ held. FillIs (is_over log) (shown log t) held m)
       (ap held_by (entry_at_log h t) ∙ bare_held (entry_of t s.entries)) of_it
 
-  -- so the messages are handed out in order by the entries of the state too
+  -- the messages are handed out in order, by the entries of the state
   order : (o : Opening) (log : Log T A) (s : State T S) → StandsFor o log s → InOrder s.entries log
   order o log s h j given at =
       let found = in_order o log h.run j given at in

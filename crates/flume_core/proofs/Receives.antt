@@ -38,7 +38,7 @@ fills_within [] es = omega arith
 fills_within (m ∷ queue) es = let one = at_most (round_for_fills (m ∷ queue) es) in omega arith
 
 module _ {T N : Type 0} where
-  -- so does the wake of one that leaves
+  -- the wake of a receiver that leaves fills at most as many as messages are queued
   leave_within : (t : ℕ) (queue : List T) (es : List (Entry T N)) → how_many (leave_fills t queue es) ≤ length queue
   leave_within t queue es = by_case (passes_on (entry_of t es)) refl
     where

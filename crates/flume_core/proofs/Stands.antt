@@ -57,7 +57,7 @@ module _ {T A : Type 0} where
   none_live [] t over = refl
   none_live (p ∷ past) t over = ap (λ b. not b && live_by (change past p.0 p.1) t (is_live past t)) over
 
-  -- so while one is live, the channel isn't over
+  -- while a ticket is live, the channel isn't over
   pub live_not_over : (log : Log T A) (t : ℕ) → is_live log t ≡ true → is_over log ≡ false
   live_not_over log t live =
       elim (is_over log) as (λ b. is_over log ≡ b → b ≡ false)

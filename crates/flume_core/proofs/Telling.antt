@@ -39,7 +39,7 @@ module _ {S : Type 0} where
           rw (same, get-changed_same m k f) (mark_kept f keeps (get m k))
       go false e = rw (get-changed_other m k f t (eqb-false t k e)) refl
 
-  -- so does a change of a notice
+  -- a changed notice keeps all marks
   pub same_marks_noticed : (f : Notice S → Notice S) (m : SendMap S) (k : ℕ) → SameMarks (noticed_send f k m) m
   same_marks_noticed f m k t = same_marks_changed m k (with_notice f) (λ x. refl) t
 
@@ -50,7 +50,7 @@ module _ {S : Type 0} where
   same_marks_told m n (Some k) some none t = rw some (same_marks_noticed told m k t)
 
 module _ {T S : Type 0} where
-  -- and so do all marks of what is due
+  -- marking blocked sends due keeps all marks of whether they were accepted
   pub same_marks_due : (some : List (Blocked T)) (m : SendMap S) → SameMarks (all_due some m) m
   same_marks_due [] m t = refl
   same_marks_due (b ∷ some) m t =

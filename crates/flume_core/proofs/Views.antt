@@ -194,7 +194,7 @@ module _ {T A S : Type 0} where
       → HasRoom s.capacity (length s.queue) → HasRoom (capacity o log) (boundary o log)
   room_at_log {o} {log} {s} h is = subst₂ HasRoom h.capacity_is h.boundary_is is
 
-  -- and the converse
+  -- where the queue has room in the log it has room
   pub room_at_state : {o : Opening} {log : Log T A} {s : State T S} → StandsFor o log s
       → HasRoom (capacity o log) (boundary o log) → HasRoom s.capacity (length s.queue)
   room_at_state {o} {log} {s} h is = subst₂ HasRoom (sym h.capacity_is) (sym h.boundary_is) is

@@ -163,7 +163,7 @@ impl<T, A: Allocator + Copy> Line<T, A> {
     where
         T: Drop,
         ensures drained { IfOk result (λ list. list.items ≡ self.old.queued) }
-        ensures left { OnOk result (self.new ≡ record self.old { queued = [] }) }
+        ensures becomes { OnOk result (self.new ≡ record self.old { queued = [] }) }
         ensures none_queued { OnErr result (self.old.queued ≢ []) }
         ensures unchanged { OnErr result (self.new ≡ self.old) }
     {

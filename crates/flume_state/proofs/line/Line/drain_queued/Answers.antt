@@ -48,7 +48,7 @@ returns-clause-drained g c =
     let list = c.loop-message.list.items in
     sym (append-nil list) ∙ ap (λ xs. list ++ xs) (sym c.in_default.ensures.none_queued) ∙ c.loop-message.invariant.0
 
-pub returns-clause-left : goal.returns-clause-left
-returns-clause-left g c =
+pub returns-clause-becomes : goal.returns-clause-becomes
+returns-clause-becomes g c =
     none_left c.loop-message.self c.take_queued.new.self c.args.self.now.blocked c.in_default.ensures.unchanged
     c.in_default.ensures.none_queued c.loop-message.invariant.1
