@@ -2,75 +2,28 @@
 use Rattle.std.proofs.Common.{◌≡◌, ℕ, ◌+◌, ◌<◌, ◌≤◌, Bool, true, false, not, ◌||◌, ◌&&◌, if◌then◌else◌, [], ◌∷◌, Option, Some, None, refl}
 use Rattle.std.proofs.Common.{sym, ◌∙◌, ap, subst, arith, inl, inr, ◌⊎◌}
 use Rattle.std.proofs.lemmas.Bool.{or_from, or_cases, and_parts}
-use Rattle.flume_model.specs.declared.step.Kind.{Kind}
-use Rattle.flume_model.specs.declared.step.Kind.TheVariants.{Block, Plain, Stream, Arm}
 use Rattle.flume_model.specs.declared.step.Step.{Step}
 use Rattle.flume_model.specs.declared.step.Step.TheVariants.{TrySend, Send, Poll, Withdraw}
 use Rattle.flume_model.specs.declared.step.Reply.{Reply}
-use Rattle.flume_model.specs.declared.step.Reply.TheVariants.{Sent, Got, Gone}
-use Rattle.flume_model.specs.declared.entry.Mark.{Mark}
-use Rattle.flume_model.specs.declared.entry.Mark.TheVariants.{Waiting, Woken, Filled}
+use Rattle.flume_model.specs.declared.step.Reply.TheVariants.{Sent, Gone}
 use Rattle.flume_model.specs.Log.{Log, Opening, Takes, Collects, filled_by, was_filled, is_ticket, change}
 use Rattle.flume_model.specs.Counts.{is_over}
 use Rattle.flume_model.specs.Line.{next_ticket, queue, issued, issues, spends, is_live}
 use Rattle.flume_model.specs.Entries.{entry_of}
-use Rattle.flume_model.specs.Parked.{LogEntry, entries_after, entries, is_shut}
-use Rattle.flume_model.specs.Channel.{Channel, channel}
-use Rattle.flume_model.specs.Asking.{IsPolledMark, IsPolled, IsGoneMark, IsGone}
+use Rattle.flume_model.specs.Parked.{entries_after, entries, is_shut}
+use Rattle.flume_model.specs.Channel.{channel}
 use Rattle.flume_model.specs.Replies.{IsReply, IsRun}
 use Rattle.flume_model.specs.WaitLaws.{EntriesApart, SidesApart, ToldFilled}
 use Rattle.flume_model.proofs.EntryMarks.{FilledBy, filled_found, none_past}
+use Rattle.flume_model.proofs.AskingCases.{polled_cases, gone_cases}
 use Rattle.flume_model.proofs.Fits.{Fits, fits}
 use Rattle.flume_model.proofs.EntryChanges.{fills, apart_by, fills_none, filled_by_change, sides_by}
 
-module _ {T A : Type 0} where
-  -- a receiver that asks fills none, by its kind and mark
-  asked_fills_none : (c : Channel T) (k : Kind) (m : Mark T) (reply : Reply T A) → IsPolledMark c k m reply → filled_by reply ≡ None
-  asked_fills_none c k (Filled held) (Sent f) h = absurd h
-  asked_fills_none c Block Waiting (Sent f) h = absurd h
-  asked_fills_none c Block Woken (Sent f) h = absurd h
-  asked_fills_none c Plain Waiting (Sent f) h = absurd h
-  asked_fills_none c Plain Woken (Sent f) h = absurd h
-  asked_fills_none c Stream Waiting (Sent f) h = absurd h
-  asked_fills_none c Stream Woken (Sent f) h = absurd h
-  asked_fills_none c Arm Waiting (Sent f) h = absurd h
-  asked_fills_none c Arm Woken (Sent f) h = absurd h
-  asked_fills_none c k (Filled held) (Gone closed f) h = absurd h
-  asked_fills_none c Block Waiting (Gone closed f) h = absurd h
-  asked_fills_none c Block Woken (Gone closed f) h = absurd h
-  asked_fills_none c Plain Waiting (Gone closed f) h = absurd h
-  asked_fills_none c Plain Woken (Gone closed f) h = absurd h
-  asked_fills_none c Stream Waiting (Gone closed f) h = absurd h
-  asked_fills_none c Stream Woken (Gone closed f) h = absurd h
-  asked_fills_none c Arm Waiting (Gone closed f) h = absurd h
-  asked_fills_none c Arm Woken (Gone closed f) h = absurd h
-  asked_fills_none c k m _ h = refl
-
-  -- a receiver that asks fills none
-  polled_fills_none : (c : Channel T) (found : Option (LogEntry T)) (reply : Reply T A) → IsPolled c found reply → filled_by reply ≡ None
-  polled_fills_none c None (Sent f) h = absurd h
-  polled_fills_none c None (Gone closed f) h = absurd h
-  polled_fills_none c None _ h = refl
-  polled_fills_none c (Some e) reply h = asked_fills_none c e.kind e.mark reply h
-
 module _ {T : Type 0} where
-  -- a receiver that leaves is not answered as a sender is, by its kind and mark
-  gone_not_sent : (A : Type 0) (c : Channel T) (t : ℕ) (k : Kind) (m : Mark T) (f : Option ℕ) → IsGoneMark {A = A} c t k m (Sent f) → ⊥
-  gone_not_sent A c t k (Filled held) f h = h
-  gone_not_sent A c t Block Waiting f h = h
-  gone_not_sent A c t Block Woken f h = h
-  gone_not_sent A c t Plain Waiting f h = h
-  gone_not_sent A c t Plain Woken f h = h
-  gone_not_sent A c t Stream Waiting f h = h
-  gone_not_sent A c t Stream Woken f h = h
-  gone_not_sent A c t Arm Waiting f h = h
-  gone_not_sent A c t Arm Woken f h = h
-
-  -- a receiver that leaves is not answered as a sender is
-  gone_sends_none : (A : Type 0) (c : Channel T) (t : ℕ) (found : Option (LogEntry T)) (f : Option ℕ)
-      → IsGone {A = A} c t found (Sent f) → ⊥
-  gone_sends_none A c t None f h = h
-  gone_sends_none A c t (Some e) f h = gone_not_sent A c t e.kind e.mark f h
+  -- a receiver that gets a message fills none
+  got_fills_none : (was : Bool) (t : ℕ) (m : T) → None ≡ fills (if was then Collects t else Takes m (Some t))
+  got_fills_none true t m = refl
+  got_fills_none false t m = refl
 
 module _ {T A : Type 0} where
   -- a lawful reply tells as filled what its change fills
@@ -78,20 +31,23 @@ module _ {T A : Type 0} where
       → filled_by reply ≡ fills (change past step reply)
   told_by o past (TrySend m) (Sent f) h = refl
   told_by o past (Send m) (Sent f) h = refl
-  told_by o past (Withdraw t) (Gone closed f) h = refl
-  told_by o past (Poll t) (Got m) h = by_case (was_filled past t)
-    where
-      by_case : (b : Bool) → None ≡ fills (if b then Collects t else Takes m (Some t))
-      by_case true = refl
-      by_case false = refl
-  told_by o past (Withdraw t) (Got m) h = by_case (was_filled past t)
-    where
-      by_case : (b : Bool) → None ≡ fills (if b then Collects t else Takes m (Some t))
-      by_case true = refl
-      by_case false = refl
-  told_by o past (Poll t) (Sent f) h = polled_fills_none (channel o past) (entry_of t (entries o past)) (Sent f) h
-  told_by o past (Poll t) (Gone closed f) h = polled_fills_none (channel o past) (entry_of t (entries o past)) (Gone closed f) h
-  told_by o past (Withdraw t) (Sent f) h = absurd (gone_sends_none A (channel o past) t (entry_of t (entries o past)) f h)
+  told_by o past (Poll t) reply h =
+      polled_cases (channel o past) t (λ r. filled_by r ≡ fills (change past (Poll t) r)) reply h (record {
+        unknown = refl;
+        collects = λ e held found is. got_fills_none (was_filled past t) t held;
+        takes = λ u m front. got_fills_none (was_filled past t) t m;
+        waits_on = λ u woken. refl;
+        ends = λ u empty. refl;
+        refused = λ back. refl;
+      })
+  told_by o past (Withdraw t) reply h =
+      gone_cases (channel o past) t (λ r. filled_by r ≡ fills (change past (Withdraw t) r)) reply h (record {
+        unknown = refl;
+        collects = λ e held found is. got_fills_none (was_filled past t) t held;
+        takes = λ u m front. got_fills_none (was_filled past t) t m;
+        fills_none = λ u closed empty. refl;
+        passes_on = λ u closed. refl;
+      })
   told_by o past _ (Sent f) h = absurd h
   told_by o past _ (Gone closed f) h = absurd h
   told_by o past _ _ h = refl

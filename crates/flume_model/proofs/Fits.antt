@@ -1,18 +1,15 @@
 -- A lawful reply makes a change that fits what stands before it.
 use Rattle.std.proofs.Common.{◌≡◌, ℕ, ◌+◌, ◌<◌, true, false, Bool, if◌then◌else◌, List, [], ◌∷◌, Option, Some, None}
-use Rattle.std.proofs.Common.{refl, sym, ◌∙◌, ap, arith, cond, take, subst, eqb-true, eq-eqb}
+use Rattle.std.proofs.Common.{refl, sym, ◌∙◌, ap, arith, cond, take, eqb-true, eq-eqb}
 use Rattle.std.proofs.Math.Seq.{take-nil}
-use Rattle.flume_model.specs.declared.step.Kind.{Kind}
-use Rattle.flume_model.specs.declared.step.Kind.TheVariants.{Block, Plain, Stream, Arm}
 use Rattle.flume_model.specs.declared.step.Step.{Step}
 use Rattle.flume_model.specs.declared.step.Step.TheVariants.{TrySend, Send, PollSend, WithdrawSend, TryRecv, Recv, Poll, Withdraw, Drain}
 use Rattle.flume_model.specs.declared.step.Step.TheVariants.{CloneSender, CloneReceiver, DropSender, DropReceiver}
 use Rattle.flume_model.specs.declared.step.Reply.{Reply}
-use Rattle.flume_model.specs.declared.step.Reply.TheVariants.{Sent, Pending, Accepted, Waiting, Returned, NoMemory, NoTicket}
-use Rattle.flume_model.specs.declared.step.Reply.TheVariants.{Got, Ended, Parked, Gone, Drained, Done}
+use Rattle.flume_model.specs.declared.step.Reply.TheVariants.{Sent, Pending, Accepted, Returned}
+use Rattle.flume_model.specs.declared.step.Reply.TheVariants.{Got, Parked, Drained, Done}
 use Rattle.flume_model.specs.declared.entry.Entry.{Entry}
-use Rattle.flume_model.specs.declared.entry.Mark.{Mark}
-use Rattle.flume_model.specs.declared.entry.Mark.TheVariants.{Waiting as StillWaits, Woken, Filled}
+use Rattle.flume_model.specs.declared.entry.Mark.TheVariants.{Filled}
 use Rattle.flume_model.specs.Log.{Log, Opening, Offer, Change, Queues, Blocks, Accepts, Withdraws, Takes, Drains, Parks, Asks, Collects}
 use Rattle.flume_model.specs.Log.{Leaves, SenderJoins, ReceiverJoins, SenderLeaves, ReceiverLeaves, Stays, was_filled, change}
 use Rattle.flume_model.specs.Counts.{senders, receivers, senders_after, receivers_after, is_over}
@@ -20,18 +17,13 @@ use Rattle.flume_model.specs.Line.{line, boundary, queue, messages}
 use Rattle.flume_model.specs.Entries.{is_filled, is_woken, entry_of, round_fills, leave_fills, passes_on}
 use Rattle.flume_model.specs.Parked.{LogEntry, entries}
 use Rattle.flume_model.specs.Channel.{Channel, TakesIn, TakesNoneIn, IsAccepted, IsBlocked, IsFront, channel}
-use Rattle.flume_model.specs.Asking.{IsPolledOther, IsPolledMark, IsPolled, IsGoneBlock, IsGoneOther, IsGoneMark, IsGone}
+use Rattle.flume_model.specs.Asking.{IsPolled, IsGone}
 use Rattle.flume_model.specs.Replies.{IsReply, IsRun}
 use Rattle.flume_model.specs.WaitLaws.{ToldFilled}
 use Rattle.flume_model.specs.Limits.{IsOpen, most}
+use Rattle.flume_model.proofs.AskingCases.{Unfilled, polled_cases, gone_cases}
 
 module _ {T : Type 0} where
-  -- the entry with this ticket, which isn't filled
-  pub record Unfilled (c : Channel T) (t : ℕ) : Type 0 where
-    pub entry : LogEntry T
-    pub found : entry_of t c.entries ≡ Some entry
-    pub empty : is_filled entry.mark ≡ false
-
   -- what a change asks of the channel before it
   abbrev pub Fits : Channel T → Change T → Type 0
   Fits c (Queues m filled) = TakesIn c × (filled ≡ round_fills c.entries)
@@ -80,94 +72,35 @@ module _ {T A : Type 0} where
       rw was (front, record { entry = e; found = found; empty = not_filled })
 
   -- one that isn't filled leaves where the line is empty
-  ends : (o : Opening) (past : Log T A) (t : ℕ) (e : LogEntry T) → entry_of t (entries o past) ≡ Some e
-      → is_filled e.mark ≡ false → messages (line past) ≡ [] → Fits (channel o past) (Leaves t None)
-  ends o past t e found not_filled empty = (
-    record { entry = e; found = found; empty = not_filled },
-    sym (fills_none t (queue o past) (entries o past) (none_taken (boundary o past) (line past) empty)),
-  )
-
-  -- one that is answered by the line, whether it was woken or not
-  polled_other : (o : Opening) (past : Log T A) (t : ℕ) (reply : Reply T A) (e : LogEntry T) → ToldFilled o past
-      → entry_of t (entries o past) ≡ Some e → is_filled e.mark ≡ false → IsPolledOther (channel o past) reply
-      → Fits (channel o past) (change past (Poll t) reply)
-  polled_other o past t (Got m) e told found not_filled h = takes o past t m e told found not_filled h
-  polled_other o past t (NoMemory back) e told found not_filled h = tt
-  polled_other o past t Ended e told found not_filled h = ends o past t e found not_filled h.0
-  polled_other o past t Waiting e told found not_filled h = (e, found, λ woken. h)
-  polled_other o past t _ e told found not_filled h = absurd h
-
-  -- a parked receiver that asks, where this is its entry
-  polled_mark : (o : Opening) (past : Log T A) (t : ℕ) (reply : Reply T A) (e : LogEntry T) (kind : Kind) (mark : Mark T)
-      → ToldFilled o past → entry_of t (entries o past) ≡ Some e → e.mark ≡ mark → IsPolledMark (channel o past) kind mark reply
-      → Fits (channel o past) (change past (Poll t) reply)
-  polled_mark o past t (Got m) e kind (Filled held) told found is h = collects o past t m held e told found is
-  polled_mark o past t Waiting e Block StillWaits told found is h = (e, found, λ woken. absurd (let none : ⊥ = cc in none))
-  polled_mark o past t (Got m) e Block Woken told found is h = takes o past t m e told found (ap is_filled is) h
-  polled_mark o past t Ended e Block Woken told found is h = ends o past t e found (ap is_filled is) h
-  polled_mark o past t reply e Plain StillWaits told found is h = polled_other o past t reply e told found (ap is_filled is) h
-  polled_mark o past t reply e Plain Woken told found is h = polled_other o past t reply e told found (ap is_filled is) h
-  polled_mark o past t reply e Stream StillWaits told found is h = polled_other o past t reply e told found (ap is_filled is) h
-  polled_mark o past t reply e Stream Woken told found is h = polled_other o past t reply e told found (ap is_filled is) h
-  polled_mark o past t reply e Arm StillWaits told found is h = polled_other o past t reply e told found (ap is_filled is) h
-  polled_mark o past t reply e Arm Woken told found is h = polled_other o past t reply e told found (ap is_filled is) h
-  polled_mark o past t _ e kind (Filled held) told found is h = absurd h
-  polled_mark o past t _ e Block StillWaits told found is h = absurd h
-  polled_mark o past t _ e Block Woken told found is h = absurd h
+  ends : (o : Opening) (past : Log T A) (t : ℕ) → Unfilled (channel o past) t → messages (line past) ≡ []
+      → Fits (channel o past) (Leaves t None)
+  ends o past t u empty =
+      (u, sym (fills_none t (queue o past) (entries o past) (none_taken (boundary o past) (line past) empty)))
 
   -- a parked receiver that asks
   polled : (o : Opening) (past : Log T A) (t : ℕ) (reply : Reply T A) → ToldFilled o past
       → IsPolled (channel o past) (entry_of t (entries o past)) reply → Fits (channel o past) (change past (Poll t) reply)
-  polled o past t reply told h = by_entry (entry_of t (entries o past)) reply refl h
-    where
-      by_entry : (entry : Option (LogEntry T)) (given : Reply T A) → entry_of t (entries o past) ≡ entry
-          → IsPolled (channel o past) entry given → Fits (channel o past) (change past (Poll t) given)
-      by_entry (Some e) given found h = polled_mark o past t given e e.kind e.mark told found refl h
-      by_entry None NoTicket found h = tt
-      by_entry None _ found h = absurd h
+  polled o past t reply told h =
+      polled_cases (channel o past) t (λ r. Fits (channel o past) (change past (Poll t) r)) reply h (record {
+        unknown = tt;
+        collects = λ e held found is. collects o past t held held e told found is;
+        takes = λ u m front. takes o past t m u.entry told u.found u.empty front;
+        waits_on = λ u woken. (u.entry, u.found, woken);
+        ends = λ u empty. ends o past t u empty;
+        refused = λ back. tt;
+      })
 
-  -- one of another kind leaves
-  gone_other : (o : Opening) (past : Log T A) (t : ℕ) (reply : Reply T A) (e : LogEntry T)
-      → entry_of t (entries o past) ≡ Some e → is_filled e.mark ≡ false → IsGoneOther (channel o past) t reply
-      → Fits (channel o past) (change past (Withdraw t) reply)
-  gone_other o past t (Gone closed filled) e found not_filled h = (record { entry = e; found = found; empty = not_filled }, h.1)
-  gone_other o past t _ e found not_filled h = absurd h
-
-  -- one that blocks leaves
-  gone_block : (o : Opening) (past : Log T A) (t : ℕ) (reply : Reply T A) (e : LogEntry T) → ToldFilled o past
-      → entry_of t (entries o past) ≡ Some e → is_filled e.mark ≡ false → IsGoneBlock (channel o past) reply
-      → Fits (channel o past) (change past (Withdraw t) reply)
-  gone_block o past t (Got m) e told found not_filled h = takes o past t m e told found not_filled h
-  gone_block o past t (Gone closed filled) e told found not_filled h =
-      let done : Path (Change T) (Leaves t None) (Leaves t filled) = ap (λ none. Leaves t none) (sym h.2) in
-      subst (Fits (channel o past)) done (ends o past t e found not_filled h.0)
-  gone_block o past t _ e told found not_filled h = absurd h
-
-  -- one that leaves, where this is its entry
-  gone_mark : (o : Opening) (past : Log T A) (t : ℕ) (reply : Reply T A) (e : LogEntry T) (kind : Kind) (mark : Mark T)
-      → ToldFilled o past → entry_of t (entries o past) ≡ Some e → e.mark ≡ mark → IsGoneMark (channel o past) t kind mark reply
-      → Fits (channel o past) (change past (Withdraw t) reply)
-  gone_mark o past t (Got m) e kind (Filled held) told found is h = collects o past t m held e told found is
-  gone_mark o past t reply e Block StillWaits told found is h = gone_block o past t reply e told found (ap is_filled is) h
-  gone_mark o past t reply e Block Woken told found is h = gone_block o past t reply e told found (ap is_filled is) h
-  gone_mark o past t reply e Plain StillWaits told found is h = gone_other o past t reply e found (ap is_filled is) h
-  gone_mark o past t reply e Plain Woken told found is h = gone_other o past t reply e found (ap is_filled is) h
-  gone_mark o past t reply e Stream StillWaits told found is h = gone_other o past t reply e found (ap is_filled is) h
-  gone_mark o past t reply e Stream Woken told found is h = gone_other o past t reply e found (ap is_filled is) h
-  gone_mark o past t reply e Arm StillWaits told found is h = gone_other o past t reply e found (ap is_filled is) h
-  gone_mark o past t reply e Arm Woken told found is h = gone_other o past t reply e found (ap is_filled is) h
-  gone_mark o past t _ e kind (Filled held) told found is h = absurd h
-
-  -- one that leaves
+  -- a parked receiver that leaves
   gone : (o : Opening) (past : Log T A) (t : ℕ) (reply : Reply T A) → ToldFilled o past
       → IsGone (channel o past) t (entry_of t (entries o past)) reply → Fits (channel o past) (change past (Withdraw t) reply)
-  gone o past t reply told h = by_entry (entry_of t (entries o past)) reply refl h
-    where
-      by_entry : (entry : Option (LogEntry T)) (given : Reply T A) → entry_of t (entries o past) ≡ entry
-          → IsGone (channel o past) t entry given → Fits (channel o past) (change past (Withdraw t) given)
-      by_entry (Some e) given found h = gone_mark o past t given e e.kind e.mark told found refl h
-      by_entry None NoTicket found h = tt
-      by_entry None _ found h = absurd h
+  gone o past t reply told h =
+      gone_cases (channel o past) t (λ r. Fits (channel o past) (change past (Withdraw t) r)) reply h (record {
+        unknown = tt;
+        collects = λ e held found is. collects o past t held held e told found is;
+        takes = λ u m front. takes o past t m u.entry told u.found u.empty front;
+        fills_none = λ u closed empty. ends o past t u empty;
+        passes_on = λ u closed. (u, refl);
+      })
 
   -- a lawful reply changes only what may change
   pub fits : (o : Opening) (past : Log T A) (step : Step T) (reply : Reply T A) → ToldFilled o past

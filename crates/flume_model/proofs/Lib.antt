@@ -1,5 +1,6 @@
 pub mod Places
 pub mod Tickets
+pub mod AskingCases
 pub mod Fits
 pub mod EntryLists
 pub mod EntryMarks

@@ -1,0 +1,121 @@
+-- The cases of how a parked receiver is answered, when it asks and when it leaves.
+use Rattle.std.proofs.Common.{◌≡◌, ℕ, Bool, true, false, [], Option, Some, None, refl, sym, ap, subst}
+use Rattle.flume_model.specs.declared.step.Kind.{Kind}
+use Rattle.flume_model.specs.declared.step.Kind.TheVariants.{Block, Plain, Stream, Arm}
+use Rattle.flume_model.specs.declared.step.Reply.{Reply}
+use Rattle.flume_model.specs.declared.step.Reply.TheVariants.{Waiting, NoMemory, NoTicket, Got, Ended, Gone}
+use Rattle.flume_model.specs.declared.entry.Mark.{Mark}
+use Rattle.flume_model.specs.declared.entry.Mark.TheVariants.{Waiting as StillWaits, Woken, Filled}
+use Rattle.flume_model.specs.Entries.{is_filled, is_woken, entry_of, leave_fills}
+use Rattle.flume_model.specs.Parked.{LogEntry}
+use Rattle.flume_model.specs.Channel.{Channel, IsFront}
+use Rattle.flume_model.specs.Asking.{IsPolledBlock, IsPolledOther, IsPolledKind, IsPolledMark, IsPolled}
+use Rattle.flume_model.specs.Asking.{IsGoneOther, IsGoneKind, IsGoneMark, IsGone}
+use Rattle.flume_model.specs.Limits.{IsOpen}
+
+module _ {T : Type 0} where
+  -- the entry with this ticket, which isn't filled
+  pub record Unfilled (c : Channel T) (t : ℕ) : Type 0 where
+    pub entry : LogEntry T
+    pub found : entry_of t c.entries ≡ Some entry
+    pub empty : is_filled entry.mark ≡ false
+
+module _ {T A : Type 0} where
+  -- something holds of each reply that the receiver under this ticket may get when it asks
+  pub record WhenPolled (c : Channel T) (t : ℕ) (P : Reply T A → Type 0) : Type 0 where
+    pub unknown : P NoTicket
+    pub collects : (e : LogEntry T) (held : T) → entry_of t c.entries ≡ Some e → e.mark ≡ Filled held → P (Got held)
+    pub takes : Unfilled c t → (m : T) → IsFront c m → P (Got m)
+    pub waits_on : (u : Unfilled c t) → (is_woken u.entry.mark ≡ true → (c.line ≡ []) × IsOpen c.senders c.receivers) → P Waiting
+    pub ends : Unfilled c t → c.line ≡ [] → P Ended
+    pub refused : (back : Option T) → P (NoMemory back)
+
+  -- something holds of each reply that the receiver under this ticket may get when it leaves
+  pub record WhenGone (c : Channel T) (t : ℕ) (P : Reply T A → Type 0) : Type 0 where
+    pub unknown : P NoTicket
+    pub collects : (e : LogEntry T) (held : T) → entry_of t c.entries ≡ Some e → e.mark ≡ Filled held → P (Got held)
+    pub takes : Unfilled c t → (m : T) → IsFront c m → P (Got m)
+    pub fills_none : Unfilled c t → (closed : Bool) → c.line ≡ [] → P (Gone closed None)
+    pub passes_on : Unfilled c t → (closed : Bool) → P (Gone closed (leave_fills t c.queue c.entries))
+
+  -- so it holds of the reply to one that isn't filled, and doesn't block, and asks
+  polled_other : (c : Channel T) (t : ℕ) (P : Reply T A → Type 0) → WhenPolled c t P → Unfilled c t → (reply : Reply T A)
+      → IsPolledOther c reply → P reply
+  polled_other c t P when u (Got m) h = when.takes u m h
+  polled_other c t P when u (NoMemory back) h = when.refused back
+  polled_other c t P when u Ended h = when.ends u h.0
+  polled_other c t P when u Waiting h = when.waits_on u (λ woken. h)
+  polled_other c t P when u _ h = absurd h
+
+  -- of the reply to one that isn't filled, and blocks, and asks
+  polled_block : (c : Channel T) (t : ℕ) (P : Reply T A → Type 0) → WhenPolled c t P → (u : Unfilled c t) → (mark : Mark T)
+      → u.entry.mark ≡ mark → (reply : Reply T A) → IsPolledBlock c mark reply → P reply
+  polled_block c t P when u StillWaits is Waiting h = when.waits_on u (λ woken. absurd (let none : ⊥ = cc in none))
+  polled_block c t P when u Woken is (Got m) h = when.takes u m h
+  polled_block c t P when u Woken is Ended h = when.ends u h
+  polled_block c t P when u (Filled held) is _ h = absurd h
+  polled_block c t P when u StillWaits is _ h = absurd h
+  polled_block c t P when u Woken is _ h = absurd h
+
+  -- of the reply to one that isn't filled and asks
+  polled_kind : (c : Channel T) (t : ℕ) (P : Reply T A → Type 0) → WhenPolled c t P → (u : Unfilled c t) → (k : Kind) (mark : Mark T)
+      → u.entry.mark ≡ mark → (reply : Reply T A) → IsPolledKind c k mark reply → P reply
+  polled_kind c t P when u Block mark is reply h = polled_block c t P when u mark is reply h
+  polled_kind c t P when u Plain mark is reply h = polled_other c t P when u reply h
+  polled_kind c t P when u Stream mark is reply h = polled_other c t P when u reply h
+  polled_kind c t P when u Arm mark is reply h = polled_other c t P when u reply h
+
+  -- what holds in each case holds of the reply to one that asks
+  pub polled_cases : (c : Channel T) (t : ℕ) (P : Reply T A → Type 0) (reply : Reply T A) → IsPolled c (entry_of t c.entries) reply
+      → WhenPolled c t P → P reply
+  polled_cases c t P reply h when = by_entry (entry_of t c.entries) refl reply h
+    where
+      by_mark : (e : LogEntry T) → entry_of t c.entries ≡ Some e → (mark : Mark T) → e.mark ≡ mark → (r : Reply T A)
+          → IsPolledMark c e.kind mark r → P r
+      by_mark e found (Filled held) is (Got m) h = subst (λ x. P (Got x)) (sym h) (when.collects e held found is)
+      by_mark e found (Filled held) is _ h = absurd h
+      by_mark e found StillWaits is r h =
+          polled_kind c t P when (record { entry = e; found = found; empty = ap is_filled is }) e.kind StillWaits is r h
+      by_mark e found Woken is r h =
+          polled_kind c t P when (record { entry = e; found = found; empty = ap is_filled is }) e.kind Woken is r h
+
+      by_entry : (found : Option (LogEntry T)) → entry_of t c.entries ≡ found → (r : Reply T A) → IsPolled c found r → P r
+      by_entry None is NoTicket h = when.unknown
+      by_entry None is _ h = absurd h
+      by_entry (Some e) is r h = by_mark e is e.mark refl r h
+
+  -- of the reply to one that isn't filled and leaves
+  gone_kind : (c : Channel T) (t : ℕ) (P : Reply T A → Type 0) → WhenGone c t P → Unfilled c t → (k : Kind) (reply : Reply T A)
+      → IsGoneKind c t k reply → P reply
+  gone_kind c t P when u k reply h = by_kind k reply h
+    where
+      other : (r : Reply T A) → IsGoneOther c t r → P r
+      other (Gone closed filled) h = subst (λ f. P (Gone closed f)) (sym h.1) (when.passes_on u closed)
+      other _ h = absurd h
+
+      by_kind : (k : Kind) (r : Reply T A) → IsGoneKind c t k r → P r
+      by_kind Block (Got m) h = when.takes u m h
+      by_kind Block (Gone closed filled) h = subst (λ f. P (Gone closed f)) (sym h.2) (when.fills_none u closed h.0)
+      by_kind Block _ h = absurd h
+      by_kind Plain r h = other r h
+      by_kind Stream r h = other r h
+      by_kind Arm r h = other r h
+
+  -- what holds in each case holds of the reply to one that leaves
+  pub gone_cases : (c : Channel T) (t : ℕ) (P : Reply T A → Type 0) (reply : Reply T A) → IsGone c t (entry_of t c.entries) reply
+      → WhenGone c t P → P reply
+  gone_cases c t P reply h when = by_entry (entry_of t c.entries) refl reply h
+    where
+      by_mark : (e : LogEntry T) → entry_of t c.entries ≡ Some e → (mark : Mark T) → e.mark ≡ mark → (r : Reply T A)
+          → IsGoneMark c t e.kind mark r → P r
+      by_mark e found (Filled held) is (Got m) h = subst (λ x. P (Got x)) (sym h) (when.collects e held found is)
+      by_mark e found (Filled held) is _ h = absurd h
+      by_mark e found StillWaits is r h =
+          gone_kind c t P when (record { entry = e; found = found; empty = ap is_filled is }) e.kind r h
+      by_mark e found Woken is r h =
+          gone_kind c t P when (record { entry = e; found = found; empty = ap is_filled is }) e.kind r h
+
+      by_entry : (found : Option (LogEntry T)) → entry_of t c.entries ≡ found → (r : Reply T A) → IsGone c t found r → P r
+      by_entry None is NoTicket h = when.unknown
+      by_entry None is _ h = absurd h
+      by_entry (Some e) is r h = by_mark e is e.mark refl r h
