@@ -3,7 +3,7 @@ ghost use Rattle.std.specs.Prelude.{◌≡◌};
 ghost use Rattle.flume_model.specs.Log.{opens};
 ghost use Rattle.flume_state.specs.Sends.{NoneDue};
 ghost use Rattle.flume_state.specs.Receivers.{NoneDueIn};
-ghost use Rattle.flume_state.specs.State.{State, state_code, opened};
+ghost use Rattle.flume_state.specs.State.{State, opened};
 ghost use Rattle.flume_core.specs.StateFacts.{ChannelFacts};
 ghost use Rattle.flume_calls.specs.SendTurns.{after_try_send, after_send, after_parked_send};
 ghost use Rattle.flume_calls.specs.SendTurns.{step_of_parked_send};
@@ -38,9 +38,14 @@ pub struct Locked<T, S, A: Allocator> {
 }
 
 impl<T, S, A: Allocator> Model for Locked<T, S, A> {
+    ghost use Rattle.std.specs.Coded.{codes};
+    ghost use Rattle.flume_state.specs.Sends.{send_map_code};
+    ghost use Rattle.flume_state.specs.State.{State};
+    ghost use Rattle.flume_calls.specs.AtRest.{IsAtRest};
+
     ghost Value = { State T S };
 
-    ghost coded = { state_code T.code S.code };
+    ghost coded = { Prim.hlevel (codes, send_map_code S.code) };
 
     ghost view = { λ locked. locked.chan };
 

@@ -2,7 +2,7 @@
 ghost use Rattle.std.specs.Prelude.{◌≡◌, ◌∷◌, [], length, IsTrue, ◌↔◌};
 ghost use Rattle.flume_model.specs.Log.{Log, Opening, opens};
 ghost use Rattle.flume_model.specs.Limits.{IsOpen, HasRoom};
-ghost use Rattle.flume_state.specs.State.{State, state_code, opened};
+ghost use Rattle.flume_state.specs.State.{State, opened};
 ghost use Rattle.flume_core.specs.StandsFor.{StandsFor, Extends, ChangesNothing};
 ghost use Rattle.flume_core.specs.Comes.{Comes};
 
@@ -35,6 +35,10 @@ pub struct Chan<T, S, A: Allocator = Global> {
 }
 
 impl<T, S, A: Allocator> Model for Chan<T, S, A> {
+    ghost use Rattle.std.specs.Coded.{codes};
+    ghost use Rattle.flume_state.specs.Sends.{send_map_code};
+    ghost use Rattle.flume_state.specs.State.{State};
+
     ghost Value = { State T S };
 
     ghost view = { λ chan. record {
@@ -49,7 +53,7 @@ impl<T, S, A: Allocator> Model for Chan<T, S, A> {
       receivers = chan.receivers;
     } };
 
-    ghost coded = { state_code T.code S.code };
+    ghost coded = { Prim.hlevel (codes, send_map_code S.code) };
 }
 
 impl<T: Drop, S: Drop, A: Allocator + Copy> Chan<T, S, A> {

@@ -3,7 +3,6 @@ pub mod LineEntry
 pub mod Notices
 pub mod Sends
 pub mod Receivers
-pub mod EntryCode
 pub mod State
 pub mod Effects
 pub mod Told

@@ -1,7 +1,6 @@
 -- What a contract sees of a line of messages.
-use Rattle.std.specs.Prelude.{◌≡◌, ◌≢◌, ℕ, List, [], ◌∷◌, ◌++◌, refl}
+use Rattle.std.specs.Prelude.{◌≡◌, ◌≢◌, ℕ, List, [], ◌∷◌, ◌++◌}
 use Rattle.std.specs.List.{All}
-use Rattle.std.specs.Coded.{Coded, code_by, coded×, coded_ℕ, coded_list}
 
 -- a message whose sender blocks under this ticket
 pub record Blocked (T : Type 0) : Type 0 where
@@ -12,22 +11,6 @@ pub record Blocked (T : Type 0) : Type 0 where
 pub record Messages (T : Type 0) : Type 0 where
   pub queued : List T
   pub blocked : List (Blocked T)
-
--- a blocked message is stored as the pair of its fields
-abbrev pub blocked_code : {T : Type 0} → Coded T → Coded (Blocked T)
-blocked_code {T} code =
-    code_by (ℕ × T) (coded× coded_ℕ code) (λ b. (b.ticket, b.message))
-    (λ p. record { ticket = p.0; message = p.1 }) (λ _. refl)
-
--- a line is stored as the pair of its lists
-abbrev pub messages_code : {T : Type 0} → Coded T → Coded (Messages T)
-messages_code {T} code =
-    code_by
-    (List T × List (Blocked T))
-    (coded× (coded_list code) (coded_list (blocked_code code)))
-    (λ l. (l.queued, l.blocked))
-    (λ p. record { queued = p.0; blocked = p.1 })
-    (λ _. refl)
 
 module _ {T : Type 0} where
   -- the first blocked message, which has this ticket, joins the queue

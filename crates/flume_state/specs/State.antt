@@ -1,15 +1,13 @@
 -- What a contract sees of a `Chan`: its state.
-use Rattle.std.specs.Prelude.{ℕ, Bool, List, [], map, Option, Some, refl}
+use Rattle.std.specs.Prelude.{ℕ, Bool, List, [], map, Option, Some}
 use Rattle.std.specs.Option.{option_map}
-use Rattle.std.specs.Coded.{Coded, code_by, coded×, coded_ℕ, coded_list, coded_option}
 use Rattle.std.specs.FinMap.{empty, get}
 use Rattle.flume_model.specs.Log.{Opening, Offer}
-use Rattle.flume_state.specs.Messages.{Blocked, blocked_code}
-use Rattle.flume_state.specs.Sends.{SendMap, send_map_code}
+use Rattle.flume_state.specs.Messages.{Blocked}
+use Rattle.flume_state.specs.Sends.{SendMap}
 use Rattle.flume_model.specs.declared.entry.Entry.{Entry}
 use Rattle.flume_model.specs.Parked.{LogEntry}
 use Rattle.flume_state.specs.Receivers.{Entries}
-use Rattle.flume_state.specs.EntryCode.{entry_code}
 
 -- the state of a channel
 pub record State (T S : Type 0) : Type 0 where
@@ -26,50 +24,6 @@ pub record State (T S : Type 0) : Type 0 where
   pub peak : ℕ
   pub senders : ℕ
   pub receivers : ℕ
-
--- a state is stored as the tuple of its fields
-abbrev pub state_code : {T S : Type 0} → Coded T → Coded S → Coded (State T S)
-state_code {T} {S} code signal_code =
-    code_by
-    (Option ℕ × (List T × (List (Blocked T) × (SendMap S × (Entries T S × (ℕ × (ℕ × (ℕ × ℕ))))))))
-    (coded× (coded_option coded_ℕ) (coded× (coded_list code)
-    (coded× (coded_list (blocked_code code))
-    (coded× (send_map_code signal_code) (coded× (coded_list (entry_code code signal_code))
-    (coded× coded_ℕ (coded× coded_ℕ (coded× coded_ℕ coded_ℕ))))))))
-    (λ s. (
-      s.capacity,
-      (
-        s.queue,
-        (
-          s.blocked,
-          (
-            s.sends,
-            (
-              s.entries,
-              (
-                s.next,
-                (
-                  s.peak,
-                  (s.senders, s.receivers),
-                ),
-              ),
-            ),
-          ),
-        ),
-      ),
-    ))
-    (λ p. record {
-      capacity = p.0;
-      queue = p.1.0;
-      blocked = p.1.1.0;
-      sends = p.1.1.1.0;
-      entries = p.1.1.1.1.0;
-      next = p.1.1.1.1.1.0;
-      peak = p.1.1.1.1.1.1.0;
-      senders = p.1.1.1.1.1.1.1.0;
-      receivers = p.1.1.1.1.1.1.1.1;
-    })
-    (λ _. refl)
 
 module _ {T S : Type 0} where
   -- a new channel

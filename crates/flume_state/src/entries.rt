@@ -64,14 +64,11 @@ impl Standing {
 
 impl<T, S, A: Allocator> Model for Entries<T, S, A> {
     ghost use Rattle.std.specs.Prelude.{◌≡◌, false};
-    ghost use Rattle.std.specs.Coded.{coded_list};
     ghost use Rattle.flume_model.specs.Entries.{waiting_count};
     ghost use Rattle.flume_state.specs.Receivers.{Entries as EntryList, NoneDueIn};
-    ghost use Rattle.flume_state.specs.EntryCode.{entry_code};
 
     ghost Value = { EntryList T S };
 
-    ghost coded = { coded_list (entry_code T.code S.code) };
 
     ghost view = { λ s. s.entries.items };
 

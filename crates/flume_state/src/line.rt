@@ -30,11 +30,10 @@ struct LineEntry<T> {
 impl<T, A: Allocator> Model for Line<T, A> {
     ghost use Rattle.std.specs.Prelude.{◌≤◌, ◌+◌};
     ghost use Rattle.std.specs.VecDeque.{deque_len, deque_capacity};
-    ghost use Rattle.flume_state.specs.Messages.{Messages, messages_code};
+    ghost use Rattle.flume_state.specs.Messages.{Messages};
 
     ghost Value = { Messages T };
 
-    ghost coded = { messages_code T.code };
 
     ghost use Rattle.flume_state.specs.LineEntry.{line_of};
 
