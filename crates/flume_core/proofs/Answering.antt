@@ -11,7 +11,7 @@ use Rattle.flume_model.specs.Log.{Log, Opening, Withdraws}
 use Rattle.flume_model.specs.Log.{change}
 use Rattle.flume_model.specs.Counts.{senders, receivers}
 use Rattle.flume_model.specs.Line.{line, blocked, is_live, messages}
-use Rattle.flume_model.specs.Channel.{TakesIn, TakesNoneIn, has_ticket, IsAccepted, IsWaiting, IsBlocked, channel}
+use Rattle.flume_model.specs.Channel.{TakesIn, TakesNoneIn, has_ticket, IsAccepted, IsPending, IsBlocked, channel}
 use Rattle.flume_model.specs.Replies.{IsReply}
 use Rattle.flume_model.specs.Limits.{is_closed}
 use Rattle.flume_model.specs.Limits.{IsOpen, IsClosed, HasRoom, IsAtCapacity}
@@ -56,13 +56,13 @@ module _ {T A S : Type 0} where
 
   -- one that it has as not accepted waits
   pub waits : (o : Opening) (log : Log T A) (s : State T S) (t : ℕ) → StandsFor o log s
-      → accepted_at s t ≡ Some false → IsWaiting (channel o log) t
+      → accepted_at s t ≡ Some false → IsPending (channel o log) t
   waits o log s t h e = live_by (is_live log t) (has_ticket t (blocked o log)) false (sym (h.sends_are t) ∙ e)
 
 module _ {T A S : Type 0} where
   -- a send that waits gets its message back, and it is answered so
   pub taken_back : (o : Opening) (log : Log T A) (step : Step T) (old new : State T S) (t : ℕ) (r : Reply T A) → StandsFor o log old
-      → IsWaiting (channel o log) t
+      → IsPending (channel o log) t
       → ((m : T) (closed : Bool) → r ≡ Returned m closed → change log step r ≡ Withdraws t)
       → ((m : T) (closed : Bool) → r ≡ Returned m closed → IsBlocked (channel o log) t m → closed ≡ is_closed old.senders old.receivers
       → IsReply (channel o log) step r)

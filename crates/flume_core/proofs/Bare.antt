@@ -9,7 +9,8 @@ use Rattle.flume_model.specs.declared.entry.Entry.{Entry}
 use Rattle.flume_model.specs.declared.entry.Mark.TheVariants.{Waiting}
 use Rattle.flume_state.specs.declared.notice.Notice.{Notice}
 use Rattle.flume_model.specs.Entries.{is_waiting, is_woken, some_wait, waiting_count, round, round_fills, round_for}
-use Rattle.flume_model.specs.Entries.{round_for_fills, all_woken, entry_of, held_by, without, again_as, again, passes_on, after_leave, leave_fills}
+use Rattle.flume_model.specs.Entries.{round_for_fills, all_woken, entry_of, held_by, without, again_as, again, passes_on}
+use Rattle.flume_model.specs.Entries.{after_leave, leave_fills}
 use Rattle.flume_model.specs.Parked.{untold}
 use Rattle.flume_state.specs.Receivers.{noticed}
 use Rattle.flume_state.specs.State.{bare}

@@ -38,7 +38,7 @@ module _ {T A : Type 0} where
     pub fills_none : Unfilled c t → (closed : Bool) → c.line ≡ [] → P (Gone closed None)
     pub passes_on : Unfilled c t → (closed : Bool) → P (Gone closed (leave_fills t c.queue c.entries))
 
-  -- so it holds of the reply to one that isn't filled, and doesn't block, and asks
+  -- what holds in each case holds of the reply to one that isn't filled, doesn't block, and asks
   polled_other : (c : Channel T) (t : ℕ) (P : Reply T A → Type 0) → WhenPolled c t P → Unfilled c t → (reply : Reply T A)
       → IsPolledOther c reply → P reply
   polled_other c t P when u (Got m) h = when.takes u m h
@@ -47,7 +47,7 @@ module _ {T A : Type 0} where
   polled_other c t P when u Waiting h = when.waits_on u (λ woken. h)
   polled_other c t P when u _ h = absurd h
 
-  -- of the reply to one that isn't filled, and blocks, and asks
+  -- what holds in each case holds of the reply to one that isn't filled, blocks, and asks
   polled_block : (c : Channel T) (t : ℕ) (P : Reply T A → Type 0) → WhenPolled c t P → (u : Unfilled c t) → (mark : Mark T)
       → u.entry.mark ≡ mark → (reply : Reply T A) → IsPolledBlock c mark reply → P reply
   polled_block c t P when u StillWaits is Waiting h = when.waits_on u (λ woken. absurd (let none : ⊥ = cc in none))
@@ -57,7 +57,7 @@ module _ {T A : Type 0} where
   polled_block c t P when u StillWaits is _ h = absurd h
   polled_block c t P when u Woken is _ h = absurd h
 
-  -- of the reply to one that isn't filled and asks
+  -- what holds in each case holds of the reply to one that isn't filled and asks
   polled_kind : (c : Channel T) (t : ℕ) (P : Reply T A → Type 0) → WhenPolled c t P → (u : Unfilled c t) → (k : Kind) (mark : Mark T)
       → u.entry.mark ≡ mark → (reply : Reply T A) → IsPolledKind c k mark reply → P reply
   polled_kind c t P when u Block mark is reply h = polled_block c t P when u mark is reply h
@@ -84,7 +84,7 @@ module _ {T A : Type 0} where
       by_entry None is _ h = absurd h
       by_entry (Some e) is r h = by_mark e is e.mark refl r h
 
-  -- of the reply to one that isn't filled and leaves
+  -- what holds in each case holds of the reply to one that isn't filled and leaves
   gone_kind : (c : Channel T) (t : ℕ) (P : Reply T A → Type 0) → WhenGone c t P → Unfilled c t → (k : Kind) (reply : Reply T A)
       → IsGoneKind c t k reply → P reply
   gone_kind c t P when u k reply h = by_kind k reply h

@@ -53,8 +53,8 @@ module _ {T : Type 0} where
   IsAccepted c t = (c.is_live t ≡ true) × (has_ticket t c.blocked ≡ false)
 
   -- the ticket is live, and its message is blocked
-  abbrev pub IsWaiting : Channel T → ℕ → Type 0
-  IsWaiting c t = (c.is_live t ≡ true) × (has_ticket t c.blocked ≡ true)
+  abbrev pub IsPending : Channel T → ℕ → Type 0
+  IsPending c t = (c.is_live t ≡ true) × (has_ticket t c.blocked ≡ true)
 
   -- this message is blocked under the ticket, behind these and before those
   abbrev pub IsBlocked : Channel T → ℕ → T → Type 0

@@ -17,7 +17,7 @@ use Rattle.flume_model.specs.declared.step.Reply.TheVariants.{Number, Truth, Cap
 use Rattle.flume_model.specs.Log.{Log, Opening}
 use Rattle.flume_model.specs.Limits.{is_full, IsOpen, IsClosed, is_closed, most}
 use Rattle.flume_model.specs.Entries.{round_fills, entry_of}
-use Rattle.flume_model.specs.Channel.{Channel, TakesIn, TakesNoneIn, IsFront, IsAccepted, IsWaiting}
+use Rattle.flume_model.specs.Channel.{Channel, TakesIn, TakesNoneIn, IsFront, IsAccepted, IsPending}
 use Rattle.flume_model.specs.Channel.{IsBlocked, channel}
 use Rattle.flume_model.specs.Asking.{IsPolled, IsGone}
 
@@ -37,7 +37,7 @@ module _ {T A : Type 0} where
   IsReply c (Send m) (Closed back) = IsClosed c.senders c.receivers × (back ≡ m)
   IsReply c (PollSend t) NoTicket = c.is_live t ≡ false
   IsReply c (PollSend t) Accepted = IsAccepted c t
-  IsReply c (PollSend t) Waiting = IsWaiting c t × IsOpen c.senders c.receivers
+  IsReply c (PollSend t) Waiting = IsPending c t × IsOpen c.senders c.receivers
   IsReply c (PollSend t) (Returned m closed) =
       IsBlocked c t m × IsClosed c.senders c.receivers × (closed ≡ true)
   IsReply c (WithdrawSend t) NoTicket = c.is_live t ≡ false

@@ -13,7 +13,7 @@ module _ {T N : Type 0} where
   abbrev pub IsPassed : Entry T N → Type 0
   IsPassed e = is_waiting e.mark ≡ true → e.kind ≡ Stream
 
-  -- a round ends at one of the old entries: it left the new ones, and filled this ticket
+  -- a round that ends at one of the old entries leaves the new ones, and fills this ticket, if any
   pub record EndsAtOne (tell : N → N) (front : T) (old new : List (Entry T N))
       (filled : Option ℕ) : Type 0 where
     -- the first entry that waits and is no stream, those before it, and those behind it
@@ -32,7 +32,7 @@ module _ {T N : Type 0} where
     -- it is filled where it blocks, and no other is
     pub fills : filled ≡ (if is_block first.kind then Some first.ticket else None)
 
-  -- a round ends at none of the old entries: it left the new ones, and filled this ticket
+  -- a round that ends at none of the old entries leaves the new ones, and fills no ticket
   pub record EndsAtNone (tell : N → N) (old new : List (Entry T N)) (filled : Option ℕ)
       : Type 0 where
     pub passed : All IsPassed old
@@ -40,8 +40,8 @@ module _ {T N : Type 0} where
     pub new_are : new ≡ all_woken tell old
     pub fills : filled ≡ None
 
-  -- a wake round over the old entries, where this is the front, may leave the new ones, and fill
-  -- this ticket
+  -- by its rule, a wake round over the old entries, where this is the front, leaves the new ones,
+  -- and fills this ticket, if any
   abbrev pub IsWakeRound : (N → N) → T → List (Entry T N) → List (Entry T N) → Option ℕ → Type 0
   IsWakeRound tell front old new filled =
       EndsAtOne tell front old new filled ⊎ EndsAtNone tell old new filled

@@ -106,7 +106,8 @@ module _ {T A : Type 0} where
       ∙ ap (λ n. drop n (open_line past ++ x ∷ [])) (length_fill T filled)
 
   -- a receiver leaves, and the front offer goes where another one is filled
-  pub line_after_leave : (past : Log T A) (t : ℕ) (filled : Option ℕ) → line_by past (Leaves t filled) ≡ drop (how_many filled) (open_line past)
+  pub line_after_leave : (past : Log T A) (t : ℕ) (filled : Option ℕ)
+      → line_by past (Leaves t filled) ≡ drop (how_many filled) (open_line past)
   line_after_leave past t filled =
       line_moved past (Leaves t filled)
       ∙ ap (λ l. drop (length (fill {T = T} filled)) (drop (hand_outs past) l)) (kept_same past)

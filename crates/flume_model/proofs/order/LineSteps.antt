@@ -13,7 +13,8 @@ use Rattle.flume_model.specs.Line.{line, next_ticket, how_many}
 use Rattle.flume_model.specs.Channel.{has_ticket}
 use Rattle.flume_model.specs.Replies.{IsRun}
 use Rattle.flume_model.proofs.Tickets.{apart, none_apart, rising_filter}
-use Rattle.flume_model.proofs.order.Kept.{open_line, line_by, line_is_open, line_more, line_queued, line_after_leave, line_drained, line_front}
+use Rattle.flume_model.proofs.order.Kept.{open_line, line_by, line_is_open, line_more, line_queued, line_after_leave}
+use Rattle.flume_model.proofs.order.Kept.{line_drained, line_front}
 use Rattle.flume_model.proofs.order.Kept.{line_less, line_same, keeps_line}
 use Rattle.flume_model.proofs.order.Parts.{given_within, open_at}
 use Rattle.flume_model.proofs.order.Runs.{shape_of}

@@ -37,7 +37,7 @@ pub fn queued_and_waiting_are_bounded<T, A: Allocator>()
     ensures law { (opening : Opening) (log : Log T A) → IsRun opening log → Bounded opening log }
 {}
 
-/// After a worked row a receiver waits and both bounds are met, so no stricter ones hold.
+/// After a worked row a receiver waits and both bounds are met, so neither can be stricter.
 pub fn bounds_are_met()
     ensures runs { Runs (Some 0) one_woken_of_two }
     ensures met { MeetsBounds (opens (Some 0) 1) (as_log [] one_woken_of_two) }
