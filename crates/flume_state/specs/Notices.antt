@@ -1,4 +1,5 @@
--- What becomes of the notice that a blocked send or a parked receiver left: its signal, and whether it is due.
+-- What becomes of the notice that a blocked send or a parked receiver left: its signal, and
+-- whether it is due.
 use Rattle.std.specs.Prelude.{true, false, Option, Some, None}
 use Rattle.flume_state.specs.declared.notice.Notice.{Notice}
 
