@@ -1,123 +1,142 @@
-//! Calls on a channel that no script makes: greatest tickets, signals, and what is due.
-use flume_core::chan::Chan;
-use flume_core::step::{Kind, Reply};
+//! Calls on a channel that no script makes: signals, what is due, and the bells that tell it.
+use crate::rows::Asked::{Due, Rung, Signal, Told};
+use crate::rows::Call::{
+    CloneReceiver, DropReceiver, DropSender, Poll, PollSend, Recv, Send, TryRecv, Withdraw,
+};
+use crate::rows::{Row, replay};
+use flume_core::step::Kind;
 use std::test::Fail;
 
-// A ticket one below the greatest number, and so the last one that is issued.
-const LAST: u64 = u64::MAX - 1;
+const DUE: &[Row] = &[
+    Row {
+        title: "an accepted send is due once with its last signal",
+        capacity: Some(1),
+        asked: &[
+            Told(Send(1, 10), "sent"),
+            Told(Send(2, 11), "pending 1"),
+            Told(PollSend(1, Some(12)), "waiting"),
+            Told(TryRecv, "got 1"),
+            Due(Some(1)),
+            Signal(1, Some(12)),
+            Due(None),
+        ],
+    },
+    Row {
+        title: "a woken receiver is due once with its last signal",
+        capacity: None,
+        asked: &[
+            Told(Recv(Kind::Plain, 10), "parked 1"),
+            Told(Recv(Kind::Block, 11), "parked 2"),
+            Due(None),
+            Told(Send(5, 12), "sent"),
+            Due(Some(1)),
+            Signal(1, Some(10)),
+            Due(None),
+            Told(TryRecv, "got 5"),
+            Told(Poll(1, Some(13)), "waiting"),
+            Due(None),
+            Signal(1, Some(13)),
+            Signal(2, Some(11)),
+        ],
+    },
+    Row {
+        title: "a filled receiver is due once with its signal",
+        capacity: None,
+        asked: &[
+            Told(Recv(Kind::Stream, 10), "parked 1"),
+            Told(Recv(Kind::Block, 11), "parked 2"),
+            Told(Poll(1, None), "waiting"),
+            Told(Withdraw(1), "gone"),
+            Signal(1, None),
+            Told(Send(5, 12), "sent filled 2"),
+            Due(Some(2)),
+            Signal(2, Some(11)),
+            Due(None),
+            Told(Poll(2, None), "got 5"),
+        ],
+    },
+    Row {
+        title: "a ticket due by closing is due again once it is accepted",
+        capacity: Some(1),
+        asked: &[
+            Told(Send(1, 10), "sent"),
+            Told(Send(2, 11), "pending 1"),
+            Due(None),
+            Told(DropSender, "done"),
+            Due(Some(1)),
+            Due(None),
+            Told(TryRecv, "got 1"),
+            Due(Some(1)),
+            Due(None),
+            Told(PollSend(1, None), "accepted"),
+        ],
+    },
+    Row {
+        title: "only the step that closes makes a blocked send due",
+        capacity: Some(0),
+        asked: &[
+            Told(Send(1, 10), "pending 1"),
+            Told(CloneReceiver, "done"),
+            Told(DropReceiver, "done"),
+            Due(None),
+            Told(CloneReceiver, "done"),
+            Told(DropSender, "done"),
+            Due(Some(1)),
+            Told(DropReceiver, "done"),
+            Due(None),
+        ],
+    },
+];
+
+const BELLS: &[Row] = &[
+    Row {
+        title: "each due ticket rings once: one is accepted, and closing is told to another",
+        capacity: Some(1),
+        asked: &[
+            Told(Send(5, 10), "sent"),
+            Told(Send(6, 20), "pending 1"),
+            Told(Send(7, 30), "pending 2"),
+            Rung(0, 0, 0),
+            Told(TryRecv, "got 5"),
+            Told(DropSender, "done"),
+            Rung(2, 3, 50),
+            Due(None),
+            Rung(2, 3, 50),
+            Told(PollSend(1, None), "accepted"),
+        ],
+    },
+    Row {
+        title: "receivers ring too: one is filled, and closing is told to another",
+        capacity: None,
+        asked: &[
+            Told(Recv(Kind::Block, 10), "parked 1"),
+            Told(Recv(Kind::Plain, 20), "parked 2"),
+            Told(Send(5, 30), "sent filled 1"),
+            Rung(1, 1, 10),
+            Told(DropSender, "done"),
+            Rung(2, 3, 30),
+            Told(Poll(1, None), "got 5"),
+        ],
+    },
+    Row {
+        title: "an accepted send rings once with its signal",
+        capacity: Some(1),
+        asked: &[
+            Told(Send(1, 10), "sent"),
+            Told(Send(2, 11), "pending 1"),
+            Told(TryRecv, "got 1"),
+            Rung(1, 1, 11),
+            Rung(1, 1, 11),
+        ],
+    },
+];
 
 #[test]
-fn the_greatest_ticket_is_never_issued(rt: HostRuntime) {
-    let mut chan: Chan<u64, ()> = Chan::starting_at(rt.alloc(), Some(0), u64::MAX);
-    assert_eq!(rt; chan.send(7, ()), Reply::Spent(Some(7)));
-    assert_eq!(rt; chan.recv(Kind::Block, ()), Reply::Spent(None));
-    assert_eq!(rt; chan.len(), Reply::Number(0));
+fn who_is_due_is_named_once_with_its_last_signal(rt: HostRuntime) -> Result<(), Fail> {
+    replay(&rt, rt.alloc(), DUE)
 }
 
 #[test]
-fn the_last_ticket_is_issued_once(rt: HostRuntime) {
-    let mut chan: Chan<u64, ()> = Chan::starting_at(rt.alloc(), Some(0), LAST);
-    assert_eq!(rt; chan.send(7, ()), Reply::Pending(LAST));
-    assert_eq!(rt; chan.send(8, ()), Reply::Spent(Some(8)));
-    assert_eq!(rt; chan.poll_send(LAST, None), Reply::Waiting);
-    let returned = Reply::Returned {
-        message: 7,
-        closed: false,
-    };
-    assert_eq!(rt; chan.withdraw_send(LAST), returned);
-    assert_eq!(rt; chan.send(9, ()), Reply::Spent(Some(9)));
-}
-
-#[test]
-fn an_accepted_send_is_due_once_with_its_last_signal(rt: HostRuntime) {
-    let mut chan: Chan<u64, u32> = Chan::new(rt.alloc(), Some(1));
-    assert_eq!(rt; chan.send(1, 10), Reply::Sent { filled: None });
-    assert_eq!(rt; chan.send(2, 11), Reply::Pending(1));
-    assert_eq!(rt; chan.poll_send(1, Some(12)), Reply::Waiting);
-    assert_eq!(rt; chan.try_recv(), Reply::Got(1));
-    assert_eq!(rt; chan.next_due(), Some(1));
-    assert_eq!(rt; chan.signal(1).copied(), Some(12));
-    assert_eq!(rt; chan.next_due(), None);
-}
-
-#[test]
-fn a_woken_receiver_is_due_once_with_its_last_signal(rt: HostRuntime) {
-    let mut chan: Chan<u64, u32> = Chan::new(rt.alloc(), None);
-    assert_eq!(rt; chan.recv(Kind::Plain, 10), Reply::Parked(1));
-    assert_eq!(rt; chan.recv(Kind::Block, 11), Reply::Parked(2));
-    assert_eq!(rt; chan.next_due(), None);
-    assert_eq!(rt; chan.send(5, 12), Reply::Sent { filled: None });
-    assert_eq!(rt; chan.next_due(), Some(1));
-    assert_eq!(rt; chan.signal(1).copied(), Some(10));
-    assert_eq!(rt; chan.next_due(), None);
-    assert_eq!(rt; chan.try_recv(), Reply::Got(5));
-    assert_eq!(rt; chan.poll(1, Some(13)), Reply::Waiting);
-    assert_eq!(rt; chan.next_due(), None);
-    assert_eq!(rt; chan.signal(1).copied(), Some(13));
-    assert_eq!(rt; chan.signal(2).copied(), Some(11));
-}
-
-#[test]
-fn a_filled_receiver_is_due_once_with_its_signal(rt: HostRuntime) {
-    let mut chan: Chan<u64, u32> = Chan::new(rt.alloc(), None);
-    assert_eq!(rt; chan.recv(Kind::Stream, 10), Reply::Parked(1));
-    assert_eq!(rt; chan.recv(Kind::Block, 11), Reply::Parked(2));
-    assert_eq!(rt; chan.poll(1, None), Reply::Waiting);
-    assert_eq!(rt;
-        chan.withdraw(1),
-        Reply::Gone {
-            closed: false,
-            filled: None
-        }
-    );
-    assert_eq!(rt; chan.signal(1).copied(), None);
-    assert_eq!(rt; chan.send(5, 12), Reply::Sent { filled: Some(2) });
-    assert_eq!(rt; chan.next_due(), Some(2));
-    assert_eq!(rt; chan.signal(2).copied(), Some(11));
-    assert_eq!(rt; chan.next_due(), None);
-    assert_eq!(rt; chan.poll(2, None), Reply::Got(5));
-}
-
-#[test]
-fn a_ticket_due_by_closing_is_due_again_once_it_is_accepted(rt: HostRuntime) {
-    let mut chan: Chan<u64, u32> = Chan::new(rt.alloc(), Some(1));
-    assert_eq!(rt; chan.send(1, 10), Reply::Sent { filled: None });
-    assert_eq!(rt; chan.send(2, 11), Reply::Pending(1));
-    assert_eq!(rt; chan.next_due(), None);
-    assert_eq!(rt; chan.drop_sender(), Reply::Done);
-    assert_eq!(rt; chan.next_due(), Some(1));
-    assert_eq!(rt; chan.next_due(), None);
-    assert_eq!(rt; chan.try_recv(), Reply::Got(1));
-    assert_eq!(rt; chan.next_due(), Some(1));
-    assert_eq!(rt; chan.next_due(), None);
-    assert_eq!(rt; chan.poll_send(1, None), Reply::Accepted);
-}
-
-#[test]
-fn only_the_step_that_closes_makes_a_blocked_send_due(rt: HostRuntime) {
-    let mut chan: Chan<u64, u32> = Chan::new(rt.alloc(), Some(0));
-    assert_eq!(rt; chan.send(1, 10), Reply::Pending(1));
-    assert_eq!(rt; chan.clone_receiver(), Reply::Done);
-    assert_eq!(rt; chan.drop_receiver(), Reply::Done);
-    assert_eq!(rt; chan.next_due(), None);
-    assert_eq!(rt; chan.clone_receiver(), Reply::Done);
-    assert_eq!(rt; chan.drop_sender(), Reply::Done);
-    assert_eq!(rt; chan.next_due(), Some(1));
-    assert_eq!(rt; chan.drop_receiver(), Reply::Done);
-    assert_eq!(rt; chan.next_due(), None);
-}
-
-#[test]
-fn a_refused_send_hands_its_message_back(rt: HostRuntime) -> Result<(), Fail> {
-    let mut chan: Chan<String, ()> = Chan::starting_at(rt.alloc(), Some(0), u64::MAX);
-    let Reply::Spent(Some(text)) = chan.send("one".to_string(rt.alloc())?, ()) else {
-        return Err("a ticket was left".into());
-    };
-    assert_eq!(rt; text.as_str(), "one");
-    assert_eq!(rt; chan.drop_receiver(), Reply::Done);
-    let Reply::Closed(text) = chan.send(text, ()) else {
-        return Err("it wasn't closed".into());
-    };
-    assert_eq!(rt; text.as_str(), "one");
-    Ok(())
+fn each_due_ticket_rings_once(rt: HostRuntime) -> Result<(), Fail> {
+    replay(&rt, rt.alloc(), BELLS)
 }

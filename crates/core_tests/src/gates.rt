@@ -1,6 +1,8 @@
 //! Calls through gates that answer by a script: each way in which a call ends.
 ghost use Rattle.std.specs.Prelude.{◌≡◌};
 
+use crate::answers::is;
+use Says::{Closed, Done, Late, Parks, Refused};
 use flume_calls::calls::{RecvCall, RecvNext, SendCall, SendNext};
 use flume_calls::gates::{RecvGate, SendGate, recv_over, send_over};
 use flume_core::chan::Chan;
@@ -158,62 +160,62 @@ fn end_of(ended: Result<(), SendTimeoutError<u64>>) -> (Says, u64) {
     }
 }
 
+const SENDS: &[(&[Says], (Says, u64), u64)] = &[
+    (&[Done], (Done, 0), 1),
+    (&[Closed], (Closed, 5), 1),
+    (&[Parks, Refused], (Refused, 5), 12),
+    (&[Parks, Done, Done], (Done, 0), 123),
+    (&[Parks, Done, Closed], (Closed, 5), 123),
+    (&[Parks, Done, Parks, Done], (Done, 0), 1234),
+    (&[Parks, Done, Parks, Closed], (Closed, 9), 1234),
+    (
+        &[Parks, Done, Parks, Parks, Done, Parks, Late, Late],
+        (Late, 8),
+        12346465,
+    ),
+    (&[Parks, Done, Parks, Parks, Late, Done], (Done, 0), 123465),
+];
+
 #[test]
 fn a_send_ends_as_its_last_turn_says(rt: HostRuntime) {
-    use Says::{Closed, Done, Late, Parks, Refused};
-    let cases: [(&[Says], (Says, u64), u64); 9] = [
-        (&[Done], (Done, 0), 1),
-        (&[Closed], (Closed, 5), 1),
-        (&[Parks, Refused], (Refused, 5), 12),
-        (&[Parks, Done, Done], (Done, 0), 123),
-        (&[Parks, Done, Closed], (Closed, 5), 123),
-        (&[Parks, Done, Parks, Done], (Done, 0), 1234),
-        (&[Parks, Done, Parks, Closed], (Closed, 9), 1234),
-        (
-            &[Parks, Done, Parks, Parks, Done, Parks, Late, Late],
-            (Late, 8),
-            12346465,
-        ),
-        (&[Parks, Done, Parks, Parks, Late, Done], (Done, 0), 123465),
-    ];
-    for (script, end, asked) in cases {
+    for (script, end, asked) in SENDS {
         let mut gate = Toy {
             script,
             asked: 0,
             call: a_send(rt.alloc()),
         };
-        assert_eq!(rt; end_of(send_over(&rt, &mut gate, 5)), end);
-        assert_eq!(rt; gate.asked, asked);
+        is(&rt, end_of(send_over(&rt, &mut gate, 5)), *end);
+        is(&rt, gate.asked, *asked);
     }
 }
 
+const RECEIVES: &[(&[Says], Result<u64, RecvTimeoutError>, u64)] = &[
+    (&[Done], Ok(7), 1),
+    (&[Closed], Err(Disconnected), 1),
+    (&[Parks, Refused], Err(NoMemory), 12),
+    (&[Parks, Done, Done], Ok(7), 123),
+    (&[Parks, Done, Parks, Done], Ok(7), 1234),
+    (&[Parks, Done, Parks, Closed], Err(Disconnected), 1234),
+    (&[Parks, Done, Parks, Refused, Done], Ok(7), 12345),
+    (&[Parks, Done, Parks, Refused, Late], Err(NoMemory), 12345),
+    (&[Parks, Done, Parks, Refused, Closed], Err(NoMemory), 12345),
+    (
+        &[Parks, Done, Parks, Parks, Done, Parks, Late, Late],
+        Err(Timeout),
+        12346465,
+    ),
+    (&[Parks, Done, Parks, Parks, Late, Done], Ok(7), 123465),
+];
+
 #[test]
 fn a_receive_ends_as_its_last_turn_says(rt: HostRuntime) {
-    use Says::{Closed, Done, Late, Parks, Refused};
-    let cases: [(&[Says], Result<u64, RecvTimeoutError>, u64); 11] = [
-        (&[Done], Ok(7), 1),
-        (&[Closed], Err(Disconnected), 1),
-        (&[Parks, Refused], Err(NoMemory), 12),
-        (&[Parks, Done, Done], Ok(7), 123),
-        (&[Parks, Done, Parks, Done], Ok(7), 1234),
-        (&[Parks, Done, Parks, Closed], Err(Disconnected), 1234),
-        (&[Parks, Done, Parks, Refused, Done], Ok(7), 12345),
-        (&[Parks, Done, Parks, Refused, Late], Err(NoMemory), 12345),
-        (&[Parks, Done, Parks, Refused, Closed], Err(NoMemory), 12345),
-        (
-            &[Parks, Done, Parks, Parks, Done, Parks, Late, Late],
-            Err(Timeout),
-            12346465,
-        ),
-        (&[Parks, Done, Parks, Parks, Late, Done], Ok(7), 123465),
-    ];
-    for (script, end, asked) in cases {
+    for (script, end, asked) in RECEIVES {
         let mut gate = Toy {
             script,
             asked: 0,
             call: a_receive(rt.alloc()),
         };
-        assert_eq!(rt; recv_over(&rt, &mut gate), end);
-        assert_eq!(rt; gate.asked, asked);
+        is(&rt, recv_over(&rt, &mut gate), *end);
+        is(&rt, gate.asked, *asked);
     }
 }

@@ -1,4 +1,5 @@
 //! Gates over a channel, on which another makes a step while the call waits.
+use crate::answers::is;
 use flume_calls::calls::{RecvCall, RecvNext, SendCall, SendNext};
 use flume_calls::due::Bell;
 use flume_calls::gates::{RecvGate, SendGate, recv_over, send_over};
@@ -131,8 +132,8 @@ impl RecvGate<u64> for Lent {
 fn a_blocked_send_is_taken_while_it_waits(rt: HostRuntime) {
     let mut gate = Lent::new(rt.alloc(), Some(0), Some(Other::TryRecv));
     assert!(rt; send_over(&rt, &mut gate, 7).is_ok());
-    assert_eq!(rt; gate.received, Some(7));
-    assert_eq!(rt; gate.bell.rings, 1);
+    is(&rt, gate.received, Some(7));
+    is(&rt, gate.bell.rings, 1);
 }
 
 #[test]
@@ -140,13 +141,13 @@ fn a_blocked_send_that_nobody_takes_times_out(rt: HostRuntime) {
     let mut gate = Lent::new(rt.alloc(), Some(0), None);
     let sent = send_over(&rt, &mut gate, 7);
     assert!(rt; matches!(sent, Err(SendTimeoutError::Timeout(7))));
-    assert_eq!(rt; gate.bell.rings, 0);
+    is(&rt, gate.bell.rings, 0);
 }
 
 #[test]
 fn a_receive_ends_as_the_sender_goes_while_it_waits(rt: HostRuntime) {
     let mut gate = Lent::new(rt.alloc(), None, Some(Other::DropSender));
     let received = recv_over(&rt, &mut gate);
-    assert_eq!(rt; received, Err(RecvTimeoutError::Disconnected));
-    assert_eq!(rt; gate.bell.rings, 1);
+    is(&rt, received, Err(RecvTimeoutError::Disconnected));
+    is(&rt, gate.bell.rings, 1);
 }

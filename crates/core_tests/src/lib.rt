@@ -4,7 +4,7 @@
 #![tactic(auto)]
 
 #[cfg(test)]
-mod bells;
+mod answers;
 #[cfg(test)]
 mod calls;
 #[cfg(test)]
@@ -20,8 +20,12 @@ mod lists;
 #[cfg(test)]
 mod random_scripts;
 #[cfg(test)]
+mod rows;
+#[cfg(test)]
 mod script_texts;
 #[cfg(test)]
 mod scripts;
+#[cfg(test)]
+mod turns;
 #[cfg(test)]
 mod waiting;

@@ -1,11 +1,13 @@
 //! Scripts and texts of replies, on concrete bytes.
+use crate::answers::{is, replies_are, text_is};
 use flume_core::step::{Kind, Reply, Step};
 use flume_script::reading::{Reading, read_script};
-use flume_script::writing::{write_replies, write_wrong};
+use flume_script::writing::write_wrong;
+use std::alloc::Global;
 use std::test::Fail;
 
 // (input, the number of the first wrong line or 0, how many steps)
-const READINGS: [(&[u8], usize, usize); 70] = [
+const READINGS: &[(&[u8], usize, usize)] = &[
     (b"", 1, 0),
     (b"\n", 1, 0),
     (b"unbounded", 0, 0),
@@ -82,76 +84,74 @@ const READINGS: [(&[u8], usize, usize); 70] = [
     (b"unbounded\nlen\ntry_recv plain\n", 3, 0),
 ];
 
+// The capacity and the steps of a right script, or the number of the first wrong line.
+fn read(
+    alloc: Global,
+    input: &[u8],
+) -> Result<Result<(Option<usize>, Vec<Step<u64>>), usize>, Fail> {
+    match read_script(alloc, input)? {
+        Reading::Right { capacity, steps } => Ok(Ok((capacity, steps))),
+        Reading::Wrong { line } => Ok(Err(line)),
+    }
+}
+
 #[test]
 fn reads(rt: HostRuntime) -> Result<(), Fail> {
     for (input, wrong, count) in READINGS {
-        let (line, len) = match read_script(rt.alloc(), input)? {
-            Reading::Right { capacity: _, steps } => (0, steps.len()),
-            Reading::Wrong { line } => (line, 0),
+        let (line, len) = match read(rt.alloc(), input)? {
+            Ok((_capacity, steps)) => (0, steps.len()),
+            Err(line) => (line, 0),
         };
-        assert_eq!(rt; (line, len), (wrong, count), "of {input:?}");
+        assert_eq!(rt; (line, len), (*wrong, *count), "of {input:?}");
     }
     Ok(())
 }
 
+const EACH_STEP: &[Step<u64>] = &[
+    Step::TrySend(1),
+    Step::Send(2),
+    Step::PollSend(3),
+    Step::WithdrawSend(4),
+    Step::TryRecv,
+    Step::Recv(Kind::Block),
+    Step::Recv(Kind::Plain),
+    Step::Recv(Kind::Stream),
+    Step::Recv(Kind::Arm),
+    Step::Poll(5),
+    Step::Withdraw(6),
+    Step::Drain,
+    Step::CloneSender,
+    Step::CloneReceiver,
+    Step::DropSender,
+    Step::DropReceiver,
+    Step::Len,
+    Step::IsEmpty,
+    Step::IsFull,
+    Step::Capacity,
+    Step::SenderCount,
+    Step::ReceiverCount,
+    Step::IsDisconnected,
+];
+
+const VALUES: &[Step<u64>] = &[Step::TrySend(10), Step::Len, Step::TrySend(u64::MAX)];
+
 #[test]
-fn reads_values(rt: HostRuntime) -> Result<(), Fail> {
+fn reads_values_and_each_step(rt: HostRuntime) -> Result<(), Fail> {
     let input = b"bounded 007\ntry_send 10\r\nlen\ntry_send 18446744073709551615";
-    match read_script(rt.alloc(), input)? {
-        Reading::Right { capacity, steps } => {
-            assert_eq!(rt; capacity, Some(7));
-            let wanted = [Step::TrySend(10), Step::Len, Step::TrySend(u64::MAX)];
-            assert_eq!(rt; steps.as_slice(), wanted.as_slice());
-        }
-        Reading::Wrong { line } => assert_eq!(rt; line, 0),
-    }
-    Ok(())
-}
-
-#[test]
-fn reads_each_step(rt: HostRuntime) -> Result<(), Fail> {
+    let wanted = (Some(7), VALUES.to_vec(rt.alloc())?);
+    is(&rt, read(rt.alloc(), input)?, Ok(wanted));
     let input = b"unbounded\ntry_send 1\nsend 2\npoll_send 3\nwithdraw_send 4\ntry_recv\n\
         recv block\nrecv plain\nrecv stream\nrecv arm\npoll 5\nwithdraw 6\ndrain\n\
         clone_sender\nclone_receiver\ndrop_sender\ndrop_receiver\nlen\nis_empty\nis_full\n\
         capacity\nsender_count\nreceiver_count\nis_disconnected\n";
-    let wanted = [
-        Step::TrySend(1),
-        Step::Send(2),
-        Step::PollSend(3),
-        Step::WithdrawSend(4),
-        Step::TryRecv,
-        Step::Recv(Kind::Block),
-        Step::Recv(Kind::Plain),
-        Step::Recv(Kind::Stream),
-        Step::Recv(Kind::Arm),
-        Step::Poll(5),
-        Step::Withdraw(6),
-        Step::Drain,
-        Step::CloneSender,
-        Step::CloneReceiver,
-        Step::DropSender,
-        Step::DropReceiver,
-        Step::Len,
-        Step::IsEmpty,
-        Step::IsFull,
-        Step::Capacity,
-        Step::SenderCount,
-        Step::ReceiverCount,
-        Step::IsDisconnected,
-    ];
-    match read_script(rt.alloc(), input)? {
-        Reading::Right { capacity, steps } => {
-            assert_eq!(rt; capacity, None);
-            assert_eq!(rt; steps.as_slice(), wanted.as_slice());
-        }
-        Reading::Wrong { line } => assert_eq!(rt; line, 0),
-    }
+    let wanted = (None, EACH_STEP.to_vec(rt.alloc())?);
+    is(&rt, read(rt.alloc(), input)?, Ok(wanted));
     Ok(())
 }
 
 #[test]
 fn writes(rt: HostRuntime) -> Result<(), Fail> {
-    let replies = [
+    let replies = vec![in rt.alloc();
         Reply::Sent { filled: None },
         Reply::Sent { filled: Some(3) },
         Reply::Full(10),
@@ -183,20 +183,19 @@ fn writes(rt: HostRuntime) -> Result<(), Fail> {
         Reply::Truth(false),
         Reply::Capacity(None),
         Reply::Capacity(Some(2)),
-    ];
-    let text = write_replies(rt.alloc(), &replies)?;
-    let wanted = b"sent\nsent filled 3\nfull 10\nclosed 18446744073709551615\nnomemory\n\
+    ]?;
+    let wanted = "sent\nsent filled 3\nfull 10\nclosed 18446744073709551615\nnomemory\n\
         nomemory 0\nspent\nspent 7\npending 3\naccepted\nwaiting\nreturned 4\nreturned 4 closed\n\
         noticket\ngot 12\nempty\nended\ndone\nnoend\ncountfull\n200\ntrue\nfalse\nnone\n2\n";
-    assert_eq!(rt; text.as_slice(), wanted.as_slice());
+    replies_are(&rt, rt.alloc(), "each reply", &replies, wanted)?;
     let text = write_wrong(rt.alloc(), 120)?;
-    assert_eq!(rt; text.as_slice(), b"line 120: not a step\n".as_slice());
+    text_is(&rt, "a wrong line", &text, "line 120: not a step\n");
     Ok(())
 }
 
 #[test]
 fn writes_replies_to_parked_receivers(rt: HostRuntime) -> Result<(), Fail> {
-    let replies = [
+    let replies = vec![in rt.alloc();
         Reply::Parked(6),
         Reply::Gone {
             closed: false,
@@ -216,10 +215,15 @@ fn writes_replies_to_parked_receivers(rt: HostRuntime) -> Result<(), Fail> {
         },
         Reply::Drained(Vec::new(rt.alloc())),
         Reply::Drained(vec![in rt.alloc(); 7, 10, u64::MAX]?),
-    ];
-    let text = write_replies(rt.alloc(), &replies)?;
-    let wanted = b"parked 6\ngone\ngone closed\ngone filled 18\ngone closed filled 0\n\
+    ]?;
+    let wanted = "parked 6\ngone\ngone closed\ngone filled 18\ngone closed filled 0\n\
         drained\ndrained 7 10 18446744073709551615\n";
-    assert_eq!(rt; text.as_slice(), wanted.as_slice());
+    replies_are(
+        &rt,
+        rt.alloc(),
+        "each reply to a parked receiver",
+        &replies,
+        wanted,
+    )?;
     Ok(())
 }

@@ -1,0 +1,120 @@
+//! Turns of the calls that wait, and what each leads to.
+use flume_calls::calls::{RecvCall, RecvNext, SendCall, SendNext};
+use flume_core::chan::Chan;
+use flume_core::error::{RecvTimeoutError, SendTimeoutError};
+use flume_core::step::Kind;
+
+/// A turn of a call. A later turn is of the send or of the receive that parked last.
+#[derive(Clone, Copy, Drop)]
+pub(crate) enum Turn {
+    FirstSend(u64),
+    ParkSend(u64, u64),
+    AgainSend { late: bool },
+    FirstReceive,
+    ParkReceive(Kind, u64),
+    AgainReceive { late: bool, signal: Option<u64> },
+}
+
+/// What a turn led to. The message of a send that comes back stands with it.
+#[derive(Clone, Copy, Debug, PartialEq, Drop)]
+pub(crate) enum Met<T> {
+    Sent,
+    Got(T),
+    NeedSignal(Option<T>),
+    Parked,
+    Refused,
+    Timeout(Option<T>),
+    Disconnected(Option<T>),
+    NoMemory(Option<T>),
+    // No such call is parked.
+    NoCall,
+}
+
+/// The send and the receive that parked last.
+#[derive(Drop)]
+pub(crate) struct Waiting {
+    send: Option<SendCall>,
+    receive: Option<RecvCall>,
+}
+
+impl Waiting {
+    pub(crate) fn new() -> Waiting {
+        Waiting {
+            send: None,
+            receive: None,
+        }
+    }
+
+    /// What a turn of a send led to. One that parks is kept.
+    pub(crate) fn after_send<T: Drop>(&mut self, next: SendNext<T>) -> Met<T> {
+        match next {
+            SendNext::Done(Ok(())) => Met::Sent,
+            SendNext::Done(Err(SendTimeoutError::Timeout(back))) => Met::Timeout(Some(back)),
+            SendNext::Done(Err(SendTimeoutError::Disconnected(back))) => {
+                Met::Disconnected(Some(back))
+            }
+            SendNext::Done(Err(SendTimeoutError::NoMemory(back))) => Met::NoMemory(Some(back)),
+            SendNext::NeedSignal(back) => Met::NeedSignal(Some(back)),
+            SendNext::Park(call) => {
+                self.send = Some(call);
+                Met::Parked
+            }
+        }
+    }
+
+    /// The same of a receive.
+    pub(crate) fn after_receive<T: Drop>(&mut self, next: RecvNext<T>) -> Met<T> {
+        match next {
+            RecvNext::Done(Ok(message)) => Met::Got(message),
+            RecvNext::Done(Err(RecvTimeoutError::Timeout)) => Met::Timeout(None),
+            RecvNext::Done(Err(RecvTimeoutError::Disconnected)) => Met::Disconnected(None),
+            RecvNext::Done(Err(RecvTimeoutError::NoMemory)) => Met::NoMemory(None),
+            RecvNext::NeedSignal => Met::NeedSignal(None),
+            RecvNext::Park(call) => {
+                self.receive = Some(call);
+                Met::Parked
+            }
+            RecvNext::Refused(call) => {
+                self.receive = Some(call);
+                Met::Refused
+            }
+        }
+    }
+
+    /// A later turn of the send that parked last.
+    pub(crate) fn again_send<T: Drop>(&mut self, chan: &mut Chan<T, u64>, late: bool) -> Met<T> {
+        match self.send.take() {
+            Some(call) => self.after_send(call.again(late, None, chan)),
+            None => Met::NoCall,
+        }
+    }
+
+    /// A later turn of the receive that parked last, with this signal.
+    pub(crate) fn again_receive<T: Drop>(
+        &mut self,
+        chan: &mut Chan<T, u64>,
+        late: bool,
+        signal: Option<u64>,
+    ) -> Met<T> {
+        match self.receive.take() {
+            Some(call) => self.after_receive(call.again(late, signal, chan)),
+            None => Met::NoCall,
+        }
+    }
+
+    /// Makes one turn.
+    pub(crate) fn make(&mut self, chan: &mut Chan<u64, u64>, turn: Turn) -> Met<u64> {
+        match turn {
+            Turn::FirstSend(message) => self.after_send(SendCall::first(message, chan)),
+            Turn::ParkSend(message, signal) => {
+                self.after_send(SendCall::park(message, signal, chan))
+            }
+            Turn::AgainSend { late } => self.again_send(chan, late),
+            Turn::FirstReceive => self.after_receive(RecvCall::first(chan)),
+            Turn::ParkReceive(kind, signal) => {
+                self.after_receive(RecvCall::park(kind, signal, chan))
+            }
+            Turn::AgainReceive { late, signal } => self.again_receive(chan, late, signal),
+        }
+    }
+}
