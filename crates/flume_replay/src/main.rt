@@ -13,14 +13,15 @@ fn main(rt: HostRuntime) -> io::Result<()> {
 }
 
 /// Replays one file of scripts: comments, and then blocks of a line `= number`, the script, a line
-/// `-`, and the replies.
+/// `-`, and the replies. A block is read without the end of its last line.
 fn replay(rt: &HostRuntime, name: &str) -> io::Result<()> {
     let path = format!(in rt.alloc(); "{name}.txt")?;
     let text = fs::read_to_string(rt, path.as_str())?;
     let mut all = 0u64;
     let mut agree = 0u64;
     let mut first = None;
-    for block in text.as_str().split("\n= ").skip(1) {
+    let blocks = text.as_str().strip_suffix("\n").unwrap_or_default();
+    for block in blocks.split("\n= ").skip(1) {
         all = all.saturating_add(1);
         if agrees(rt.alloc(), block)? {
             agree = agree.saturating_add(1);
@@ -34,7 +35,8 @@ fn replay(rt: &HostRuntime, name: &str) -> io::Result<()> {
     }
 }
 
-/// Whether the script of a block prints the replies of the block.
+/// Whether the script of a block prints the replies of the block, byte by byte, and the end of the
+/// last line.
 fn agrees(alloc: Global, block: &str) -> io::Result<bool> {
     let Some((_number, script_and_replies)) = block.split_once("\n") else {
         return Ok(false);
@@ -43,9 +45,10 @@ fn agrees(alloc: Global, block: &str) -> io::Result<bool> {
         return Ok(false);
     };
     match run_script(alloc, script.as_bytes()) {
-        Ok(run) => Ok(
-            run.status == 0 && run.text.trim_ascii_end() == replies.as_bytes().trim_ascii_end(),
-        ),
+        Ok(run) => {
+            let printed = run.text.strip_suffix(b"\n");
+            Ok(run.status == 0 && printed == Some(replies.as_bytes()))
+        }
         Err(NoMemory) => Err(io::Error::from(io::ErrorKind::OutOfMemory)),
     }
 }

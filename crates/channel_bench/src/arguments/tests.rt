@@ -33,35 +33,40 @@ fn a_shape_a_capacity_and_numbers_are_read(rt: HostRuntime) -> Result<(), Fail> 
     Ok(())
 }
 
+const REFUSED: &[&str] = &[
+    "spsc big",
+    "spsc big 1 1 1",
+    "spmc big 1",
+    "seq -1 1",
+    "seq big x",
+    "seq big 1 x",
+];
+
 #[test]
 fn other_words_are_refused(rt: HostRuntime) -> Result<(), Fail> {
-    for text in [
-        "spsc big",
-        "spsc big 1 1 1",
-        "spmc big 1",
-        "seq -1 1",
-        "seq big x",
-        "seq big 1 x",
-    ] {
+    for text in REFUSED {
         assert_eq!(rt; Arguments::read(&words(rt.alloc(), text)?), None);
     }
     Ok(())
 }
 
+// Words, and whether what they ask for can be timed.
+const CAN_BE_TIMED: &[(&str, bool)] = &[
+    ("seq 5 5", false),
+    ("seq unbounded 5", true),
+    ("inout 0 5", false),
+    ("oneshot 1 5", true),
+    ("try_pair 0 5", false),
+    ("try_full big 5", false),
+    ("try_full 0 5", true),
+    ("mpmc 0 5", true),
+];
+
 #[test]
 fn shapes_that_would_wait_for_ever_are_refused(rt: HostRuntime) -> Result<(), Fail> {
-    for (text, can) in [
-        ("seq 5 5", false),
-        ("seq unbounded 5", true),
-        ("inout 0 5", false),
-        ("oneshot 1 5", true),
-        ("try_pair 0 5", false),
-        ("try_full big 5", false),
-        ("try_full 0 5", true),
-        ("mpmc 0 5", true),
-    ] {
+    for (text, can) in CAN_BE_TIMED {
         let read = Arguments::read(&words(rt.alloc(), text)?);
-        assert_eq!(rt; read.map(|arguments| arguments.can_be_timed()), Some(can));
+        assert_eq!(rt; read.map(|arguments| arguments.can_be_timed()), Some(*can));
     }
     Ok(())
 }
