@@ -18,3 +18,4 @@ mod Closing
 mod AskedMarks
 mod Asked
 mod Lists
+pub mod dues

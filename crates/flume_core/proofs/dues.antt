@@ -1,0 +1,7 @@
+-- Who is due after each step: of one ticket, of all sends, of all parked receivers, and after what each step leaves.
+pub mod OneTicket
+pub mod SendsDue
+pub mod ReceiversDue
+pub mod MovedIn
+pub mod Tickets
+pub mod AfterStep
