@@ -2,6 +2,7 @@
 pub mod OneTicket
 pub mod SendsDue
 pub mod ReceiversDue
+pub mod BothSides
 pub mod MovedIn
 pub mod Tickets
 pub mod AfterStep

@@ -3,7 +3,8 @@ ghost use Rattle.std.specs.Prelude.{◌≡◌, ◌∷◌, [], length, IsTrue, �
 ghost use Rattle.flume_model.specs.Log.{Log, Opening, opens};
 ghost use Rattle.flume_model.specs.Limits.{IsOpen, HasRoom};
 ghost use Rattle.flume_state.specs.State.{State, opened};
-ghost use Rattle.flume_core.specs.StandsFor.{StandsFor, Extends, ChangesNothing};
+ghost use Rattle.flume_core.specs.StandsFor.{StandsFor, Extends, ChangesNothing, IsLedTo};
+ghost use Rattle.flume_state.specs.Due.{BecomesDue};
 ghost use Rattle.flume_core.specs.Comes.{Comes};
 
 mod ends;
@@ -121,6 +122,7 @@ impl<T: Drop, A: Allocator + Copy> Chan<T, (), A> {
     /// ```
     pub fn step(&mut self, step: Step<T>) -> Reply<T, A>
         ensures step { Extends self.old step result self.new }
+        ensures dues { IsLedTo A self.old → BecomesDue self.old step result self.new }
         ensures comes { Comes step result }
         ensures unchanged { ChangesNothing step result → self.new ≡ self.old }
     {

@@ -1,8 +1,8 @@
 -- Who is due after what each step leaves.
-use Rattle.std.proofs.Common.{◌≡◌, ◌≢◌, ℕ, ◌+◌, ◌≤◌, min, arith, Bool, true, false, not, ◌&&◌, eqb, eqb-true, eq-eqb, ne_eqb, List, ◌∷◌, ◌++◌, []}
-use Rattle.std.proofs.Common.{Option, Some, None, refl, sym, ◌∙◌, ap, subst, ⊎_elim, if◌then◌else◌}
+use Rattle.std.proofs.Common.{◌≡◌, ℕ, ◌+◌, ◌≤◌, min, arith, Bool, true, false, not, ◌&&◌}
+use Rattle.std.proofs.Common.{eqb, eqb-true, eq-eqb, List, ◌∷◌, ◌++◌, []}
+use Rattle.std.proofs.Common.{Option, None, refl, sym, ◌∙◌, ap, subst, ⊎_elim, ◌⊎◌, if◌then◌else◌}
 use Rattle.std.proofs.Math.Bool.{and-false}
-use Rattle.std.proofs.lemmas.Bool.{cases_eq}
 use Rattle.std.specs.Option.{option_map}
 use Rattle.std.specs.FinMap.{get, insert, remove, get-empty}
 use Rattle.std.specs.Ordering.{nat_cmp}
@@ -10,101 +10,30 @@ use Rattle.flume_model.specs.declared.step.Kind.{Kind}
 use Rattle.flume_model.specs.declared.step.Step.{Step}
 use Rattle.flume_model.specs.declared.step.Step.TheVariants.{Poll}
 use Rattle.flume_model.specs.declared.step.Reply.{Reply}
-use Rattle.flume_model.specs.declared.step.Reply.TheVariants.{Waiting}
+use Rattle.flume_model.specs.declared.step.Reply.TheVariants.{Waiting, Returned, NoTicket}
 use Rattle.flume_model.specs.Limits.{is_closed}
-use Rattle.flume_model.specs.Channel.{has_ticket}
-use Rattle.flume_model.specs.Entries.{again, entry_of, passes_on, round_for, without}
-use Rattle.flume_model.proofs.EntryLists.{entry_last, none_same, tickets_round}
+use Rattle.flume_model.specs.Entries.{again, entry_of, passes_on, without}
 use Rattle.flume_state.specs.Messages.{Blocked}
 use Rattle.flume_state.specs.Notices.{due_now, resignalled}
-use Rattle.flume_state.specs.Sends.{SendMap, blocked, noticed_send, with_notice}
+use Rattle.flume_state.specs.Sends.{blocked, noticed_send, with_notice}
 use Rattle.flume_state.specs.Receivers.{Entries, begins, noticed, waits_on}
-use Rattle.flume_state.specs.State.{State, emptied, offers_of}
-use Rattle.flume_state.specs.Effects.{after_leaving, all_due, departed, rounded, taken, unparked, waiting_so, filled_up}
+use Rattle.flume_state.specs.State.{State}
+use Rattle.flume_state.specs.Effects.{Returns, after_leaving, departed, rounded, taken, unparked, waiting_so, filled_up}
 use Rattle.flume_state.specs.Due.{BecomesDue, SendDue, ReceiverDue, blocked_in, closed_between, entry_due_in, waits_by}
-use Rattle.flume_state.proofs.SendsLaws.{get-insert_same, get-insert_other, get-remove_same, get-remove_other}
-use Rattle.flume_state.proofs.SendsLaws.{get-changed_same, get-changed_other}
-use Rattle.flume_core.specs.StandsFor.{IsLedTo}
-use Rattle.flume_core.proofs.dues.OneTicket.{send_kept, send_signalled, send_new, send_closed, receiver_kept, receiver_waits}
+use Rattle.flume_core.specs.StandsFor.{IsLedTo, IsRefusal}
+use Rattle.flume_core.proofs.dues.OneTicket.{send_kept, send_closed, receiver_kept, receiver_waits}
 use Rattle.flume_core.proofs.dues.SendsDue.{accepts_due, all_due_at}
-use Rattle.flume_core.proofs.dues.ReceiversDue.{entry_without, entry_push, entry_again, entry_noticed, noticed_idle, again_idle}
+use Rattle.flume_core.proofs.dues.ReceiversDue.{entry_again, entry_noticed, noticed_idle, again_idle}
 use Rattle.flume_core.proofs.dues.ReceiversDue.{without_noticed, round_for_due, all_woken_due}
+use Rattle.flume_core.proofs.dues.BothSides.{SendsDue, ReceiversDue, spent_sends, new_sends, signalled_sends, gone_receivers}
+use Rattle.flume_core.proofs.dues.BothSides.{new_receivers, passed_receivers}
 use Rattle.flume_core.proofs.dues.MovedIn.{MovesIn, moves_none, moves_queue, moves_taken, moves_filled_up}
-use Rattle.flume_core.proofs.dues.Tickets.{Tickets, tickets_of}
+use Rattle.flume_core.proofs.dues.Tickets.{tickets_of}
 
 -- a channel that stays as it is isn't closed
 pub not_closed : (c : Bool) → (not c && c) ≡ false
 not_closed true = refl
 not_closed false = refl
-
-module _ {S : Type 0} where
-  -- who is due of these sends, where the channel isn't closed
-  abbrev pub SendsDue : SendMap S → SendMap S → Type 0
-  SendsDue old new = (t : ℕ) → SendDue false (get old t) (get new t)
-
-  -- one that is spent
-  spent_sends : (m : SendMap S) (k : ℕ) → SendsDue m (remove m k)
-  spent_sends m k t =
-      ⊎_elim (λ e. subst (λ y. SendDue false (get m t) y) (sym (ap (get (remove m k)) e ∙ get-remove_same m k)) refl)
-      (λ ne. subst (λ y. SendDue false (get m t) y) (sym (get-remove_other m k t ne)) (send_kept (get m t))) (cases_eq t k)
-
-  -- one that is new
-  new_sends : (m : SendMap S) (k : ℕ) (signal : S) → get m k ≡ None → SendsDue m (insert m k (blocked signal))
-  new_sends m k signal none t =
-      ⊎_elim (λ e.
-      subst (λ y. SendDue false (get m t) y) (sym (ap (get (insert m k (blocked signal))) e ∙ get-insert_same m k (blocked signal)))
-      (send_new false signal (get m t) (ap (get m) e ∙ none)))
-      (λ ne. subst (λ y. SendDue false (get m t) y) (sym (get-insert_other m k (blocked signal) t ne)) (send_kept (get m t)))
-      (cases_eq t k)
-
-  -- one with another signal
-  signalled_sends : (m : SendMap S) (k : ℕ) (given : Option S) → SendsDue m (noticed_send (resignalled given) k m)
-  signalled_sends m k given t =
-      let f = with_notice (resignalled given) in
-      ⊎_elim (λ e.
-      subst (λ y. SendDue false (get m t) y)
-      (sym (ap (get (noticed_send (resignalled given) k m)) e ∙ get-changed_same m k f ∙ ap (λ u. option_map f (get m u)) (sym e)))
-      (send_signalled given (get m t)))
-      (λ ne. subst (λ y. SendDue false (get m t) y) (sym (get-changed_other m k f t ne)) (send_kept (get m t))) (cases_eq t k)
-
-module _ {T S : Type 0} where
-  -- who is due of these receivers, where none of them waits on or again
-  abbrev pub ReceiversDue : Entries T S → Entries T S → Type 0
-  ReceiversDue old new = (t : ℕ) → ReceiverDue false (entry_of t old) (entry_of t new)
-
-  -- one that leaves
-  gone_receivers : (es : Entries T S) (k : ℕ) → entry_of k (without k es) ≡ None → ReceiversDue es (without k es)
-  gone_receivers es k alone t =
-      ⊎_elim (λ e.
-      subst (λ y. ReceiverDue false (entry_of t es) y) (sym (ap (λ u. entry_of u (without k es)) e ∙ alone)) refl)
-      (λ ne. subst (λ y. ReceiverDue false (entry_of t es) y) (sym (entry_without t k es (ne_eqb k t (λ e. ne (sym e)))))
-      (receiver_kept (entry_of t es))) (cases_eq t k)
-
-  -- one that parks
-  new_receivers : (es : Entries T S) (k : ℕ) (kind : Kind) (signal : S) → entry_of k es ≡ None
-      → ReceiversDue es (es ++ begins k kind signal ∷ [])
-  new_receivers es k kind signal none t =
-      let x = begins k kind signal in
-      ⊎_elim (λ e.
-      subst (λ y. ReceiverDue false (entry_of t es) y) (sym (ap (λ u. entry_of u (es ++ x ∷ [])) e ∙ entry_last es x none))
-      (subst (λ y. ReceiverDue false y (Some x)) (sym (ap (λ u. entry_of u es) e ∙ none)) refl))
-      (λ ne. subst (λ y. ReceiverDue false (entry_of t es) y) (sym (entry_push t x es (ne_eqb k t (λ e. ne (sym e)))))
-      (receiver_kept (entry_of t es))) (cases_eq t k)
-
-  -- a wake round gives no receiver a ticket that none had
-  none_round_for : (t : ℕ) (queue : List T) (es : Entries T S) → entry_of t es ≡ None → entry_of t (round_for due_now queue es) ≡ None
-  none_round_for t [] es none = none
-  none_round_for t (front ∷ queue) es none = none_same t es _ (sym (tickets_round due_now front es)) none
-
-  -- one that leaves and passes its wake on
-  passed_receivers : (queue : List T) (es : Entries T S) (k : ℕ) → entry_of k (without k es) ≡ None
-      → ReceiversDue es (round_for due_now queue (without k es))
-  passed_receivers queue es k alone t =
-      ⊎_elim (λ e.
-      subst (λ y. ReceiverDue false (entry_of t es) y)
-      (sym (ap (λ u. entry_of u (round_for due_now queue (without k es))) e ∙ none_round_for k queue (without k es) alone)) refl)
-      (λ ne. subst (λ x. ReceiverDue false x (entry_of t (round_for due_now queue (without k es))))
-      (entry_without t k es (ne_eqb k t (λ e. ne (sym e)))) (round_for_due t queue (without k es))) (cases_eq t k)
 
 module _ {T A : Type 0} where
   -- the step lets no receiver wait on or again
@@ -140,6 +69,17 @@ module _ {T S A : Type 0} where
       → new ≡ record old { blocked = left; sends = remove old.sends t } → BecomesDue old step reply new
   spent old new step reply t left idle is =
       by_sides old _ new step reply is refl refl idle (spent_sends old.sends t) (λ u. receiver_kept (entry_of u old.entries))
+
+  -- its message came back, or there is none
+  pub given_back : (old new : State T S) (step : Step T) (reply : Reply T A) (t : ℕ) → NoneWaits step reply
+      → ((message : T) (closed : Bool) → reply ≡ Returned message closed → Returns old new t message closed)
+      → (IsRefusal reply → new ≡ old) → (reply ≡ NoTicket) ⊎ ((message : T) × (closed : Bool) × (reply ≡ Returned message closed))
+      → BecomesDue old step reply new
+  given_back old new step reply t idle returned refused either =
+      ⊎_elim (λ none. unchanged old new step reply idle (refused (rw none tt)))
+      (λ back.
+      let returns = returned back.0 back.1 back.2 in
+      spent old new step reply t (returns.before ++ returns.later) idle returns.becomes) either
 
   -- a send blocks
   pub blocks : (old new : State T S) (step : Step T) (reply : Reply T A) (message : Blocked T) (signal : S) → NoneWaits step reply

@@ -1,5 +1,5 @@
 -- Who is due, of one ticket: how its send or its receiver was, and how it is.
-use Rattle.std.proofs.Common.{◌≡◌, Bool, true, false, not, ◌&&◌, ◌||◌, if◌then◌else◌, Option, Some, None, refl, sym, ◌∙◌, ap}
+use Rattle.std.proofs.Common.{◌≡◌, Bool, true, false, not, ◌&&◌, ◌||◌, if◌then◌else◌, Option, Some, None, refl, ap}
 use Rattle.std.specs.Option.{option_map}
 use Rattle.flume_model.specs.declared.entry.Entry.{Entry}
 use Rattle.flume_model.specs.declared.entry.Mark.{Mark}
@@ -8,7 +8,7 @@ use Rattle.flume_state.specs.declared.notice.Notice.{Notice}
 use Rattle.flume_state.specs.declared.sends.LiveSend.{LiveSend}
 use Rattle.flume_state.specs.Notices.{due_now, resignalled}
 use Rattle.flume_state.specs.Sends.{blocked, accepted_now, with_notice}
-use Rattle.flume_state.specs.Due.{SendDue, ReceiverDue, blocked_in, waits_in, entry_due_in}
+use Rattle.flume_state.specs.Due.{SendDue, ReceiverDue, blocked_in, entry_due_in}
 
 -- nothing became of a send
 kept_bits : (a d : Bool) → d ≡ (d || (not a && a) || false)

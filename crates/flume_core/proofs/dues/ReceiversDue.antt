@@ -1,12 +1,12 @@
 -- Who is due of the parked receivers: wake rounds, closing, and what becomes of one of them.
-use Rattle.std.proofs.Common.{◌≡◌, ◌≢◌, ℕ, Bool, true, false, eqb, eqb-true, eq-eqb, ne_eqb, List, [], ◌∷◌, ◌++◌, cond}
-use Rattle.std.proofs.Common.{Option, Some, None, refl, sym, ◌∙◌, ap}
+use Rattle.std.proofs.Common.{◌≡◌, ℕ, Bool, true, false, eqb, eqb-true, List, [], ◌∷◌, ◌++◌, cond}
+use Rattle.std.proofs.Common.{Some, None, refl, sym, ◌∙◌, ap}
 use Rattle.flume_model.specs.declared.step.Kind.{Kind}
 use Rattle.flume_model.specs.declared.step.Kind.TheVariants.{Block, Plain, Stream, Arm}
 use Rattle.flume_model.specs.declared.entry.Entry.{Entry}
 use Rattle.flume_model.specs.declared.entry.Mark.{Mark}
 use Rattle.flume_model.specs.declared.entry.Mark.TheVariants.{Waiting, Woken, Filled}
-use Rattle.flume_model.specs.Entries.{all_woken, entry_of, is_waiting, is_woken, marked, round, round_for, without, again}
+use Rattle.flume_model.specs.Entries.{all_woken, entry_of, round, round_for, without, again}
 use Rattle.flume_state.specs.declared.notice.Notice.{Notice}
 use Rattle.flume_state.specs.Notices.{due_now}
 use Rattle.flume_state.specs.Receivers.{Entries, noticed}

@@ -1,8 +1,8 @@
 -- The live sends' map where messages move in, and where the channel is closed.
-use Rattle.std.proofs.Common.{◌≡◌, ◌≢◌, ℕ, suc, Bool, true, false, not, ◌||◌, ◌⊎◌, inl, inr, ⊎_elim, if◌then◌else◌, eqb, eqb-true, List, [], ◌∷◌}
-use Rattle.std.proofs.Common.{Option, Some, None, refl, sym, ◌∙◌, ap, arith}
+use Rattle.std.proofs.Common.{◌≡◌, ◌≢◌, ℕ, Bool, true, false, ◌||◌, ◌⊎◌, inl, inr}
+use Rattle.std.proofs.Common.{⊎_elim, if◌then◌else◌, eqb, eqb-true, List, [], ◌∷◌}
+use Rattle.std.proofs.Common.{Option, Some, None, refl, sym, ◌∙◌, ap}
 use Rattle.std.proofs.lemmas.Bool.{cases_eq, eqb-false}
-use Rattle.std.specs.List.{All}
 use Rattle.std.specs.Option.{option_map}
 use Rattle.std.specs.FinMap.{get}
 use Rattle.flume_model.specs.Channel.{has_ticket}
@@ -42,8 +42,11 @@ module _ {S : Type 0} where
       here e =
           let now : get (changed n k accepted_now) t ≡ option_map accepted_now (get n t) =
           rw e (get-changed_same n k accepted_now) in
-          inr (rw e blocked_, now ∙ ⊎_elim (λ same. ap (option_map accepted_now) same)
-          (λ both. ap (option_map accepted_now) both.1 ∙ accepted_twice (get m t)) (moved t))
+          inr (
+            rw e blocked_,
+            now ∙ ⊎_elim (λ same. ap (option_map accepted_now) same)
+                (λ both. ap (option_map accepted_now) both.1 ∙ accepted_twice (get m t)) (moved t),
+          )
 
       there : t ≢ k → Claim
       there ne =
@@ -57,9 +60,9 @@ module _ {S : Type 0} where
 
   -- to make a send due twice is to make it due
   marked_bits : (a b : Bool) (x : Option (LiveSend S)) → (
-    let f = option_map (with_notice due_now) in
-    (if b then f (if a then f x else x) else (if a then f x else x)) ≡ (if a || b then f x else x)
-  )
+      let f = option_map (with_notice due_now) in
+      (if b then f (if a then f x else x) else (if a then f x else x)) ≡ (if a || b then f x else x)
+      )
   marked_bits true true None = refl
   marked_bits true true (Some send) = refl
   marked_bits true false x = refl

@@ -3,7 +3,8 @@ ghost use Rattle.std.specs.Prelude.{not, ◌≡◌, ◌+◌, ◌-◌, ◌<◌, �
 ghost use Rattle.flume_model.specs.Limits.{is_closed, most};
 ghost use Rattle.flume_state.specs.Effects.{after_leaving, all_due};
 ghost use Rattle.flume_state.specs.State.{State};
-ghost use Rattle.flume_core.specs.StandsFor.{Extends, IsRefusal};
+ghost use Rattle.flume_core.specs.StandsFor.{Extends, IsLedTo, IsRefusal};
+ghost use Rattle.flume_state.specs.Due.{BecomesDue};
 ghost use Rattle.flume_core.specs.Comes.{Comes};
 
 use super::Chan;
@@ -17,6 +18,7 @@ impl<T: Drop, S: Drop, A: Allocator + Copy> Chan<T, S, A> {
     /// no more can be counted. Both leave the channel as it was. Takes no memory.
     pub fn clone_sender(&mut self) -> Reply<T, A>
         ensures step { Extends self.old Step.CloneSender result self.new }
+        ensures dues { IsLedTo A self.old → BecomesDue self.old Step.CloneSender result self.new }
         ensures comes { Comes Step.CloneSender result }
         ensures no_end { (result ≡ Reply.NoEnd) ↔ (self.old.senders ≡ 0) }
         ensures count_full { (result ≡ Reply.CountFull) ↔ (self.old.senders ≡ most) }
@@ -39,6 +41,7 @@ impl<T: Drop, S: Drop, A: Allocator + Copy> Chan<T, S, A> {
     /// One more receiver; as `clone_sender`.
     pub fn clone_receiver(&mut self) -> Reply<T, A>
         ensures step { Extends self.old Step.CloneReceiver result self.new }
+        ensures dues { IsLedTo A self.old → BecomesDue self.old Step.CloneReceiver result self.new }
         ensures comes { Comes Step.CloneReceiver result }
         ensures no_end { (result ≡ Reply.NoEnd) ↔ (self.old.receivers ≡ 0) }
         ensures count_full { (result ≡ Reply.CountFull) ↔ (self.old.receivers ≡ most) }
@@ -64,6 +67,7 @@ impl<T: Drop, S: Drop, A: Allocator + Copy> Chan<T, S, A> {
     /// memory.
     pub fn drop_sender(&mut self) -> Reply<T, A>
         ensures step { Extends self.old Step.DropSender result self.new }
+        ensures dues { IsLedTo A self.old → BecomesDue self.old Step.DropSender result self.new }
         ensures comes { Comes Step.DropSender result }
         ensures done { (result ≡ Reply.Done) ↔ (0 < self.old.senders) }
         ensures no_end { (result ≡ Reply.NoEnd) ↔ (self.old.senders ≡ 0) }
@@ -84,6 +88,7 @@ impl<T: Drop, S: Drop, A: Allocator + Copy> Chan<T, S, A> {
     /// One receiver leaves; as `drop_sender`.
     pub fn drop_receiver(&mut self) -> Reply<T, A>
         ensures step { Extends self.old Step.DropReceiver result self.new }
+        ensures dues { IsLedTo A self.old → BecomesDue self.old Step.DropReceiver result self.new }
         ensures comes { Comes Step.DropReceiver result }
         ensures done { (result ≡ Reply.Done) ↔ (0 < self.old.receivers) }
         ensures no_end { (result ≡ Reply.NoEnd) ↔ (self.old.receivers ≡ 0) }

@@ -11,7 +11,8 @@ ghost use Rattle.flume_state.specs.declared.entries.Standing.TheVariants.{BlockW
 ghost use Rattle.flume_state.specs.Effects.{fronted, taken, unparked, departed, rounded};
 ghost use Rattle.flume_state.specs.Effects.{waiting_so, Departs};
 ghost use Rattle.flume_state.specs.State.{State};
-ghost use Rattle.flume_core.specs.StandsFor.{Extends, ChangesNothing};
+ghost use Rattle.flume_core.specs.StandsFor.{Extends, IsLedTo, ChangesNothing};
+ghost use Rattle.flume_state.specs.Due.{BecomesDue};
 ghost use Rattle.flume_core.specs.Comes.{Comes};
 
 use super::Chan;
@@ -34,6 +35,7 @@ impl<T: Drop, S: Drop, A: Allocator + Copy> Chan<T, S, A> {
     /// ```
     pub fn poll(&mut self, ticket: u64, signal: Option<S>) -> Reply<T, A>
         ensures step { Extends self.old (Step.Poll ticket) result self.new }
+        ensures dues { IsLedTo A self.old → BecomesDue self.old (Step.Poll ticket) result self.new }
         ensures comes { Comes (Step.Poll ticket) result }
         ensures no_ticket { (result ≡ Reply.NoTicket)
             ↔ (entry_of ticket self.old.entries ≡ None) }
@@ -92,6 +94,8 @@ impl<T: Drop, S: Drop, A: Allocator + Copy> Chan<T, S, A> {
     /// ```
     pub fn withdraw(&mut self, ticket: u64) -> Reply<T, A>
         ensures step { Extends self.old (Step.Withdraw ticket) result self.new }
+        ensures dues { IsLedTo A self.old
+            → BecomesDue self.old (Step.Withdraw ticket) result self.new }
         ensures comes { Comes (Step.Withdraw ticket) result }
         ensures no_ticket { (result ≡ Reply.NoTicket)
             ↔ (entry_of ticket self.old.entries ≡ None) }

@@ -7,6 +7,7 @@ ghost use Rattle.flume_state.specs.Receivers.{NoneDueIn};
 ghost use Rattle.flume_state.specs.Told.{Names, signal_of};
 ghost use Rattle.flume_state.specs.State.{State};
 ghost use Rattle.flume_core.specs.StandsFor.{Extends, Keeps};
+ghost use Rattle.flume_state.specs.Due.{BecomesDue};
 ghost use Rattle.flume_core.specs.Comes.{Comes};
 
 use super::Chan;
@@ -17,6 +18,7 @@ impl<T: Drop, S: Drop, A: Allocator + Copy> Chan<T, S, A> {
     /// How many messages are queued, as a `Number`. Takes no memory.
     pub fn len(&self) -> Reply<T, A>
         ensures step { Extends self.now Step.Len result self.now }
+        ensures dues { BecomesDue self.now Step.Len result self.now }
         ensures comes { Comes Step.Len result }
         ensures number { result ≡ Reply.Number (length self.now.queue) }
     {
@@ -26,6 +28,7 @@ impl<T: Drop, S: Drop, A: Allocator + Copy> Chan<T, S, A> {
     /// Whether no message is queued, as a `Truth`. Takes no memory.
     pub fn is_empty(&self) -> Reply<T, A>
         ensures step { Extends self.now Step.IsEmpty result self.now }
+        ensures dues { BecomesDue self.now Step.IsEmpty result self.now }
         ensures comes { Comes Step.IsEmpty result }
         ensures truth { result ≡ Reply.Truth (length self.now.queue == 0) }
     {
@@ -36,6 +39,7 @@ impl<T: Drop, S: Drop, A: Allocator + Copy> Chan<T, S, A> {
     /// memory.
     pub fn is_full(&self) -> Reply<T, A>
         ensures step { Extends self.now Step.IsFull result self.now }
+        ensures dues { BecomesDue self.now Step.IsFull result self.now }
         ensures comes { Comes Step.IsFull result }
         ensures truth { result ≡ Reply.Truth (is_full self.now.capacity (length self.now.queue)) }
     {
@@ -45,6 +49,7 @@ impl<T: Drop, S: Drop, A: Allocator + Copy> Chan<T, S, A> {
     /// The capacity, or none of an unbounded channel. Takes no memory.
     pub fn capacity(&self) -> Reply<T, A>
         ensures step { Extends self.now Step.Capacity result self.now }
+        ensures dues { BecomesDue self.now Step.Capacity result self.now }
         ensures comes { Comes Step.Capacity result }
         ensures capacity { result ≡ Reply.Capacity self.now.capacity }
     {
@@ -54,6 +59,7 @@ impl<T: Drop, S: Drop, A: Allocator + Copy> Chan<T, S, A> {
     /// How many senders live, as a `Number`. Takes no memory.
     pub fn sender_count(&self) -> Reply<T, A>
         ensures step { Extends self.now Step.SenderCount result self.now }
+        ensures dues { BecomesDue self.now Step.SenderCount result self.now }
         ensures comes { Comes Step.SenderCount result }
         ensures number { result ≡ Reply.Number self.now.senders }
     {
@@ -63,6 +69,7 @@ impl<T: Drop, S: Drop, A: Allocator + Copy> Chan<T, S, A> {
     /// How many receivers live, as a `Number`. Takes no memory.
     pub fn receiver_count(&self) -> Reply<T, A>
         ensures step { Extends self.now Step.ReceiverCount result self.now }
+        ensures dues { BecomesDue self.now Step.ReceiverCount result self.now }
         ensures comes { Comes Step.ReceiverCount result }
         ensures number { result ≡ Reply.Number self.now.receivers }
     {
@@ -72,6 +79,7 @@ impl<T: Drop, S: Drop, A: Allocator + Copy> Chan<T, S, A> {
     /// Whether all senders or all receivers are gone, as a `Truth`. Takes no memory.
     pub fn is_disconnected(&self) -> Reply<T, A>
         ensures step { Extends self.now Step.IsDisconnected result self.now }
+        ensures dues { BecomesDue self.now Step.IsDisconnected result self.now }
         ensures comes { Comes Step.IsDisconnected result }
         ensures truth { result ≡ Reply.Truth (is_closed self.now.senders self.now.receivers) }
     {

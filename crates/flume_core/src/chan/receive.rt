@@ -6,7 +6,8 @@ ghost use Rattle.flume_model.specs.Limits.{IsOpen, IsClosed, most};
 ghost use Rattle.flume_state.specs.Effects.{admitted, fronted, refilled, taken, filled_up};
 ghost use Rattle.flume_state.specs.Effects.{waiting_so, Begins};
 ghost use Rattle.flume_state.specs.State.{State};
-ghost use Rattle.flume_core.specs.StandsFor.{Extends, IsRefusal};
+ghost use Rattle.flume_core.specs.StandsFor.{Extends, IsLedTo, IsRefusal};
+ghost use Rattle.flume_state.specs.Due.{BecomesDue};
 ghost use Rattle.flume_core.specs.Comes.{Comes};
 
 use super::Chan;
@@ -26,6 +27,7 @@ impl<T: Drop, S: Drop, A: Allocator + Copy> Chan<T, S, A> {
     #[inline(always)]
     pub fn try_recv(&mut self) -> Reply<T, A>
         ensures step { Extends self.old Step.TryRecv result self.new }
+        ensures dues { IsLedTo A self.old → BecomesDue self.old Step.TryRecv result self.new }
         ensures comes { Comes Step.TryRecv result }
         ensures got { (message : T) (rest : List T) → (fronted self.old).queue ≡ message ∷ rest
             → (result ≡ Reply.Got message)
@@ -56,6 +58,7 @@ impl<T: Drop, S: Drop, A: Allocator + Copy> Chan<T, S, A> {
     /// ```
     pub fn recv(&mut self, kind: Kind, signal: S) -> Reply<T, A>
         ensures step { Extends self.old (Step.Recv kind) result self.new }
+        ensures dues { IsLedTo A self.old → BecomesDue self.old (Step.Recv kind) result self.new }
         ensures comes { Comes (Step.Recv kind) result }
         ensures got { (message : T) (rest : List T) → (fronted self.old).queue ≡ message ∷ rest
             → (result ≡ Reply.Got message) × (self.new ≡ taken rest self.old) }
@@ -98,6 +101,7 @@ impl<T: Drop, S: Drop, A: Allocator + Copy> Chan<T, S, A> {
     /// ```
     pub fn drain(&mut self) -> Reply<T, A>
         ensures step { Extends self.old Step.Drain result self.new }
+        ensures dues { IsLedTo A self.old → BecomesDue self.old Step.Drain result self.new }
         ensures comes { Comes Step.Drain result }
         ensures drained { (list : Vec T A) → result ≡ Reply.Drained list
             → (list.items ≡ self.old.queue)

@@ -9,7 +9,8 @@ ghost use Rattle.flume_model.specs.Entries.{some_wait};
 ghost use Rattle.flume_state.specs.Effects.{Joins, Returns};
 ghost use Rattle.std.specs.List.{All};
 ghost use Rattle.flume_state.specs.State.{State, accepted_at};
-ghost use Rattle.flume_core.specs.StandsFor.{Extends, IsRefusal};
+ghost use Rattle.flume_core.specs.StandsFor.{Extends, IsLedTo, IsRefusal};
+ghost use Rattle.flume_state.specs.Due.{BecomesDue};
 ghost use Rattle.flume_core.specs.Comes.{Comes};
 
 use super::Chan;
@@ -32,6 +33,8 @@ impl<T: Drop, S: Drop, A: Allocator + Copy> Chan<T, S, A> {
     #[inline(always)]
     pub fn try_send(&mut self, message: T) -> Reply<T, A>
         ensures step { Extends self.old (Step.TrySend message) result self.new }
+        ensures dues { IsLedTo A self.old
+            → BecomesDue self.old (Step.TrySend message) result self.new }
         ensures comes { Comes (Step.TrySend message) result }
         ensures closed { (result ≡ Reply.Closed message)
             ↔ IsClosed self.old.senders self.old.receivers }
@@ -68,6 +71,8 @@ impl<T: Drop, S: Drop, A: Allocator + Copy> Chan<T, S, A> {
     /// ```
     pub fn send(&mut self, message: T, signal: S) -> Reply<T, A>
         ensures step { Extends self.old (Step.Send message) result self.new }
+        ensures dues { IsLedTo A self.old
+            → BecomesDue self.old (Step.Send message) result self.new }
         ensures comes { Comes (Step.Send message) result }
         ensures closed { (result ≡ Reply.Closed message)
             ↔ IsClosed self.old.senders self.old.receivers }
@@ -111,6 +116,8 @@ impl<T: Drop, S: Drop, A: Allocator + Copy> Chan<T, S, A> {
     /// memory.
     pub fn poll_send(&mut self, ticket: u64, signal: Option<S>) -> Reply<T, A>
         ensures step { Extends self.old (Step.PollSend ticket) result self.new }
+        ensures dues { IsLedTo A self.old
+            → BecomesDue self.old (Step.PollSend ticket) result self.new }
         ensures comes { Comes (Step.PollSend ticket) result }
         ensures no_ticket { get self.old.sends ticket ≡ None → result ≡ Reply.NoTicket }
         ensures accepted { (result ≡ Reply.Accepted)
@@ -143,6 +150,8 @@ impl<T: Drop, S: Drop, A: Allocator + Copy> Chan<T, S, A> {
     /// spent. `NoTicket`: no live send has this ticket, and nothing changes. Takes no memory.
     pub fn withdraw_send(&mut self, ticket: u64) -> Reply<T, A>
         ensures step { Extends self.old (Step.WithdrawSend ticket) result self.new }
+        ensures dues { IsLedTo A self.old
+            → BecomesDue self.old (Step.WithdrawSend ticket) result self.new }
         ensures comes { Comes (Step.WithdrawSend ticket) result }
         ensures no_ticket { get self.old.sends ticket ≡ None → result ≡ Reply.NoTicket }
         ensures accepted { (result ≡ Reply.Accepted)

@@ -3,6 +3,7 @@ use Rattle.std.proofs.Common.{◌≡◌, refl, ◌∙◌, sym, rules}
 use Rattle.flume_core.proofs.Views.{queue_at_log, some_queued}
 use Rattle.flume_core.proofs.Keeping.{still}
 use Rattle.flume_core.proofs.Drains.{drains}
+use Rattle.flume_core.proofs.dues.AfterStep.{unchanged, drained}
 use Rattle.flume_core.proofs.chan.Chan.drain.Goals as goal
 
 pub returns-in_default-clause-step : goal.returns-in_default-clause-step
@@ -12,3 +13,9 @@ pub returns-clause-step : goal.returns-clause-step
 returns-clause-step g c o log h =
     let list : c.in-Ok.list.items ≡ c.args.self.now.queue = search rules in
     drains o log _ c.args.self.now _ c.in-Ok.list.items h (list ∙ sym (queue_at_log h)) refl (search rules)
+
+pub returns-in_default-clause-dues : goal.returns-in_default-clause-dues
+returns-in_default-clause-dues g c = λ led. unchanged _ _ _ _ (λ t. refl) (search rules)
+
+pub returns-clause-dues : goal.returns-clause-dues
+returns-clause-dues g c = λ led. drained c.args.self.now _ _ _ (λ t. refl) led (search rules)

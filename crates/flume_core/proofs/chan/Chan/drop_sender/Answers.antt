@@ -1,8 +1,9 @@
 -- An end that is not there, and one that leaves.
-use Rattle.std.proofs.Common.{refl, rules}
+use Rattle.std.proofs.Common.{◌-◌, refl, rules}
 use Rattle.flume_model.specs.Log.{SenderLeaves}
 use Rattle.flume_core.proofs.Keeping.{still}
 use Rattle.flume_core.proofs.Closing.{leaves}
+use Rattle.flume_core.proofs.dues.AfterStep.{unchanged, leaves as leaves_due}
 use Rattle.flume_core.proofs.chan.Chan.drop_sender.Goals as goal
 
 pub returns-then-self-eq0-clause-step : goal.returns-then-self-eq0-clause-step
@@ -10,3 +11,10 @@ returns-then-self-eq0-clause-step g c o log h = still o log _ _ _ h (search rule
 
 pub returns-clause-step : goal.returns-clause-step
 returns-clause-step g c o log h = leaves o log _ SenderLeaves c.args.self.now _ h (search rules) refl refl (search rules)
+
+pub returns-then-self-eq0-clause-dues : goal.returns-then-self-eq0-clause-dues
+returns-then-self-eq0-clause-dues g c = λ led. unchanged _ _ _ _ (λ t. refl) (search rules)
+
+pub returns-clause-dues : goal.returns-clause-dues
+returns-clause-dues g c = λ led.
+    leaves_due c.args.self.now _ _ _ (c.args.self.now.senders - 1) c.args.self.now.receivers (λ t. refl) led (search rules)

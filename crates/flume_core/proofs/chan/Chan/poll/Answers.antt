@@ -6,6 +6,7 @@ use Rattle.flume_state.specs.Effects.{fronted}
 use Rattle.flume_core.proofs.Answering.{closed_where}
 use Rattle.flume_core.proofs.Asked.{poll_none, poll_collects, poll_waits, poll_takes, poll_waits_on, poll_ends}
 use Rattle.flume_core.proofs.AskedMarks.{looks_else}
+use Rattle.flume_core.proofs.dues.AfterStep.{unchanged, left, took_parked, waits}
 use Rattle.flume_core.proofs.chan.Chan.poll.Goals as goal
 
 pub returns-in_default-clause-step : goal.returns-in_default-clause-step
@@ -28,6 +29,7 @@ returns-in-Some-take_front g c =
     record {
       step = λ o log h. poll_takes o log c.args.self.now _ c.args.ticket st c.in-Some-take_front.message front.0 h is looking front.1
           (search rules);
+      dues = λ led. took_parked c.args.self.now _ _ _ front.0 c.args.ticket (λ t. refl) led (search rules);
       comes = tt;
       no_ticket = search (rules, is);
       collected = search (rules, is, looking);
@@ -49,6 +51,7 @@ returns-then-is_open g c =
     record {
       step = λ o log h. poll_waits_on o log c.args.self.now _ c.args.ticket st (waits_on c.args.signal) h is looking none open_
           (search rules);
+      dues = λ led. waits c.args.self.now _ c.args.ticket c.args.signal led (search rules);
       comes = tt;
       no_ticket = search (rules, is);
       collected = search (rules, is, looking);
@@ -69,6 +72,7 @@ returns g c =
     let closed : IsClosed c.args.self.now.senders c.args.self.now.receivers = closed_where _ _ (search rules) in
     record {
       step = λ o log h. poll_ends o log c.args.self.now _ c.args.ticket st h is looking none closed (search rules);
+      dues = λ led. left c.args.self.now _ _ _ c.args.ticket (λ t. refl) led (search rules);
       comes = tt;
       no_ticket = search (rules, is);
       collected = search (rules, is, looking);
@@ -79,3 +83,14 @@ returns g c =
       waits = search rules;
       unchanged = search rules;
     }
+
+pub returns-in_default-clause-dues : goal.returns-in_default-clause-dues
+returns-in_default-clause-dues g c = λ led. unchanged _ _ _ _ (λ t. refl) (search rules)
+
+pub returns-in-Filled-clause-dues : goal.returns-in-Filled-clause-dues
+returns-in-Filled-clause-dues g c = λ led.
+    let got = c.collect.ensures.got in
+    rw got.2 (left c.args.self.now _ _ _ c.args.ticket (λ t. refl) led (search rules))
+
+pub returns-in-BlockWaiting-clause-dues : goal.returns-in-BlockWaiting-clause-dues
+returns-in-BlockWaiting-clause-dues g c = λ led. waits c.args.self.now _ c.args.ticket c.args.signal led (search rules)

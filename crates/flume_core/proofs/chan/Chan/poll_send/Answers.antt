@@ -8,6 +8,7 @@ use Rattle.flume_core.proofs.Moves.{accepts}
 use Rattle.flume_core.proofs.Views.{open_at_log, closed_at_log}
 use Rattle.flume_core.proofs.Answering.{unknown, known, waits, taken_back, closed_where}
 use Rattle.flume_core.proofs.Telling.{same_marks_noticed}
+use Rattle.flume_core.proofs.dues.AfterStep.{unchanged, spent, given_back, signalled}
 use Rattle.flume_core.proofs.chan.Chan.poll_send.Goals as goal
 
 pub returns-in-None-clause-step : goal.returns-in-None-clause-step
@@ -33,3 +34,19 @@ returns-in-Some-false-2-clause-step g c o log h =
     still_signal o log _ c.args.self.now _ (noticed_send (resignalled c.args.signal) c.args.ticket c.args.self.now.sends) h
     (waiting, open_at_log h (search rules)) refl c.replace_signal.ensures.replaced
     (same_marks_noticed (resignalled c.args.signal) c.args.self.now.sends c.args.ticket)
+
+pub returns-in-None-clause-dues : goal.returns-in-None-clause-dues
+returns-in-None-clause-dues g c = λ led. unchanged _ _ _ _ (λ t. refl) (search rules)
+
+pub returns-in-Some-true-clause-dues : goal.returns-in-Some-true-clause-dues
+returns-in-Some-true-clause-dues g c = λ led.
+    rw c.learn.ensures.accepted (spent c.args.self.now _ _ _ c.args.ticket c.args.self.now.blocked (λ t. refl) (search rules))
+
+pub returns-in-Some-false-2-clause-dues : goal.returns-in-Some-false-2-clause-dues
+returns-in-Some-false-2-clause-dues g c = λ led.
+    signalled c.args.self.now _ _ _ c.args.ticket c.args.signal (λ t. refl) c.replace_signal.ensures.replaced
+
+pub returns-in-Some-false-clause-dues : goal.returns-in-Some-false-clause-dues
+returns-in-Some-false-clause-dues g c = λ led.
+    given_back c.args.self.now _ _ c.take_back.result c.args.ticket (λ t. refl) c.take_back.ensures.returned
+    c.take_back.ensures.unchanged c.take_back.ensures.either

@@ -5,6 +5,7 @@ use Rattle.flume_core.proofs.Receives.{parks}
 use Rattle.flume_core.proofs.Views.{open_at_log}
 use Rattle.flume_core.proofs.Answering.{empty_line}
 use Rattle.flume_core.proofs.AsTries.{recv_as_try, recv_comes}
+use Rattle.flume_core.proofs.dues.AfterStep.{parked}
 use Rattle.flume_core.proofs.chan.Chan.recv.Goals as goal
 
 pub returns-in_default-clause-step : goal.returns-in_default-clause-step
@@ -23,3 +24,10 @@ returns-clause-step g c o log h =
     parks o log _ c.args.self.now _ c.args.kind c.args.signal h
     (empty_line o log c.args.self.now h found.0, open_at_log h found.1, omega (arith, h.next_is, some_left), next ∙ h.next_is)
     (rw next refl) (search rules)
+
+pub returns-in_default-clause-dues : goal.returns-in_default-clause-dues
+returns-in_default-clause-dues g c = λ led.
+    (let due = c.try_recv.ensures.dues led in record { sends = due.sends; receivers = due.receivers })
+
+pub returns-clause-dues : goal.returns-clause-dues
+returns-clause-dues g c = λ led. parked c.args.self.now _ _ _ c.args.kind c.args.signal (λ t. refl) led (search rules)

@@ -5,6 +5,7 @@ use Rattle.flume_model.specs.Limits.{most}
 use Rattle.flume_core.proofs.Moves.{blocks}
 use Rattle.flume_core.proofs.Answering.{takes_none_in}
 use Rattle.flume_core.proofs.AsTries.{send_as_try, send_comes, try_never_spent}
+use Rattle.flume_core.proofs.dues.AfterStep.{blocks as blocks_due}
 use Rattle.flume_core.proofs.chan.Chan.send.Goals as goal
 
 pub returns-in_default-clause-step : goal.returns-in_default-clause-step
@@ -32,3 +33,12 @@ returns-clause-step g c o log h =
     blocks o log _ c.args.self.now _ c.args.message c.args.signal h
     (takes_none_in h found.0 found.1 found.2, omega (arith, h.next_is, some_left), next ∙ h.next_is)
     (rw next refl) (search rules)
+
+pub returns-in_default-clause-dues : goal.returns-in_default-clause-dues
+returns-in_default-clause-dues g c = λ led.
+    (let due = c.try_send.ensures.dues led in record { sends = due.sends; receivers = due.receivers })
+
+pub returns-clause-dues : goal.returns-clause-dues
+returns-clause-dues g c = λ led.
+    blocks_due c.args.self.now _ _ _ (record { ticket = c.args.self.now.next; message = c.args.message }) c.args.signal
+    (λ t. refl) led (search rules)

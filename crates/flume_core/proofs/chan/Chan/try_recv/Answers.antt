@@ -5,6 +5,7 @@ use Rattle.flume_core.proofs.Keeping.{still}
 use Rattle.flume_core.proofs.Takes.{takes}
 use Rattle.flume_core.proofs.Views.{open_at_log, closed_at_log}
 use Rattle.flume_core.proofs.Answering.{empty_line, front_line, closed_where}
+use Rattle.flume_core.proofs.dues.AfterStep.{unchanged, took}
 use Rattle.flume_core.proofs.chan.Chan.try_recv.Goals as goal
 
 pub returns-in-Some-clause-step : goal.returns-in-Some-clause-step
@@ -24,3 +25,13 @@ returns-in-None-2-clause-step g c o log h =
     let none : (fronted c.args.self.now).queue ≡ [] = search rules in
     still o log _ c.args.self.now c.take_front.new.self h
     (empty_line o log c.args.self.now h none, closed_at_log h (closed_where _ _ (search rules))) refl (search rules)
+
+pub returns-in-Some-clause-dues : goal.returns-in-Some-clause-dues
+returns-in-Some-clause-dues g c = λ led.
+    took c.args.self.now _ _ _ c.in-Some.ensures.some.0 (λ t. refl) led c.in-Some.ensures.some.2
+
+pub returns-in-None-clause-dues : goal.returns-in-None-clause-dues
+returns-in-None-clause-dues g c = λ led. unchanged _ _ _ _ (λ t. refl) (search rules)
+
+pub returns-in-None-2-clause-dues : goal.returns-in-None-2-clause-dues
+returns-in-None-2-clause-dues g c = λ led. unchanged _ _ _ _ (λ t. refl) (search rules)

@@ -4,6 +4,7 @@ use Rattle.flume_model.specs.Entries.{round_for_fills}
 use Rattle.flume_core.proofs.Keeping.{still}
 use Rattle.flume_core.proofs.Moves.{queues}
 use Rattle.flume_core.proofs.Answering.{takes_in, takes_none_in, fills_at_log}
+use Rattle.flume_core.proofs.dues.AfterStep.{unchanged, woken}
 use Rattle.flume_core.proofs.chan.Chan.try_send.Goals as goal
 
 pub returns-then-not-is_open-clause-step : goal.returns-then-not-is_open-clause-step
@@ -24,3 +25,16 @@ returns-clause-step g c o log h =
     queues o log _ _ _ c.args.message c.wake-filled.result h
     (takes_in h (search rules) (search rules), fills ∙ fills_at_log h c.args.message) refl fills
     (search rules)
+
+pub returns-then-not-is_open-clause-dues : goal.returns-then-not-is_open-clause-dues
+returns-then-not-is_open-clause-dues g c = λ led. unchanged _ _ _ _ (λ t. refl) (search rules)
+
+pub returns-then-not-has_room-clause-dues : goal.returns-then-not-has_room-clause-dues
+returns-then-not-has_room-clause-dues g c = λ led. unchanged _ _ _ _ (λ t. refl) (search rules)
+
+pub returns-in-Err-clause-dues : goal.returns-in-Err-clause-dues
+returns-in-Err-clause-dues g c = λ led. unchanged _ _ _ _ (λ t. refl) (search rules)
+
+pub returns-clause-dues : goal.returns-clause-dues
+returns-clause-dues g c = λ led.
+    woken c.args.self.now _ _ _ (c.args.self.now.queue ++ c.args.message ∷ []) (λ t. refl) (search rules)

@@ -3,6 +3,7 @@ use Rattle.std.proofs.Common.{refl, rules, inl, inr}
 use Rattle.flume_state.specs.declared.entries.Standing.TheVariants.{Waiting, Woken}
 use Rattle.flume_core.proofs.Asked.{withdraw_none, withdraw_collects, withdraw_takes, withdraw_leaves, withdraw_passes}
 use Rattle.flume_core.proofs.AskedMarks.{blocks_else}
+use Rattle.flume_core.proofs.dues.AfterStep.{unchanged, left, took_parked, passed}
 use Rattle.flume_core.proofs.chan.Chan.withdraw.Goals as goal
 
 pub returns-in_default-clause-step : goal.returns-in_default-clause-step
@@ -34,3 +35,23 @@ returns-clause-step g c o log h =
     let else_ = c.in_default-standing in
     withdraw_leaves o log c.args.self.now _ c.args.ticket c.in-Some.standing _ h (search rules)
     (blocks_else c.in-Some.standing else_.not-Filled else_.not-Waiting else_.not-Woken) (search rules) (search rules) (search rules)
+
+pub returns-in_default-clause-dues : goal.returns-in_default-clause-dues
+returns-in_default-clause-dues g c = λ led. unchanged _ _ _ _ (λ t. refl) (search rules)
+
+pub returns-in-Filled-clause-dues : goal.returns-in-Filled-clause-dues
+returns-in-Filled-clause-dues g c = λ led. left c.args.self.now _ _ _ c.args.ticket (λ t. refl) led (search rules)
+
+pub returns-in-Waiting-clause-dues : goal.returns-in-Waiting-clause-dues
+returns-in-Waiting-clause-dues g c = λ led. passed c.args.self.now _ _ _ c.args.ticket (λ t. refl) led (search rules)
+
+pub returns-in-Woken-clause-dues : goal.returns-in-Woken-clause-dues
+returns-in-Woken-clause-dues g c = λ led. passed c.args.self.now _ _ _ c.args.ticket (λ t. refl) led (search rules)
+
+pub returns-in-Some-front-clause-dues : goal.returns-in-Some-front-clause-dues
+returns-in-Some-front-clause-dues g c = λ led.
+    let front = c.in-Some-front.ensures.some in
+    took_parked c.args.self.now _ _ _ front.0 c.args.ticket (λ t. refl) led (search rules)
+
+pub returns-clause-dues : goal.returns-clause-dues
+returns-clause-dues g c = λ led. left c.args.self.now _ _ _ c.args.ticket (λ t. refl) led (search rules)

@@ -3,6 +3,7 @@ use Rattle.std.proofs.Common.{refl, ◌∙◌, rules}
 use Rattle.flume_core.proofs.Keeping.{still}
 use Rattle.flume_core.proofs.Moves.{accepts}
 use Rattle.flume_core.proofs.Answering.{unknown, known, waits, taken_back, closed_as}
+use Rattle.flume_core.proofs.dues.AfterStep.{unchanged, spent, given_back}
 use Rattle.flume_core.proofs.chan.Chan.withdraw_send.Goals as goal
 
 pub returns-in-None-clause-step : goal.returns-in-None-clause-step
@@ -19,3 +20,15 @@ returns-in-Some-false-clause-step g c o log h =
     taken_back o log _ c.args.self.now _ c.args.ticket c.take_back.result h waiting
     (λ m closed is. rw is refl) (λ m closed is blocked_ told. rw is (blocked_, told ∙ closed_as o log _ h))
     c.take_back.ensures.returned c.take_back.ensures.absent c.take_back.ensures.either
+
+pub returns-in-None-clause-dues : goal.returns-in-None-clause-dues
+returns-in-None-clause-dues g c = λ led. unchanged _ _ _ _ (λ t. refl) (search rules)
+
+pub returns-in-Some-true-clause-dues : goal.returns-in-Some-true-clause-dues
+returns-in-Some-true-clause-dues g c = λ led.
+    rw c.learn.ensures.accepted (spent c.args.self.now _ _ _ c.args.ticket c.args.self.now.blocked (λ t. refl) (search rules))
+
+pub returns-in-Some-false-clause-dues : goal.returns-in-Some-false-clause-dues
+returns-in-Some-false-clause-dues g c = λ led.
+    given_back c.args.self.now _ _ c.take_back.result c.args.ticket (λ t. refl) c.take_back.ensures.returned
+    c.take_back.ensures.unchanged c.take_back.ensures.either
