@@ -1,6 +1,5 @@
 -- Who is due after what each step leaves.
-use Rattle.std.proofs.Common.{◌≡◌, ℕ, ◌+◌, ◌≤◌, min, arith, Bool, true, false, not, ◌&&◌}
-use Rattle.std.proofs.Common.{eqb, eqb-true, eq-eqb, List, ◌∷◌, ◌++◌, []}
+use Rattle.std.proofs.Common.{◌≡◌, ℕ, ◌+◌, ◌≤◌, min, arith, Bool, true, false, not, ◌&&◌, eqb, eqb-true, eq-eqb, List, ◌∷◌, ◌++◌, []}
 use Rattle.std.proofs.Common.{Option, None, refl, sym, ◌∙◌, ap, subst, ⊎_elim, ◌⊎◌, if◌then◌else◌}
 use Rattle.std.proofs.Math.Bool.{and-false}
 use Rattle.std.specs.Option.{option_map}
