@@ -1,5 +1,6 @@
-//! The state of a channel: its messages (`line`), its parked receivers (`entries`) and its live
-//! send tickets (`sends`), and in `specs/` what a contract sees of all of them together.
+//! The state of a channel: its messages (`line`), its parked receivers (`entries`), its live send
+//! tickets (`sends`) and what both leave to be told by (`notice`), and in `specs/` what a contract
+//! sees of all of them together, what steps leave of it, and who becomes due.
 //!
 //! The containers are the inside of `flume_core`, which alone calls them, and no promise to others:
 //! they may change whenever `flume_core` does. The definitions are cited by each contract that
