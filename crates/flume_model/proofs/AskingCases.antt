@@ -1,17 +1,10 @@
 -- The cases of how a parked receiver is answered, when it asks and when it leaves.
-use Rattle.std.proofs.Common.{◌≡◌, ℕ, Bool, true, false, [], Option, Some, None, refl, sym, ap, subst}
-use Rattle.flume_model.specs.declared.step.Kind.{Kind}
-use Rattle.flume_model.specs.declared.step.Kind.TheVariants.{Block, Plain, Stream, Arm}
-use Rattle.flume_model.specs.declared.step.Reply.{Reply}
-use Rattle.flume_model.specs.declared.step.Reply.TheVariants.{Waiting, NoMemory, NoTicket, Got, Ended, Gone}
-use Rattle.flume_model.specs.declared.entry.Mark.{Mark}
-use Rattle.flume_model.specs.declared.entry.Mark.TheVariants.{Waiting as StillWaits, Woken, Filled}
-use Rattle.flume_model.specs.Entries.{is_filled, is_woken, entry_of, leave_fills}
-use Rattle.flume_model.specs.Parked.{LogEntry}
-use Rattle.flume_model.specs.Channel.{Channel, IsFront}
-use Rattle.flume_model.specs.Asking.{IsPolledBlock, IsPolledOther, IsPolledKind, IsPolledMark, IsPolled}
-use Rattle.flume_model.specs.Asking.{IsGoneOther, IsGoneKind, IsGoneMark, IsGone}
-use Rattle.flume_model.specs.Limits.{IsOpen}
+use Rattle.flume_model.proofs.Common.{◌≡◌, ℕ, Bool, true, false, [], Option, Some, None, refl, sym, ap, subst, IsPolledBlock, IsPolledOther}
+use Rattle.flume_model.proofs.Common.{IsPolledKind, IsPolledMark, IsPolled, IsGoneOther, IsGoneKind, IsGoneMark, IsGone, Channel, IsFront}
+use Rattle.flume_model.proofs.Common.{is_filled, is_woken, entry_of, leave_fills, IsOpen, LogEntry, Mark, Woken, Filled, Kind, Block, Plain}
+use Rattle.flume_model.proofs.Common.{Stream, Arm, Reply, NoMemory, NoTicket, Got, Ended, Gone}
+use Rattle.flume_model.specs.declared.step.Reply.TheVariants.{Waiting}
+use Rattle.flume_model.specs.declared.entry.Mark.TheVariants.{Waiting as StillWaits}
 
 module _ {T : Type 0} where
   -- the entry with this ticket, which isn't filled

@@ -1,8 +1,5 @@
 -- What holds of a run holds at each moment of it.
-use Rattle.std.proofs.Common.{[], ◌∷◌, ◌++◌, subst}
-use Rattle.flume_model.specs.Log.{Log, Opening}
-use Rattle.flume_model.specs.Replies.{IsRun}
-use Rattle.flume_model.specs.Beginnings.{Holds, HoldsThroughout}
+use Rattle.flume_model.proofs.Common.{[], ◌∷◌, ◌++◌, subst, Holds, HoldsThroughout, Log, Opening, IsRun}
 use Rattle.flume_model.proofs.order.Runs.{shape_of}
 use Rattle.flume_model.proofs.fills.FillsOrder.{in_order}
 use Rattle.flume_model.proofs.waits.WaitingLaws.{covered, bounded}

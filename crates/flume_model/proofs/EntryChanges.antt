@@ -1,15 +1,10 @@
 -- What a change that fits does to the tickets of entries and to which of them are filled.
-use Rattle.std.proofs.Common.{◌≡◌, ℕ, ◌+◌, ◌<◌, ◌≤◌, Bool, true, false, ◌||◌, if◌then◌else◌, eqb, List, Option, Some, None, refl, sym, ◌∙◌}
-use Rattle.std.proofs.Common.{ap, arith, inl, inr, ◌⊎◌, eqb-true, ne_eqb}
-use Rattle.flume_model.specs.declared.entry.Mark.{Mark}
-use Rattle.flume_model.specs.declared.entry.Mark.TheVariants.{Waiting, Woken, Filled}
-use Rattle.flume_model.specs.Log.{Change, Queues, Blocks, Accepts, Withdraws, Takes, Drains, Parks, Asks, Collects, Leaves, SenderJoins}
-use Rattle.flume_model.specs.Log.{ReceiverJoins, SenderLeaves, ReceiverLeaves, Stays, is_ticket}
-use Rattle.flume_model.specs.Line.{issued, issues}
-use Rattle.flume_model.specs.Entries.{is_filled, is_woken, all_woken, entry_of, round, round_fills, without}
-use Rattle.flume_model.specs.Parked.{LogEntry, untold, entries_after}
-use Rattle.flume_model.specs.Channel.{Channel}
-use Rattle.flume_model.specs.WaitLaws.{Apart}
+use Rattle.flume_model.proofs.Common.{◌≡◌, ℕ, ◌+◌, ◌<◌, ◌≤◌, Bool, true, false, ◌||◌, if◌then◌else◌, eqb, List, Option, Some, None, refl}
+use Rattle.flume_model.proofs.Common.{sym, ◌∙◌, ap, arith, inl, inr, ◌⊎◌, eqb-true, ne_eqb, Channel, is_filled, is_woken, all_woken}
+use Rattle.flume_model.proofs.Common.{entry_of, round, round_fills, without, issued, issues, Change, Queues, Blocks, Accepts, Withdraws}
+use Rattle.flume_model.proofs.Common.{Takes, Drains, Parks, Asks, Collects, Leaves, SenderJoins, ReceiverJoins, SenderLeaves}
+use Rattle.flume_model.proofs.Common.{ReceiverLeaves, Stays, is_ticket, LogEntry, untold, entries_after, Apart, Mark, Waiting, Woken}
+use Rattle.flume_model.proofs.Common.{Filled}
 use Rattle.flume_model.proofs.EntryLists.{tickets_round, tickets_woken, ticket_of, fills_none_else, none_same, none_without, none_push}
 use Rattle.flume_model.proofs.EntryLists.{round_for_push, again_cases, leave_cases}
 use Rattle.flume_model.proofs.EntryMarks.{FilledBy, filled_found, filled_without, filled_push, filled_woken, filled_round, apart_above}

@@ -1,14 +1,7 @@
 -- How many entries wait and how many stand woken, after a wake round, a leave and one more entry.
-use Rattle.std.proofs.Common.{◌≡◌, ℕ, ◌+◌, ◌<◌, ◌≤◌, Bool, true, false, if◌then◌else◌, eqb, List, [], ◌∷◌, Option, Some, refl, ap}
-use Rattle.std.proofs.Common.{arith}
-use Rattle.flume_model.specs.declared.step.Kind.{Kind}
-use Rattle.flume_model.specs.declared.step.Kind.TheVariants.{Block, Plain, Stream, Arm}
-use Rattle.flume_model.specs.declared.entry.Entry.{Entry}
-use Rattle.flume_model.specs.declared.entry.Mark.{Mark}
-use Rattle.flume_model.specs.declared.entry.Mark.TheVariants.{Waiting, Woken, Filled}
-use Rattle.flume_model.specs.Line.{how_many}
-use Rattle.flume_model.specs.Entries.{is_waiting, is_woken, some_wait, waiting_count, woken_count, round, round_fills, entry_of}
-use Rattle.flume_model.specs.Entries.{without}
+use Rattle.flume_model.proofs.Common.{◌≡◌, ℕ, ◌+◌, ◌<◌, ◌≤◌, Bool, true, false, if◌then◌else◌, eqb, List, [], ◌∷◌, Option, Some, refl, ap}
+use Rattle.flume_model.proofs.Common.{arith, is_waiting, is_woken, some_wait, waiting_count, woken_count, round, round_fills, entry_of}
+use Rattle.flume_model.proofs.Common.{without, how_many, Entry, Mark, Waiting, Woken, Filled, Kind, Block, Plain, Stream, Arm}
 
 module _ {T : Type 0} where
   -- one for a mark that waits

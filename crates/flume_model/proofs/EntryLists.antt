@@ -1,14 +1,8 @@
 -- What wake rounds, a leave and one more entry do to the tickets of entries and to their marks.
-use Rattle.std.proofs.Common.{◌≡◌, ℕ, Bool, true, false, if◌then◌else◌, eqb, List, [], ◌∷◌, ◌++◌, Option, Some, None, refl, sym, ◌∙◌, ap}
-use Rattle.std.proofs.Common.{eqb-true, eq-eqb}
-use Rattle.flume_model.specs.declared.step.Kind.{Kind}
-use Rattle.flume_model.specs.declared.step.Kind.TheVariants.{Block, Plain, Stream, Arm}
-use Rattle.flume_model.specs.declared.entry.Entry.{Entry}
-use Rattle.flume_model.specs.declared.entry.Mark.{Mark}
-use Rattle.flume_model.specs.declared.entry.Mark.TheVariants.{Waiting, Woken, Filled}
-use Rattle.flume_model.specs.Log.{is_ticket}
-use Rattle.flume_model.specs.Entries.{is_woken, round, round_fills, round_for, round_for_fills, all_woken, entry_of, without, again_as}
-use Rattle.flume_model.specs.Entries.{again, passes_on, after_leave, leave_fills}
+use Rattle.flume_model.proofs.Common.{◌≡◌, ℕ, Bool, true, false, if◌then◌else◌, eqb, List, [], ◌∷◌, ◌++◌, Option, Some, None, refl, sym}
+use Rattle.flume_model.proofs.Common.{◌∙◌, ap, eqb-true, eq-eqb, is_woken, round, round_fills, round_for, round_for_fills, all_woken}
+use Rattle.flume_model.proofs.Common.{entry_of, without, again_as, again, passes_on, after_leave, leave_fills, is_ticket, Entry, Mark}
+use Rattle.flume_model.proofs.Common.{Waiting, Woken, Filled, Kind, Block, Plain, Stream, Arm}
 
 module _ {T N : Type 0} where
   -- the tickets of entries, in order

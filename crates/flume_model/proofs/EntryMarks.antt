@@ -1,16 +1,7 @@
 -- Which entries are filled after a wake round, a leave and one more entry, and that their tickets stay apart.
-use Rattle.std.proofs.Common.{◌≡◌, ℕ, ◌<◌, ◌≤◌, Bool, true, false, ◌||◌, eqb, List, [], ◌∷◌, ◌++◌, Some, None, refl, sym, ◌∙◌, ap, arith}
-use Rattle.std.proofs.Common.{eqb-true, eq-eqb, ne_eqb}
-use Rattle.std.proofs.lemmas.Bool.{or_left}
-use Rattle.flume_model.specs.declared.step.Kind.{Kind}
-use Rattle.flume_model.specs.declared.step.Kind.TheVariants.{Block, Plain, Stream, Arm}
-use Rattle.flume_model.specs.declared.entry.Entry.{Entry}
-use Rattle.flume_model.specs.declared.entry.Mark.{Mark}
-use Rattle.flume_model.specs.declared.entry.Mark.TheVariants.{Waiting, Woken, Filled}
-use Rattle.flume_model.specs.Log.{is_ticket}
-use Rattle.flume_model.specs.Entries.{is_filled, round, round_fills, all_woken, entry_of, without}
-use Rattle.flume_model.specs.Parked.{LogEntry}
-use Rattle.flume_model.specs.WaitLaws.{Apart}
+use Rattle.flume_model.proofs.Common.{◌≡◌, ℕ, ◌<◌, ◌≤◌, Bool, true, false, ◌||◌, eqb, List, [], ◌∷◌, ◌++◌, Some, None, refl, sym, ◌∙◌, ap}
+use Rattle.flume_model.proofs.Common.{arith, eqb-true, eq-eqb, ne_eqb, or_left, is_filled, round, round_fills, all_woken, entry_of, without}
+use Rattle.flume_model.proofs.Common.{is_ticket, LogEntry, Apart, Entry, Mark, Waiting, Woken, Filled, Kind, Block, Plain, Stream, Arm}
 use Rattle.flume_model.proofs.EntryLists.{tickets, none_parts, none_more, fills_none_else, none_without, none_push, none_same}
 
 module _ {T N : Type 0} where

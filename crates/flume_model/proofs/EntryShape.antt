@@ -1,19 +1,9 @@
 -- What the entries of each run are: their tickets are apart from one another and from those of sends, and they are filled where told.
-use Rattle.std.proofs.Common.{◌≡◌, ℕ, ◌+◌, ◌<◌, ◌≤◌, Bool, true, false, not, ◌||◌, ◌&&◌, if◌then◌else◌, [], ◌∷◌, Option, Some, None, refl}
-use Rattle.std.proofs.Common.{sym, ◌∙◌, ap, subst, arith, inl, inr, ◌⊎◌}
-use Rattle.std.proofs.lemmas.Bool.{or_from, or_cases, and_parts}
-use Rattle.flume_model.specs.declared.step.Step.{Step}
-use Rattle.flume_model.specs.declared.step.Step.TheVariants.{TrySend, Send, Poll, Withdraw}
-use Rattle.flume_model.specs.declared.step.Reply.{Reply}
-use Rattle.flume_model.specs.declared.step.Reply.TheVariants.{Sent, Gone}
-use Rattle.flume_model.specs.Log.{Log, Opening, Takes, Collects, filled_by, was_filled, is_ticket, change}
-use Rattle.flume_model.specs.Counts.{is_over}
-use Rattle.flume_model.specs.Line.{next_ticket, queue, issued, issues, spends, is_live}
-use Rattle.flume_model.specs.Entries.{entry_of}
-use Rattle.flume_model.specs.Parked.{entries_after, entries, is_shut}
-use Rattle.flume_model.specs.Channel.{channel}
-use Rattle.flume_model.specs.Replies.{IsReply, IsRun}
-use Rattle.flume_model.specs.WaitLaws.{EntriesApart, SidesApart, ToldFilled}
+use Rattle.flume_model.proofs.Common.{◌≡◌, ℕ, ◌+◌, ◌<◌, ◌≤◌, Bool, true, false, not, ◌||◌, ◌&&◌, if◌then◌else◌, [], ◌∷◌, Option, Some, None}
+use Rattle.flume_model.proofs.Common.{refl, sym, ◌∙◌, ap, subst, arith, inl, inr, ◌⊎◌, or_from, or_cases, and_parts, channel, is_over}
+use Rattle.flume_model.proofs.Common.{entry_of, next_ticket, queue, issued, issues, spends, is_live, Log, Opening, Takes, Collects}
+use Rattle.flume_model.proofs.Common.{filled_by, was_filled, is_ticket, change, entries_after, entries, is_shut, IsReply, IsRun}
+use Rattle.flume_model.proofs.Common.{EntriesApart, SidesApart, ToldFilled, Reply, Sent, Gone, Step, TrySend, Send, Poll, Withdraw}
 use Rattle.flume_model.proofs.EntryMarks.{FilledBy, filled_found, none_past}
 use Rattle.flume_model.proofs.AskingCases.{polled_cases, gone_cases}
 use Rattle.flume_model.proofs.Fits.{Fits, fits}

@@ -1,26 +1,13 @@
 -- A lawful reply makes a change that fits what stands before it.
-use Rattle.std.proofs.Common.{◌≡◌, ℕ, ◌+◌, ◌<◌, true, false, Bool, if◌then◌else◌, List, [], ◌∷◌, Option, Some, None}
-use Rattle.std.proofs.Common.{refl, sym, ◌∙◌, ap, arith, cond, take, eqb-true, eq-eqb}
-use Rattle.std.proofs.Math.Seq.{take-nil}
-use Rattle.flume_model.specs.declared.step.Step.{Step}
-use Rattle.flume_model.specs.declared.step.Step.TheVariants.{TrySend, Send, PollSend, WithdrawSend, TryRecv, Recv, Poll, Withdraw, Drain}
-use Rattle.flume_model.specs.declared.step.Step.TheVariants.{CloneSender, CloneReceiver, DropSender, DropReceiver}
-use Rattle.flume_model.specs.declared.step.Reply.{Reply}
-use Rattle.flume_model.specs.declared.step.Reply.TheVariants.{Sent, Pending, Accepted, Returned}
-use Rattle.flume_model.specs.declared.step.Reply.TheVariants.{Got, Parked, Drained, Done}
-use Rattle.flume_model.specs.declared.entry.Entry.{Entry}
-use Rattle.flume_model.specs.declared.entry.Mark.TheVariants.{Filled}
-use Rattle.flume_model.specs.Log.{Log, Opening, Offer, Change, Queues, Blocks, Accepts, Withdraws, Takes, Drains, Parks, Asks, Collects}
-use Rattle.flume_model.specs.Log.{Leaves, SenderJoins, ReceiverJoins, SenderLeaves, ReceiverLeaves, Stays, was_filled, change}
-use Rattle.flume_model.specs.Counts.{senders, receivers, senders_after, receivers_after, is_over}
-use Rattle.flume_model.specs.Line.{line, boundary, queue, messages}
-use Rattle.flume_model.specs.Entries.{is_filled, is_woken, entry_of, round_fills, leave_fills, passes_on}
-use Rattle.flume_model.specs.Parked.{LogEntry, entries}
-use Rattle.flume_model.specs.Channel.{Channel, TakesIn, TakesNoneIn, IsAccepted, IsBlocked, IsFront, channel}
-use Rattle.flume_model.specs.Asking.{IsPolled, IsGone}
-use Rattle.flume_model.specs.Replies.{IsReply, IsRun}
-use Rattle.flume_model.specs.WaitLaws.{ToldFilled}
-use Rattle.flume_model.specs.Limits.{IsOpen, most}
+use Rattle.flume_model.proofs.Common.{◌≡◌, ℕ, ◌+◌, ◌<◌, true, false, Bool, if◌then◌else◌, List, [], ◌∷◌, Option, Some, None, refl, sym, ◌∙◌}
+use Rattle.flume_model.proofs.Common.{ap, arith, cond, take, eqb-true, eq-eqb, take-nil, IsPolled, IsGone, Channel, TakesIn, TakesNoneIn}
+use Rattle.flume_model.proofs.Common.{IsAccepted, IsBlocked, IsFront, channel, senders, receivers, senders_after, receivers_after, is_over}
+use Rattle.flume_model.proofs.Common.{is_filled, is_woken, entry_of, round_fills, leave_fills, passes_on, IsOpen, most, line, boundary}
+use Rattle.flume_model.proofs.Common.{queue, messages, Log, Opening, Offer, Change, Queues, Blocks, Accepts, Withdraws, Takes, Drains}
+use Rattle.flume_model.proofs.Common.{Parks, Asks, Collects, Leaves, SenderJoins, ReceiverJoins, SenderLeaves, ReceiverLeaves, Stays}
+use Rattle.flume_model.proofs.Common.{was_filled, change, LogEntry, entries, IsReply, IsRun, ToldFilled, Entry, Filled, Reply, Sent}
+use Rattle.flume_model.proofs.Common.{Pending, Accepted, Returned, Got, Parked, Drained, Done, Step, TrySend, Send, PollSend, WithdrawSend}
+use Rattle.flume_model.proofs.Common.{TryRecv, Recv, Poll, Withdraw, Drain, CloneSender, CloneReceiver, DropSender, DropReceiver}
 use Rattle.flume_model.proofs.AskingCases.{Unfilled, polled_cases, gone_cases}
 
 module _ {T : Type 0} where

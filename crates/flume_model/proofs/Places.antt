@@ -1,9 +1,7 @@
 -- A list at a place: what stands there, what stands before and behind it, and what is left when it is replaced.
-use Rattle.std.proofs.Common.{◌≡◌, ℕ, zero, suc, refl, ◌+◌, ◌<◌, List, ◌∷◌, ◌++◌, length, get_or, set, take, drop}
-use Rattle.std.proofs.Common.{Some, sym, ap, ◌∙◌, [], arith, false, true, ◌⊎◌, inl, inr}
-use Rattle.std.specs.List.{slice_get}
-use Rattle.std.proofs.lemmas.List.{append_assoc, drop_more, drop-set-lt, take-append-drop, take_more_set}
-use Rattle.std.proofs.lemmas.Option.{get_or_from_slice_get, slice_get-get_or, slice_get_within}
+use Rattle.flume_model.proofs.Common.{◌≡◌, ℕ, zero, suc, refl, ◌+◌, ◌<◌, List, ◌∷◌, ◌++◌, length, get_or, set, take, drop, Some, sym, ap}
+use Rattle.flume_model.proofs.Common.{◌∙◌, [], arith, false, true, ◌⊎◌, inl, inr, append_assoc, drop_more, drop-set-lt, take-append-drop}
+use Rattle.flume_model.proofs.Common.{take_more_set, get_or_from_slice_get, slice_get-get_or, slice_get_within, slice_get}
 
 module _ {X : Type 0} where
   -- a list from a place on, where this element stands there

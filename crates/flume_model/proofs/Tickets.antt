@@ -1,13 +1,8 @@
 -- Offers whose tickets rise: at most one of them has a given ticket, and to filter by it cuts that one out.
-use Rattle.std.proofs.Common.{◌≡◌, ℕ, ◌≤◌, Bool, true, false, not, ◌||◌, List, [], ◌∷◌, ◌++◌, Option, Some, None, refl, sym, ◌∙◌, ◌⊎◌, inl}
-use Rattle.std.proofs.Common.{inr, ap, arith, ne_eqb, eq-eqb, eqb-true}
-use Rattle.std.specs.List.{All, filter}
-use Rattle.std.proofs.lemmas.Bool.{or_parts, or_from, or_cases}
-use Rattle.std.proofs.lemmas.List.Elements.{All-head, All-tail, All-weaker, All-nil, All-push, All-filter, filter-append}
-use Rattle.std.proofs.lemmas.List.Folds.{list_any-append, list_any_none}
-use Rattle.flume_model.specs.Log.{Offer, is_ticket}
-use Rattle.flume_model.specs.Channel.{has_ticket}
-use Rattle.flume_model.specs.Laws.{IsBelow, IsEarlier, Rising}
+use Rattle.flume_model.proofs.Common.{◌≡◌, ℕ, ◌≤◌, Bool, true, false, not, ◌||◌, List, [], ◌∷◌, ◌++◌, Option, Some, None, refl, sym, ◌∙◌}
+use Rattle.flume_model.proofs.Common.{◌⊎◌, inl, inr, ap, arith, ne_eqb, eq-eqb, eqb-true, or_parts, or_from, or_cases, All-head, All-tail}
+use Rattle.flume_model.proofs.Common.{All-weaker, All-nil, All-push, All-filter, filter-append, list_any-append, list_any_none, All, filter}
+use Rattle.flume_model.proofs.Common.{has_ticket, IsBelow, IsEarlier, Rising, Offer, is_ticket}
 
 -- a filter by two tests is two filters
 pub filter_two : {X : Type 0} (a b : X → Bool) (xs : List X)

@@ -1,11 +1,8 @@
 -- What a change of the entries does to whether some receiver waits.
-use Rattle.std.proofs.Common.{◌≡◌, ℕ, Bool, true, false, List, [], ◌∷◌, Option, Some, None, refl, sym, ◌∙◌}
-use Rattle.std.proofs.Common.{◌⊎◌, inl, inr, ap, cond}
-use Rattle.std.proofs.lemmas.Bool.{or_left, or_right}
-use Rattle.flume_model.specs.declared.entry.Entry.{Entry}
-use Rattle.flume_model.specs.Entries.{is_waiting, is_woken, some_wait, round_fills, round_for_fills}
+use Rattle.flume_model.proofs.Common.{◌≡◌, ℕ, Bool, true, false, List, [], ◌∷◌, Option, Some, None, refl, sym, ◌∙◌, ◌⊎◌, inl, inr, ap, cond}
+use Rattle.flume_model.proofs.Common.{or_left, or_right, is_waiting, is_woken, some_wait, round_fills, round_for_fills, entry_of, without}
+use Rattle.flume_model.proofs.Common.{again_as, again, passes_on, leave_fills, Entry}
 use Rattle.flume_model.proofs.WaitingCounts.{wait_without}
-use Rattle.flume_model.specs.Entries.{entry_of, without, again_as, again, passes_on, leave_fills}
 
 module _ {T N : Type 0} where
   -- one of these waits if one of those further on does

@@ -1,13 +1,8 @@
 -- No more receivers wait after a wake round, nor after one leaves, nor once all are woken. So where one waits then, one waited
 -- before.
-use Rattle.std.proofs.Common.{◌≡◌, ℕ, ◌≤◌, Bool, true, false, eqb, List, [], ◌∷◌, refl, arith}
-use Rattle.std.proofs.Common.{if◌then◌else◌}
-use Rattle.std.proofs.lemmas.Bool.{or_from}
-use Rattle.flume_model.specs.declared.entry.Entry.{Entry}
-use Rattle.flume_model.specs.declared.entry.Mark.TheVariants.{Woken}
-use Rattle.flume_model.specs.Entries.{is_waiting, some_wait, waiting_count, marked, round, round_for, entry_of, without, passes_on}
-use Rattle.flume_model.specs.Entries.{after_leave}
-use Rattle.flume_model.specs.Entries.{all_woken}
+use Rattle.flume_model.proofs.Common.{◌≡◌, ℕ, ◌≤◌, Bool, true, false, eqb, List, [], ◌∷◌, refl, arith, if◌then◌else◌, or_from, is_waiting}
+use Rattle.flume_model.proofs.Common.{some_wait, waiting_count, marked, round, round_for, entry_of, without, passes_on, after_leave}
+use Rattle.flume_model.proofs.Common.{all_woken, Entry, Woken}
 use Rattle.flume_model.proofs.EntryCounts.{counted_none, counted_some, round_counts}
 
 module _ {T N : Type 0} where

@@ -1,18 +1,10 @@
 -- A filled receiver's entry holds its message through every change but its own leaving, and a wake round fills with the front.
-use Rattle.std.proofs.Common.{◌≡◌, ℕ, Bool, true, false, if◌then◌else◌, eqb, List, [], ◌∷◌, ◌++◌, Option, Some, None, refl, sym, ◌∙◌, ap}
-use Rattle.std.proofs.Common.{eqb-true, eq-eqb, ne_eqb}
-use Rattle.flume_model.specs.declared.step.Kind.{Kind}
-use Rattle.flume_model.specs.declared.step.Kind.TheVariants.{Block, Plain, Stream, Arm}
-use Rattle.flume_model.specs.declared.entry.Entry.{Entry}
-use Rattle.flume_model.specs.declared.entry.Mark.{Mark}
-use Rattle.flume_model.specs.declared.entry.Mark.TheVariants.{Waiting, Woken, Filled}
-use Rattle.flume_model.specs.Log.{Change, Queues, Blocks, Accepts, Withdraws, Takes, Drains, Parks, Asks, Collects, Leaves, SenderJoins}
-use Rattle.flume_model.specs.Log.{ReceiverJoins, SenderLeaves, ReceiverLeaves, Stays, is_ticket}
-use Rattle.flume_model.specs.Entries.{is_filled, is_woken, marked, round, round_fills, round_for, all_woken, entry_of, without}
-use Rattle.flume_model.specs.Parked.{LogEntry, untold, entries_after}
-use Rattle.flume_model.specs.Channel.{Channel}
-use Rattle.flume_model.specs.Entries.{held_in, held_by}
-use Rattle.flume_model.specs.WaitLaws.{Apart}
+use Rattle.flume_model.proofs.Common.{◌≡◌, ℕ, Bool, true, false, if◌then◌else◌, eqb, List, [], ◌∷◌, ◌++◌, Option, Some, None, refl, sym}
+use Rattle.flume_model.proofs.Common.{◌∙◌, ap, eqb-true, eq-eqb, ne_eqb, Channel, is_filled, is_woken, marked, round, round_fills}
+use Rattle.flume_model.proofs.Common.{round_for, all_woken, entry_of, without, held_in, held_by, Change, Queues, Blocks, Accepts, Withdraws}
+use Rattle.flume_model.proofs.Common.{Takes, Drains, Parks, Asks, Collects, Leaves, SenderJoins, ReceiverJoins, SenderLeaves}
+use Rattle.flume_model.proofs.Common.{ReceiverLeaves, Stays, is_ticket, LogEntry, untold, entries_after, Apart, Entry, Mark, Waiting, Woken}
+use Rattle.flume_model.proofs.Common.{Filled, Kind, Block, Plain, Stream, Arm}
 use Rattle.flume_model.proofs.EntryLists.{fills_none_else, round_for_push, again_cases, leave_cases}
 use Rattle.flume_model.proofs.EntryMarks.{apart_without}
 use Rattle.flume_model.proofs.EntryChanges.{fills, fills_none}

@@ -1,21 +1,10 @@
 -- Of each run, a hand-out that filled a receiver is of the message of the kept offer at its place.
-use Rattle.std.proofs.Common.{◌≡◌, ℕ, ◌+◌, Bool, true, false, not, ◌&&◌, List, [], ◌∷◌, ◌++◌, drop, take, Option, Some, None}
-use Rattle.std.proofs.Common.{zero, suc, refl, sym, ◌∙◌, ap, arith, inl, inr, ◌⊎◌, map}
-use Rattle.std.specs.List.{slice_get}
-use Rattle.std.proofs.lemmas.Option.{slice_get_within}
-use Rattle.flume_model.specs.declared.step.Step.{Step}
-use Rattle.flume_model.specs.declared.step.Reply.{Reply}
-use Rattle.flume_model.specs.Log.{Log, Opening, Offer, HandOut, Shown, FilledIn, Change, Queues, Takes, Drains, Collects, Leaves, change}
-use Rattle.flume_model.specs.Offers.{fill, handed, kept, handed_out, hand_outs}
-use Rattle.flume_model.specs.Counts.{is_over}
-use Rattle.flume_model.specs.Line.{line, boundary, queue, messages}
-use Rattle.flume_model.specs.Entries.{entry_of}
-use Rattle.flume_model.specs.Parked.{LogEntry, entries_after, entries, is_shut}
-use Rattle.flume_model.specs.Channel.{channel}
-use Rattle.flume_model.specs.Replies.{IsRun}
-use Rattle.flume_model.specs.Entries.{held_by}
-use Rattle.flume_model.specs.Fills.{FillIs, IsOf, shows_to, shown}
-use Rattle.flume_model.specs.Laws.{InOrder}
+use Rattle.flume_model.proofs.Common.{◌≡◌, ℕ, ◌+◌, Bool, true, false, not, ◌&&◌, List, [], ◌∷◌, ◌++◌, drop, take, Option, Some, None, zero}
+use Rattle.flume_model.proofs.Common.{suc, refl, sym, ◌∙◌, ap, arith, inl, inr, ◌⊎◌, map, cond-false, append-nil, drop-append-le}
+use Rattle.flume_model.proofs.Common.{map-append, take_all, take-append-drop, slice_get_within, slice_get, channel, is_over, entry_of}
+use Rattle.flume_model.proofs.Common.{held_by, FillIs, IsOf, shows_to, shown, InOrder, line, boundary, queue, messages, Log, Opening, Offer}
+use Rattle.flume_model.proofs.Common.{HandOut, Shown, FilledIn, Change, Queues, Takes, Drains, Collects, Leaves, change, fill, handed, kept}
+use Rattle.flume_model.proofs.Common.{handed_out, hand_outs, LogEntry, entries_after, entries, is_shut, IsRun, Reply, Step}
 use Rattle.flume_model.proofs.EntryChanges.{fills}
 use Rattle.flume_model.proofs.fills.FillsKept.{held_by_change, first_up, filled_holds, filled_stood}
 use Rattle.flume_model.proofs.fills.FillsShown.{shows_leaves, collects_shows, shows_held, shows_stood, neither, unshown}
@@ -28,8 +17,6 @@ use Rattle.flume_model.proofs.order.Runs.{shape_of, placed}
 use Rattle.flume_model.proofs.order.TicketLaws.{handed_out_stay}
 use Rattle.flume_model.proofs.WaitLists.{fills_waiting}
 use Rattle.flume_model.proofs.waits.WaitingSteps.{nobody_once_over}
-use Rattle.std.proofs.lemmas.Bool.{cond-false}
-use Rattle.std.proofs.lemmas.List.{append-nil, drop-append-le, map-append, take_all, take-append-drop}
 
 module _ {T : Type 0} where
   -- what a reply shows fills nobody

@@ -1,29 +1,15 @@
 -- What the replies of a run show to parked receivers: none while its entry stands, and the message that it holds as it leaves.
-use Rattle.std.proofs.Common.{◌≡◌, ℕ, ◌≤◌, Bool, true, false, not, ◌&&◌, if◌then◌else◌, eqb, [], ◌∷◌, Option, Some, None, refl, sym, ◌∙◌}
-use Rattle.std.proofs.Common.{ap, arith, inl, inr, ◌⊎◌, eqb-true, eq-eqb, subst}
-use Rattle.flume_model.specs.declared.step.Kind.{Kind}
-use Rattle.flume_model.specs.declared.step.Step.{Step}
-use Rattle.flume_model.specs.declared.step.Step.TheVariants.{Poll, Withdraw}
-use Rattle.flume_model.specs.declared.step.Reply.{Reply}
-use Rattle.flume_model.specs.declared.step.Reply.TheVariants.{Got}
-use Rattle.flume_model.specs.declared.entry.Mark.{Mark}
-use Rattle.flume_model.specs.declared.entry.Mark.TheVariants.{Waiting, Woken, Filled}
-use Rattle.flume_model.specs.Log.{Log, Opening, Change, Takes, Parks, Collects, was_filled, change}
-use Rattle.flume_model.specs.Counts.{is_over}
-use Rattle.flume_model.specs.Line.{next_ticket, queue}
-use Rattle.flume_model.specs.Entries.{entry_of, without}
-use Rattle.flume_model.specs.Parked.{LogEntry, entries_after, entries, is_shut}
-use Rattle.flume_model.specs.Channel.{Channel, channel}
-use Rattle.flume_model.specs.Asking.{IsPolledMark, IsPolled, IsGoneMark, IsGone}
-use Rattle.flume_model.specs.Replies.{IsReply, IsRun}
-use Rattle.flume_model.specs.Entries.{held_in, held_by}
-use Rattle.flume_model.specs.Fills.{or_else, shows_to, shown}
+use Rattle.flume_model.proofs.Common.{◌≡◌, ℕ, ◌≤◌, Bool, true, false, not, ◌&&◌, if◌then◌else◌, eqb, [], ◌∷◌, Option, Some, None, refl, sym}
+use Rattle.flume_model.proofs.Common.{◌∙◌, ap, arith, inl, inr, ◌⊎◌, eqb-true, eq-eqb, subst, cond-false, IsPolledMark, IsPolled}
+use Rattle.flume_model.proofs.Common.{IsGoneMark, IsGone, Channel, channel, is_over, entry_of, without, held_in, held_by, or_else, shows_to}
+use Rattle.flume_model.proofs.Common.{shown, next_ticket, queue, Log, Opening, Change, Takes, Parks, Collects, was_filled, change, LogEntry}
+use Rattle.flume_model.proofs.Common.{entries_after, entries, is_shut, IsReply, IsRun, Mark, Waiting, Woken, Filled, Kind, Reply, Got, Step}
+use Rattle.flume_model.proofs.Common.{Poll, Withdraw}
 use Rattle.flume_model.proofs.EntryMarks.{none_past, left_out}
 use Rattle.flume_model.proofs.EntryChanges.{parks_under, none_by}
 use Rattle.flume_model.proofs.EntryShape.{entries_apart, fits_run}
 use Rattle.flume_model.proofs.Fits.{Fits}
 use Rattle.flume_model.proofs.waits.WaitingSteps.{nobody_once_over}
-use Rattle.std.proofs.lemmas.Bool.{cond-false}
 
 module _ {T : Type 0} where
   -- the ticket and the message of one that got a message, where it was shown to this ticket

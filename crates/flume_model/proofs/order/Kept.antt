@@ -1,17 +1,10 @@
 -- What each change leaves of the kept offers and of those not handed out.
-use Rattle.std.proofs.Common.{◌≡◌, ℕ, ◌≤◌, Bool, true, false, not, ◌||◌, List, [], ◌∷◌, ◌++◌, length, drop, take, Option, Some, None}
-use Rattle.std.proofs.Common.{refl, sym, ◌∙◌, ap, map}
-use Rattle.std.proofs.Common.{append_assoc, append-nil, length-append, drop-drop, take-append-drop, length-take-le, drop_at}
-use Rattle.std.specs.List.{filter}
-use Rattle.std.proofs.lemmas.Bool.{or_from, cond-false}
-use Rattle.std.proofs.lemmas.List.{drop-append-le, length-map}
-use Rattle.std.proofs.lemmas.List.Elements.{filter-append}
-use Rattle.flume_model.specs.Log.{Log, Offer, HandOut, Shown, Change, Queues, Blocks, Withdraws, Takes, Drains, Leaves, is_ticket, change}
-use Rattle.flume_model.specs.Offers.{offered, withdraws, fill, handed, offers, withdrawn}
-use Rattle.flume_model.specs.Offers.{kept, handed_out, hand_outs}
-use Rattle.flume_model.specs.Counts.{is_over}
-use Rattle.flume_model.specs.Line.{line, how_many}
-use Rattle.flume_model.specs.Laws.{Rising}
+use Rattle.flume_model.proofs.Common.{◌≡◌, ℕ, ◌≤◌, Bool, true, false, not, ◌||◌, List, [], ◌∷◌, ◌++◌, length, drop, take, Option, Some}
+use Rattle.flume_model.proofs.Common.{None, refl, sym, ◌∙◌, ap, map, length-append, drop-drop, length-take-le, drop_at, or_from, cond-false}
+use Rattle.flume_model.proofs.Common.{append_assoc, append-nil, take-append-drop, drop-append-le, length-map, filter-append, filter}
+use Rattle.flume_model.proofs.Common.{is_over, Rising, line, how_many, Log, Offer, HandOut, Shown, Change, Queues, Blocks, Withdraws, Takes}
+use Rattle.flume_model.proofs.Common.{Drains, Leaves, is_ticket, change, offered, withdraws, fill, handed, offers, withdrawn, kept}
+use Rattle.flume_model.proofs.Common.{handed_out, hand_outs}
 use Rattle.flume_model.proofs.Tickets.{filter_two, filter_one, apart, rising_filter}
 
 -- as many messages, of whatever type, are handed out as receivers are filled

@@ -1,17 +1,9 @@
 -- What one pair of a run does to the line, and that tickets in the line are apart.
-use Rattle.std.proofs.Common.{◌≡◌, ℕ, ◌≤◌, Bool, true, false, List, [], ◌∷◌, ◌++◌, length, drop, take, Option, None, Some}
-use Rattle.std.proofs.Common.{refl, sym, ◌∙◌, ap, append_assoc, take-append-drop, eqb, ◌+◌, not, arith}
-use Rattle.std.proofs.lemmas.Bool.{cond-true}
-use Rattle.std.proofs.lemmas.List.{drop_at}
-use Rattle.flume_model.specs.declared.step.Step.{Step}
-use Rattle.flume_model.specs.declared.step.Reply.{Reply}
-use Rattle.flume_model.specs.Log.{Log, Opening, Offer, Change, Queues, Blocks, Withdraws, Takes, Drains, Leaves, change}
-use Rattle.flume_model.specs.Offers.{withdrawn, kept, handed_out}
-use Rattle.flume_model.specs.Offers.{hand_outs, offers}
-use Rattle.flume_model.specs.Counts.{is_over, senders, receivers, senders_after, receivers_after}
-use Rattle.flume_model.specs.Line.{line, next_ticket, how_many}
-use Rattle.flume_model.specs.Channel.{has_ticket}
-use Rattle.flume_model.specs.Replies.{IsRun}
+use Rattle.flume_model.proofs.Common.{◌≡◌, ℕ, ◌≤◌, Bool, true, false, List, [], ◌∷◌, ◌++◌, length, drop, take, Option, None, Some, refl}
+use Rattle.flume_model.proofs.Common.{sym, ◌∙◌, ap, eqb, ◌+◌, not, arith, drop_at, cond-true, append_assoc, take-append-drop, has_ticket}
+use Rattle.flume_model.proofs.Common.{is_over, senders, receivers, senders_after, receivers_after, line, next_ticket, how_many, Log}
+use Rattle.flume_model.proofs.Common.{Opening, Offer, Change, Queues, Blocks, Withdraws, Takes, Drains, Leaves, change, withdrawn, kept}
+use Rattle.flume_model.proofs.Common.{handed_out, hand_outs, offers, IsRun, Reply, Step}
 use Rattle.flume_model.proofs.Tickets.{apart, none_apart, rising_filter}
 use Rattle.flume_model.proofs.order.Kept.{open_line, line_by, line_is_open, line_more, line_queued, line_after_leave}
 use Rattle.flume_model.proofs.order.Kept.{line_drained, line_front}

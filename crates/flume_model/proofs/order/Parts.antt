@@ -1,18 +1,9 @@
 -- The parts of the kept offers, the shape of a log, and what they say of the line.
-use Rattle.std.proofs.Common.{◌≡◌, ℕ, ◌+◌, ◌≤◌, true, false, cond, List, [], ◌∷◌, ◌++◌, length, drop, take, Option, Some, None}
-use Rattle.std.proofs.Math.Seq.{take-nil}
-use Rattle.std.proofs.Common.{refl, sym, ◌∙◌, ap, arith, append_assoc, length-append, length-take-le, take-append-drop}
-use Rattle.std.specs.List.{AllZip}
-use Rattle.std.proofs.lemmas.List.{drop_at}
-use Rattle.std.proofs.lemmas.Slice.Zip.{AllZip-long}
-use Rattle.flume_model.specs.Log.{Log, Opening, Offer, HandOut, Shown, FilledIn}
-use Rattle.flume_model.specs.Offers.{withdrawn, kept, handed_out}
-use Rattle.flume_model.specs.Counts.{is_over}
-use Rattle.flume_model.specs.Line.{line, boundary, queue, messages, next_ticket, how_many}
-use Rattle.flume_model.specs.Entries.{some_wait, leave_fills}
-use Rattle.flume_model.specs.Parked.{entries}
-use Rattle.flume_model.specs.Channel.{IsBlocked, channel}
-use Rattle.flume_model.specs.Laws.{TicketsRise, BlockedAtCapacity}
+use Rattle.flume_model.proofs.Common.{◌≡◌, ℕ, ◌+◌, ◌≤◌, true, false, cond, List, [], ◌∷◌, ◌++◌, length, drop, take, Option, Some, None}
+use Rattle.flume_model.proofs.Common.{refl, sym, ◌∙◌, ap, arith, length-append, length-take-le, drop_at, take-nil, append_assoc}
+use Rattle.flume_model.proofs.Common.{take-append-drop, AllZip-long, AllZip, IsBlocked, channel, is_over, some_wait, leave_fills}
+use Rattle.flume_model.proofs.Common.{TicketsRise, BlockedAtCapacity, line, boundary, queue, messages, next_ticket, how_many, Log, Opening}
+use Rattle.flume_model.proofs.Common.{Offer, HandOut, Shown, FilledIn, withdrawn, kept, handed_out, entries}
 use Rattle.flume_model.proofs.Fits.{fills_none}
 use Rattle.flume_model.proofs.order.Kept.{open_line, line_is_open}
 

@@ -1,18 +1,9 @@
 -- Each change that fits leaves the parts of the kept offers so.
-use Rattle.std.proofs.Common.{◌≡◌, ℕ, ◌≤◌, Bool, true, false, List, [], ◌∷◌, ◌++◌, length, drop, take, map, Option, Some, None}
-use Rattle.std.proofs.Math.Seq.{take-nil}
-use Rattle.std.proofs.lemmas.Bool.{cond-true}
-use Rattle.std.proofs.Common.{refl, sym, ◌∙◌, ap, arith, append_assoc, append-nil, take-append-drop}
-use Rattle.std.specs.List.{AllZip}
-use Rattle.std.proofs.lemmas.List.{length_push}
-use Rattle.std.proofs.lemmas.Slice.Zip.{all_zipped_more}
-use Rattle.flume_model.specs.Log.{Log, Opening, Offer, HandOut, Shown, FilledIn, Change, Queues, Blocks, Withdraws, Takes, Drains, Leaves}
-use Rattle.flume_model.specs.Offers.{fill, kept, handed_out}
-use Rattle.flume_model.specs.Counts.{is_over}
-use Rattle.flume_model.specs.Line.{line, boundary, queue, messages, next_ticket, how_many}
-use Rattle.flume_model.specs.Entries.{leave_fills}
-use Rattle.flume_model.specs.Parked.{entries}
-use Rattle.flume_model.specs.Channel.{IsFront, channel}
+use Rattle.flume_model.proofs.Common.{◌≡◌, ℕ, ◌≤◌, Bool, true, false, List, [], ◌∷◌, ◌++◌, length, drop, take, map, Option, Some, None}
+use Rattle.flume_model.proofs.Common.{refl, sym, ◌∙◌, ap, arith, take-nil, cond-true, append_assoc, append-nil, take-append-drop}
+use Rattle.flume_model.proofs.Common.{length_push, all_zipped_more, AllZip, IsFront, channel, is_over, leave_fills, line, boundary, queue}
+use Rattle.flume_model.proofs.Common.{messages, next_ticket, how_many, Log, Opening, Offer, HandOut, Shown, FilledIn, Change, Queues}
+use Rattle.flume_model.proofs.Common.{Blocks, Withdraws, Takes, Drains, Leaves, fill, kept, handed_out, entries}
 use Rattle.flume_model.proofs.Fits.{Fits}
 use Rattle.flume_model.proofs.order.Kept.{kept_by, handed_by, open_line, not_withdrawn, kept_more, kept_less, kept_same}
 use Rattle.flume_model.proofs.order.Parts.{ShownIs, Parts, Shape, at_most, front_at, open_at, line_is_rest, withdrawn_at, leave_within}

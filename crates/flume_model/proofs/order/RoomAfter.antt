@@ -1,17 +1,10 @@
 -- After each change that fits as much is queued as the line and the capacity allow.
-use Rattle.std.proofs.Common.{◌≡◌, ℕ, ◌+◌, ◌-◌, ◌<◌, ◌≤◌, Bool, true, false, List, [], ◌∷◌, ◌++◌, length, max, Option}
-use Rattle.std.proofs.Common.{Some, None, refl, sym, ◌∙◌, ap, arith, drop, length-append}
-use Rattle.std.proofs.Common.{suc, subst}
-use Rattle.std.proofs.lemmas.List.{length_push, length-drop}
-use Rattle.flume_model.specs.Log.{Log, Opening, Offer, Change, Queues, Blocks, Accepts, Withdraws, Takes, Drains, Parks, Asks, Collects}
-use Rattle.flume_model.specs.Log.{Leaves, SenderJoins, ReceiverJoins, SenderLeaves, ReceiverLeaves, Stays, capped}
-use Rattle.flume_model.specs.Offers.{kept, handed_out}
-use Rattle.flume_model.specs.Counts.{is_over}
-use Rattle.flume_model.specs.Line.{line, queue, boundary, boundary_after, next_ticket, how_many}
-use Rattle.flume_model.specs.Entries.{some_wait, leave_fills}
-use Rattle.flume_model.specs.Parked.{entries}
-use Rattle.flume_model.specs.Channel.{IsFront, channel}
-use Rattle.flume_model.specs.Limits.{HasRoom, IsAtCapacity}
+use Rattle.flume_model.proofs.Common.{◌≡◌, ℕ, ◌+◌, ◌-◌, ◌<◌, ◌≤◌, Bool, true, false, List, [], ◌∷◌, ◌++◌, length, max, Option, Some, None}
+use Rattle.flume_model.proofs.Common.{refl, sym, ◌∙◌, ap, arith, drop, length-append, suc, subst, length_push, length-drop, IsFront}
+use Rattle.flume_model.proofs.Common.{channel, is_over, some_wait, leave_fills, HasRoom, IsAtCapacity, line, queue, boundary}
+use Rattle.flume_model.proofs.Common.{boundary_after, next_ticket, how_many, Log, Opening, Offer, Change, Queues, Blocks, Accepts}
+use Rattle.flume_model.proofs.Common.{Withdraws, Takes, Drains, Parks, Asks, Collects, Leaves, SenderJoins, ReceiverJoins, SenderLeaves}
+use Rattle.flume_model.proofs.Common.{ReceiverLeaves, Stays, capped, kept, handed_out, entries}
 use Rattle.flume_model.proofs.WaitLists.{leave_fills_waiting}
 use Rattle.flume_model.proofs.Fits.{Fits}
 use Rattle.flume_model.proofs.order.Kept.{open_line, line_by, line_is_open, line_more, line_queued, line_after_leave, line_drained}

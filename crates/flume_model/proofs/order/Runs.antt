@@ -1,18 +1,8 @@
 -- What holds of each run: the laws.
-use Rattle.std.proofs.Common.{◌≡◌, ℕ, Bool, true, false, List, [], ◌∷◌, ◌++◌, length, Some, zero, suc, refl, sym, ◌∙◌, ap, subst}
-use Rattle.std.proofs.Common.{subst₂, not, ◌&&◌, arith}
-use Rattle.std.specs.List.{AllZip, slice_get}
-use Rattle.std.proofs.lemmas.Bool.{or_from, cond-true, cond-false}
-use Rattle.flume_model.specs.declared.step.Step.{Step}
-use Rattle.flume_model.specs.declared.step.Reply.{Reply}
-use Rattle.flume_model.specs.Log.{Log, Opening, Offer, HandOut, change}
-use Rattle.flume_model.specs.Offers.{kept, handed_out}
-use Rattle.flume_model.specs.Counts.{is_over}
-use Rattle.flume_model.specs.Line.{line, queue, boundary, boundary_after}
-use Rattle.flume_model.specs.Entries.{some_wait}
-use Rattle.flume_model.specs.Parked.{entries, entries_after, is_shut}
-use Rattle.flume_model.specs.Replies.{IsRun}
-use Rattle.flume_model.specs.Laws.{TicketsRise, BlockedAtCapacity}
+use Rattle.flume_model.proofs.Common.{◌≡◌, ℕ, Bool, true, false, List, [], ◌∷◌, ◌++◌, length, Some, zero, suc, refl, sym, ◌∙◌, ap, subst}
+use Rattle.flume_model.proofs.Common.{subst₂, not, ◌&&◌, arith, or_from, cond-true, cond-false, AllZip, slice_get, is_over, some_wait}
+use Rattle.flume_model.proofs.Common.{TicketsRise, BlockedAtCapacity, line, queue, boundary, boundary_after, Log, Opening, Offer, HandOut}
+use Rattle.flume_model.proofs.Common.{change, kept, handed_out, entries, entries_after, is_shut, IsRun, Reply, Step}
 use Rattle.flume_model.proofs.Fits.{fits, not_over_yet}
 use Rattle.flume_model.proofs.EntryShape.{told_filled}
 use Rattle.flume_model.proofs.order.Kept.{line_by, line_is_open}

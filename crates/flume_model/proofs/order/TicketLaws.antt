@@ -1,22 +1,11 @@
 -- What the tickets of a run tell: what was handed out stays, and a live ticket taken in is below the blocked ones.
-use Rattle.std.proofs.Common.{◌≡◌, ℕ, ◌<◌, true, false, not, ◌||◌, ◌&&◌, List, [], ◌∷◌, ◌++◌, length, take, Some, None}
-use Rattle.std.proofs.Common.{refl, sym, ◌∙◌, ◌⊎◌, inl, inr, ap, arith, append_assoc, append-nil, take-append-drop, ne_eqb, eqb-true}
-use Rattle.std.proofs.Common.{eq-eqb, eqb}
-use Rattle.std.proofs.Common.{Option}
-use Rattle.std.specs.List.{filter}
-use Rattle.std.proofs.lemmas.Bool.{and_parts, or_cases, or_left, or_right}
-use Rattle.std.proofs.lemmas.List.{take_at, take-append-le}
-use Rattle.std.proofs.lemmas.Map.Views.{any-filter_same}
-use Rattle.std.proofs.lemmas.Slice.Zip.{AllZip-long}
-use Rattle.flume_model.specs.declared.step.Step.{Step}
-use Rattle.flume_model.specs.declared.step.Reply.{Reply}
-use Rattle.flume_model.specs.Log.{Log, Opening, Offer, Change, Queues, Blocks, Withdraws, is_ticket, change}
-use Rattle.flume_model.specs.Offers.{withdrawn, offers, kept, handed_out, hand_outs}
-use Rattle.flume_model.specs.Counts.{is_over}
-use Rattle.flume_model.specs.Line.{line, boundary, blocked, next_ticket, issues, spends, is_live}
-use Rattle.flume_model.specs.Channel.{has_ticket, channel}
-use Rattle.flume_model.specs.Replies.{IsRun}
-use Rattle.flume_model.specs.Laws.{IsEarlier, Rising, HandedOutStay, LiveAreKept, AcceptedBelowBlocked}
+use Rattle.flume_model.proofs.Common.{◌≡◌, ℕ, ◌<◌, true, false, not, ◌||◌, ◌&&◌, List, [], ◌∷◌, ◌++◌, length, take, Some, None, refl, sym}
+use Rattle.flume_model.proofs.Common.{◌∙◌, ◌⊎◌, inl, inr, ap, arith, ne_eqb, eqb-true, eq-eqb, eqb, Option, and_parts, or_cases, or_left}
+use Rattle.flume_model.proofs.Common.{or_right, append_assoc, append-nil, take-append-drop, take_at, take-append-le, any-filter_same}
+use Rattle.flume_model.proofs.Common.{AllZip-long, filter, has_ticket, channel, is_over, IsEarlier, Rising, HandedOutStay, LiveAreKept}
+use Rattle.flume_model.proofs.Common.{AcceptedBelowBlocked, line, boundary, blocked, next_ticket, issues, spends, is_live, Log, Opening}
+use Rattle.flume_model.proofs.Common.{Offer, Change, Queues, Blocks, Withdraws, is_ticket, change, withdrawn, offers, kept, handed_out}
+use Rattle.flume_model.proofs.Common.{hand_outs, IsRun, Reply, Step}
 use Rattle.flume_model.proofs.Tickets.{filter_two, has_ticket-append, ticket_place, All-at_seam, rising_filter}
 use Rattle.flume_model.proofs.Fits.{Fits, fits}
 use Rattle.flume_model.proofs.EntryShape.{told_filled}

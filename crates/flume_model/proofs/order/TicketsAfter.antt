@@ -1,12 +1,7 @@
 -- Each change that fits leaves the tickets rising, and withdraws an offer with one that was issued.
-use Rattle.std.proofs.Common.{◌≡◌, ℕ, ◌+◌, ◌<◌, ◌≤◌, false, not, [], ◌∷◌, ◌++◌}
-use Rattle.std.proofs.Common.{Some, refl, sym, ◌∙◌, ap, arith, append_assoc, append-nil}
-use Rattle.std.proofs.Common.{ne_eqb}
-use Rattle.flume_model.specs.Log.{Log, Opening, Change, Queues, Blocks, Withdraws, Parks}
-use Rattle.flume_model.specs.Offers.{offered, withdraws, offers, withdrawn, kept}
-use Rattle.flume_model.specs.Line.{issued, next_ticket}
-use Rattle.flume_model.specs.Channel.{channel}
-use Rattle.flume_model.specs.Laws.{Rising}
+use Rattle.flume_model.proofs.Common.{◌≡◌, ℕ, ◌+◌, ◌<◌, ◌≤◌, false, not, [], ◌∷◌, ◌++◌, Some, refl, sym, ◌∙◌, ap, arith, ne_eqb}
+use Rattle.flume_model.proofs.Common.{append_assoc, append-nil, channel, Rising, issued, next_ticket, Log, Opening, Change, Queues, Blocks}
+use Rattle.flume_model.proofs.Common.{Withdraws, Parks, offered, withdraws, offers, withdrawn, kept}
 use Rattle.flume_model.proofs.Tickets.{below_earlier, earlier_none, rising_filter, rising_below, rising_push, rising_more}
 use Rattle.flume_model.proofs.Fits.{Fits}
 use Rattle.flume_model.proofs.order.Parts.{Shape, withdrawn_at}

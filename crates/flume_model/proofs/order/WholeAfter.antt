@@ -1,15 +1,10 @@
 -- While a receiver waits, the queue is the whole line: so it is after each change that fits.
-use Rattle.std.proofs.Common.{◌≡◌, ℕ, ◌-◌, Bool, true, false, if◌then◌else◌, List, [], ◌∷◌, ◌++◌, length, max, Option}
-use Rattle.std.proofs.Common.{Some, None, refl, sym, ◌∙◌, ◌⊎◌, inl, inr, ap, arith, take, length-append}
-use Rattle.std.proofs.Common.{length-take-le}
-use Rattle.std.proofs.lemmas.List.{length-map}
-use Rattle.flume_model.specs.Log.{Log, Opening, Change, Queues, Blocks, Accepts, Withdraws, Takes, Drains, Parks, Asks, Collects}
-use Rattle.flume_model.specs.Log.{Leaves, SenderJoins, ReceiverJoins, SenderLeaves, ReceiverLeaves, Stays, capped}
-use Rattle.flume_model.specs.Counts.{is_over}
-use Rattle.flume_model.specs.Line.{line, queue, boundary, boundary_after}
-use Rattle.flume_model.specs.Entries.{is_woken, some_wait, entry_of, all_woken}
-use Rattle.flume_model.specs.Parked.{LogEntry, untold, entries, entries_after}
-use Rattle.flume_model.specs.Channel.{channel}
+use Rattle.flume_model.proofs.Common.{◌≡◌, ℕ, ◌-◌, Bool, true, false, if◌then◌else◌, List, [], ◌∷◌, ◌++◌, length, max, Option, Some, None}
+use Rattle.flume_model.proofs.Common.{refl, sym, ◌∙◌, ◌⊎◌, inl, inr, ap, arith, take, length-append, length-take-le, length-map, channel}
+use Rattle.flume_model.proofs.Common.{is_over, is_woken, some_wait, entry_of, all_woken, line, queue, boundary, boundary_after, Log}
+use Rattle.flume_model.proofs.Common.{Opening, Change, Queues, Blocks, Accepts, Withdraws, Takes, Drains, Parks, Asks, Collects, Leaves}
+use Rattle.flume_model.proofs.Common.{SenderJoins, ReceiverJoins, SenderLeaves, ReceiverLeaves, Stays, capped, LogEntry, untold, entries}
+use Rattle.flume_model.proofs.Common.{entries_after}
 use Rattle.flume_model.proofs.WaitingCounts.{wait_round_for, wait_without, wait_after_leave, wait_woken}
 use Rattle.flume_model.proofs.WaitLists.{wait_again}
 use Rattle.flume_model.proofs.Fits.{Fits}

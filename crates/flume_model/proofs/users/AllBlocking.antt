@@ -1,24 +1,13 @@
 -- Where all receivers block, no more is queued than the capacity.
-use Rattle.std.proofs.Common.{◌≡◌, ℕ, ◌+◌, ◌-◌, ◌≤◌, Bool, true, false, if◌then◌else◌, not, ◌&&◌, [], ◌∷◌, Option, Some, None, refl, sym}
-use Rattle.std.proofs.Common.{arith, max, subst}
-use Rattle.std.proofs.lemmas.Bool.{cond-true, cond-false}
-use Rattle.std.proofs.lemmas.List.Elements.{All-head, All-tail}
-use Rattle.flume_model.specs.declared.step.Step.{Step}
-use Rattle.flume_model.specs.declared.step.Step.TheVariants.{TrySend, Send, PollSend, WithdrawSend, TryRecv, Recv, Poll, Withdraw, Drain}
-use Rattle.flume_model.specs.declared.step.Step.TheVariants.{CloneSender, CloneReceiver, DropSender, DropReceiver}
-use Rattle.flume_model.specs.declared.step.Reply.{Reply}
-use Rattle.flume_model.specs.declared.step.Reply.TheVariants.{Sent, Pending, Accepted, Waiting, Returned, Got, Ended, Parked, Gone, Drained}
-use Rattle.flume_model.specs.declared.step.Reply.TheVariants.{Done}
-use Rattle.flume_model.specs.Log.{Log, Opening, Change, Queues, Takes, Drains, Collects, Leaves, was_filled, change, capped}
-use Rattle.flume_model.specs.Counts.{is_over}
-use Rattle.flume_model.specs.Line.{capacity, boundary, boundary_after, queue, how_many}
-use Rattle.flume_model.specs.Entries.{some_wait, round_fills}
-use Rattle.flume_model.specs.Limits.{HasRoom}
-use Rattle.flume_model.specs.Parked.{entries, is_shut}
-use Rattle.flume_model.specs.Channel.{Channel, channel}
-use Rattle.flume_model.specs.Replies.{IsRun}
-use Rattle.flume_model.specs.WaitLaws.{block_woken}
-use Rattle.flume_model.specs.AllBlock.{parks_blocking, OnlyBlockingReceivers, IsAtMostCapacity}
+use Rattle.flume_model.proofs.Common.{◌≡◌, ℕ, ◌+◌, ◌-◌, ◌≤◌, Bool, true, false, if◌then◌else◌, not, ◌&&◌, [], ◌∷◌, Option, Some, None, refl}
+use Rattle.flume_model.proofs.Common.{sym, arith, max, subst, cond-true, cond-false, All-head, All-tail, parks_blocking}
+use Rattle.flume_model.proofs.Common.{OnlyBlockingReceivers, IsAtMostCapacity, Channel, channel, is_over, some_wait, round_fills, HasRoom}
+use Rattle.flume_model.proofs.Common.{capacity, boundary, boundary_after, queue, how_many, Log, Opening, Change, Queues, Takes, Drains}
+use Rattle.flume_model.proofs.Common.{Collects, Leaves, was_filled, change, capped, entries, is_shut, IsRun, block_woken, Reply, Sent}
+use Rattle.flume_model.proofs.Common.{Pending, Accepted, Returned, Got, Ended, Parked, Gone, Drained, Done, Step, TrySend, Send, PollSend}
+use Rattle.flume_model.proofs.Common.{WithdrawSend, TryRecv, Recv, Poll, Withdraw, Drain, CloneSender, CloneReceiver, DropSender}
+use Rattle.flume_model.proofs.Common.{DropReceiver}
+use Rattle.flume_model.specs.declared.step.Reply.TheVariants.{Waiting}
 use Rattle.flume_model.proofs.Fits.{Fits}
 use Rattle.flume_model.proofs.waits.WaitingSteps.{stepped}
 use Rattle.flume_model.proofs.waits.WaitingLaws.{covered, waits_while_open, woken_block_while_closed}

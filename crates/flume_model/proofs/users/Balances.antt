@@ -1,25 +1,12 @@
 -- What one more pair of a run offers, and what stood there before it, weighs as much as what it gives out and leaves.
-use Rattle.std.proofs.Common.{◌≡◌, ℕ, ◌+◌, ◌≤◌, Bool, true, false, if◌then◌else◌, List, [], ◌∷◌, ◌++◌, Some, None, refl, sym}
-use Rattle.std.proofs.Common.{◌∙◌, ap, arith, inl, inr, drop, take, length, sum_by, take-append-drop, length-take-le}
-use Rattle.std.proofs.lemmas.List.{map-append, drop-map, take_all, length-map}
-use Rattle.std.proofs.lemmas.List.Sums.{sum_by-cons, sum_by-append, sum_by_push}
-use Rattle.std.proofs.lemmas.Bool.{cases_lt}
-use Rattle.flume_model.specs.declared.step.Step.{Step}
-use Rattle.flume_model.specs.declared.step.Reply.{Reply}
-use Rattle.flume_model.specs.declared.entry.Mark.{Mark}
-use Rattle.flume_model.specs.declared.entry.Mark.TheVariants.{Waiting, Woken, Filled}
-use Rattle.flume_model.specs.Log.{Log, Opening, Offer, Change, Queues, Blocks, Accepts, Withdraws, Takes, Drains, Parks, Asks, Collects}
-use Rattle.flume_model.specs.Log.{Leaves, SenderJoins, ReceiverJoins, SenderLeaves, ReceiverLeaves, Stays, change}
-use Rattle.flume_model.specs.Offers.{offered}
-use Rattle.flume_model.specs.Counts.{is_over}
-use Rattle.flume_model.specs.Limits.{HasRoom}
-use Rattle.flume_model.specs.Line.{line, boundary, queue, messages, how_many}
-use Rattle.flume_model.specs.Entries.{is_woken, is_filled, some_wait, round_fills, all_woken, entry_of, without, again}
-use Rattle.flume_model.specs.Entries.{after_leave, leave_fills}
-use Rattle.flume_model.specs.Parked.{LogEntry, untold, parks, entries_after, entries}
-use Rattle.flume_model.specs.Channel.{channel}
-use Rattle.flume_model.specs.Replies.{IsRun}
-use Rattle.flume_model.specs.Conserved.{held}
+use Rattle.flume_model.proofs.Common.{◌≡◌, ℕ, ◌+◌, ◌≤◌, Bool, true, false, if◌then◌else◌, List, [], ◌∷◌, ◌++◌, Some, None, refl, sym, ◌∙◌}
+use Rattle.flume_model.proofs.Common.{ap, arith, inl, inr, drop, take, length, sum_by, length-take-le, cases_lt, take-append-drop}
+use Rattle.flume_model.proofs.Common.{map-append, drop-map, take_all, length-map, sum_by-cons, sum_by-append, sum_by_push, channel, held}
+use Rattle.flume_model.proofs.Common.{is_over, is_woken, is_filled, some_wait, round_fills, all_woken, entry_of, without, again}
+use Rattle.flume_model.proofs.Common.{after_leave, leave_fills, HasRoom, line, boundary, queue, messages, how_many, Log, Opening, Offer}
+use Rattle.flume_model.proofs.Common.{Change, Queues, Blocks, Accepts, Withdraws, Takes, Drains, Parks, Asks, Collects, Leaves, SenderJoins}
+use Rattle.flume_model.proofs.Common.{ReceiverJoins, SenderLeaves, ReceiverLeaves, Stays, change, offered, LogEntry, untold, parks}
+use Rattle.flume_model.proofs.Common.{entries_after, entries, IsRun, Mark, Waiting, Woken, Filled, Reply, Step}
 use Rattle.flume_model.proofs.Fits.{Fits}
 use Rattle.flume_model.proofs.EntryLists.{again_cases, leave_cases}
 use Rattle.flume_model.proofs.order.Kept.{keeps_line}

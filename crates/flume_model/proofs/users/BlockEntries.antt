@@ -1,15 +1,9 @@
 -- Lists of entries that all block: what changes leave of them, and what wake rounds do to them.
-use Rattle.std.proofs.Common.{◌≡◌, ℕ, Bool, true, false, if◌then◌else◌, eqb, List, [], ◌∷◌, ◌++◌, Some, refl, sym, ◌∙◌, ap, arith}
-use Rattle.flume_model.specs.declared.step.Kind.{Kind}
-use Rattle.flume_model.specs.declared.step.Kind.TheVariants.{Block, Plain, Stream, Arm}
-use Rattle.flume_model.specs.declared.entry.Entry.{Entry}
-use Rattle.flume_model.specs.declared.entry.Mark.{Mark}
-use Rattle.flume_model.specs.declared.entry.Mark.TheVariants.{Waiting, Woken, Filled}
-use Rattle.flume_model.specs.Log.{Change, Queues, Takes, Parks, Asks, Collects, Leaves, SenderLeaves, ReceiverLeaves}
-use Rattle.flume_model.specs.Line.{how_many}
-use Rattle.flume_model.specs.Entries.{some_wait, woken_count, round, round_for, round_fills, all_woken, entry_of, without}
-use Rattle.flume_model.specs.Parked.{LogEntry, untold, parks, entries_after}
-use Rattle.flume_model.specs.WaitLaws.{is_block, block_woken}
+use Rattle.flume_model.proofs.Common.{◌≡◌, ℕ, Bool, true, false, if◌then◌else◌, eqb, List, [], ◌∷◌, ◌++◌, Some, refl, sym, ◌∙◌, ap, arith}
+use Rattle.flume_model.proofs.Common.{some_wait, woken_count, round, round_for, round_fills, all_woken, entry_of, without, how_many, Change}
+use Rattle.flume_model.proofs.Common.{Queues, Takes, Parks, Asks, Collects, Leaves, SenderLeaves, ReceiverLeaves, LogEntry, untold, parks}
+use Rattle.flume_model.proofs.Common.{entries_after, is_block, block_woken, Entry, Mark, Waiting, Woken, Filled, Kind, Block, Plain, Stream}
+use Rattle.flume_model.proofs.Common.{Arm}
 use Rattle.flume_model.proofs.EntryLists.{again_cases, leave_cases}
 
 module _ {T N : Type 0} where

@@ -1,20 +1,9 @@
 -- By every weight, what was offered is what was given out and what is still there.
-use Rattle.std.proofs.Common.{◌≡◌, ℕ, ◌+◌, ◌≤◌, Bool, true, false, List, [], ◌∷◌, Some, None, refl}
-use Rattle.std.proofs.Common.{◌∙◌, ap, arith, take, sum_by, subst}
-use Rattle.std.proofs.Math.Seq.{take-nil}
-use Rattle.std.proofs.lemmas.List.Sums.{sum_by-append}
-use Rattle.flume_model.specs.declared.step.Step.{Step}
-use Rattle.flume_model.specs.declared.step.Reply.{Reply}
-use Rattle.flume_model.specs.Log.{Log, Opening, Change, Withdraws, Takes, Drains, Collects}
-use Rattle.flume_model.specs.Log.{SenderJoins, ReceiverJoins, SenderLeaves, ReceiverLeaves, change}
-use Rattle.flume_model.specs.Offers.{offered, offers}
-use Rattle.flume_model.specs.Counts.{is_over}
-use Rattle.flume_model.specs.Line.{line, boundary, messages}
-use Rattle.flume_model.specs.Entries.{entry_of}
-use Rattle.flume_model.specs.Parked.{entries}
-use Rattle.flume_model.specs.Channel.{channel}
-use Rattle.flume_model.specs.Replies.{IsRun}
-use Rattle.flume_model.specs.Conserved.{held, gives, given_out, IsConserved, Conserved}
+use Rattle.flume_model.proofs.Common.{◌≡◌, ℕ, ◌+◌, ◌≤◌, Bool, true, false, List, [], ◌∷◌, Some, None, refl, ◌∙◌, ap, arith, take, sum_by}
+use Rattle.flume_model.proofs.Common.{subst, take-nil, sum_by-append, channel, held, gives, given_out, IsConserved, Conserved, is_over}
+use Rattle.flume_model.proofs.Common.{entry_of, line, boundary, messages, Log, Opening, Change, Withdraws, Takes, Drains, Collects}
+use Rattle.flume_model.proofs.Common.{SenderJoins, ReceiverJoins, SenderLeaves, ReceiverLeaves, change, offered, offers, entries, IsRun}
+use Rattle.flume_model.proofs.Common.{Reply, Step}
 use Rattle.flume_model.proofs.Fits.{Fits, not_over_yet}
 use Rattle.flume_model.proofs.EntryShape.{told_filled, fits_run}
 use Rattle.flume_model.proofs.order.Parts.{front_at, blocked_at, open_at}

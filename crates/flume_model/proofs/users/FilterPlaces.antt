@@ -1,6 +1,6 @@
 -- The places that the elements which a filter keeps have in the list.
-use Rattle.std.proofs.Common.{◌≡◌, ℕ, ◌<◌, Bool, true, false, if◌then◌else◌, List, [], ◌∷◌, Some, zero, suc, refl, ◌∙◌, ap, arith}
-use Rattle.std.specs.List.{filter, slice_get}
+use Rattle.flume_model.proofs.Common.{◌≡◌, ℕ, ◌<◌, Bool, true, false, if◌then◌else◌, List, [], ◌∷◌, Some, zero, suc, refl, ◌∙◌, ap, arith}
+use Rattle.flume_model.proofs.Common.{filter, slice_get}
 
 module _ {X : Type 0} where
   -- the place of the j-th element that the filter keeps

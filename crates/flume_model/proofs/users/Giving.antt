@@ -1,18 +1,8 @@
 -- What a lawful reply gives out is what its change gives out.
-use Rattle.std.proofs.Common.{◌≡◌, ℕ, true, false, if◌then◌else◌, List, [], ◌∷◌, Some, refl, ◌∙◌, ap}
-use Rattle.flume_model.specs.declared.step.Step.{Step}
-use Rattle.flume_model.specs.declared.step.Step.TheVariants.{TrySend, Send, PollSend, WithdrawSend, TryRecv, Recv, Poll, Withdraw, Drain}
-use Rattle.flume_model.specs.declared.step.Reply.{Reply}
-use Rattle.flume_model.specs.declared.step.Reply.TheVariants.{Sent, Pending, Accepted, Returned}
-use Rattle.flume_model.specs.declared.step.Reply.TheVariants.{Got, Parked, Drained}
-use Rattle.flume_model.specs.declared.entry.Mark.TheVariants.{Filled}
-use Rattle.flume_model.specs.Log.{Log, Opening, Change, Withdraws, Takes, Drains, Collects, was_filled, change}
-use Rattle.flume_model.specs.Entries.{is_filled, entry_of}
-use Rattle.flume_model.specs.Parked.{LogEntry, entries}
-use Rattle.flume_model.specs.Channel.{Channel, IsBlocked, channel}
-use Rattle.flume_model.specs.Replies.{IsReply}
-use Rattle.flume_model.specs.WaitLaws.{ToldFilled}
-use Rattle.flume_model.specs.Conserved.{gives}
+use Rattle.flume_model.proofs.Common.{◌≡◌, ℕ, true, false, if◌then◌else◌, List, [], ◌∷◌, Some, refl, ◌∙◌, ap, Channel, IsBlocked, channel}
+use Rattle.flume_model.proofs.Common.{gives, is_filled, entry_of, Log, Opening, Change, Withdraws, Takes, Drains, Collects, was_filled}
+use Rattle.flume_model.proofs.Common.{change, LogEntry, entries, IsReply, ToldFilled, Filled, Reply, Sent, Pending, Accepted, Returned, Got}
+use Rattle.flume_model.proofs.Common.{Parked, Drained, Step, TrySend, Send, PollSend, WithdrawSend, TryRecv, Recv, Poll, Withdraw, Drain}
 use Rattle.flume_model.proofs.AskingCases.{Unfilled, polled_cases, gone_cases}
 
 module _ {T : Type 0} where

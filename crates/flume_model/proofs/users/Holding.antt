@@ -1,15 +1,7 @@
 -- What wake rounds, leaves and one more entry do to the weight of the messages that entries hold.
-use Rattle.std.proofs.Common.{◌≡◌, ℕ, ◌+◌, Bool, true, false, eqb, List, [], ◌∷◌, ◌++◌, Option, Some, None, refl, ap, arith}
-use Rattle.std.proofs.Common.{drop, sum_by}
-use Rattle.std.proofs.lemmas.List.Sums.{sum_by-cons}
-use Rattle.flume_model.specs.declared.step.Kind.{Kind}
-use Rattle.flume_model.specs.declared.step.Kind.TheVariants.{Block, Plain, Stream, Arm}
-use Rattle.flume_model.specs.declared.entry.Entry.{Entry}
-use Rattle.flume_model.specs.declared.entry.Mark.{Mark}
-use Rattle.flume_model.specs.declared.entry.Mark.TheVariants.{Waiting, Woken, Filled}
-use Rattle.flume_model.specs.Line.{how_many}
-use Rattle.flume_model.specs.Entries.{round, round_fills, round_for, all_woken, entry_of, without}
-use Rattle.flume_model.specs.Conserved.{messages_in, held}
+use Rattle.flume_model.proofs.Common.{◌≡◌, ℕ, ◌+◌, Bool, true, false, eqb, List, [], ◌∷◌, ◌++◌, Option, Some, None, refl, ap, arith, drop}
+use Rattle.flume_model.proofs.Common.{sum_by, sum_by-cons, messages_in, held, round, round_fills, round_for, all_woken, entry_of, without}
+use Rattle.flume_model.proofs.Common.{how_many, Entry, Mark, Waiting, Woken, Filled, Kind, Block, Plain, Stream, Arm}
 
 -- what fills a receiver weighs so much, if one is filled
 abbrev fill_weighs : Option ℕ → ℕ → ℕ

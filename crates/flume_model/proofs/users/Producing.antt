@@ -1,11 +1,7 @@
 -- Offers are handed out in the order in which they were made.
-use Rattle.std.proofs.Common.{◌≡◌, ℕ, ◌<◌, inl, inr, not, List, [], ◌∷◌, zero, suc, Some, refl, ap, arith, length}
-use Rattle.std.specs.List.{slice_get}
-use Rattle.std.proofs.lemmas.Bool.{cases_lt}
-use Rattle.flume_model.specs.Log.{Log, Opening, Offer}
-use Rattle.flume_model.specs.Offers.{offers, withdrawn, kept, handed_out, hand_outs}
-use Rattle.flume_model.specs.Replies.{IsRun}
-use Rattle.flume_model.specs.Producers.{HandedOutInOrder}
+use Rattle.flume_model.proofs.Common.{◌≡◌, ℕ, ◌<◌, inl, inr, not, List, [], ◌∷◌, zero, suc, Some, refl, ap, arith, length, cases_lt}
+use Rattle.flume_model.proofs.Common.{slice_get, Log, Opening, Offer, offers, withdrawn, kept, handed_out, hand_outs, HandedOutInOrder}
+use Rattle.flume_model.proofs.Common.{IsRun}
 use Rattle.flume_model.proofs.order.Runs.{placed}
 use Rattle.flume_model.proofs.users.FilterPlaces.{filter_place, at_filter_place, filter_places_rise, place_of_kept}
 

@@ -1,19 +1,10 @@
 -- What is queued and who waits are together at most the greater of the capacity and the most that waited at once.
-use Rattle.std.proofs.Common.{◌≡◌, ℕ, ◌+◌, ◌-◌, ◌≤◌, Bool, true, false, if◌then◌else◌, List, [], ◌∷◌, length, Option, Some, None, refl, sym}
-use Rattle.std.proofs.Common.{◌∙◌, ap, arith, max, subst, subst₂}
-use Rattle.std.proofs.lemmas.Bool.{cond-true}
-use Rattle.flume_model.specs.declared.step.Step.{Step}
-use Rattle.flume_model.specs.declared.step.Reply.{Reply}
-use Rattle.flume_model.specs.Log.{Log, Opening, Change, Queues, Blocks, Accepts, Withdraws, Takes, Drains, Parks, Asks, Collects, Leaves}
-use Rattle.flume_model.specs.Log.{SenderJoins, ReceiverJoins, SenderLeaves, ReceiverLeaves, Stays, change, capped}
-use Rattle.flume_model.specs.Counts.{is_over}
-use Rattle.flume_model.specs.Line.{boundary, boundary_after, how_many}
-use Rattle.flume_model.specs.Limits.{HasRoom}
-use Rattle.flume_model.specs.Entries.{is_woken, some_wait, waiting_count, round, round_fills, all_woken, entry_of, without}
-use Rattle.flume_model.specs.Parked.{LogEntry, untold, entries_after, entries, peak}
-use Rattle.flume_model.specs.Channel.{Channel, channel}
-use Rattle.flume_model.specs.Replies.{IsRun}
-use Rattle.flume_model.specs.WaitLaws.{IsWithin, Bounded}
+use Rattle.flume_model.proofs.Common.{◌≡◌, ℕ, ◌+◌, ◌-◌, ◌≤◌, Bool, true, false, if◌then◌else◌, List, [], ◌∷◌, length, Option, Some, None}
+use Rattle.flume_model.proofs.Common.{refl, sym, ◌∙◌, ap, arith, max, subst, subst₂, cond-true, Channel, channel, is_over, is_woken}
+use Rattle.flume_model.proofs.Common.{some_wait, waiting_count, round, round_fills, all_woken, entry_of, without, HasRoom, boundary}
+use Rattle.flume_model.proofs.Common.{boundary_after, how_many, Log, Opening, Change, Queues, Blocks, Accepts, Withdraws, Takes, Drains}
+use Rattle.flume_model.proofs.Common.{Parks, Asks, Collects, Leaves, SenderJoins, ReceiverJoins, SenderLeaves, ReceiverLeaves, Stays}
+use Rattle.flume_model.proofs.Common.{change, capped, LogEntry, untold, entries_after, entries, peak, IsRun, IsWithin, Bounded, Reply, Step}
 use Rattle.flume_model.proofs.Fits.{Fits}
 use Rattle.flume_model.proofs.WaitingCounts.{wait_woken}
 use Rattle.flume_model.proofs.WaitLists.{fills_waiting}

@@ -1,20 +1,11 @@
 -- While a receiver waits, at least as many stand woken as messages are queued.
-use Rattle.std.proofs.Common.{◌≡◌, ℕ, ◌+◌, ◌-◌, ◌≤◌, Bool, true, false, if◌then◌else◌, [], ◌∷◌, length, Some, None, refl, sym, ◌∙◌, ◌⊎◌}
-use Rattle.std.proofs.Common.{inl, inr, ap, arith}
-use Rattle.flume_model.specs.declared.step.Step.{Step}
-use Rattle.flume_model.specs.declared.step.Reply.{Reply}
-use Rattle.flume_model.specs.declared.entry.Mark.{Mark}
-use Rattle.flume_model.specs.declared.entry.Mark.TheVariants.{Waiting, Woken, Filled}
-use Rattle.flume_model.specs.Log.{Log, Opening, Change, Queues, Blocks, Accepts, Withdraws, Takes, Drains, Parks, Asks, Collects, Leaves}
-use Rattle.flume_model.specs.Log.{SenderJoins, ReceiverJoins, SenderLeaves, ReceiverLeaves, Stays, change}
-use Rattle.flume_model.specs.Counts.{is_over}
-use Rattle.flume_model.specs.Line.{boundary, boundary_after, how_many}
-use Rattle.flume_model.specs.Entries.{is_woken, some_wait, woken_count, round, round_fills, all_woken, entry_of, without, passes_on}
-use Rattle.flume_model.specs.Entries.{after_leave, leave_fills}
-use Rattle.flume_model.specs.Parked.{LogEntry, untold, entries_after, entries}
-use Rattle.flume_model.specs.Channel.{Channel, channel}
-use Rattle.flume_model.specs.Replies.{IsRun}
-use Rattle.flume_model.specs.WaitLaws.{Covered}
+use Rattle.flume_model.proofs.Common.{◌≡◌, ℕ, ◌+◌, ◌-◌, ◌≤◌, Bool, true, false, if◌then◌else◌, [], ◌∷◌, length, Some, None, refl, sym, ◌∙◌}
+use Rattle.flume_model.proofs.Common.{◌⊎◌, inl, inr, ap, arith, Channel, channel, is_over, is_woken, some_wait, woken_count, round}
+use Rattle.flume_model.proofs.Common.{round_fills, all_woken, entry_of, without, passes_on, after_leave, leave_fills, boundary}
+use Rattle.flume_model.proofs.Common.{boundary_after, how_many, Log, Opening, Change, Queues, Blocks, Accepts, Withdraws, Takes, Drains}
+use Rattle.flume_model.proofs.Common.{Parks, Asks, Collects, Leaves, SenderJoins, ReceiverJoins, SenderLeaves, ReceiverLeaves, Stays}
+use Rattle.flume_model.proofs.Common.{change, LogEntry, untold, entries_after, entries, IsRun, Covered, Mark, Waiting, Woken, Filled, Reply}
+use Rattle.flume_model.proofs.Common.{Step}
 use Rattle.flume_model.proofs.Fits.{Fits}
 use Rattle.flume_model.proofs.WaitingCounts.{wait_round, wait_round_for, wait_without, wait_woken}
 use Rattle.flume_model.proofs.EntryLists.{round_for_push, again_cases, leave_cases}

@@ -1,20 +1,10 @@
 -- A receiver waits only in an open channel, and only while no sender is blocked; once both ends are gone nothing is left.
-use Rattle.std.proofs.Common.{◌≡◌, ℕ, ◌≤◌, Bool, true, false, not, ◌&&◌, if◌then◌else◌, List, [], ◌∷◌, length, Some, None, refl, sym, ◌∙◌}
-use Rattle.std.proofs.Common.{ap, arith, min, drop, ne_eqb}
-use Rattle.std.proofs.lemmas.Bool.{eqb-false}
-use Rattle.std.proofs.lemmas.List.{length-drop, drop_all}
-use Rattle.flume_model.specs.declared.step.Step.{Step}
-use Rattle.flume_model.specs.declared.step.Reply.{Reply}
-use Rattle.flume_model.specs.Log.{Log, Opening, Change, Queues, Blocks, Accepts, Withdraws, Takes, Drains, Parks, Asks, Collects, Leaves}
-use Rattle.flume_model.specs.Log.{SenderJoins, ReceiverJoins, SenderLeaves, ReceiverLeaves, Stays, change}
-use Rattle.flume_model.specs.Counts.{senders, receivers, senders_after, receivers_after, is_over}
-use Rattle.flume_model.specs.Line.{line, boundary, blocked, is_live}
-use Rattle.flume_model.specs.Limits.{IsOpen, is_closed}
-use Rattle.flume_model.specs.Entries.{is_woken, some_wait, all_woken}
-use Rattle.flume_model.specs.Parked.{untold, entries_after, entries}
-use Rattle.flume_model.specs.Channel.{Channel, channel}
-use Rattle.flume_model.specs.Replies.{IsRun}
-use Rattle.flume_model.specs.WaitLaws.{WaitsWhileOpen, NothingOnceOver}
+use Rattle.flume_model.proofs.Common.{◌≡◌, ℕ, ◌≤◌, Bool, true, false, not, ◌&&◌, if◌then◌else◌, List, [], ◌∷◌, length, Some, None, refl}
+use Rattle.flume_model.proofs.Common.{sym, ◌∙◌, ap, arith, min, drop, ne_eqb, eqb-false, length-drop, drop_all, Channel, channel, senders}
+use Rattle.flume_model.proofs.Common.{receivers, senders_after, receivers_after, is_over, is_woken, some_wait, all_woken, IsOpen, is_closed}
+use Rattle.flume_model.proofs.Common.{line, boundary, blocked, is_live, Log, Opening, Change, Queues, Blocks, Accepts, Withdraws, Takes}
+use Rattle.flume_model.proofs.Common.{Drains, Parks, Asks, Collects, Leaves, SenderJoins, ReceiverJoins, SenderLeaves, ReceiverLeaves}
+use Rattle.flume_model.proofs.Common.{Stays, change, untold, entries_after, entries, IsRun, WaitsWhileOpen, NothingOnceOver, Reply, Step}
 use Rattle.flume_model.proofs.Fits.{Fits}
 use Rattle.flume_model.proofs.WaitingCounts.{wait_without, wait_after_leave, wait_woken}
 use Rattle.flume_model.proofs.EntryLists.{again_cases}

@@ -1,18 +1,10 @@
 -- What stands before a step of a run, and how long the line is after it: numbers alone, for the laws of parked receivers.
-use Rattle.std.proofs.Common.{◌≡◌, ℕ, ◌+◌, ◌-◌, ◌≤◌, Bool, true, false, not, ◌&&◌, [], ◌∷◌, ◌++◌, length, drop, take, Some, None, refl, sym}
-use Rattle.std.proofs.Common.{◌∙◌, ap, arith, length-append, length-take-le, take-append-drop}
-use Rattle.std.proofs.lemmas.List.{length-drop, length-map, length_push}
-use Rattle.std.proofs.lemmas.Bool.{cond-true, cond-false}
-use Rattle.flume_model.specs.declared.step.Step.{Step}
-use Rattle.flume_model.specs.declared.step.Reply.{Reply}
-use Rattle.flume_model.specs.Log.{Log, Opening, Offer, Change, Queues, Blocks, Accepts, Withdraws, Takes, Drains, Parks, Asks, Collects}
-use Rattle.flume_model.specs.Log.{Leaves, SenderJoins, ReceiverJoins, SenderLeaves, ReceiverLeaves, Stays, change}
-use Rattle.flume_model.specs.Counts.{is_over}
-use Rattle.flume_model.specs.Line.{line, boundary, boundary_after, queue, how_many}
-use Rattle.flume_model.specs.Entries.{some_wait}
-use Rattle.flume_model.specs.Parked.{entries_after, entries, is_shut}
-use Rattle.flume_model.specs.Channel.{Channel, channel}
-use Rattle.flume_model.specs.Replies.{IsRun}
+use Rattle.flume_model.proofs.Common.{◌≡◌, ℕ, ◌+◌, ◌-◌, ◌≤◌, Bool, true, false, not, ◌&&◌, [], ◌∷◌, ◌++◌, length, drop, take, Some, None}
+use Rattle.flume_model.proofs.Common.{refl, sym, ◌∙◌, ap, arith, length-append, length-take-le, cond-true, cond-false, take-append-drop}
+use Rattle.flume_model.proofs.Common.{length-drop, length-map, length_push, Channel, channel, is_over, some_wait, line, boundary}
+use Rattle.flume_model.proofs.Common.{boundary_after, queue, how_many, Log, Opening, Offer, Change, Queues, Blocks, Accepts, Withdraws}
+use Rattle.flume_model.proofs.Common.{Takes, Drains, Parks, Asks, Collects, Leaves, SenderJoins, ReceiverJoins, SenderLeaves}
+use Rattle.flume_model.proofs.Common.{ReceiverLeaves, Stays, change, entries_after, entries, is_shut, IsRun, Reply, Step}
 use Rattle.flume_model.proofs.Fits.{Fits, not_over_yet}
 use Rattle.flume_model.proofs.EntryShape.{told_filled, fits_run}
 use Rattle.flume_model.proofs.order.Parts.{at_most, front_at, blocked_at, leave_within}

@@ -1,17 +1,8 @@
 -- A wake round follows its rule, and nothing else does.
-use Rattle.std.proofs.Common.{◌≡◌, ◌≢◌, inl, inr, ℕ, true, if◌then◌else◌, List, [], ◌∷◌, ◌++◌, Option, Some, None}
-use Rattle.std.proofs.Common.{refl, sym, ◌∙◌, ap}
-use Rattle.std.specs.List.{All}
-use Rattle.std.proofs.lemmas.List.{append-nil}
-use Rattle.std.proofs.lemmas.List.Elements.{All-nil, All-cons, All-head, All-tail}
-use Rattle.flume_model.specs.declared.step.Kind.{Kind}
-use Rattle.flume_model.specs.declared.step.Kind.TheVariants.{Block, Plain, Stream, Arm}
-use Rattle.flume_model.specs.declared.entry.Entry.{Entry}
-use Rattle.flume_model.specs.declared.entry.Mark.{Mark}
-use Rattle.flume_model.specs.declared.entry.Mark.TheVariants.{Waiting, Woken, Filled}
-use Rattle.flume_model.specs.Entries.{is_waiting, marked, round, round_fills, all_woken}
-use Rattle.flume_model.specs.WaitLaws.{is_block}
-use Rattle.flume_model.specs.WakeRule.{IsPassed, IsWakeRound}
+use Rattle.flume_model.proofs.Common.{◌≡◌, ◌≢◌, inl, inr, ℕ, true, if◌then◌else◌, List, [], ◌∷◌, ◌++◌, Option, Some, None, refl, sym, ◌∙◌}
+use Rattle.flume_model.proofs.Common.{ap, append-nil, All-nil, All-cons, All-head, All-tail, All, is_waiting, marked, round, round_fills}
+use Rattle.flume_model.proofs.Common.{all_woken, is_block, IsPassed, IsWakeRound, Entry, Mark, Waiting, Woken, Filled, Kind, Block, Plain}
+use Rattle.flume_model.proofs.Common.{Stream, Arm}
 
 module _ {T N : Type 0} where
   -- the entry with this kind and mark

@@ -1,24 +1,12 @@
 -- A receiver that blocks stands woken only in a closed channel, and only where no sender is blocked.
-use Rattle.std.proofs.Common.{◌≡◌, ℕ, ◌≤◌, Bool, true, false, not, ◌&&◌, ◌||◌, if◌then◌else◌, List, [], ◌∷◌, ◌++◌, length, eqb, Some, None}
-use Rattle.std.proofs.Common.{refl, sym, ◌∙◌, ◌⊎◌, inl, inr, ap, arith, min, eqb-true}
-use Rattle.std.proofs.lemmas.Bool.{or_cases, or_left, or_right, or_from, and_right, and_parts}
-use Rattle.std.proofs.lemmas.List.Folds.{list_any-append}
-use Rattle.flume_model.specs.declared.step.Kind.{Kind}
-use Rattle.flume_model.specs.declared.step.Kind.TheVariants.{Block, Plain, Stream, Arm}
-use Rattle.flume_model.specs.declared.step.Step.{Step}
-use Rattle.flume_model.specs.declared.step.Reply.{Reply}
-use Rattle.flume_model.specs.declared.entry.Mark.{Mark}
-use Rattle.flume_model.specs.declared.entry.Mark.TheVariants.{Waiting, Woken, Filled}
-use Rattle.flume_model.specs.Log.{Log, Opening, Change, Queues, Blocks, Accepts, Withdraws, Takes, Drains, Parks, Asks, Collects, Leaves}
-use Rattle.flume_model.specs.Log.{SenderJoins, ReceiverJoins, SenderLeaves, ReceiverLeaves, Stays, change}
-use Rattle.flume_model.specs.Counts.{senders, receivers, senders_after, receivers_after, is_over}
-use Rattle.flume_model.specs.Line.{line, boundary, boundary_after, blocked}
-use Rattle.flume_model.specs.Limits.{IsClosed, is_closed}
-use Rattle.flume_model.specs.Entries.{is_woken, some_wait, all_woken, without, round}
-use Rattle.flume_model.specs.Parked.{LogEntry, untold, entries_after, entries}
-use Rattle.flume_model.specs.Channel.{Channel, channel}
-use Rattle.flume_model.specs.Replies.{IsRun}
-use Rattle.flume_model.specs.WaitLaws.{is_block, block_woken, WokenBlockWhileClosed}
+use Rattle.flume_model.proofs.Common.{◌≡◌, ℕ, ◌≤◌, Bool, true, false, not, ◌&&◌, ◌||◌, if◌then◌else◌, List, [], ◌∷◌, ◌++◌, length, eqb}
+use Rattle.flume_model.proofs.Common.{Some, None, refl, sym, ◌∙◌, ◌⊎◌, inl, inr, ap, arith, min, eqb-true, or_cases, or_left, or_right}
+use Rattle.flume_model.proofs.Common.{or_from, and_right, and_parts, list_any-append, Channel, channel, senders, receivers, senders_after}
+use Rattle.flume_model.proofs.Common.{receivers_after, is_over, is_woken, some_wait, all_woken, without, round, IsClosed, is_closed, line}
+use Rattle.flume_model.proofs.Common.{boundary, boundary_after, blocked, Log, Opening, Change, Queues, Blocks, Accepts, Withdraws, Takes}
+use Rattle.flume_model.proofs.Common.{Drains, Parks, Asks, Collects, Leaves, SenderJoins, ReceiverJoins, SenderLeaves, ReceiverLeaves}
+use Rattle.flume_model.proofs.Common.{Stays, change, LogEntry, untold, entries_after, entries, IsRun, is_block, block_woken}
+use Rattle.flume_model.proofs.Common.{WokenBlockWhileClosed, Mark, Waiting, Woken, Filled, Kind, Block, Plain, Stream, Arm, Reply, Step}
 use Rattle.flume_model.proofs.Fits.{Fits}
 use Rattle.flume_model.proofs.EntryLists.{round_for_push, again_cases, leave_cases}
 use Rattle.flume_model.proofs.waits.WaitingSteps.{Stood, Long, stepped, nobody_once_over, line_long}

@@ -1,6 +1,5 @@
 -- Each message that came back was blocked behind these and before those.
-use Rattle.std.proofs.Common.{rules, ◌≡◌, ℕ, true, List, [], ◌∷◌, ◌++◌, refl}
-use Rattle.flume_model.specs.Log.{Offer}
+use Rattle.flume_model.proofs.Common.{rules, ◌≡◌, ℕ, true, List, [], ◌∷◌, ◌++◌, refl, Offer}
 use Rattle.flume_model.proofs.laws.blocked_rows_are_runs.Goals as goal
 
 first : (x : Offer ℕ) (later : List (Offer ℕ))

@@ -1,6 +1,5 @@
 -- The message that came back was the only one blocked.
-use Rattle.std.proofs.Common.{rules, arith, ◌≡◌, ℕ, true, List, [], ◌∷◌, ◌++◌, refl}
-use Rattle.flume_model.specs.Log.{Offer}
+use Rattle.flume_model.proofs.Common.{rules, arith, ◌≡◌, ℕ, true, List, [], ◌∷◌, ◌++◌, refl, Offer}
 use denote.RawPtr.{null_ptr}
 use Rattle.flume_model.proofs.laws.parked_rows_are_runs.Goals as goal
 

@@ -1,6 +1,4 @@
-use Rattle.std.proofs.Common.{refl}
-use Rattle.flume_model.specs.declared.step.Kind.TheVariants.{Plain}
-use Rattle.flume_model.specs.declared.entry.Mark.TheVariants.{Woken}
+use Rattle.flume_model.proofs.Common.{refl, Woken, Plain}
 use Rattle.flume_model.proofs.waits.WaitingLaws.{told_filled}
 use Rattle.flume_model.proofs.laws.waits.receivers_are_filled_just_where_told.Goals as goal
 
