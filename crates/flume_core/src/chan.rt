@@ -1,6 +1,6 @@
 //! The state of a channel, and the steps that change it.
-ghost use Rattle.std.specs.Prelude.{◌≡◌, ◌∷◌, [], length, IsTrue, ◌↔◌};
-ghost use Rattle.flume_model.specs.Log.{Log, Opening, opens};
+ghost use Rattle.std.specs.Prelude.{◌≡◌, [], length, IsTrue, ◌↔◌};
+ghost use Rattle.flume_model.specs.Log.{opens};
 ghost use Rattle.flume_model.specs.Limits.{IsOpen, HasRoom};
 ghost use Rattle.flume_state.specs.State.{State, opened};
 ghost use Rattle.flume_core.specs.StandsFor.{StandsFor, Extends, ChangesNothing, IsLedTo};

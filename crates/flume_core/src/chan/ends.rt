@@ -1,5 +1,5 @@
 //! The steps by which ends come and go.
-ghost use Rattle.std.specs.Prelude.{not, ◌≡◌, ◌+◌, ◌-◌, ◌<◌, ◌↔◌, ◌∷◌};
+ghost use Rattle.std.specs.Prelude.{not, ◌≡◌, ◌+◌, ◌-◌, ◌<◌, ◌↔◌};
 ghost use Rattle.flume_model.specs.Limits.{is_closed, most};
 ghost use Rattle.flume_state.specs.Effects.{after_leaving, all_due};
 ghost use Rattle.flume_state.specs.State.{State};

@@ -1,5 +1,5 @@
 //! The steps of parked receivers, and wake rounds.
-ghost use Rattle.std.specs.Prelude.{◌≡◌, ◌≢◌, ◌↔◌, ◌⊎◌, ℕ, Bool, true, List, [], ◌∷◌, Option, Some};
+ghost use Rattle.std.specs.Prelude.{◌≡◌, ◌↔◌, ◌⊎◌, ℕ, Bool, true, List, [], ◌∷◌, Option, Some};
 ghost use Rattle.std.specs.Prelude.{None};
 ghost use Rattle.flume_model.specs.Limits.{IsOpen, IsClosed, is_closed};
 ghost use Rattle.flume_model.specs.Entries.{entry_of, again, passes_on, leave_fills};

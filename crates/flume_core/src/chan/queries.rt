@@ -1,5 +1,5 @@
 //! The queries, each a step that changes nothing, and what is due.
-ghost use Rattle.std.specs.Prelude.{◌≡◌, ◌==◌, ◌∷◌, length, IfNone, IfSome, true, false};
+ghost use Rattle.std.specs.Prelude.{◌≡◌, ◌==◌, length, IfNone, IfSome, false};
 ghost use Rattle.std.specs.Option.{option_copied};
 ghost use Rattle.flume_model.specs.Limits.{is_closed, is_full};
 ghost use Rattle.flume_state.specs.Sends.{NoneDue};
