@@ -1,10 +1,13 @@
 //! Gates over a channel, on which another makes a step while the call waits.
 use crate::answers::is;
-use flume_calls::calls::{RecvCall, RecvNext, SendCall, SendNext};
+use flume_calls::calls::{AgainReceive, FirstReceive, ParkReceive, RecvCall, RecvNext};
+use flume_calls::calls::{AgainSend, FirstSend, ParkSend, SendCall, SendNext};
 use flume_calls::due::Bell;
 use flume_calls::gates::{RecvGate, SendGate, recv_over, send_over};
 use flume_calls::locked::Locked;
+use flume_calls::single::Single;
 use flume_core::error::{RecvTimeoutError, SendTimeoutError};
+use flume_core::step::Kind;
 use std::alloc::Global;
 
 // What another does.
@@ -52,10 +55,10 @@ impl Lent {
         match self.other.take() {
             None => return true,
             Some(Other::DropSender) => {
-                self.locked.drop_sender(&mut self.bell);
+                self.locked.make(Single::DropSender, &mut self.bell);
             }
             Some(Other::TryRecv) => {
-                if let RecvNext::Done(Ok(message)) = self.locked.first_receive(&mut self.bell) {
+                if let RecvNext::Done(Ok(message)) = self.locked.make(FirstReceive, &mut self.bell) {
                     self.received = Some(message);
                 }
             }
@@ -76,7 +79,7 @@ impl SendGate<u64> for Lent {
     ghost waits = { λ old new answer. Unit {0} };
 
     fn first(&mut self, message: u64) -> SendNext<u64> {
-        self.locked.first_send(message, &mut self.bell)
+        self.locked.make(FirstSend { message }, &mut self.bell)
     }
 
     fn arm(&mut self) -> bool {
@@ -84,11 +87,13 @@ impl SendGate<u64> for Lent {
     }
 
     fn park(&mut self, message: u64) -> SendNext<u64> {
-        self.locked.park_send(message, 11, &mut self.bell)
+        let signal = 11;
+        self.locked.make(ParkSend { message, signal }, &mut self.bell)
     }
 
     fn again(&mut self, call: SendCall, late: bool) -> SendNext<u64> {
-        self.locked.again_send(call, late, &mut self.bell)
+        let signal = None;
+        self.locked.make(AgainSend { call, late, signal }, &mut self.bell)
     }
 
     fn wait(&mut self) -> bool {
@@ -108,7 +113,7 @@ impl RecvGate<u64> for Lent {
     ghost waits = { λ old new answer. Unit {0} };
 
     fn first(&mut self) -> RecvNext<u64> {
-        self.locked.first_receive(&mut self.bell)
+        self.locked.make(FirstReceive, &mut self.bell)
     }
 
     fn arm(&mut self) -> bool {
@@ -116,11 +121,13 @@ impl RecvGate<u64> for Lent {
     }
 
     fn park(&mut self) -> RecvNext<u64> {
-        self.locked.park_receive(11, &mut self.bell)
+        let (kind, signal) = (Kind::Block, 11);
+        self.locked.make(ParkReceive { kind, signal }, &mut self.bell)
     }
 
     fn again(&mut self, call: RecvCall, late: bool) -> RecvNext<u64> {
-        self.locked.again_receive(call, late, &mut self.bell)
+        let signal = None;
+        self.locked.make(AgainReceive { call, late, signal }, &mut self.bell)
     }
 
     fn wait(&mut self) -> bool {

@@ -84,7 +84,7 @@ impl Waiting {
     /// A later turn of the send that parked last.
     pub(crate) fn again_send<T: Drop>(&mut self, chan: &mut Chan<T, u64>, late: bool) -> Met<T> {
         match self.send.take() {
-            Some(call) => self.after_send(call.again(late, None, chan)),
+            Some(call) => self.after_send(call.again(chan, late, None)),
             None => Met::NoCall,
         }
     }
@@ -97,7 +97,7 @@ impl Waiting {
         signal: Option<u64>,
     ) -> Met<T> {
         match self.receive.take() {
-            Some(call) => self.after_receive(call.again(late, signal, chan)),
+            Some(call) => self.after_receive(call.again(chan, late, signal)),
             None => Met::NoCall,
         }
     }

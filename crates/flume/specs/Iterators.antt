@@ -2,9 +2,9 @@
 use Rattle.std.specs.Prelude.{◌≡◌, ℕ, ◌+◌, ◌-◌, ◌^◌, Bool, true, false, List}
 use Rattle.std.specs.Prelude.{Option, None, Result, Ok, Err}
 use Rattle.flume_model.specs.declared.step.Reply.{Reply}
-use Rattle.flume_model.specs.declared.step.Reply.TheVariants.{Drained}
+use Rattle.flume_model.specs.declared.step.Reply.TheVariants.{Drained, NoMemory as NoneLeft}
 use Rattle.flume_core.specs.declared.error.RecvError.{RecvError}
-use Rattle.flume_core.specs.declared.error.RecvError.TheVariants.{NoMemory as NoneLeft}
+use Rattle.flume_core.specs.declared.error.RecvError.TheVariants as recv_error
 use Rattle.flume_core.specs.declared.error.NoMemory.{NoMemory}
 
 -- what a contract sees of an iterator over received messages
@@ -30,12 +30,12 @@ pub record GoesOn {T : Type 0} (old : Receiving) (item : Option T) (new : Receiv
 module _ {T : Type 0} where
   -- whether a receive was refused for want of memory
   abbrev pub is_refused : Result T RecvError → Bool
-  is_refused (Err NoneLeft) = true
+  is_refused (Err recv_error.NoMemory) = true
   is_refused _ = false
 
 module _ {T A : Type 0} where
-  -- the answer of a drain by its step's reply: the list that the step took. The last row is of the
-  -- reply for want of memory, and of those that never come of this step.
-  abbrev pub after_drain : Reply T A → Result (List T) NoMemory
-  after_drain (Drained list) = Ok list.items
-  after_drain _ = Err (record {})
+  -- the answer of a drain to its step's reply: the list that the step took
+  abbrev pub after_drain : Reply T A → Result (List T) NoMemory → Type 0
+  after_drain (Drained list) answer = answer ≡ Ok list.items
+  after_drain (NoneLeft back) answer = answer ≡ Err (record {})
+  after_drain _ answer = ⊥

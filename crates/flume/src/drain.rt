@@ -2,10 +2,11 @@
 ghost use Rattle.std.specs.Prelude.{◌≡◌, List, length};
 ghost use Rattle.std.specs.Iterator.{at_most, Drains, IsFinite};
 ghost use Rattle.std.specs.Map.Iter.{TakesFirst};
+ghost use Rattle.flume_core.specs.Comes.{Comes};
 ghost use Rattle.flume.specs.Iterators.{after_drain};
 
 use flume_core::error::NoMemory;
-use flume_core::step::Reply;
+use flume_core::step::{Reply, Step};
 use std::alloc::{Allocator, Global};
 use std::collections::VecDeque;
 use std::fmt;
@@ -33,17 +34,18 @@ impl<'a, T, A: Allocator> Model for Drain<'a, T, A> {
 }
 
 impl<'a, T: Drop, A: Allocator> Drain<'a, T, A> {
-    /// The answer of a drain, by its step's reply.
+    /// The answer of a drain, to its step's reply.
     pub(crate) fn answer(reply: Reply<T, A>) -> Result<Self, NoMemory>
-        ensures table { result ≡ after_drain reply }
+        requires comes { Comes Step.Drain reply }
+        ensures table { after_drain reply result }
     {
         match reply {
             Reply::Drained(list) => Ok(Drain {
                 queue: VecDeque::from_vec(list),
                 receiver: PhantomData,
             }),
-            // NoMemory; no other reply comes.
-            _ => Err(NoMemory),
+            Reply::NoMemory(_) => Err(NoMemory),
+            _ => unreachable!(),
         }
     }
 }

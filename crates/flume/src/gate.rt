@@ -2,14 +2,18 @@
 //! on a parker of its own.
 ghost use Rattle.std.specs.Prelude.{◌≡◌, ◌≢◌, Bool, true, false};
 ghost use Rattle.flume.specs.declared.gate.Deadline.TheVariants.{Never};
-ghost use Rattle.flume_calls.specs.SendGates as send;
-ghost use Rattle.flume_calls.specs.ReceiveGates as receive;
+ghost use Rattle.flume_calls.specs.SendTurns as send;
+ghost use Rattle.flume_calls.specs.ReceiveTurns as receive;
 
 use crate::shared::{Backoff, Shared, Waits, pause};
 use crate::signal::{Parker, Signal};
-use flume_calls::calls::{RecvCall, RecvNext, SendCall, SendNext};
+use flume_calls::calls::{
+    AgainReceive, AgainSend, FirstReceive, FirstSend, ParkReceive, ParkSend, RecvCall, RecvNext,
+    SendCall, SendNext,
+};
 use flume_calls::gates::{RecvGate, SendGate};
 use flume_core::error::{RecvTimeoutError, SendTimeoutError};
+use flume_core::step::Kind;
 use std::alloc::Allocator;
 use std::marker::Model;
 use std::sync::Arc;
@@ -60,8 +64,9 @@ impl Deadline {
 pub(crate) struct Gate<'a, T, R: Waits, A: Allocator + Copy> {
     shared: &'a Shared<T, R, A>,
     deadline: Deadline,
-    // What the call waits on, once it is made.
+    // What the call waits on, once it is made, and the copy of it that the call leaves as it parks.
     parker: Option<Arc<Parker, A>>,
+    signal: Option<Signal<A>>,
 }
 
 impl<'a, T, R: Waits, A: Allocator + Copy> Model for Gate<'a, T, R, A> {
@@ -82,29 +87,27 @@ impl<'a, T: Drop, R: Waits, A: Allocator + Copy> Gate<'a, T, R, A> {
             shared,
             deadline,
             parker: None,
+            signal: None,
         }
     }
 
-    // Makes the parker, outside the lock, and pauses before the call parks.
+    // Makes the parker and the copy that the call is to leave, outside the lock, and pauses before
+    // the call parks.
     #[inline(always)]
     fn make_parker(&mut self) -> bool
         ensures same { self.new ≡ self.old }
     {
-        let Backoff { pauses, looks } = self.shared.backoff;
-        let Ok(parker) = Arc::new(self.shared.alloc, Parker::new(looks)) else {
+        let Backoff { pauses, checks } = self.shared.backoff;
+        let Ok(parker) = Arc::new(self.shared.alloc, Parker::new(checks)) else {
+            return false;
+        };
+        let Ok(copy) = Arc::try_clone(&parker) else {
             return false;
         };
         self.parker = Some(parker);
+        self.signal = Some(Signal::Parker(copy));
         pause(pauses);
         true
-    }
-
-    // The copy of the parker that the call's entry is to hold, made outside the lock too.
-    #[inline(always)]
-    fn signal(&self) -> Option<Signal<A>> {
-        let parker = self.parker.as_ref()?;
-        let copy = Arc::try_clone(parker).ok()?;
-        Some(Signal::Parker(copy))
     }
 
     // Waits for the parker's wake or the deadline. True, at once, where the deadline is reached.
@@ -134,13 +137,13 @@ impl<T: Drop, R: Waits, A: Allocator + Copy> SendGate<T> for Gate<'_, T, R, A> {
 
     ghost parks = { λ old message new next. (new ≡ old) × send.IsParking message next };
 
-    ghost agains = { λ old _ late new next. (new ≡ old) × send.IsAgain late next };
+    ghost agains = { λ old ticket late new next. (new ≡ old) × send.IsAgain ticket late next };
 
     ghost waits = { λ old new late. (new ≡ old) × (late ≡ true → old ≢ Never) };
 
     #[inline(always)]
     fn first(&mut self, message: T) -> SendNext<T> {
-        self.shared.first_send(message)
+        self.shared.make(FirstSend { message })
     }
 
     #[inline(always)]
@@ -148,17 +151,19 @@ impl<T: Drop, R: Waits, A: Allocator + Copy> SendGate<T> for Gate<'_, T, R, A> {
         self.make_parker()
     }
 
-    #[inline(always)]
+    #[inline(never)]
     fn park(&mut self, message: T) -> SendNext<T> {
-        match self.signal() {
-            Some(signal) => self.shared.park_send(message, signal),
+        match self.signal.take() {
+            Some(signal) => self.shared.make(ParkSend { message, signal }),
+            // No call parks before it is armed.
             None => SendNext::Done(Err(SendTimeoutError::NoMemory(message))),
         }
     }
 
-    #[inline(always)]
+    #[inline(never)]
     fn again(&mut self, call: SendCall, late: bool) -> SendNext<T> {
-        self.shared.again_send(call, late)
+        let signal = None;
+        self.shared.make(AgainSend { call, late, signal })
     }
 
     #[inline(always)]
@@ -174,13 +179,14 @@ impl<T: Drop, R: Waits, A: Allocator + Copy> RecvGate<T> for Gate<'_, T, R, A> {
 
     ghost parks = { λ old new next. (new ≡ old) × receive.IsParking next };
 
-    ghost agains = { λ old _ late new next. (new ≡ old) × receive.IsAgain late next };
+    ghost agains = { λ old ticket late new next.
+        (new ≡ old) × receive.IsAgain ticket late next × receive.IsntRefused next };
 
     ghost waits = { λ old new late. (new ≡ old) × (late ≡ true → old ≢ Never) };
 
     #[inline(always)]
     fn first(&mut self) -> RecvNext<T> {
-        self.shared.first_receive()
+        self.shared.make(FirstReceive)
     }
 
     #[inline(always)]
@@ -188,17 +194,20 @@ impl<T: Drop, R: Waits, A: Allocator + Copy> RecvGate<T> for Gate<'_, T, R, A> {
         self.make_parker()
     }
 
-    #[inline(always)]
+    #[inline(never)]
     fn park(&mut self) -> RecvNext<T> {
-        match self.signal() {
-            Some(signal) => self.shared.park_receive(signal),
+        let kind = Kind::Block;
+        match self.signal.take() {
+            Some(signal) => self.shared.make(ParkReceive { kind, signal }),
+            // No call parks before it is armed.
             None => RecvNext::Done(Err(RecvTimeoutError::NoMemory)),
         }
     }
 
-    #[inline(always)]
+    #[inline(never)]
     fn again(&mut self, call: RecvCall, late: bool) -> RecvNext<T> {
-        self.shared.again_receive(call, late)
+        let signal = None;
+        self.shared.make(AgainReceive { call, late, signal })
     }
 
     #[inline(always)]

@@ -2,8 +2,8 @@
 //! send waits for a receive.
 //!
 //! Each call of an end is a few steps of the one channel behind its lock, whose steps are proved.
-//! The names of `flume_core`, and the calls, bells and gates of `flume_calls`, are given again
-//! here.
+//! The names of `flume_core`, the calls, bells and gates of `flume_calls`, and the scripts of
+//! `flume_script`, are given again here.
 //!
 //! ```
 //! let (tx, rx) = unbounded::<u64, _, _>(rt, rt.alloc(), 1)?;
@@ -30,6 +30,7 @@ pub use flume_core::error::{
     RecvError, RecvTimeoutError, SendError, SendTimeoutError, TryRecvError, TrySendError,
 };
 pub use flume_core::{chan, error, facts, run, step};
+pub use flume_script::{Script, run_script};
 pub use into_iter::IntoIter;
 pub use iterators::{Iter, TryIter};
 pub use opening::{bounded, unbounded};

@@ -6,8 +6,9 @@ use crate::drain::Drain;
 use crate::gate::{Deadline, Gate};
 use crate::iterators::{Iter, TryIter};
 use crate::shared::{Shared, Waits};
-use flume_calls::calls::RecvNext;
+use flume_calls::calls::{FirstReceive, RecvNext};
 use flume_calls::gates::recv_over;
+use flume_calls::single::{AskCapacity, AskNumber, AskTruth, Single};
 use flume_core::error::{NoMemory, RecvError, RecvTimeoutError, TryRecvError};
 use flume_core::step::Reply;
 use std::alloc::{AllocError, Allocator, Global};
@@ -51,7 +52,7 @@ impl<T: Drop, R: Waits, A: Allocator + Copy> Receiver<T, R, A> {
     pub fn try_recv(&self) -> Result<T, TryRecvError>
         ensures never_no_memory { result ≢ Err TryRecvError.NoMemory }
     {
-        match self.shared.first_receive() {
+        match self.shared.make(FirstReceive) {
             RecvNext::Done(Ok(message)) => Ok(message),
             RecvNext::Done(Err(RecvTimeoutError::Disconnected)) => Err(TryRecvError::Disconnected),
             RecvNext::NeedSignal => Err(TryRecvError::Empty),
@@ -71,7 +72,8 @@ impl<T: Drop, R: Waits, A: Allocator + Copy> Receiver<T, R, A> {
     /// rx.recv();                         // Err(Disconnected)
     /// ```
     pub fn recv(&self) -> Result<T, RecvError> {
-        match self.recv_up_to(Deadline::Never) {
+        let mut gate = Gate::new(&self.shared, Deadline::Never);
+        match recv_over(&self.shared.rt, &mut gate) {
             Ok(message) => Ok(message),
             Err(RecvTimeoutError::NoMemory) => Err(RecvError::NoMemory),
             Err(RecvTimeoutError::Disconnected) => Err(RecvError::Disconnected),
@@ -88,7 +90,8 @@ impl<T: Drop, R: Waits, A: Allocator + Copy> Receiver<T, R, A> {
     /// rx.recv_deadline(now);             // Err(Timeout), where no message is there
     /// ```
     pub fn recv_deadline(&self, deadline: Instant) -> Result<T, RecvTimeoutError> {
-        self.recv_up_to(Deadline::At(deadline))
+        let mut gate = Gate::new(&self.shared, Deadline::At(deadline));
+        recv_over(&self.shared.rt, &mut gate)
     }
 
     /// The same, up to so long from now. Where no time is that late it waits as `recv` does.
@@ -98,15 +101,8 @@ impl<T: Drop, R: Waits, A: Allocator + Copy> Receiver<T, R, A> {
     /// ```
     pub fn recv_timeout(&self, timeout: Duration) -> Result<T, RecvTimeoutError> {
         let deadline = Deadline::after(&self.shared.rt, timeout);
-        self.recv_up_to(deadline)
-    }
-
-    fn recv_up_to(&self, deadline: Deadline) -> Result<T, RecvTimeoutError>
-        ensures in_time { deadline ≡ Deadline.Never → result ≢ Err RecvTimeoutError.Timeout }
-    {
-        let shared: &Shared<T, R, A> = &self.shared;
-        let mut gate = Gate::new(shared, deadline);
-        recv_over(&shared.rt, &mut gate)
+        let mut gate = Gate::new(&self.shared, deadline);
+        recv_over(&self.shared.rt, &mut gate)
     }
 
     /// The messages, one after the other. It waits for each, and ends where `recv` is refused.
@@ -151,7 +147,7 @@ impl<T: Drop, R: Waits, A: Allocator + Copy> Receiver<T, R, A> {
     /// rx.len();                          // 0
     /// ```
     pub fn drain(&self) -> Result<Drain<'_, T, A>, NoMemory> {
-        self.shared.drain()
+        Drain::answer(self.shared.make(Single::Drain))
     }
 
     /// The runtime value that the ends keep.
@@ -161,37 +157,37 @@ impl<T: Drop, R: Waits, A: Allocator + Copy> Receiver<T, R, A> {
 
     /// How many messages are queued.
     pub fn len(&self) -> usize {
-        self.shared.len()
+        self.shared.make(AskNumber::Len)
     }
 
     /// Whether no message is queued.
     pub fn is_empty(&self) -> bool {
-        self.shared.is_empty()
+        self.shared.make(AskTruth::IsEmpty)
     }
 
     /// Whether the channel is bounded, and as many messages are queued as it holds.
     pub fn is_full(&self) -> bool {
-        self.shared.is_full()
+        self.shared.make(AskTruth::IsFull)
     }
 
     /// How many messages the channel holds; `None` of an unbounded one.
     pub fn capacity(&self) -> Option<usize> {
-        self.shared.capacity()
+        self.shared.make(AskCapacity)
     }
 
     /// How many senders live.
     pub fn sender_count(&self) -> usize {
-        self.shared.sender_count()
+        self.shared.make(AskNumber::SenderCount)
     }
 
     /// How many receivers live.
     pub fn receiver_count(&self) -> usize {
-        self.shared.receiver_count()
+        self.shared.make(AskNumber::ReceiverCount)
     }
 
     /// Whether all receivers, or all senders, are gone.
     pub fn is_disconnected(&self) -> bool {
-        self.shared.is_disconnected()
+        self.shared.make(AskTruth::IsDisconnected)
     }
 
     /// Whether both receive from channels of the same number.
@@ -207,7 +203,7 @@ impl<T: Drop, R: Waits, A: Allocator + Copy> Clone for Receiver<T, R, A> {
 
     fn clone(&self) -> Result<Self, AllocError> {
         let shared = Arc::try_clone(&self.shared)?;
-        match shared.clone_receiver() {
+        match shared.make(Single::CloneReceiver) {
             Reply::Done => Ok(Receiver { shared }),
             _ => Err(AllocError),
         }
@@ -223,6 +219,6 @@ impl<T: Drop, R: Waits, A: Allocator + Copy> fmt::Debug for Receiver<T, R, A> {
 impl<T: Drop, R: Waits, A: Allocator + Copy> Drop for Receiver<T, R, A> {
     fn drop(self) {
         let Self { shared } = self;
-        shared.drop_receiver();
+        shared.make(Single::DropReceiver);
     }
 }

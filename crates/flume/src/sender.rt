@@ -4,8 +4,9 @@ ghost use Rattle.std.specs.Prelude.{◌≡◌, ◌≢◌, ℕ, ◌==◌, IfOk, E
 use crate::gate::{Deadline, Gate};
 use crate::shared::{Shared, Waits};
 use crate::weak::WeakSender;
-use flume_calls::calls::SendNext;
+use flume_calls::calls::{FirstSend, SendNext};
 use flume_calls::gates::send_over;
+use flume_calls::single::{AskCapacity, AskNumber, AskTruth, Single};
 use flume_core::error::{NoMemory, SendError, SendTimeoutError, TrySendError};
 use flume_core::step::Reply;
 use std::alloc::{AllocError, Allocator, Global};
@@ -55,7 +56,7 @@ impl<T: Drop, R: Waits, A: Allocator + Copy> Sender<T, R, A> {
         ensures no_memory { (back : T) → result ≡ Err (TrySendError.NoMemory back)
             → back ≡ message }
     {
-        match self.shared.first_send(message) {
+        match self.shared.make(FirstSend { message }) {
             SendNext::Done(Ok(())) => Ok(()),
             SendNext::Done(Err(SendTimeoutError::Disconnected(message))) => {
                 Err(TrySendError::Disconnected(message))
@@ -80,7 +81,8 @@ impl<T: Drop, R: Waits, A: Allocator + Copy> Sender<T, R, A> {
     pub fn send(&self, message: T) -> Result<(), SendError<T>>
         ensures no_memory { (back : T) → result ≡ Err (SendError.NoMemory back) → back ≡ message }
     {
-        match self.send_up_to(message, Deadline::Never) {
+        let mut gate = Gate::new(&self.shared, Deadline::Never);
+        match send_over(&self.shared.rt, &mut gate, message) {
             Ok(()) => Ok(()),
             Err(SendTimeoutError::NoMemory(message)) => Err(SendError::NoMemory(message)),
             Err(SendTimeoutError::Disconnected(message)) => Err(SendError::Disconnected(message)),
@@ -102,7 +104,8 @@ impl<T: Drop, R: Waits, A: Allocator + Copy> Sender<T, R, A> {
         ensures no_memory { (back : T) → result ≡ Err (SendTimeoutError.NoMemory back)
             → back ≡ message }
     {
-        self.send_up_to(message, Deadline::At(deadline))
+        let mut gate = Gate::new(&self.shared, Deadline::At(deadline));
+        send_over(&self.shared.rt, &mut gate, message)
     }
 
     /// The same, up to so long from now. Where no time is that late it waits as `send` does.
@@ -115,53 +118,43 @@ impl<T: Drop, R: Waits, A: Allocator + Copy> Sender<T, R, A> {
             → back ≡ message }
     {
         let deadline = Deadline::after(&self.shared.rt, timeout);
-        self.send_up_to(message, deadline)
-    }
-
-    fn send_up_to(&self, message: T, deadline: Deadline) -> Result<(), SendTimeoutError<T>>
-        ensures in_time { deadline ≡ Deadline.Never
-            → (back : T) → result ≢ Err (SendTimeoutError.Timeout back) }
-        ensures no_memory { (back : T) → result ≡ Err (SendTimeoutError.NoMemory back)
-            → back ≡ message }
-    {
-        let shared: &Shared<T, R, A> = &self.shared;
-        let mut gate = Gate::new(shared, deadline);
-        send_over(&shared.rt, &mut gate, message)
+        let mut gate = Gate::new(&self.shared, deadline);
+        send_over(&self.shared.rt, &mut gate, message)
     }
 
     /// How many messages are queued.
     pub fn len(&self) -> usize {
-        self.shared.len()
+        self.shared.make(AskNumber::Len)
     }
 
     /// Whether no message is queued.
     pub fn is_empty(&self) -> bool {
-        self.shared.is_empty()
+        self.shared.make(AskTruth::IsEmpty)
     }
 
     /// Whether the channel is bounded, and as many messages are queued as it holds.
     pub fn is_full(&self) -> bool {
-        self.shared.is_full()
+        self.shared.make(AskTruth::IsFull)
     }
 
     /// How many messages the channel holds; `None` of an unbounded one.
     pub fn capacity(&self) -> Option<usize> {
-        self.shared.capacity()
+        self.shared.make(AskCapacity)
     }
 
     /// How many senders live.
     pub fn sender_count(&self) -> usize {
-        self.shared.sender_count()
+        self.shared.make(AskNumber::SenderCount)
     }
 
     /// How many receivers live.
     pub fn receiver_count(&self) -> usize {
-        self.shared.receiver_count()
+        self.shared.make(AskNumber::ReceiverCount)
     }
 
     /// Whether all receivers, or all senders, are gone.
     pub fn is_disconnected(&self) -> bool {
-        self.shared.is_disconnected()
+        self.shared.make(AskTruth::IsDisconnected)
     }
 
     /// A sender that doesn't count: the channel may close while it is there. `NoMemory`: there are
@@ -192,7 +185,7 @@ impl<T: Drop, R: Waits, A: Allocator + Copy> Clone for Sender<T, R, A> {
 
     fn clone(&self) -> Result<Self, AllocError> {
         let shared = Arc::try_clone(&self.shared)?;
-        match shared.clone_sender() {
+        match shared.make(Single::CloneSender) {
             Reply::Done => Ok(Sender { shared }),
             _ => Err(AllocError),
         }
@@ -208,6 +201,6 @@ impl<T: Drop, R: Waits, A: Allocator + Copy> fmt::Debug for Sender<T, R, A> {
 impl<T: Drop, R: Waits, A: Allocator + Copy> Drop for Sender<T, R, A> {
     fn drop(self) {
         let Self { shared } = self;
-        shared.drop_sender();
+        shared.make(Single::DropSender);
     }
 }

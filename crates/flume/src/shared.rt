@@ -1,15 +1,10 @@
-//! What all ends of a channel share, and each call's body.
+//! What all ends of a channel share.
 ghost use Rattle.std.specs.Prelude.{◌≡◌};
-ghost use Rattle.flume_calls.specs.SendGates as send;
-ghost use Rattle.flume_calls.specs.ReceiveGates as receive;
 
-use crate::drain::Drain;
 use crate::signal::Signal;
-use flume_calls::calls::{RecvCall, RecvNext, SendCall, SendNext};
 use flume_calls::due::Bell;
 use flume_calls::locked::Locked;
-use flume_core::error::NoMemory;
-use flume_core::step::Reply;
+use flume_calls::turn::Turn;
 use std::alloc::{Allocator, Global};
 use std::hint::spin_loop;
 use std::sync::{Mutex, MutexGuard, Wait};
@@ -23,8 +18,8 @@ impl<R: Wait + Clock + Copy> Waits for R {}
 // The most messages that count as few.
 const FEW: usize = 4;
 
-// How often a call looks for its wake, at the most.
-const LOOKS: u32 = 2000;
+// How often a call checks for its wake, at the most.
+const CHECKS: u32 = 2000;
 
 // How long a call pauses.
 const PAUSES: u32 = 300;
@@ -35,30 +30,30 @@ const PAUSES: u32 = 300;
 pub(crate) struct Backoff {
     // How long it pauses before it parks.
     pub(crate) pauses: u32,
-    // How often, once it has parked, it looks for its wake before it sleeps.
-    pub(crate) looks: u32,
+    // How often, once it has parked, it checks for its wake before it sleeps.
+    pub(crate) checks: u32,
 }
 
 impl Backoff {
-    // Where the channel holds few messages each call meets another one, so it parks and looks.
+    // Where the channel holds few messages each call meets another one, so it parks and checks.
     // Where it holds many, it lets them gather, or go, before it asks again. Where it holds any
     // number neither served.
     fn at(capacity: Option<usize>) -> Backoff {
         let Some(capacity) = capacity else {
             return Backoff {
                 pauses: 0,
-                looks: 0,
+                checks: 0,
             };
         };
         if capacity <= FEW {
             Backoff {
                 pauses: 0,
-                looks: LOOKS,
+                checks: CHECKS,
             }
         } else {
             Backoff {
                 pauses: PAUSES,
-                looks: 0,
+                checks: 0,
             }
         }
     }
@@ -127,7 +122,7 @@ impl<T: Drop, R: Waits, A: Allocator + Copy> Shared<T, R, A> {
     }
 
     // The same, where somebody has it. Whoever has it is let be for longer and longer, since each
-    // look takes the lock's memory from them; then the call sleeps for it.
+    // try takes the lock's memory from them; then the call sleeps for it.
     #[inline(never)]
     fn wait_for_lock(&self) -> MutexGuard<'_, Locked<T, Signal<A>, A>> {
         let mut pauses = FIRST_PAUSES;
@@ -141,138 +136,11 @@ impl<T: Drop, R: Waits, A: Allocator + Copy> Shared<T, R, A> {
         self.state.lock(&self.rt)
     }
 
-    /// The bell that fires what is due.
+    /// Makes the turn under the lock, and fires what it made due.
     #[inline(always)]
-    fn bell(&self) -> Firing<R> {
-        Firing { rt: self.rt }
-    }
-
-    /// A send's first turn.
-    #[inline(always)]
-    pub(crate) fn first_send(&self, message: T) -> SendNext<T>
-        ensures answers { send.IsFirst message result }
+    pub(crate) fn make<C: Turn<T, Signal<A>, A>>(&self, turn: C) -> C::Answer
+        ensures answers { C.answers turn result }
     {
-        self.lock().first_send(message, &mut self.bell())
-    }
-
-    /// A send's turn that may park.
-    #[inline(never)]
-    pub(crate) fn park_send(&self, message: T, signal: Signal<A>) -> SendNext<T>
-        ensures answers { send.IsParking message result }
-    {
-        self.lock().park_send(message, signal, &mut self.bell())
-    }
-
-    /// A turn of a parked send.
-    #[inline(never)]
-    pub(crate) fn again_send(&self, call: SendCall, late: bool) -> SendNext<T>
-        ensures answers { send.IsAgain late result }
-    {
-        self.lock().again_send(call, late, &mut self.bell())
-    }
-
-    /// A receive's first turn.
-    #[inline(always)]
-    pub(crate) fn first_receive(&self) -> RecvNext<T>
-        ensures answers { receive.IsFirst result }
-    {
-        self.lock().first_receive(&mut self.bell())
-    }
-
-    /// A receive's turn that may park.
-    #[inline(never)]
-    pub(crate) fn park_receive(&self, signal: Signal<A>) -> RecvNext<T>
-        ensures answers { receive.IsParking result }
-    {
-        self.lock().park_receive(signal, &mut self.bell())
-    }
-
-    /// A turn of a parked receive.
-    #[inline(never)]
-    pub(crate) fn again_receive(&self, call: RecvCall, late: bool) -> RecvNext<T>
-        ensures answers { receive.IsAgain late result }
-    {
-        self.lock().again_receive(call, late, &mut self.bell())
-    }
-
-    /// All that is queued.
-    pub(crate) fn drain(&self) -> Result<Drain<'_, T, A>, NoMemory> {
-        Drain::answer(self.lock().drain(&mut self.bell()))
-    }
-
-    /// One more sender. An answer `Done` says that it was counted.
-    pub(crate) fn clone_sender(&self) -> Reply<T, A> {
-        self.lock().clone_sender(&mut self.bell())
-    }
-
-    /// One more receiver.
-    pub(crate) fn clone_receiver(&self) -> Reply<T, A> {
-        self.lock().clone_receiver(&mut self.bell())
-    }
-
-    /// One sender less.
-    pub(crate) fn drop_sender(&self) {
-        self.lock().drop_sender(&mut self.bell());
-    }
-
-    /// One receiver less.
-    pub(crate) fn drop_receiver(&self) {
-        self.lock().drop_receiver(&mut self.bell());
-    }
-
-    /// How many messages are queued.
-    pub(crate) fn len(&self) -> usize {
-        match self.lock().channel().len() {
-            Reply::Number(number) => number,
-            _ => unreachable!(),
-        }
-    }
-
-    /// Whether no message is queued.
-    pub(crate) fn is_empty(&self) -> bool {
-        match self.lock().channel().is_empty() {
-            Reply::Truth(truth) => truth,
-            _ => unreachable!(),
-        }
-    }
-
-    /// Whether the queue is at or past its capacity.
-    pub(crate) fn is_full(&self) -> bool {
-        match self.lock().channel().is_full() {
-            Reply::Truth(truth) => truth,
-            _ => unreachable!(),
-        }
-    }
-
-    /// The capacity.
-    pub(crate) fn capacity(&self) -> Option<usize> {
-        match self.lock().channel().capacity() {
-            Reply::Capacity(capacity) => capacity,
-            _ => unreachable!(),
-        }
-    }
-
-    /// How many senders live.
-    pub(crate) fn sender_count(&self) -> usize {
-        match self.lock().channel().sender_count() {
-            Reply::Number(number) => number,
-            _ => unreachable!(),
-        }
-    }
-
-    /// How many receivers live.
-    pub(crate) fn receiver_count(&self) -> usize {
-        match self.lock().channel().receiver_count() {
-            Reply::Number(number) => number,
-            _ => unreachable!(),
-        }
-    }
-
-    /// Whether all senders or all receivers are gone.
-    pub(crate) fn is_disconnected(&self) -> bool {
-        match self.lock().channel().is_disconnected() {
-            Reply::Truth(truth) => truth,
-            _ => unreachable!(),
-        }
+        self.lock().make(turn, &mut Firing { rt: self.rt })
     }
 }

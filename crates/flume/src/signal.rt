@@ -17,15 +17,15 @@ const ASLEEP: u64 = 2;
 #[derive(Drop)]
 pub struct Parker {
     word: AtomicU64,
-    // How often a wait looks for the wake before it sleeps.
-    looks: u32,
+    // How often a wait checks for the wake before it sleeps.
+    checks: u32,
     // Held by a call that goes to sleep until it does, so that its wake isn't told before.
     falling_asleep: Mutex<()>,
     changed: Condvar,
 }
 
 impl Parker {
-    /// A parker that no wake has come to. A wait on it looks so often for its wake before it
+    /// A parker that no wake has come to. A wait on it checks so often for its wake before it
     /// sleeps. Takes no memory.
     ///
     /// ```
@@ -33,10 +33,10 @@ impl Parker {
     /// parker.fire(&rt);
     /// parker.wait(&rt);                  // returns at once
     /// ```
-    pub const fn new(looks: u32) -> Parker {
+    pub const fn new(checks: u32) -> Parker {
         Parker {
             word: AtomicU64::new(IDLE),
-            looks,
+            checks,
             falling_asleep: Mutex::new(()),
             changed: Condvar::new(),
         }
@@ -51,7 +51,7 @@ impl Parker {
         }
     }
 
-    /// Waits for a wake, and takes it. It looks for it a short while, and then sleeps.
+    /// Waits for a wake, and takes it. It checks for it a short while, and then sleeps.
     pub fn wait<R: Wait>(&self, rt: &R) {
         if self.comes_soon() {
             return;
@@ -94,9 +94,9 @@ impl Parker {
         unreachable!()
     }
 
-    // Looks for a wake for a short while, and takes it.
+    // Checks for a wake for a short while, and takes it.
     fn comes_soon(&self) -> bool {
-        for _ in 0..self.looks {
+        for _ in 0..self.checks {
             if self.word.load(Ordering::SeqCst) == FIRED {
                 return self.take();
             }

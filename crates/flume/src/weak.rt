@@ -3,6 +3,7 @@ ghost use Rattle.std.specs.Prelude.{◌≡◌, ◌≢◌, ◌↔◌, ℕ, IfOk, 
 
 use crate::sender::Sender;
 use crate::shared::{Shared, Waits};
+use flume_calls::single::Single;
 use flume_core::error::NoMemory;
 use flume_core::step::Reply;
 use std::alloc::{AllocError, Allocator, Global};
@@ -43,7 +44,7 @@ impl<T: Drop, R: Waits, A: Allocator + Copy> WeakSender<T, R, A> {
         ensures same { IfOk result (λ sender. IfSome sender (λ s. s ≡ self.now)) }
     {
         let shared = Arc::try_clone(&self.shared)?;
-        let reply = shared.clone_sender();
+        let reply = shared.make(Single::CloneSender);
         upgraded(reply, shared)
     }
 }

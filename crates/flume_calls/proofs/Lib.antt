@@ -1,5 +1,3 @@
-mod Comes
-mod Rest
+mod Got
 mod DueCounts
 mod Ringing
-mod AtRest

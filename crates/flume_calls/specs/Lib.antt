@@ -1,6 +1,9 @@
 pub mod Turns
+pub mod Singles
 pub mod SendTurns
+pub mod SendOutcomes
 pub mod ReceiveTurns
+pub mod ReceiveOutcomes
 pub mod SendGates
 pub mod ReceiveGates
 pub mod Due

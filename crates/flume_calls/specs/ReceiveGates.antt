@@ -1,47 +1,22 @@
--- A receive through a gate: what each turn may answer, and the ways in which the receive ends.
-use Rattle.std.specs.Prelude.{◌≡◌, ℕ, Bool, true, false, Result, Ok, Err}
+-- A receive through a gate: the ways in which it ends.
+use Rattle.std.specs.Prelude.{◌≡◌, ◌⊎◌, ℕ, Bool, true, false, Result, Ok, Err}
 use Rattle.flume_core.specs.declared.error.RecvTimeoutError.{RecvTimeoutError}
-use Rattle.flume_core.specs.declared.error.RecvTimeoutError.TheVariants.{Timeout, NoMemory}
+use Rattle.flume_core.specs.declared.error.RecvTimeoutError.TheVariants.{NoMemory}
 use Rattle.flume_calls.specs.declared.calls.receive.RecvNext.{RecvNext}
 use Rattle.flume_calls.specs.declared.calls.receive.RecvNext.TheVariants.{Done, NeedSignal, Park}
 use Rattle.flume_calls.specs.declared.calls.receive.RecvNext.TheVariants.{Refused}
 
 module _ {T : Type 0} where
-  -- the first turn never parks, is never too late and wants no memory
-  abbrev pub IsFirst : RecvNext T → Type 0
-  IsFirst (Done (Err Timeout)) = ⊥
-  IsFirst (Done (Err NoMemory)) = ⊥
-  IsFirst (Park ticket) = ⊥
-  IsFirst (Refused ticket) = ⊥
-  IsFirst _ = Unit {0}
-
-  -- the turn that may park never needs a signal and is never too late
-  abbrev pub IsParking : RecvNext T → Type 0
-  IsParking (Done (Err Timeout)) = ⊥
-  IsParking NeedSignal = ⊥
-  IsParking (Refused ticket) = ⊥
-  IsParking _ = Unit {0}
-
-  -- a turn of a parked receive before its deadline never needs a signal and is never too late
-  abbrev pub IsLater : RecvNext T → Type 0
-  IsLater (Done (Err Timeout)) = ⊥
-  IsLater NeedSignal = ⊥
-  IsLater _ = Unit {0}
-
-  -- the turn of a parked receive at its deadline ends it
-  abbrev pub IsEnd : RecvNext T → Type 0
-  IsEnd (Done result) = Unit {0}
-  IsEnd _ = ⊥
-
-  -- either, by whether the deadline is reached
-  abbrev pub IsAgain : Bool → RecvNext T → Type 0
-  IsAgain false next = IsLater next
-  IsAgain true next = IsEnd next
-
   -- where memory ran out the receive withdraws: it ends with the message if one came
   abbrev pub got_or_no_memory : Result T RecvTimeoutError → Result T RecvTimeoutError
   got_or_no_memory (Ok message) = Ok message
   got_or_no_memory (Err error) = Err NoMemory
+
+module _ {G T : Type 0} (agains : G → ℕ → Bool → G → RecvNext T → Type 0) where
+  -- no turn of the parked receive wants memory that there isn't
+  abbrev pub IsNeverRefused : Type 0
+  IsNeverRefused = (old new : G) (ticket same : ℕ) (late : Bool)
+      → ¬ (agains old ticket late new (Refused same))
 
 module _ {G T : Type 0} (agains : G → ℕ → Bool → G → RecvNext T → Type 0)
     (waits : G → G → Bool → Type 0) where
@@ -82,3 +57,11 @@ module _ {G T : Type 0} (firsts : G → G → RecvNext T → Type 0) (arms : G �
     Parked : {first armed parked : G} {ticket : ℕ} → firsts old first NeedSignal
         → arms first armed true → parks armed parked (Park ticket)
         → ParkedReceive agains waits parked ticket new result → WholeReceive old new result
+
+module _ {G T : Type 0} (firsts : G → G → RecvNext T → Type 0) (arms : G → G → Bool → Type 0)
+    (parks : G → G → RecvNext T → Type 0) where
+  -- a receive that ended with no memory before it was parked: what it parks on couldn't be made, or
+  -- the turn that may park answered so
+  abbrev pub EndsUnparked : G → G → Type 0
+  EndsUnparked old new = (first : G) × firsts old first NeedSignal × (arms first new false
+      ⊎ ((armed : G) × arms first armed true × parks armed new (Done (Err NoMemory))))

@@ -1,18 +1,59 @@
--- The turns of a receive: which step each makes, and what it answers by the step's reply.
-use Rattle.std.specs.Prelude.{ℕ, Bool, true, false, Ok, Err}
+-- The turns of a receive: which step each makes, and what it answers to the step's reply.
+use Rattle.std.specs.Prelude.{◌≡◌, ℕ, Bool, true, false, Ok, Err}
 use Rattle.flume_model.specs.declared.step.Step.{Step}
 use Rattle.flume_model.specs.declared.step.Step.TheVariants.{Poll, Withdraw}
 use Rattle.flume_model.specs.declared.step.Reply.{Reply}
-use Rattle.flume_model.specs.declared.step.Reply.TheVariants.{NoMemory, Spent}
-use Rattle.flume_model.specs.declared.step.Reply.TheVariants.{Waiting, NoTicket, Got}
+use Rattle.flume_model.specs.declared.step.Reply.TheVariants.{NoMemory as NoneLeft}
+use Rattle.flume_model.specs.declared.step.Reply.TheVariants.{Spent, Waiting, NoTicket, Got}
 use Rattle.flume_model.specs.declared.step.Reply.TheVariants.{Empty, Ended, Parked, Gone}
 use Rattle.flume_core.specs.declared.error.RecvTimeoutError.TheVariants.{Timeout, Disconnected}
-use Rattle.flume_core.specs.declared.error.RecvTimeoutError.TheVariants.{NoMemory as NoneLeft}
+use Rattle.flume_core.specs.declared.error.RecvTimeoutError.TheVariants.{NoMemory}
 use Rattle.flume_calls.specs.declared.calls.receive.RecvNext.{RecvNext}
 use Rattle.flume_calls.specs.declared.calls.receive.RecvNext.TheVariants.{Done, NeedSignal, Park}
 use Rattle.flume_calls.specs.declared.calls.receive.RecvNext.TheVariants.{Refused}
 
 module _ {T : Type 0} where
+  -- the first turn never parks, is never too late and wants no memory
+  abbrev pub IsFirst : RecvNext T → Type 0
+  IsFirst (Done (Err Timeout)) = ⊥
+  IsFirst (Done (Err NoMemory)) = ⊥
+  IsFirst (Park ticket) = ⊥
+  IsFirst (Refused ticket) = ⊥
+  IsFirst _ = Unit {0}
+
+  -- the turn that may park never needs a signal and is never too late
+  abbrev pub IsParking : RecvNext T → Type 0
+  IsParking (Done (Err Timeout)) = ⊥
+  IsParking NeedSignal = ⊥
+  IsParking (Refused ticket) = ⊥
+  IsParking _ = Unit {0}
+
+  -- a turn of the receive parked under this ticket, before its deadline: it ends or stays parked,
+  -- never needs a signal, is never too late, and doesn't end for want of memory
+  abbrev pub IsLater : ℕ → RecvNext T → Type 0
+  IsLater ticket (Done (Err Timeout)) = ⊥
+  IsLater ticket (Done (Err NoMemory)) = ⊥
+  IsLater ticket NeedSignal = ⊥
+  IsLater ticket (Park same) = same ≡ ticket
+  IsLater ticket (Refused same) = same ≡ ticket
+  IsLater ticket _ = Unit {0}
+
+  -- the turn of a parked receive at its deadline ends it, and wants no memory
+  abbrev pub IsEnd : RecvNext T → Type 0
+  IsEnd (Done (Err NoMemory)) = ⊥
+  IsEnd (Done result) = Unit {0}
+  IsEnd _ = ⊥
+
+  -- either, by whether the deadline is reached
+  abbrev pub IsAgain : ℕ → Bool → RecvNext T → Type 0
+  IsAgain ticket false next = IsLater ticket next
+  IsAgain ticket true next = IsEnd next
+
+  -- it isn't that memory was wanted, and there was none
+  abbrev pub IsntRefused : RecvNext T → Type 0
+  IsntRefused (Refused ticket) = ⊥
+  IsntRefused _ = Unit {0}
+
   -- a receive that gave no message, and isn't parked
   abbrev pub IsNone : RecvNext T → Type 0
   IsNone NeedSignal = Unit {0}
@@ -20,49 +61,48 @@ module _ {T : Type 0} where
   IsNone _ = ⊥
 
   -- the step of a parked receive's turn: where its deadline is reached, it leaves
-  abbrev pub step_of_parked_receive : Bool → ℕ → Step T
-  step_of_parked_receive false ticket = Poll ticket
-  step_of_parked_receive true ticket = Withdraw ticket
+  abbrev pub step_of_parked_receive : ℕ → Bool → Step T
+  step_of_parked_receive ticket false = Poll ticket
+  step_of_parked_receive ticket true = Withdraw ticket
 
 module _ {T A : Type 0} where
-  -- The tables. The last row of each is of the replies that never come of its step, as the run in
-  -- `Turn` shows.
+  -- The tables: what is answered to each reply. A reply that isn't in a table never comes.
 
-  -- the first turn, by the reply to a `try_recv`
-  abbrev pub after_try_recv : Reply T A → RecvNext T
-  after_try_recv (Got message) = Done (Ok message)
-  after_try_recv Empty = NeedSignal
-  after_try_recv Ended = Done (Err Disconnected)
-  after_try_recv (NoMemory back) = Done (Err NoneLeft)
-  after_try_recv _ = Done (Err Disconnected)
+  -- the first turn, to the reply of a `try_recv`
+  abbrev pub after_try_recv : Reply T A → RecvNext T → Type 0
+  after_try_recv (Got message) next = next ≡ Done (Ok message)
+  after_try_recv Empty next = next ≡ NeedSignal
+  after_try_recv Ended next = next ≡ Done (Err Disconnected)
+  after_try_recv _ next = ⊥
 
-  -- the turn that may park, by the reply to a `recv`
-  abbrev pub after_recv : Reply T A → RecvNext T
-  after_recv (Got message) = Done (Ok message)
-  after_recv (Parked ticket) = Park ticket
-  after_recv Ended = Done (Err Disconnected)
-  after_recv (NoMemory back) = Done (Err NoneLeft)
-  after_recv (Spent back) = Done (Err NoneLeft)
-  after_recv _ = NeedSignal
+  -- the turn that may park, to the reply of a `recv`
+  abbrev pub after_recv : Reply T A → RecvNext T → Type 0
+  after_recv (Got message) next = next ≡ Done (Ok message)
+  after_recv (Parked ticket) next = next ≡ Park ticket
+  after_recv Ended next = next ≡ Done (Err Disconnected)
+  after_recv (NoneLeft back) next = next ≡ Done (Err NoMemory)
+  after_recv (Spent back) next = next ≡ Done (Err NoMemory)
+  after_recv _ next = ⊥
 
-  -- a turn of a parked receive, by the reply to a `poll`
-  abbrev pub after_poll : ℕ → Reply T A → RecvNext T
-  after_poll ticket (Got message) = Done (Ok message)
-  after_poll ticket Waiting = Park ticket
-  after_poll ticket Ended = Done (Err Disconnected)
-  after_poll ticket NoTicket = Done (Err Disconnected)
-  after_poll ticket (NoMemory back) = Refused ticket
-  after_poll ticket _ = Done (Err Disconnected)
+  -- A turn of a parked receive, to the reply of a `poll`. A `Chan` never answers that it has no
+  -- memory; the row is of a channel with another body, which may.
+  abbrev pub after_poll : ℕ → Reply T A → RecvNext T → Type 0
+  after_poll ticket (Got message) next = next ≡ Done (Ok message)
+  after_poll ticket Waiting next = next ≡ Park ticket
+  after_poll ticket Ended next = next ≡ Done (Err Disconnected)
+  after_poll ticket NoTicket next = next ≡ Done (Err Disconnected)
+  after_poll ticket (NoneLeft back) next = next ≡ Refused ticket
+  after_poll ticket _ next = ⊥
 
-  -- the turn at its deadline, by the reply to a `withdraw`
-  abbrev pub after_withdraw : Reply T A → RecvNext T
-  after_withdraw (Got message) = Done (Ok message)
-  after_withdraw (Gone true filled) = Done (Err Disconnected)
-  after_withdraw (Gone false filled) = Done (Err Timeout)
-  after_withdraw NoTicket = Done (Err Disconnected)
-  after_withdraw _ = Done (Err Disconnected)
+  -- the turn at its deadline, to the reply of a `withdraw`
+  abbrev pub after_withdraw : Reply T A → RecvNext T → Type 0
+  after_withdraw (Got message) next = next ≡ Done (Ok message)
+  after_withdraw (Gone true filled) next = next ≡ Done (Err Disconnected)
+  after_withdraw (Gone false filled) next = next ≡ Done (Err Timeout)
+  after_withdraw NoTicket next = next ≡ Done (Err Disconnected)
+  after_withdraw _ next = ⊥
 
   -- either, by whether the deadline is reached
-  abbrev pub after_parked_receive : Bool → ℕ → Reply T A → RecvNext T
-  after_parked_receive false ticket reply = after_poll ticket reply
-  after_parked_receive true ticket reply = after_withdraw reply
+  abbrev pub after_parked_receive : ℕ → Bool → Reply T A → RecvNext T → Type 0
+  after_parked_receive ticket false reply next = after_poll ticket reply next
+  after_parked_receive ticket true reply next = after_withdraw reply next

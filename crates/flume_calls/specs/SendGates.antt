@@ -1,45 +1,9 @@
--- A send through a gate: what each turn may answer, and the ways in which the send ends.
-use Rattle.std.specs.Prelude.{◌≡◌, ℕ, Bool, true, false, Result, Ok, Err}
+-- A send through a gate: the ways in which it ends.
+use Rattle.std.specs.Prelude.{◌≡◌, ℕ, Bool, true, false, Result, Err}
 use Rattle.flume_core.specs.declared.error.SendTimeoutError.{SendTimeoutError}
-use Rattle.flume_core.specs.declared.error.SendTimeoutError.TheVariants.{Timeout, Disconnected}
 use Rattle.flume_core.specs.declared.error.SendTimeoutError.TheVariants.{NoMemory}
 use Rattle.flume_calls.specs.declared.calls.send.SendNext.{SendNext}
 use Rattle.flume_calls.specs.declared.calls.send.SendNext.TheVariants.{Done, NeedSignal, Park}
-
-module _ {T : Type 0} where
-  -- the first turn never parks and is never too late; a message that comes back is this one
-  abbrev pub IsFirst : T → SendNext T → Type 0
-  IsFirst message (Done (Ok sent)) = Unit {0}
-  IsFirst message (Done (Err (Timeout back))) = ⊥
-  IsFirst message (Done (Err (Disconnected back))) = back ≡ message
-  IsFirst message (Done (Err (NoMemory back))) = back ≡ message
-  IsFirst message (NeedSignal back) = back ≡ message
-  IsFirst message (Park ticket) = ⊥
-
-  -- the turn that may park never needs a signal and is never too late; the same of a message
-  abbrev pub IsParking : T → SendNext T → Type 0
-  IsParking message (NeedSignal back) = ⊥
-  IsParking message (Park ticket) = Unit {0}
-  IsParking message other = IsFirst message other
-
-  -- a turn of a parked send before its deadline: it ends or waits on, and is never too late
-  abbrev pub IsLater : SendNext T → Type 0
-  IsLater (Done (Ok sent)) = Unit {0}
-  IsLater (Done (Err (Disconnected back))) = Unit {0}
-  IsLater (Park ticket) = Unit {0}
-  IsLater _ = ⊥
-
-  -- the turn of a parked send at its deadline ends it, and wants no memory
-  abbrev pub IsEnd : SendNext T → Type 0
-  IsEnd (Done (Ok sent)) = Unit {0}
-  IsEnd (Done (Err (Disconnected back))) = Unit {0}
-  IsEnd (Done (Err (Timeout back))) = Unit {0}
-  IsEnd _ = ⊥
-
-  -- either, by whether the deadline is reached
-  abbrev pub IsAgain : Bool → SendNext T → Type 0
-  IsAgain false next = IsLater next
-  IsAgain true next = IsEnd next
 
 module _ {G T : Type 0} (agains : G → ℕ → Bool → G → SendNext T → Type 0)
     (waits : G → G → Bool → Type 0) where

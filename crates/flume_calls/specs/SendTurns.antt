@@ -1,24 +1,51 @@
--- The turns of a send: which step each makes, and what it answers by the step's reply.
+-- The turns of a send: which step each makes, and what it answers to the step's reply.
 use Rattle.std.specs.Prelude.{◌≡◌, ℕ, Bool, true, false, Some, Ok, Err}
 use Rattle.flume_model.specs.declared.step.Step.{Step}
 use Rattle.flume_model.specs.declared.step.Step.TheVariants.{PollSend, WithdrawSend}
 use Rattle.flume_model.specs.declared.step.Reply.{Reply}
-use Rattle.flume_model.specs.declared.step.Reply.TheVariants.{Sent, Full, Closed, NoMemory, Spent}
-use Rattle.flume_model.specs.declared.step.Reply.TheVariants.{Pending, Accepted, Waiting, Returned}
-use Rattle.flume_model.specs.declared.step.Reply.TheVariants.{NoTicket}
+use Rattle.flume_model.specs.declared.step.Reply.TheVariants.{Sent, Full, Closed, Spent, Pending}
+use Rattle.flume_model.specs.declared.step.Reply.TheVariants.{NoMemory as NoneLeft}
+use Rattle.flume_model.specs.declared.step.Reply.TheVariants.{Accepted, Waiting, Returned, NoTicket}
 use Rattle.flume_core.specs.declared.error.SendTimeoutError.TheVariants.{Timeout, Disconnected}
-use Rattle.flume_core.specs.declared.error.SendTimeoutError.TheVariants.{NoMemory as Refused}
+use Rattle.flume_core.specs.declared.error.SendTimeoutError.TheVariants.{NoMemory}
 use Rattle.flume_calls.specs.declared.calls.send.SendNext.{SendNext}
 use Rattle.flume_calls.specs.declared.calls.send.SendNext.TheVariants.{Done, NeedSignal, Park}
 
 module _ {T : Type 0} where
-  -- where a message comes back, it is this one
-  abbrev pub HoldsIfBack : T → SendNext T → Type 0
-  HoldsIfBack message (NeedSignal back) = back ≡ message
-  HoldsIfBack message (Done (Err (Timeout back))) = back ≡ message
-  HoldsIfBack message (Done (Err (Disconnected back))) = back ≡ message
-  HoldsIfBack message (Done (Err (Refused back))) = back ≡ message
-  HoldsIfBack message _ = Unit {0}
+  -- the first turn never parks and is never too late; a message that comes back is this one
+  abbrev pub IsFirst : T → SendNext T → Type 0
+  IsFirst message (Done (Ok sent)) = Unit {0}
+  IsFirst message (Done (Err (Timeout back))) = ⊥
+  IsFirst message (Done (Err (Disconnected back))) = back ≡ message
+  IsFirst message (Done (Err (NoMemory back))) = back ≡ message
+  IsFirst message (NeedSignal back) = back ≡ message
+  IsFirst message (Park ticket) = ⊥
+
+  -- the turn that may park never needs a signal and is never too late; the same of a message
+  abbrev pub IsParking : T → SendNext T → Type 0
+  IsParking message (NeedSignal back) = ⊥
+  IsParking message (Park ticket) = Unit {0}
+  IsParking message other = IsFirst message other
+
+  -- a turn of the send parked under this ticket, before its deadline: it ends or waits on, is never
+  -- too late and wants no memory
+  abbrev pub IsLater : ℕ → SendNext T → Type 0
+  IsLater ticket (Done (Ok sent)) = Unit {0}
+  IsLater ticket (Done (Err (Disconnected back))) = Unit {0}
+  IsLater ticket (Park same) = same ≡ ticket
+  IsLater ticket _ = ⊥
+
+  -- the turn of a parked send at its deadline ends it, and wants no memory
+  abbrev pub IsEnd : SendNext T → Type 0
+  IsEnd (Done (Ok sent)) = Unit {0}
+  IsEnd (Done (Err (Disconnected back))) = Unit {0}
+  IsEnd (Done (Err (Timeout back))) = Unit {0}
+  IsEnd _ = ⊥
+
+  -- either, by whether the deadline is reached
+  abbrev pub IsAgain : ℕ → Bool → SendNext T → Type 0
+  IsAgain ticket false next = IsLater ticket next
+  IsAgain ticket true next = IsEnd next
 
   -- an offer that was refused: the message comes back
   abbrev pub IsBack : SendNext T → Type 0
@@ -27,50 +54,47 @@ module _ {T : Type 0} where
   IsBack _ = ⊥
 
   -- the step of a parked send's turn: where its deadline is reached, it takes its message back
-  abbrev pub step_of_parked_send : Bool → ℕ → Step T
-  step_of_parked_send false ticket = PollSend ticket
-  step_of_parked_send true ticket = WithdrawSend ticket
+  abbrev pub step_of_parked_send : ℕ → Bool → Step T
+  step_of_parked_send ticket false = PollSend ticket
+  step_of_parked_send ticket true = WithdrawSend ticket
 
 module _ {T A : Type 0} where
-  -- The tables. The last row of each is of the replies that never come of its step, as the run in
-  -- `Turn` shows.
+  -- The tables: what is answered to each reply. A reply that isn't in a table never comes.
 
-  -- the first turn, by the reply to a `try_send`
-  abbrev pub after_try_send : Reply T A → SendNext T
-  after_try_send (Sent filled) = Done (Ok tt)
-  after_try_send (Full back) = NeedSignal back
-  after_try_send (Closed back) = Done (Err (Disconnected back))
-  after_try_send (NoMemory (Some back)) = Done (Err (Refused back))
-  after_try_send (Spent (Some back)) = Done (Err (Refused back))
-  after_try_send _ = Done (Ok tt)
+  -- the first turn, to the reply of a `try_send`
+  abbrev pub after_try_send : Reply T A → SendNext T → Type 0
+  after_try_send (Sent filled) next = next ≡ Done (Ok tt)
+  after_try_send (Full back) next = next ≡ NeedSignal back
+  after_try_send (Closed back) next = next ≡ Done (Err (Disconnected back))
+  after_try_send (NoneLeft (Some back)) next = next ≡ Done (Err (NoMemory back))
+  after_try_send _ next = ⊥
 
-  -- the turn that may park, by the reply to a `send`
-  abbrev pub after_send : Reply T A → SendNext T
-  after_send (Sent filled) = Done (Ok tt)
-  after_send (Pending ticket) = Park ticket
-  after_send (Closed back) = Done (Err (Disconnected back))
-  after_send (NoMemory (Some back)) = Done (Err (Refused back))
-  after_send (Spent (Some back)) = Done (Err (Refused back))
-  after_send (Full back) = Done (Err (Refused back))
-  after_send _ = Done (Ok tt)
+  -- the turn that may park, to the reply of a `send`
+  abbrev pub after_send : Reply T A → SendNext T → Type 0
+  after_send (Sent filled) next = next ≡ Done (Ok tt)
+  after_send (Pending ticket) next = next ≡ Park ticket
+  after_send (Closed back) next = next ≡ Done (Err (Disconnected back))
+  after_send (NoneLeft (Some back)) next = next ≡ Done (Err (NoMemory back))
+  after_send (Spent (Some back)) next = next ≡ Done (Err (NoMemory back))
+  after_send _ next = ⊥
 
-  -- a turn of a parked send, by the reply to a `poll_send`
-  abbrev pub after_poll_send : ℕ → Reply T A → SendNext T
-  after_poll_send ticket Accepted = Done (Ok tt)
-  after_poll_send ticket NoTicket = Done (Ok tt)
-  after_poll_send ticket Waiting = Park ticket
-  after_poll_send ticket (Returned back closed) = Done (Err (Disconnected back))
-  after_poll_send ticket _ = Done (Ok tt)
+  -- a turn of a parked send, to the reply of a `poll_send`
+  abbrev pub after_poll_send : ℕ → Reply T A → SendNext T → Type 0
+  after_poll_send ticket Accepted next = next ≡ Done (Ok tt)
+  after_poll_send ticket NoTicket next = next ≡ Done (Ok tt)
+  after_poll_send ticket Waiting next = next ≡ Park ticket
+  after_poll_send ticket (Returned back closed) next = next ≡ Done (Err (Disconnected back))
+  after_poll_send ticket _ next = ⊥
 
-  -- the turn at its deadline, by the reply to a `withdraw_send`
-  abbrev pub after_withdraw_send : Reply T A → SendNext T
-  after_withdraw_send Accepted = Done (Ok tt)
-  after_withdraw_send NoTicket = Done (Ok tt)
-  after_withdraw_send (Returned back true) = Done (Err (Disconnected back))
-  after_withdraw_send (Returned back false) = Done (Err (Timeout back))
-  after_withdraw_send _ = Done (Ok tt)
+  -- the turn at its deadline, to the reply of a `withdraw_send`
+  abbrev pub after_withdraw_send : Reply T A → SendNext T → Type 0
+  after_withdraw_send Accepted next = next ≡ Done (Ok tt)
+  after_withdraw_send NoTicket next = next ≡ Done (Ok tt)
+  after_withdraw_send (Returned back true) next = next ≡ Done (Err (Disconnected back))
+  after_withdraw_send (Returned back false) next = next ≡ Done (Err (Timeout back))
+  after_withdraw_send _ next = ⊥
 
   -- either, by whether the deadline is reached
-  abbrev pub after_parked_send : Bool → ℕ → Reply T A → SendNext T
-  after_parked_send false ticket reply = after_poll_send ticket reply
-  after_parked_send true ticket reply = after_withdraw_send reply
+  abbrev pub after_parked_send : ℕ → Bool → Reply T A → SendNext T → Type 0
+  after_parked_send ticket false reply next = after_poll_send ticket reply next
+  after_parked_send ticket true reply next = after_withdraw_send reply next

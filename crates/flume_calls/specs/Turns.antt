@@ -1,16 +1,18 @@
--- A turn of a call, whichever call it is.
-use Rattle.std.specs.Prelude.{◌≡◌}
+-- A turn, whichever call makes it.
 use Rattle.flume_model.specs.declared.step.Step.{Step}
 use Rattle.flume_model.specs.declared.step.Reply.{Reply}
 use Rattle.flume_state.specs.State.{State}
-use Rattle.flume_core.specs.StandsFor.{Extends}
+use Rattle.flume_state.specs.Due.{BecomesDue}
+use Rattle.flume_core.specs.StandsFor.{Extends, IsLedTo}
 
 module _ {T S A N : Type 0} where
-  -- the channel made this one step, and the turn's answer is the table's for the step's reply
-  pub record Turn (step : Step T) (table : Reply T A → N) (old new : State T S) (answer : N)
-      : Type 0 where
+  -- the channel made this one step, and the turn answered as its table says to the step's reply
+  pub record Turned (step : Step T) (table : Reply T A → N → Type 0) (old new : State T S)
+      (answer : N) : Type 0 where
     pub reply : Reply T A
-    -- the log with this step and this reply is a run, so the reply is one that the abstract channel
-    -- gives; and the state after is the one that this step leads to
+    -- the reply is one that the abstract channel gives, and the state after is the one that this
+    -- step leads to
     pub stepped : Extends old step reply new
-    pub answered : answer ≡ table reply
+    -- who is due after it
+    pub dues : IsLedTo A old → BecomesDue old step reply new
+    pub answered : table reply answer

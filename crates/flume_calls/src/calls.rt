@@ -4,5 +4,5 @@
 mod receive;
 mod send;
 
-pub use receive::{RecvCall, RecvNext};
-pub use send::{SendCall, SendNext};
+pub use receive::{AgainReceive, FirstReceive, ParkReceive, RecvCall, RecvNext};
+pub use send::{AgainSend, FirstSend, ParkSend, SendCall, SendNext};

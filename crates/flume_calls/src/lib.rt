@@ -9,3 +9,5 @@ pub mod calls;
 pub mod due;
 pub mod gates;
 pub mod locked;
+pub mod single;
+pub mod turn;

@@ -1,17 +1,13 @@
 //! The turns of a receive.
-ghost use Rattle.std.specs.Prelude.{◌≡◌, ◌≢◌, ℕ, ◌≤◌, ◌↔◌, Bool, true, false, Some, None, Ok, Err};
-ghost use Rattle.std.specs.Prelude.{Option, List, ◌∷◌, [], ◌⊎◌};
-ghost use Rattle.flume_model.specs.Limits.{IsOpen, IsClosed, most};
-ghost use Rattle.flume_model.specs.Entries.{entry_of, held_by, again};
-ghost use Rattle.flume_state.specs.Receivers.{standing, looks, blocks, noticed, waits_on};
-ghost use Rattle.flume_state.specs.declared.entries.Standing.TheVariants.{BlockWaiting};
-ghost use Rattle.flume_state.specs.State.{State};
-ghost use Rattle.flume_state.specs.Effects.{fronted, taken, unparked, waiting_so, Begins, Departs};
-ghost use Rattle.flume_core.specs.StandsFor.{IsLedTo};
-ghost use Rattle.flume_calls.specs.Turns.{Turn};
+ghost use Rattle.std.specs.Prelude.{◌≡◌};
+ghost use Rattle.flume_calls.specs.Turns.{Turned};
+ghost use Rattle.flume_calls.specs.ReceiveTurns.{IsFirst, IsParking, IsAgain, IsntRefused};
 ghost use Rattle.flume_calls.specs.ReceiveTurns.{after_try_recv, after_recv, after_parked_receive};
-ghost use Rattle.flume_calls.specs.ReceiveTurns.{step_of_parked_receive, IsNone};
+ghost use Rattle.flume_calls.specs.ReceiveTurns.{step_of_parked_receive};
+ghost use Rattle.flume_calls.specs.ReceiveOutcomes.{FirstReceiveOutcome, ParkReceiveOutcome};
+ghost use Rattle.flume_calls.specs.ReceiveOutcomes.{AgainReceiveOutcome};
 
+use crate::turn::Turn;
 use flume_core::chan::Chan;
 use flume_core::error::RecvTimeoutError::{self, Disconnected, NoMemory, Timeout};
 use flume_core::step::{Kind, Reply, Step};
@@ -60,25 +56,11 @@ impl RecvCall {
     /// ```
     #[inline(always)]
     pub fn first<T: Drop, S: Drop, A: Allocator + Copy>(chan: &mut Chan<T, S, A>) -> RecvNext<T>
-        ensures turn { Turn {A = A} Step.TryRecv after_try_recv chan.old chan.new result }
-        ensures got { (message : T) (rest : List T) → (fronted chan.old).queue ≡ message ∷ rest
-            → (result ≡ RecvNext.Done (Ok message)) × (chan.new ≡ taken rest chan.old) }
-        ensures disconnected { (result ≡ RecvNext.Done (Err RecvTimeoutError.Disconnected))
-            ↔ ((fronted chan.old).queue ≡ []) × IsClosed chan.old.senders chan.old.receivers }
-        ensures need_signal { (result ≡ RecvNext.NeedSignal)
-            ↔ ((fronted chan.old).queue ≡ []) × IsOpen chan.old.senders chan.old.receivers }
-        ensures never_no_memory { result ≢ RecvNext.Done (Err RecvTimeoutError.NoMemory) }
-        ensures never_parks { (ticket : ℕ) → result ≢ RecvNext.Park ticket }
-        ensures never_refused { (ticket : ℕ) → result ≢ RecvNext.Refused ticket }
-        ensures unchanged { IsNone result → chan.new ≡ chan.old }
+        ensures turn { Turned {A = A} Step.TryRecv after_try_recv chan.old chan.new result }
+        ensures answers { IsFirst result }
+        ensures outcome { FirstReceiveOutcome chan.old chan.new result }
     {
-        match chan.try_recv() {
-            Reply::Got(message) => RecvNext::Done(Ok(message)),
-            Reply::Empty => RecvNext::NeedSignal,
-            Reply::NoMemory(_) => RecvNext::Done(Err(NoMemory)),
-            // Ended; no other reply comes.
-            _ => RecvNext::Done(Err(Disconnected)),
-        }
+        FirstReceive.make(chan)
     }
 
     /// The turn that may park: asks for the message at the front, with a kind and a signal for the
@@ -97,29 +79,11 @@ impl RecvCall {
         signal: S,
         chan: &mut Chan<T, S, A>,
     ) -> RecvNext<T>
-        ensures turn { Turn {A = A} (Step.Recv kind) after_recv chan.old chan.new result }
-        ensures got { (message : T) (rest : List T) → (fronted chan.old).queue ≡ message ∷ rest
-            → (result ≡ RecvNext.Done (Ok message)) × (chan.new ≡ taken rest chan.old) }
-        ensures disconnected { (result ≡ RecvNext.Done (Err RecvTimeoutError.Disconnected))
-            ↔ ((fronted chan.old).queue ≡ []) × IsClosed chan.old.senders chan.old.receivers }
-        ensures parked { (ticket : ℕ) → result ≡ RecvNext.Park ticket
-            → Begins chan.old chan.new ticket kind signal }
-        ensures spent { ((fronted chan.old).queue ≡ []) →
-            IsOpen chan.old.senders chan.old.receivers → most ≤ chan.old.next
-            → result ≡ RecvNext.Done (Err RecvTimeoutError.NoMemory) }
-        ensures never_needs_signal { IsLedTo A chan.old → result ≢ RecvNext.NeedSignal }
-        ensures never_refused { (ticket : ℕ) → result ≢ RecvNext.Refused ticket }
-        ensures unchanged { (error : RecvTimeoutError) → result ≡ RecvNext.Done (Err error)
-            → chan.new ≡ chan.old }
+        ensures turn { Turned {A = A} (Step.Recv kind) after_recv chan.old chan.new result }
+        ensures answers { IsParking result }
+        ensures outcome { ParkReceiveOutcome kind signal chan.old chan.new result }
     {
-        match chan.recv(kind, signal) {
-            Reply::Got(message) => RecvNext::Done(Ok(message)),
-            Reply::Parked(ticket) => RecvNext::Park(RecvCall { ticket }),
-            Reply::Ended => RecvNext::Done(Err(Disconnected)),
-            Reply::NoMemory(_) | Reply::Spent(_) => RecvNext::Done(Err(NoMemory)),
-            // No other reply comes.
-            _ => RecvNext::NeedSignal,
-        }
+        ParkReceive { kind, signal }.make(chan)
     }
 
     /// A later turn; `late` says that the deadline is reached. `Done(Ok)`: the message that filled
@@ -127,79 +91,131 @@ impl RecvCall {
     /// deadline where it blocks. `Park`: it waits on, and isn't late; a signal given here replaces
     /// the one that the call left. `Done(Err(Disconnected))`: no message for it, and the channel is
     /// closed, or the ticket is spent. `Done(Err(Timeout))`: late, no message for it, and the
-    /// channel is open; a wake that it had is passed on. After all but `Park` the ticket is spent.
-    /// Never `Refused` and never `NoMemory`: no memory is wanted. The step is `Chan::poll`, or
-    /// where late `Chan::withdraw`.
+    /// channel is open. A wake that it had is passed on by either error where late. After all but
+    /// `Park` the ticket is spent. Never `Refused` and never `NoMemory`: no memory is wanted. The
+    /// step is `Chan::poll`, or where late `Chan::withdraw`.
     ///
     /// ```
     /// let mut chan: Chan<u64, u32> = Chan::new(alloc, None);
     /// let next = RecvCall::park(Kind::Block, 10, &mut chan);   // Park(call)
     /// chan.try_send(5);
-    /// call.again(true, None, &mut chan);                       // Done(Ok(5))
+    /// call.again(&mut chan, true, None);                       // Done(Ok(5))
     /// ```
     pub fn again<T: Drop, S: Drop, A: Allocator + Copy>(
         self,
+        chan: &mut Chan<T, S, A>,
         late: bool,
         signal: Option<S>,
-        chan: &mut Chan<T, S, A>,
     ) -> RecvNext<T>
-        ensures turn { Turn {A = A} (step_of_parked_receive late self)
-            (after_parked_receive late self) chan.old chan.new result }
-        ensures same { (ticket : ℕ) → result ≡ RecvNext.Park ticket → ticket ≡ self }
-        ensures late { late ≡ true → (ticket : ℕ) → result ≢ RecvNext.Park ticket }
-        ensures waits { (result ≡ RecvNext.Park self) ↔ (late ≡ false)
-            × ((standing self chan.old.entries ≡ Some BlockWaiting)
-            ⊎ ((looks (standing self chan.old.entries) ≡ true)
-            × ((fronted chan.old).queue ≡ []) × IsOpen chan.old.senders chan.old.receivers)) }
-        ensures replaced { result ≡ RecvNext.Park self → chan.new ≡ waiting_so
-            (again self (noticed (waits_on signal) self chan.old.entries)) chan.old }
-        ensures collected { (message : T)
-            → held_by (entry_of self chan.old.entries) ≡ Some message
-            → (result ≡ RecvNext.Done (Ok message)) × (chan.new ≡ unparked self chan.old) }
-        ensures got { (message : T) (rest : List T) → late ≡ false
-            → looks (standing self chan.old.entries) ≡ true
-            → (fronted chan.old).queue ≡ message ∷ rest
-            → (result ≡ RecvNext.Done (Ok message))
-            × (chan.new ≡ unparked self (taken rest chan.old)) }
-        ensures got_late { (message : T) (rest : List T) → late ≡ true
-            → blocks (standing self chan.old.entries) ≡ true
-            → (fronted chan.old).queue ≡ message ∷ rest
-            → (result ≡ RecvNext.Done (Ok message))
-            × (chan.new ≡ unparked self (taken rest chan.old)) }
-        ensures ended { late ≡ false → looks (standing self chan.old.entries) ≡ true
-            → (fronted chan.old).queue ≡ [] → IsClosed chan.old.senders chan.old.receivers
-            → (result ≡ RecvNext.Done (Err RecvTimeoutError.Disconnected))
-            × (chan.new ≡ unparked self chan.old) }
-        ensures no_ticket { entry_of self chan.old.entries ≡ None
-            → (result ≡ RecvNext.Done (Err RecvTimeoutError.Disconnected))
-            × (chan.new ≡ chan.old) }
-        ensures timeout { result ≡ RecvNext.Done (Err RecvTimeoutError.Timeout)
-            → (late ≡ true) × (filled : Option ℕ)
-            × Departs chan.old chan.new self false filled }
-        ensures never_refused { (ticket : ℕ) → result ≢ RecvNext.Refused ticket }
-        ensures never_no_memory { result ≢ RecvNext.Done (Err RecvTimeoutError.NoMemory) }
-        ensures never_needs_signal { result ≢ RecvNext.NeedSignal }
+        ensures turn { Turned {A = A} (step_of_parked_receive self late)
+            (after_parked_receive self late) chan.old chan.new result }
+        ensures answers { IsAgain self late result × IsntRefused result }
+        ensures outcome { AgainReceiveOutcome self late signal chan.old chan.new result }
     {
+        let call = self;
+        AgainReceive { call, late, signal }.make(chan)
+    }
+}
+
+/// A receive's first turn, as a value: `RecvCall::first`.
+#[derive(Clone, Copy, Drop)]
+pub struct FirstReceive;
+
+impl<T: Drop, S: Drop, A: Allocator + Copy> Turn<T, S, A> for FirstReceive {
+    ghost use Rattle.flume_model.specs.declared.step.Step.TheVariants.{TryRecv};
+
+    type Answer = RecvNext<T>;
+
+    ghost step = { λ _. TryRecv };
+
+    ghost table = { λ _. after_try_recv };
+
+    ghost answers = { λ _. IsFirst };
+
+    ghost outcome = { λ _. FirstReceiveOutcome };
+
+    #[inline(always)]
+    fn make(self, chan: &mut Chan<T, S, A>) -> RecvNext<T> {
+        match chan.try_recv() {
+            Reply::Got(message) => RecvNext::Done(Ok(message)),
+            Reply::Empty => RecvNext::NeedSignal,
+            Reply::Ended => RecvNext::Done(Err(Disconnected)),
+            _ => unreachable!(),
+        }
+    }
+}
+
+/// A receive's turn that may park, as a value: `RecvCall::park`.
+#[derive(Drop)]
+pub struct ParkReceive<S> {
+    /// The kind of receiver that parks where there is no message.
+    pub kind: Kind,
+    /// What is left then.
+    pub signal: S,
+}
+
+impl<T: Drop, S: Drop, A: Allocator + Copy> Turn<T, S, A> for ParkReceive<S> {
+    ghost use Rattle.flume_model.specs.declared.step.Step.TheVariants.{Recv};
+
+    type Answer = RecvNext<T>;
+
+    ghost step = { λ turn. Recv turn.kind };
+
+    ghost table = { λ _. after_recv };
+
+    ghost answers = { λ _. IsParking };
+
+    ghost outcome = { λ turn. ParkReceiveOutcome turn.kind turn.signal };
+
+    fn make(self, chan: &mut Chan<T, S, A>) -> RecvNext<T> {
+        match chan.recv(self.kind, self.signal) {
+            Reply::Got(message) => RecvNext::Done(Ok(message)),
+            Reply::Parked(ticket) => RecvNext::Park(RecvCall { ticket }),
+            Reply::Ended => RecvNext::Done(Err(Disconnected)),
+            Reply::NoMemory(_) | Reply::Spent(_) => RecvNext::Done(Err(NoMemory)),
+            _ => unreachable!(),
+        }
+    }
+}
+
+/// A parked receive's turn, as a value: `RecvCall::again`.
+#[derive(Drop)]
+pub struct AgainReceive<S> {
+    /// The receive.
+    pub call: RecvCall,
+    /// Whether its deadline is reached.
+    pub late: bool,
+    /// What is to replace the signal that it left.
+    pub signal: Option<S>,
+}
+
+impl<T: Drop, S: Drop, A: Allocator + Copy> Turn<T, S, A> for AgainReceive<S> {
+    type Answer = RecvNext<T>;
+
+    ghost step = { λ turn. step_of_parked_receive turn.call turn.late };
+
+    ghost table = { λ turn. after_parked_receive turn.call turn.late };
+
+    ghost answers = { λ turn next. IsAgain turn.call turn.late next × IsntRefused next };
+
+    ghost outcome = { λ turn. AgainReceiveOutcome turn.call turn.late turn.signal };
+
+    fn make(self, chan: &mut Chan<T, S, A>) -> RecvNext<T> {
+        let AgainReceive { call, late, signal } = self;
         if late {
-            match chan.withdraw(self.ticket) {
+            match chan.withdraw(call.ticket) {
                 Reply::Got(message) => RecvNext::Done(Ok(message)),
-                Reply::Gone { closed, .. } => {
-                    if closed {
-                        RecvNext::Done(Err(Disconnected))
-                    } else {
-                        RecvNext::Done(Err(Timeout))
-                    }
-                }
-                // NoTicket; no other reply comes.
-                _ => RecvNext::Done(Err(Disconnected)),
+                Reply::Gone { closed, .. } if closed => RecvNext::Done(Err(Disconnected)),
+                Reply::Gone { .. } => RecvNext::Done(Err(Timeout)),
+                Reply::NoTicket => RecvNext::Done(Err(Disconnected)),
+                _ => unreachable!(),
             }
         } else {
-            match chan.poll(self.ticket, signal) {
+            match chan.poll(call.ticket, signal) {
                 Reply::Got(message) => RecvNext::Done(Ok(message)),
-                Reply::Waiting => RecvNext::Park(self),
-                Reply::NoMemory(_) => RecvNext::Refused(self),
-                // Ended, or NoTicket; no other reply comes.
-                _ => RecvNext::Done(Err(Disconnected)),
+                Reply::Waiting => RecvNext::Park(call),
+                Reply::Ended | Reply::NoTicket => RecvNext::Done(Err(Disconnected)),
+                _ => unreachable!(),
             }
         }
     }

@@ -1,18 +1,12 @@
 //! The turns of a send.
-ghost use Rattle.std.specs.Prelude.{◌≡◌, ◌≢◌, ℕ, ◌+◌, ◌↔◌, ◌⊎◌, Bool, true, false, Some, None};
-ghost use Rattle.std.specs.Prelude.{Ok, Err, Option, ◌++◌, ◌∷◌, [], length};
-ghost use Rattle.std.specs.FinMap.{get, insert, remove};
-ghost use Rattle.flume_model.specs.Limits.{IsOpen, IsClosed, IsAtCapacity, most};
-ghost use Rattle.flume_model.specs.Entries.{some_wait};
-ghost use Rattle.flume_state.specs.Sends.{blocked, noticed_send};
-ghost use Rattle.flume_state.specs.Notices.{resignalled};
-ghost use Rattle.flume_state.specs.State.{State, accepted_at};
-ghost use Rattle.flume_state.specs.Effects.{Joins, Returns};
-ghost use Rattle.flume_core.specs.StandsFor.{IsLedTo};
-ghost use Rattle.flume_calls.specs.Turns.{Turn};
+ghost use Rattle.std.specs.Prelude.{◌≡◌};
+ghost use Rattle.flume_calls.specs.Turns.{Turned};
+ghost use Rattle.flume_calls.specs.SendTurns.{IsFirst, IsParking, IsAgain, step_of_parked_send};
 ghost use Rattle.flume_calls.specs.SendTurns.{after_try_send, after_send, after_parked_send};
-ghost use Rattle.flume_calls.specs.SendTurns.{step_of_parked_send, HoldsIfBack, IsBack};
+ghost use Rattle.flume_calls.specs.SendOutcomes.{FirstSendOutcome, ParkSendOutcome};
+ghost use Rattle.flume_calls.specs.SendOutcomes.{AgainSendOutcome};
 
+use crate::turn::Turn;
 use flume_core::chan::Chan;
 use flume_core::error::SendTimeoutError::{self, Disconnected, NoMemory, Timeout};
 use flume_core::step::{Reply, Step};
@@ -62,27 +56,12 @@ impl SendCall {
         message: T,
         chan: &mut Chan<T, S, A>,
     ) -> SendNext<T>
-        ensures turn { Turn {A = A} (Step.TrySend message) after_try_send chan.old chan.new result }
-        ensures returned { HoldsIfBack message result }
-        ensures closed { (result ≡ SendNext.Done (Err (SendTimeoutError.Disconnected message)))
-            ↔ IsClosed chan.old.senders chan.old.receivers }
-        ensures need_signal { (result ≡ SendNext.NeedSignal message)
-            ↔ IsOpen chan.old.senders chan.old.receivers × (some_wait chan.old.entries ≡ false)
-            × IsAtCapacity chan.old.capacity (length chan.old.queue) }
-        ensures sent { IsLedTo A chan.old → result ≡ SendNext.Done (Ok tt)
-            → (filled : Option ℕ) × Joins chan.old chan.new message filled }
-        ensures never_parks { (ticket : ℕ) → result ≢ SendNext.Park ticket }
-        ensures unchanged { IsBack result → chan.new ≡ chan.old }
+        ensures turn { Turned {A = A} (Step.TrySend message) after_try_send
+            chan.old chan.new result }
+        ensures answers { IsFirst message result }
+        ensures outcome { FirstSendOutcome message chan.old chan.new result }
     {
-        match chan.try_send(message) {
-            Reply::Full(message) => SendNext::NeedSignal(message),
-            Reply::Closed(message) => SendNext::Done(Err(Disconnected(message))),
-            Reply::NoMemory(Some(message)) | Reply::Spent(Some(message)) => {
-                SendNext::Done(Err(NoMemory(message)))
-            }
-            // Sent; no other reply comes.
-            _ => SendNext::Done(Ok(())),
-        }
+        FirstSend { message }.make(chan)
     }
 
     /// The turn that may park: offers the message, with a signal for the case that it blocks.
@@ -100,32 +79,11 @@ impl SendCall {
         signal: S,
         chan: &mut Chan<T, S, A>,
     ) -> SendNext<T>
-        ensures turn { Turn {A = A} (Step.Send message) after_send chan.old chan.new result }
-        ensures returned { HoldsIfBack message result }
-        ensures closed { (result ≡ SendNext.Done (Err (SendTimeoutError.Disconnected message)))
-            ↔ IsClosed chan.old.senders chan.old.receivers }
-        ensures parked { result ≡ SendNext.Park chan.old.next → chan.new ≡ record chan.old {
-          blocked = chan.old.blocked
-              ++ record { ticket = chan.old.next; message = message } ∷ [];
-          sends = insert chan.old.sends chan.old.next (blocked signal);
-          next = chan.old.next + 1;
-        } }
-        ensures ticket { IsLedTo A chan.old → (ticket : ℕ) → result ≡ SendNext.Park ticket
-            → ticket ≡ chan.old.next }
-        ensures sent { IsLedTo A chan.old → result ≡ SendNext.Done (Ok tt)
-            → (filled : Option ℕ) × Joins chan.old chan.new message filled }
-        ensures never_needs_signal { (back : T) → result ≢ SendNext.NeedSignal back }
-        ensures unchanged { IsBack result → chan.new ≡ chan.old }
+        ensures turn { Turned {A = A} (Step.Send message) after_send chan.old chan.new result }
+        ensures answers { IsParking message result }
+        ensures outcome { ParkSendOutcome A message signal chan.old chan.new result }
     {
-        match chan.send(message, signal) {
-            Reply::Pending(ticket) => SendNext::Park(SendCall { ticket }),
-            Reply::Closed(message) => SendNext::Done(Err(Disconnected(message))),
-            Reply::NoMemory(Some(message)) | Reply::Spent(Some(message)) | Reply::Full(message) => {
-                SendNext::Done(Err(NoMemory(message)))
-            }
-            // Sent; no other reply comes.
-            _ => SendNext::Done(Ok(())),
-        }
+        ParkSend { message, signal }.make(chan)
     }
 
     /// A later turn; `late` says that the deadline is reached. `Done(Ok)`: the message was taken
@@ -139,59 +97,133 @@ impl SendCall {
     /// ```
     /// let mut chan: Chan<u64, u32> = Chan::new(alloc, Some(0));
     /// let next = SendCall::park(7, 10, &mut chan);     // Park(call)
-    /// let next = call.again(false, None, &mut chan);   // Park(call)
-    /// call.again(true, None, &mut chan);               // Done(Err(Timeout(7)))
+    /// let next = call.again(&mut chan, false, None);   // Park(call)
+    /// call.again(&mut chan, true, None);               // Done(Err(Timeout(7)))
     /// ```
     pub fn again<T: Drop, S: Drop, A: Allocator + Copy>(
         self,
+        chan: &mut Chan<T, S, A>,
         late: bool,
         signal: Option<S>,
-        chan: &mut Chan<T, S, A>,
     ) -> SendNext<T>
-        ensures turn { Turn {A = A} (step_of_parked_send late self) (after_parked_send late self)
-            chan.old chan.new result }
-        ensures same { (ticket : ℕ) → result ≡ SendNext.Park ticket → ticket ≡ self }
-        ensures late { late ≡ true → (ticket : ℕ) → result ≢ SendNext.Park ticket }
-        ensures waits { (result ≡ SendNext.Park self) ↔ (late ≡ false)
-            × (accepted_at chan.old self ≡ Some false)
-            × IsOpen chan.old.senders chan.old.receivers }
-        ensures replaced { result ≡ SendNext.Park self → chan.new
-            ≡ record chan.old { sends = noticed_send (resignalled signal) self chan.old.sends } }
-        ensures accepted { accepted_at chan.old self ≡ Some true
-            → (result ≡ SendNext.Done (Ok tt))
-            × (chan.new ≡ record chan.old { sends = remove chan.old.sends self }) }
-        ensures no_ticket { get chan.old.sends self ≡ None
-            → (result ≡ SendNext.Done (Ok tt)) × (chan.new ≡ chan.old) }
-        ensures taken_in { IsLedTo A chan.old → result ≡ SendNext.Done (Ok tt)
-            → accepted_at chan.old self ≢ Some false }
-        ensures timeout { (back : T) → result ≡ SendNext.Done (Err (SendTimeoutError.Timeout back))
-            → (late ≡ true) × Returns chan.old chan.new self back false }
-        ensures disconnected { (back : T)
-            → result ≡ SendNext.Done (Err (SendTimeoutError.Disconnected back))
-            → (closed : Bool) × Returns chan.old chan.new self back closed
-            × (IsLedTo A chan.old → closed ≡ true) }
-        ensures never_refused { (back : T)
-            → result ≢ SendNext.Done (Err (SendTimeoutError.NoMemory back)) }
-        ensures never_needs_signal { (back : T) → result ≢ SendNext.NeedSignal back }
+        ensures turn { Turned {A = A} (step_of_parked_send self late)
+            (after_parked_send self late) chan.old chan.new result }
+        ensures answers { IsAgain self late result }
+        ensures outcome { AgainSendOutcome A self late signal chan.old chan.new result }
     {
+        let call = self;
+        AgainSend { call, late, signal }.make(chan)
+    }
+}
+
+/// A send's first turn, as a value: `SendCall::first`.
+#[derive(Drop)]
+pub struct FirstSend<T> {
+    /// What is offered.
+    pub message: T,
+}
+
+impl<T: Drop, S: Drop, A: Allocator + Copy> Turn<T, S, A> for FirstSend<T> {
+    ghost use Rattle.flume_model.specs.declared.step.Step.TheVariants.{TrySend};
+
+    type Answer = SendNext<T>;
+
+    ghost step = { λ turn. TrySend turn.message };
+
+    ghost table = { λ _. after_try_send };
+
+    ghost answers = { λ turn. IsFirst turn.message };
+
+    ghost outcome = { λ turn. FirstSendOutcome turn.message };
+
+    #[inline(always)]
+    fn make(self, chan: &mut Chan<T, S, A>) -> SendNext<T> {
+        match chan.try_send(self.message) {
+            Reply::Sent { .. } => SendNext::Done(Ok(())),
+            Reply::Full(message) => SendNext::NeedSignal(message),
+            Reply::Closed(message) => SendNext::Done(Err(Disconnected(message))),
+            Reply::NoMemory(Some(message)) => SendNext::Done(Err(NoMemory(message))),
+            _ => unreachable!(),
+        }
+    }
+}
+
+/// A send's turn that may park, as a value: `SendCall::park`.
+#[derive(Drop)]
+pub struct ParkSend<T, S> {
+    /// What is offered.
+    pub message: T,
+    /// What is left where it blocks.
+    pub signal: S,
+}
+
+impl<T: Drop, S: Drop, A: Allocator + Copy> Turn<T, S, A> for ParkSend<T, S> {
+    ghost use Rattle.flume_model.specs.declared.step.Step.TheVariants.{Send};
+
+    type Answer = SendNext<T>;
+
+    ghost step = { λ turn. Send turn.message };
+
+    ghost table = { λ _. after_send };
+
+    ghost answers = { λ turn. IsParking turn.message };
+
+    ghost outcome = { λ turn. ParkSendOutcome A turn.message turn.signal };
+
+    fn make(self, chan: &mut Chan<T, S, A>) -> SendNext<T> {
+        match chan.send(self.message, self.signal) {
+            Reply::Sent { .. } => SendNext::Done(Ok(())),
+            Reply::Pending(ticket) => SendNext::Park(SendCall { ticket }),
+            Reply::Closed(message) => SendNext::Done(Err(Disconnected(message))),
+            Reply::NoMemory(Some(message)) | Reply::Spent(Some(message)) => {
+                SendNext::Done(Err(NoMemory(message)))
+            }
+            _ => unreachable!(),
+        }
+    }
+}
+
+/// A parked send's turn, as a value: `SendCall::again`.
+#[derive(Drop)]
+pub struct AgainSend<S> {
+    /// The send.
+    pub call: SendCall,
+    /// Whether its deadline is reached.
+    pub late: bool,
+    /// What is to replace the signal that it left.
+    pub signal: Option<S>,
+}
+
+impl<T: Drop, S: Drop, A: Allocator + Copy> Turn<T, S, A> for AgainSend<S> {
+    type Answer = SendNext<T>;
+
+    ghost step = { λ turn. step_of_parked_send turn.call turn.late };
+
+    ghost table = { λ turn. after_parked_send turn.call turn.late };
+
+    ghost answers = { λ turn. IsAgain turn.call turn.late };
+
+    ghost outcome = { λ turn. AgainSendOutcome A turn.call turn.late turn.signal };
+
+    fn make(self, chan: &mut Chan<T, S, A>) -> SendNext<T> {
+        let AgainSend { call, late, signal } = self;
         if late {
-            match chan.withdraw_send(self.ticket) {
-                Reply::Returned { message, closed } => {
-                    if closed {
-                        SendNext::Done(Err(Disconnected(message)))
-                    } else {
-                        SendNext::Done(Err(Timeout(message)))
-                    }
+            match chan.withdraw_send(call.ticket) {
+                Reply::Accepted => SendNext::Done(Ok(())),
+                Reply::NoTicket => SendNext::Done(Ok(())),
+                Reply::Returned { message, closed } if closed => {
+                    SendNext::Done(Err(Disconnected(message)))
                 }
-                // Accepted, or NoTicket; no other reply comes.
-                _ => SendNext::Done(Ok(())),
+                Reply::Returned { message, .. } => SendNext::Done(Err(Timeout(message))),
+                _ => unreachable!(),
             }
         } else {
-            match chan.poll_send(self.ticket, signal) {
-                Reply::Waiting => SendNext::Park(self),
+            match chan.poll_send(call.ticket, signal) {
+                Reply::Accepted => SendNext::Done(Ok(())),
+                Reply::NoTicket => SendNext::Done(Ok(())),
+                Reply::Waiting => SendNext::Park(call),
                 Reply::Returned { message, .. } => SendNext::Done(Err(Disconnected(message))),
-                // Accepted, or NoTicket; no other reply comes.
-                _ => SendNext::Done(Ok(())),
+                _ => unreachable!(),
             }
         }
     }

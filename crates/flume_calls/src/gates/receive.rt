@@ -1,7 +1,8 @@
 //! A receive through a gate.
-ghost use Rattle.std.specs.Prelude.{◌≡◌, ℕ, Bool, true, Result};
+ghost use Rattle.std.specs.Prelude.{◌≡◌, ◌≢◌, ℕ, Bool, true, Result, Err};
 ghost use Rattle.flume_calls.specs.declared.calls.receive.RecvNext.{RecvNext};
-ghost use Rattle.flume_calls.specs.ReceiveGates.{IsFirst, IsParking, IsAgain, got_or_no_memory};
+ghost use Rattle.flume_calls.specs.ReceiveTurns.{IsFirst, IsParking, IsAgain};
+ghost use Rattle.flume_calls.specs.ReceiveGates.{got_or_no_memory, IsNeverRefused, EndsUnparked};
 ghost use Rattle.flume_calls.specs.ReceiveGates.{ParkedReceive, WholeReceive};
 
 use crate::calls::{RecvCall, RecvNext};
@@ -43,7 +44,7 @@ pub trait RecvGate<T> {
     /// A turn of the parked call. Where it is late it ends the call.
     fn again(&mut self, call: RecvCall, late: bool) -> RecvNext<T>
         ensures does { agains self.old call late self.new result }
-        ensures answers { IsAgain late result };
+        ensures answers { IsAgain call late result };
 
     /// Waits for a wake or for the deadline. True, at once, where the deadline is reached.
     fn wait(&mut self) -> bool
@@ -53,7 +54,8 @@ pub trait RecvGate<T> {
 /// A receive that waits. It parks where its first turn doesn't end it, and then asks and waits in
 /// turn until it ends. It ends as its last turn says; where there was no memory for what it parks
 /// on it ends with no memory. Where a turn of the parked call wants memory and there is none, the
-/// call withdraws, and ends with the message if one came, and else with no memory.
+/// call withdraws, and ends with the message if one came, and else with no memory; through a gate
+/// where none does, it ends so only before it is parked.
 ///
 /// ```
 /// // The gate is of an empty channel, and it has a deadline.
@@ -69,6 +71,8 @@ pub fn recv_over<T: Drop, G: RecvGate<T>, R: Wait>(
     gate: &mut G,
 ) -> Result<T, RecvTimeoutError>
     ensures run { WholeReceive G.firsts G.arms G.parks G.agains G.waits gate.old gate.new result }
+    ensures no_memory { IsNeverRefused G.agains → result ≡ Err RecvTimeoutError.NoMemory
+        → EndsUnparked G.firsts G.arms G.parks gate.old gate.new }
 {
     match gate.first() {
         RecvNext::Done(result) => result,
@@ -85,6 +89,9 @@ fn waiting_receive<T: Drop, G: RecvGate<T>, R: Wait>(
 ) -> Result<T, RecvTimeoutError>
     ensures run { (start : G) → G.firsts start gate.old RecvNext.NeedSignal
         → WholeReceive G.firsts G.arms G.parks G.agains G.waits start gate.new result }
+    ensures no_memory { (start : G) → G.firsts start gate.old RecvNext.NeedSignal
+        → IsNeverRefused G.agains → result ≡ Err RecvTimeoutError.NoMemory
+        → EndsUnparked G.firsts G.arms G.parks start gate.new }
 {
     if !gate.arm() {
         return Err(NoMemory);
@@ -103,7 +110,8 @@ fn parked_receive<T: Drop, G: RecvGate<T>, R: Wait>(
     gate: &mut G,
     mut call: RecvCall,
 ) -> Result<T, RecvTimeoutError>
-    ensures { ParkedReceive G.agains G.waits gate.old call gate.new result }
+    ensures run { ParkedReceive G.agains G.waits gate.old call gate.new result }
+    ensures wants_no_memory { IsNeverRefused G.agains → result ≢ Err RecvTimeoutError.NoMemory }
 {
     for _ in rt.forever() {
         call = match gate.again(call, false) {

@@ -1,7 +1,8 @@
 //! A send through a gate.
 ghost use Rattle.std.specs.Prelude.{◌≡◌, ◌≢◌, ℕ, Bool};
 ghost use Rattle.flume_calls.specs.declared.calls.send.SendNext.{SendNext};
-ghost use Rattle.flume_calls.specs.SendGates.{IsFirst, IsParking, IsAgain, ParkedSend, WholeSend};
+ghost use Rattle.flume_calls.specs.SendTurns.{IsFirst, IsParking, IsAgain};
+ghost use Rattle.flume_calls.specs.SendGates.{ParkedSend, WholeSend};
 
 use crate::calls::{SendCall, SendNext};
 use flume_core::error::SendTimeoutError;
@@ -43,7 +44,7 @@ pub trait SendGate<T> {
     /// A turn of the parked call. Where it is late it ends the call.
     fn again(&mut self, call: SendCall, late: bool) -> SendNext<T>
         ensures does { agains self.old call late self.new result }
-        ensures answers { IsAgain late result };
+        ensures answers { IsAgain call late result };
 
     /// Waits for a wake or for the deadline. True, at once, where the deadline is reached.
     fn wait(&mut self) -> bool

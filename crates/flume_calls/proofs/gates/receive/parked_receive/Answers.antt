@@ -2,15 +2,15 @@
 use Rattle.flume_calls.specs.ReceiveGates.{Asked, Withdrawn, Late, Waited}
 use Rattle.flume_calls.proofs.gates.receive.parked_receive.Goals as goal
 
-pub returns-in-Done : goal.returns-in-Done
-returns-in-Done g c = c.loop.invariant.from_here _ _ (Asked c.in-Done.ensures.does)
+pub returns-in-Done-clause-run : goal.returns-in-Done-clause-run
+returns-in-Done-clause-run g c = c.loop.invariant.from_here _ _ (Asked c.in-Done.ensures.does)
 
-pub returns-in-Refused : goal.returns-in-Refused
-returns-in-Refused g c =
+pub returns-in-Refused-clause-run : goal.returns-in-Refused-clause-run
+returns-in-Refused-clause-run g c =
     let back = c.withdrawn.ensures in c.loop.invariant.from_here _ _ (Withdrawn c.in-Refused.ensures.does back.1 back.2)
 
-pub returns-then-wait : goal.returns-then-wait
-returns-then-wait g c =
+pub returns-then-wait-clause-run : goal.returns-then-wait-clause-run
+returns-then-wait-clause-run g c =
     c.loop.invariant.from_here _ _ (Late c.in-Park.ensures.does c.if-wait.ensures.does c.in-Done-again.ensures.does)
 
 pub loop-preserved : goal.loop-preserved

@@ -1,0 +1,12 @@
+-- A receive that doesn't wait gets the front.
+use Rattle.std.proofs.Common.{rules}
+use Rattle.flume_calls.proofs.Got.{same_got}
+use Rattle.flume_calls.proofs.calls.receive.FirstReceiveTurn.make.Goals as goal
+
+pub returns-in-Got-clause-outcome : goal.returns-in-Got-clause-outcome
+returns-in-Got-clause-outcome g c = record {
+  got = λ message rest e. same_got _ _ _ c.in-Got.is (c.try_recv.ensures.got message rest e);
+  disconnected = search rules;
+  need_signal = search rules;
+  unchanged = search rules;
+}

@@ -1,0 +1,14 @@
+-- An offer that parks has the next ticket.
+use Rattle.std.proofs.Common.{◌≡◌, sym, ◌∙◌, rules}
+use Rattle.flume_calls.proofs.calls.send.ParkSendTurn.make.Goals as goal
+
+pub returns-in-Pending-clause-outcome : goal.returns-in-Pending-clause-outcome
+returns-in-Pending-clause-outcome g c = record {
+  closed = search rules;
+  sent = search rules;
+  parked = search rules;
+  ticket = λ led ticket e.
+      let run = (c.in-Pending.ensures.step led.0 led.1 led.2).run.0 in
+      let same : ticket ≡ c.in-Pending.ticket = cc in same ∙ run.2 ∙ sym led.2.next_is;
+  unchanged = search rules;
+}

@@ -1,0 +1,153 @@
+//! The turns that are a call of their own: nobody waits for what they do.
+
+use crate::turn::Turn;
+use flume_core::chan::Chan;
+use flume_core::step::{Reply, Step};
+use std::alloc::Allocator;
+
+/// The steps that are answered by their reply as it is.
+#[derive(Clone, Copy, Drop)]
+pub enum Single {
+    /// Takes all that is queued: `Drained` with the list; or `NoMemory`, and nothing changed.
+    Drain,
+    /// One more sender: `Done`; or `NoEnd` or `CountFull`, and nothing changed.
+    CloneSender,
+    /// One more receiver: `Done`; or `NoEnd` or `CountFull`, and nothing changed.
+    CloneReceiver,
+    /// One sender less: `Done`; or `NoEnd` where none was left, and nothing changed.
+    DropSender,
+    /// One receiver less: `Done`; or `NoEnd` where none was left, and nothing changed.
+    DropReceiver,
+}
+
+impl<T: Drop, S: Drop, A: Allocator + Copy> Turn<T, S, A> for Single {
+    ghost use Rattle.std.specs.Prelude.{◌≡◌};
+    ghost use Rattle.flume_core.specs.StandsFor.{ChangesNothing};
+    ghost use Rattle.flume_core.specs.Comes.{Comes};
+    ghost use Rattle.flume_calls.specs.Singles.{step_of};
+
+    type Answer = Reply<T, A>;
+
+    ghost step = { step_of };
+
+    ghost table = { λ _ reply answer. answer ≡ reply };
+
+    ghost answers = { λ turn. Comes (step_of turn) };
+
+    ghost outcome = { λ turn old new reply. ChangesNothing (step_of turn) reply → new ≡ old };
+
+    fn make(self, chan: &mut Chan<T, S, A>) -> Reply<T, A> {
+        match self {
+            Single::Drain => chan.drain(),
+            Single::CloneSender => chan.clone_sender(),
+            Single::CloneReceiver => chan.clone_receiver(),
+            Single::DropSender => chan.drop_sender(),
+            Single::DropReceiver => chan.drop_receiver(),
+        }
+    }
+}
+
+/// The queries for a number.
+#[derive(Clone, Copy, Drop)]
+pub enum AskNumber {
+    /// How many messages are queued.
+    Len,
+    /// How many senders live.
+    SenderCount,
+    /// How many receivers live.
+    ReceiverCount,
+}
+
+impl<T: Drop, S: Drop, A: Allocator + Copy> Turn<T, S, A> for AskNumber {
+    ghost use Rattle.std.specs.Prelude.{◌≡◌};
+    ghost use Rattle.flume_model.specs.declared.step.Reply.TheVariants.{Number};
+    ghost use Rattle.flume_calls.specs.Singles.{step_for_number};
+
+    type Answer = usize;
+
+    ghost step = { step_for_number };
+
+    ghost table = { λ _ reply number. reply ≡ Number number };
+
+    ghost answers = { λ _ _. Unit {0} };
+
+    ghost outcome = { λ _ old new _. new ≡ old };
+
+    fn make(self, chan: &mut Chan<T, S, A>) -> usize {
+        let reply = match self {
+            AskNumber::Len => chan.len(),
+            AskNumber::SenderCount => chan.sender_count(),
+            AskNumber::ReceiverCount => chan.receiver_count(),
+        };
+        match reply {
+            Reply::Number(number) => number,
+            _ => unreachable!(),
+        }
+    }
+}
+
+/// The queries for a truth.
+#[derive(Clone, Copy, Drop)]
+pub enum AskTruth {
+    /// Whether no message is queued.
+    IsEmpty,
+    /// Whether the channel is bounded, and its queue at or past its capacity.
+    IsFull,
+    /// Whether all senders or all receivers are gone.
+    IsDisconnected,
+}
+
+impl<T: Drop, S: Drop, A: Allocator + Copy> Turn<T, S, A> for AskTruth {
+    ghost use Rattle.std.specs.Prelude.{◌≡◌};
+    ghost use Rattle.flume_model.specs.declared.step.Reply.TheVariants.{Truth};
+    ghost use Rattle.flume_calls.specs.Singles.{step_for_truth};
+
+    type Answer = bool;
+
+    ghost step = { step_for_truth };
+
+    ghost table = { λ _ reply truth. reply ≡ Truth truth };
+
+    ghost answers = { λ _ _. Unit {0} };
+
+    ghost outcome = { λ _ old new _. new ≡ old };
+
+    fn make(self, chan: &mut Chan<T, S, A>) -> bool {
+        let reply = match self {
+            AskTruth::IsEmpty => chan.is_empty(),
+            AskTruth::IsFull => chan.is_full(),
+            AskTruth::IsDisconnected => chan.is_disconnected(),
+        };
+        match reply {
+            Reply::Truth(truth) => truth,
+            _ => unreachable!(),
+        }
+    }
+}
+
+/// The query for the capacity: `None` of an unbounded channel.
+#[derive(Clone, Copy, Drop)]
+pub struct AskCapacity;
+
+impl<T: Drop, S: Drop, A: Allocator + Copy> Turn<T, S, A> for AskCapacity {
+    ghost use Rattle.std.specs.Prelude.{◌≡◌};
+    ghost use Rattle.flume_model.specs.declared.step.Step.TheVariants.{Capacity as AskForCapacity};
+    ghost use Rattle.flume_model.specs.declared.step.Reply.TheVariants.{Capacity};
+
+    type Answer = Option<usize>;
+
+    ghost step = { λ _. AskForCapacity };
+
+    ghost table = { λ _ reply capacity. reply ≡ Capacity capacity };
+
+    ghost answers = { λ _ _. Unit {0} };
+
+    ghost outcome = { λ _ old new _. new ≡ old };
+
+    fn make(self, chan: &mut Chan<T, S, A>) -> Option<usize> {
+        match chan.capacity() {
+            Reply::Capacity(capacity) => capacity,
+            _ => unreachable!(),
+        }
+    }
+}
