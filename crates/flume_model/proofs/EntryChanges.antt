@@ -67,13 +67,7 @@ module _ {T : Type 0} where
   apart_by c closes SenderLeaves h apart = apart_close c.next closes c.entries apart
   apart_by c closes ReceiverLeaves h apart = apart_close c.next closes c.entries apart
   apart_by c closes (Blocks m t) h apart = apart_above c.next (c.next + 1) c.entries (omega arith) apart
-  apart_by c closes (Accepts t) h apart = apart_above c.next (c.next + 0) c.entries (omega arith) apart
-  apart_by c closes (Withdraws t) h apart = apart_above c.next (c.next + 0) c.entries (omega arith) apart
-  apart_by c closes (Takes m None) h apart = apart_above c.next (c.next + 0) c.entries (omega arith) apart
-  apart_by c closes (Drains list) h apart = apart_above c.next (c.next + 0) c.entries (omega arith) apart
-  apart_by c closes SenderJoins h apart = apart_above c.next (c.next + 0) c.entries (omega arith) apart
-  apart_by c closes ReceiverJoins h apart = apart_above c.next (c.next + 0) c.entries (omega arith) apart
-  apart_by c closes Stays h apart = apart_above c.next (c.next + 0) c.entries (omega arith) apart
+  apart_by c closes _ h apart = apart_above c.next (c.next + 0) c.entries (omega arith) apart
 
   -- a change that fits fills no ticket that none had
   pub fills_none : (c : Channel T) (done : Change T) (t : ℕ) → Fits c done → entry_of t c.entries ≡ None → is_ticket t (fills done) ≡ false
@@ -111,14 +105,7 @@ module _ {T : Type 0} where
       filled_round untold front c.next was (without t c.entries) (apart_without c.next t c.entries apart) others))
   filled_by_change c closes SenderLeaves was h apart past all = filled_close was closes c.entries all
   filled_by_change c closes ReceiverLeaves was h apart past all = filled_close was closes c.entries all
-  filled_by_change c closes (Blocks m t) was h apart past all = all
-  filled_by_change c closes (Accepts t) was h apart past all = all
-  filled_by_change c closes (Withdraws t) was h apart past all = all
-  filled_by_change c closes (Takes m None) was h apart past all = all
-  filled_by_change c closes (Drains list) was h apart past all = all
-  filled_by_change c closes SenderJoins was h apart past all = all
-  filled_by_change c closes ReceiverJoins was h apart past all = all
-  filled_by_change c closes Stays was h apart past all = all
+  filled_by_change c closes _ was h apart past all = all
 
   -- whether a receiver parks under this ticket by a change
   abbrev pub parks_under : Change T → ℕ → Bool
@@ -151,14 +138,7 @@ module _ {T : Type 0} where
       (λ passes front rest e2. none_round t front (without u c.entries) others)
   none_by c closes SenderLeaves t e none = none_close t closes c.entries none
   none_by c closes ReceiverLeaves t e none = none_close t closes c.entries none
-  none_by c closes (Blocks m u) t e none = none
-  none_by c closes (Accepts u) t e none = none
-  none_by c closes (Withdraws u) t e none = none
-  none_by c closes (Takes m None) t e none = none
-  none_by c closes (Drains list) t e none = none
-  none_by c closes SenderJoins t e none = none
-  none_by c closes ReceiverJoins t e none = none
-  none_by c closes Stays t e none = none
+  none_by c closes _ t e none = none
 
   -- a ticket below the next one is no other that a receiver parks under
   parks_later : (c : Channel T) (done : Change T) (t : ℕ) → Fits c done → t < c.next → parks_under done t ≡ false

@@ -140,14 +140,7 @@ module _ {T : Type 0} where
       (λ passes front rest e. held_round untold front t m (without u c.entries) others)
   held_by_change c closes SenderLeaves t m h stays held = held_close closes t m c.entries held
   held_by_change c closes ReceiverLeaves t m h stays held = held_close closes t m c.entries held
-  held_by_change c closes (Blocks x u) t m h stays held = held
-  held_by_change c closes (Accepts u) t m h stays held = held
-  held_by_change c closes (Withdraws u) t m h stays held = held
-  held_by_change c closes (Takes x None) t m h stays held = held
-  held_by_change c closes (Drains list) t m h stays held = held
-  held_by_change c closes SenderJoins t m h stays held = held
-  held_by_change c closes ReceiverJoins t m h stays held = held
-  held_by_change c closes Stays t m h stays held = held
+  held_by_change c closes _ t m h stays held = held
 
   -- the entry that a round fills holds the front after it
   round_holds : (front : T) (n t : ℕ) (es : List (LogEntry T)) → Apart n es → round_fills es ≡ Some t

@@ -136,12 +136,7 @@ module _ {T : Type 0} where
       (let no_more = (round_counts untold front (without t c.entries)).no_more in omega arith)))
   leaves_by c closes SenderLeaves n stood h long within = leaves_close c closes
   leaves_by c closes ReceiverLeaves n stood h long within = leaves_close c closes
-  leaves_by c closes (Blocks m t) n stood h long within = NoMore (omega arith)
-  leaves_by c closes (Accepts t) n stood h long within = NoMore (omega arith)
-  leaves_by c closes (Withdraws t) n stood h long within = NoMore (omega arith)
-  leaves_by c closes SenderJoins n stood h long within = NoMore (omega arith)
-  leaves_by c closes ReceiverJoins n stood h long within = NoMore (omega arith)
-  leaves_by c closes Stays n stood h long within = NoMore (omega arith)
+  leaves_by c closes _ n stood h long within = NoMore (omega arith)
 
 -- nothing is within each bound
 none_within : (capacity : Option ℕ) (other n : ℕ) → n ≡ 0 → IsWithin capacity other n

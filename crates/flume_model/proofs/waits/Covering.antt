@@ -116,11 +116,7 @@ module _ {T : Type 0} where
   covered_by c closes SenderLeaves n stood h long within before some = covered_close c closes before some
   covered_by c closes ReceiverLeaves n stood h long within before some = covered_close c closes before some
   covered_by c closes (Blocks m t) n stood h long within before some = absurd (let none = h.0.1 in let no : ⊥ = cc in no)
-  covered_by c closes (Accepts t) n stood h long within before some = before some
-  covered_by c closes (Withdraws t) n stood h long within before some = before some
-  covered_by c closes SenderJoins n stood h long within before some = before some
-  covered_by c closes ReceiverJoins n stood h long within before some = before some
-  covered_by c closes Stays n stood h long within before some = before some
+  covered_by c closes _ n stood h long within before some = before some
 
 module _ {T A : Type 0} where
   -- after one more pair of a run

@@ -44,7 +44,6 @@ module _ {T : Type 0} where
       → (some_wait c.entries ≡ true → IsOpen c.senders c.receivers) → some_wait (entries_after c.queue closes c.entries done) ≡ true
       → IsOpen (senders_after c.senders done) (receivers_after c.receivers done)
   open_by c closes (Queues m filled) h e before some = h.0.0
-  open_by c closes (Takes m None) h e before some = before some
   open_by c closes (Takes m (Some t)) h e before some = before (wait_without t c.entries some)
   open_by c closes (Parks t kind) h e before some = h.1
   open_by c closes (Asks t) h e before some =
@@ -56,11 +55,7 @@ module _ {T : Type 0} where
   open_by c closes ReceiverJoins h e before some = let is_open = before some in omega arith
   open_by c closes SenderLeaves h e before some = open_close c _ _ closes e before some
   open_by c closes ReceiverLeaves h e before some = open_close c _ _ closes e before some
-  open_by c closes (Drains list) h e before some = before some
-  open_by c closes (Blocks m t) h e before some = before some
-  open_by c closes (Accepts t) h e before some = before some
-  open_by c closes (Withdraws t) h e before some = before some
-  open_by c closes Stays h e before some = before some
+  open_by c closes _ h e before some = before some
 
 module _ {T A : Type 0} where
   -- after one more pair of a run
