@@ -6,6 +6,7 @@ pub use Rattle.std.proofs.Common.{subst₂, sum_by, min, ◌≢◌, rules}
 pub use Rattle.std.proofs.Math.Seq.{take-nil}
 pub use Rattle.std.proofs.lemmas.Bool.{or_left, or_from, or_cases, and_parts, or_parts, or_right, cond-false, cond-true, cases_lt}
 pub use Rattle.std.proofs.lemmas.Bool.{eqb-false, and_right}
+pub use Rattle.std.proofs.lemmas.Grind.{common_steps}
 pub use Rattle.std.proofs.lemmas.List.{append_assoc, drop_more, drop-set-lt, take-append-drop, take_more_set, append-nil, drop-append-le}
 pub use Rattle.std.proofs.lemmas.List.{map-append, take_all, length-map, length_push, length-drop, take_at, take-append-le, drop-map}
 pub use Rattle.std.proofs.lemmas.List.{drop_all}

@@ -2,7 +2,7 @@
 use Rattle.flume_model.proofs.Common.{◌≡◌, ℕ, Bool, true, false, if◌then◌else◌, eqb, List, [], ◌∷◌, ◌++◌, Option, Some, None, refl, sym}
 use Rattle.flume_model.proofs.Common.{◌∙◌, ap, eqb-true, eq-eqb, is_woken, round, round_fills, round_for, round_for_fills, all_woken}
 use Rattle.flume_model.proofs.Common.{entry_of, without, again_as, again, passes_on, after_leave, leave_fills, is_ticket, Entry, Mark}
-use Rattle.flume_model.proofs.Common.{Waiting, Woken, Filled, Kind, Block, Plain, Stream, Arm}
+use Rattle.flume_model.proofs.Common.{Waiting, Woken, Filled, Kind, Block, Plain, Stream, Arm, arith, common_steps}
 
 module _ {T N : Type 0} where
   -- the tickets of entries, in order
@@ -13,11 +13,7 @@ module _ {T N : Type 0} where
   -- no entry of a list with a first one has the ticket: neither the first one nor another
   pub none_parts : (t : ℕ) (x : Entry T N) (es : List (Entry T N)) → entry_of t (x ∷ es) ≡ None
       → (eqb x.ticket t ≡ false) × (entry_of t es ≡ None)
-  none_parts t x es h = by_case (eqb x.ticket t) refl
-    where
-      by_case : (b : Bool) → eqb x.ticket t ≡ b → (eqb x.ticket t ≡ false) × (entry_of t es ≡ None)
-      by_case true e = let h2 = simp e at h in absurd (let none : ⊥ = cc in none)
-      by_case false e = (e, simp e at h)
+  none_parts t x es h = grind (arith, common_steps)
 
   -- the other way round
   pub none_more : (t : ℕ) (x : Entry T N) (es : List (Entry T N)) → eqb x.ticket t ≡ false → entry_of t es ≡ None
@@ -27,14 +23,7 @@ module _ {T N : Type 0} where
   -- the entry found by a ticket has it
   pub ticket_of : (t : ℕ) (e : Entry T N) (es : List (Entry T N)) → entry_of t es ≡ Some e → e.ticket ≡ t
   ticket_of t e [] h = absurd (let none : ⊥ = cc in none)
-  ticket_of t e (x ∷ es) h = by_case (eqb x.ticket t) refl (ticket_of t e es)
-    where
-      by_case : (b : Bool) → eqb x.ticket t ≡ b → (entry_of t es ≡ Some e → e.ticket ≡ t) → e.ticket ≡ t
-      by_case true f rest =
-          let h2 = simp f at h in
-          let same : x ≡ e = cc in
-          sym (ap (λ y. y.ticket) same) ∙ eqb-true x.ticket t f
-      by_case false f rest = rest (simp f at h)
+  ticket_of t e (x ∷ es) h = grind (arith, common_steps, ticket_of t e es)
 
   -- a round changes no ticket
   pub tickets_round : (tell : N → N) (front : T) (es : List (Entry T N)) → tickets (round tell front es) ≡ tickets es
@@ -80,14 +69,7 @@ module _ {T N : Type 0} where
   -- what has no ticket of a list has none of the list without an entry
   pub none_without : (t u : ℕ) (es : List (Entry T N)) → entry_of t es ≡ None → entry_of t (without u es) ≡ None
   none_without t u [] h = refl
-  none_without t u (x ∷ es) h =
-      let parts = none_parts t x es h in
-      by_case (eqb x.ticket u) refl parts.0 parts.1 (none_without t u es parts.1)
-    where
-      by_case : (b : Bool) → eqb x.ticket u ≡ b → eqb x.ticket t ≡ false → entry_of t es ≡ None → entry_of t (without u es) ≡ None
-          → entry_of t (without u (x ∷ es)) ≡ None
-      by_case true e first others rest = simp e others
-      by_case false e first others rest = simp e (none_more t x (without u es) first rest)
+  none_without t u (x ∷ es) h = grind (arith, common_steps, none_without t u es)
 
   -- what has no ticket of a list has none of the list with one more of another ticket
   pub none_push : (t : ℕ) (es : List (Entry T N)) (x : Entry T N) → entry_of t es ≡ None → eqb x.ticket t ≡ false

@@ -2,6 +2,7 @@
 use Rattle.flume_model.proofs.Common.{◌≡◌, ℕ, ◌<◌, ◌≤◌, Bool, true, false, ◌||◌, eqb, List, [], ◌∷◌, ◌++◌, Some, None, refl, sym, ◌∙◌, ap}
 use Rattle.flume_model.proofs.Common.{arith, eqb-true, eq-eqb, ne_eqb, or_left, is_filled, round, round_fills, all_woken, entry_of, without}
 use Rattle.flume_model.proofs.Common.{is_ticket, LogEntry, Apart, Entry, Mark, Waiting, Woken, Filled, Kind, Block, Plain, Stream, Arm}
+use Rattle.flume_model.proofs.Common.{common_steps}
 use Rattle.flume_model.proofs.EntryLists.{tickets, none_parts, none_more, fills_none_else, none_without, none_push, none_same}
 
 module _ {T N : Type 0} where
@@ -14,14 +15,7 @@ module _ {T N : Type 0} where
   pub filled_found : (was : ℕ → Bool) (t : ℕ) (e : Entry T N) (es : List (Entry T N)) → FilledBy was es → entry_of t es ≡ Some e
       → was t ≡ is_filled e.mark
   filled_found was t e [] all h = absurd (let none : ⊥ = cc in none)
-  filled_found was t e (x ∷ es) all h = by_case (eqb x.ticket t) refl (filled_found was t e es all.1)
-    where
-      by_case : (b : Bool) → eqb x.ticket t ≡ b → (entry_of t es ≡ Some e → was t ≡ is_filled e.mark) → was t ≡ is_filled e.mark
-      by_case true f rest =
-          let h2 = simp f at h in
-          let same : x ≡ e = cc in
-          ap was (sym (eqb-true x.ticket t f)) ∙ all.0 ∙ ap (λ y. is_filled y.mark) same
-      by_case false f rest = rest (simp f at h)
+  filled_found was t e (x ∷ es) all h = grind (arith, common_steps, filled_found was t e es)
 
   -- where one ticket more counts as filled, which no entry has, nothing changes
   pub filled_more : (was : ℕ → Bool) (t : ℕ) (es : List (Entry T N)) → entry_of t es ≡ None → FilledBy was es
@@ -36,11 +30,7 @@ module _ {T N : Type 0} where
   -- of all entries but one
   pub filled_without : (was : ℕ → Bool) (t : ℕ) (es : List (Entry T N)) → FilledBy was es → FilledBy was (without t es)
   filled_without was t [] all = tt
-  filled_without was t (x ∷ es) all = by_case (eqb x.ticket t) refl (filled_without was t es all.1)
-    where
-      by_case : (b : Bool) → eqb x.ticket t ≡ b → FilledBy was (without t es) → FilledBy was (without t (x ∷ es))
-      by_case true e rest = simp e all.1
-      by_case false e rest = simp e (all.0, rest)
+  filled_without was t (x ∷ es) all = grind (arith, common_steps, filled_without was t es)
 
   -- of one more entry
   pub filled_push : (was : ℕ → Bool) (es : List (Entry T N)) (x : Entry T N) → FilledBy was es → was x.ticket ≡ is_filled x.mark
@@ -75,11 +65,7 @@ module _ {T : Type 0} where
   -- the ticket of an entry that is found is below the bound
   pub found_below : (n t : ℕ) (e : LogEntry T) (es : List (LogEntry T)) → entry_of t es ≡ Some e → Apart n es → t < n
   found_below n t e [] f h = absurd (let none : ⊥ = cc in none)
-  found_below n t e (x ∷ es) f h = by_case (eqb x.ticket t) refl (λ g. found_below n t e es g h.2)
-    where
-      by_case : (b : Bool) → eqb x.ticket t ≡ b → (entry_of t es ≡ Some e → t < n) → t < n
-      by_case true g rest = let below = h.0 in let same = eqb-true x.ticket t g in omega arith
-      by_case false g rest = rest (simp g at f)
+  found_below n t e (x ∷ es) f h = grind (arith, common_steps, found_below n t e es)
 
   -- lists of the same tickets are apart alike
   pub apart_same : (n : ℕ) (es fs : List (LogEntry T)) → tickets es ≡ tickets fs → Apart n es → Apart n fs
@@ -96,20 +82,12 @@ module _ {T : Type 0} where
   -- all entries but one are apart
   pub apart_without : (n t : ℕ) (es : List (LogEntry T)) → Apart n es → Apart n (without t es)
   apart_without n t [] h = tt
-  apart_without n t (x ∷ es) h = by_case (eqb x.ticket t) refl (apart_without n t es h.2)
-    where
-      by_case : (b : Bool) → eqb x.ticket t ≡ b → Apart n (without t es) → Apart n (without t (x ∷ es))
-      by_case true e rest = simp e h.2
-      by_case false e rest = simp e (h.0, none_without x.ticket t es h.1, rest)
+  apart_without n t (x ∷ es) h = grind (arith, common_steps, apart_without n t es, none_without)
 
   -- none of the others has the ticket of the one that left
   pub left_out : (n t : ℕ) (es : List (LogEntry T)) → Apart n es → entry_of t (without t es) ≡ None
   left_out n t [] h = refl
-  left_out n t (x ∷ es) h = by_case (eqb x.ticket t) refl (left_out n t es h.2)
-    where
-      by_case : (b : Bool) → eqb x.ticket t ≡ b → entry_of t (without t es) ≡ None → entry_of t (without t (x ∷ es)) ≡ None
-      by_case true e rest = simp e (ap (λ u. entry_of u es) (sym (eqb-true x.ticket t e)) ∙ h.1)
-      by_case false e rest = simp e rest
+  left_out n t (x ∷ es) h = grind (arith, common_steps, left_out n t es)
 
   -- one more entry, whose ticket none has
   pub apart_push : (n : ℕ) (es : List (LogEntry T)) (x : LogEntry T) → Apart n es → entry_of x.ticket es ≡ None → x.ticket < n
