@@ -1,7 +1,7 @@
 -- How many entries wait and how many stand woken, after a wake round, a leave and one more entry.
 use Rattle.flume_model.proofs.Common.{◌≡◌, ℕ, ◌+◌, ◌<◌, ◌≤◌, Bool, true, false, if◌then◌else◌, eqb, List, [], ◌∷◌, Option, Some, refl, ap}
 use Rattle.flume_model.proofs.Common.{arith, is_waiting, is_woken, some_wait, waiting_count, woken_count, round, round_fills, entry_of}
-use Rattle.flume_model.proofs.Common.{without, how_many, Entry, Mark, Waiting, Woken, Filled, Kind, Block, Plain, Stream, Arm}
+use Rattle.flume_model.proofs.Common.{without, how_many, Entry, Mark, Waiting, Woken, Filled, Kind, Block, Plain, Stream, Arm, common_steps}
 
 module _ {T : Type 0} where
   -- one for a mark that waits
@@ -16,24 +16,12 @@ module _ {T N : Type 0} where
   -- where none waits, none is counted
   pub counted_none : (es : List (Entry T N)) → some_wait es ≡ false → waiting_count es ≡ 0
   counted_none [] h = refl
-  counted_none (x ∷ es) h = by_mark x.mark h (counted_none es)
-    where
-      by_mark : (m : Mark T) → some_wait (record x { mark = m } ∷ es) ≡ false → (some_wait es ≡ false → waiting_count es ≡ 0)
-          → waiting_count (record x { mark = m } ∷ es) ≡ 0
-      by_mark Waiting some rest = absurd (let none : ⊥ = cc in none)
-      by_mark Woken some rest = let more = rest some in omega arith
-      by_mark (Filled held) some rest = let more = rest some in omega arith
+  counted_none (x ∷ es) h = grind (arith, common_steps, counted_none es)
 
   -- where one waits, it is counted
   pub counted_some : (es : List (Entry T N)) → some_wait es ≡ true → 0 < waiting_count es
   counted_some [] h = absurd (let none : ⊥ = cc in none)
-  counted_some (x ∷ es) h = by_mark x.mark h (counted_some es)
-    where
-      by_mark : (m : Mark T) → some_wait (record x { mark = m } ∷ es) ≡ true → (some_wait es ≡ true → 0 < waiting_count es)
-          → 0 < waiting_count (record x { mark = m } ∷ es)
-      by_mark Waiting some rest = omega arith
-      by_mark Woken some rest = let more = rest some in omega arith
-      by_mark (Filled held) some rest = let more = rest some in omega arith
+  counted_some (x ∷ es) h = grind (arith, common_steps, counted_some es)
 
   -- what a round does to the counts
   pub record Rounded (es after : List (Entry T N)) (filled : Option ℕ) : Type 0 where

@@ -1,8 +1,7 @@
 -- What wake rounds, a leave and one more entry do to the tickets of entries and to their marks.
-use Rattle.flume_model.proofs.Common.{◌≡◌, ℕ, Bool, true, false, if◌then◌else◌, eqb, List, [], ◌∷◌, ◌++◌, Option, Some, None, refl, sym}
-use Rattle.flume_model.proofs.Common.{◌∙◌, ap, eqb-true, eq-eqb, is_woken, round, round_fills, round_for, round_for_fills, all_woken}
-use Rattle.flume_model.proofs.Common.{entry_of, without, again_as, again, passes_on, after_leave, leave_fills, is_ticket, Entry, Mark}
-use Rattle.flume_model.proofs.Common.{Waiting, Woken, Filled, Kind, Block, Plain, Stream, Arm, arith, common_steps}
+use Rattle.flume_model.proofs.Common.{◌≡◌, ℕ, Bool, true, false, if◌then◌else◌, eqb, List, [], ◌∷◌, ◌++◌, Option, Some, None, refl, eq-eqb}
+use Rattle.flume_model.proofs.Common.{is_woken, round, round_fills, round_for, round_for_fills, all_woken, entry_of, without, again_as}
+use Rattle.flume_model.proofs.Common.{again, passes_on, after_leave, leave_fills, is_ticket, Entry, Waiting, arith, common_steps}
 
 module _ {T N : Type 0} where
   -- the tickets of entries, in order
@@ -28,43 +27,17 @@ module _ {T N : Type 0} where
   -- a round changes no ticket
   pub tickets_round : (tell : N → N) (front : T) (es : List (Entry T N)) → tickets (round tell front es) ≡ tickets es
   tickets_round tell front [] = refl
-  tickets_round tell front (x ∷ es) = by_mark x.kind x.mark (ap (λ l. x.ticket ∷ l) (tickets_round tell front es))
-    where
-      by_mark : (k : Kind) (m : Mark T) → x.ticket ∷ tickets (round tell front es) ≡ x.ticket ∷ tickets es
-          → tickets (round tell front (record x { kind = k; mark = m } ∷ es)) ≡ x.ticket ∷ tickets es
-      by_mark Block Waiting rest = refl
-      by_mark Plain Waiting rest = refl
-      by_mark Stream Waiting rest = rest
-      by_mark Arm Waiting rest = refl
-      by_mark k Woken rest = rest
-      by_mark k (Filled held) rest = rest
+  tickets_round tell front (x ∷ es) = grind (arith, common_steps, tickets_round tell front es)
 
   -- a wake of all changes no ticket
   pub tickets_woken : (tell : N → N) (es : List (Entry T N)) → tickets (all_woken tell es) ≡ tickets es
   tickets_woken tell [] = refl
-  tickets_woken tell (x ∷ es) = by_mark x.mark (ap (λ l. x.ticket ∷ l) (tickets_woken tell es))
-    where
-      by_mark : (m : Mark T) → x.ticket ∷ tickets (all_woken tell es) ≡ x.ticket ∷ tickets es
-          → tickets (all_woken tell (record x { mark = m } ∷ es)) ≡ x.ticket ∷ tickets es
-      by_mark Waiting rest = rest
-      by_mark Woken rest = rest
-      by_mark (Filled held) rest = rest
+  tickets_woken tell (x ∷ es) = grind (arith, common_steps, tickets_woken tell es)
 
   -- a round fills none that isn't there
   pub fills_none_else : (t : ℕ) (es : List (Entry T N)) → entry_of t es ≡ None → is_ticket t (round_fills es) ≡ false
   fills_none_else t [] h = refl
-  fills_none_else t (x ∷ es) h =
-      let parts = none_parts t x es h in
-      by_mark x.kind x.mark parts.0 (fills_none_else t es parts.1)
-    where
-      by_mark : (k : Kind) (m : Mark T) → eqb x.ticket t ≡ false → is_ticket t (round_fills es) ≡ false
-          → is_ticket t (round_fills (record x { kind = k; mark = m } ∷ es)) ≡ false
-      by_mark Block Waiting e rest = e
-      by_mark Plain Waiting e rest = refl
-      by_mark Stream Waiting e rest = rest
-      by_mark Arm Waiting e rest = refl
-      by_mark k Woken e rest = rest
-      by_mark k (Filled held) e rest = rest
+  fills_none_else t (x ∷ es) h = grind (arith, common_steps, fills_none_else t es)
 
   -- what has no ticket of a list has none of the list without an entry
   pub none_without : (t u : ℕ) (es : List (Entry T N)) → entry_of t es ≡ None → entry_of t (without u es) ≡ None
@@ -75,17 +48,12 @@ module _ {T N : Type 0} where
   pub none_push : (t : ℕ) (es : List (Entry T N)) (x : Entry T N) → entry_of t es ≡ None → eqb x.ticket t ≡ false
       → entry_of t (es ++ x ∷ []) ≡ None
   none_push t [] x h e = none_more t x [] e refl
-  none_push t (y ∷ es) x h e =
-      let parts = none_parts t y es h in
-      none_more t y (es ++ x ∷ []) parts.0 (none_push t es x parts.1 e)
+  none_push t (y ∷ es) x h e = grind (arith, common_steps, none_push t es x)
 
   -- where none had its ticket, the one more is found by it
   pub entry_last : (es : List (Entry T N)) (x : Entry T N) → entry_of x.ticket es ≡ None → entry_of x.ticket (es ++ x ∷ []) ≡ Some x
   entry_last [] x h = let same = eq-eqb x.ticket x.ticket refl in simp same
-  entry_last (y ∷ es) x h =
-      let parts = none_parts x.ticket y es h in
-      let other : eqb y.ticket x.ticket ≡ false = parts.0 in
-      simp other (entry_last es x parts.1)
+  entry_last (y ∷ es) x h = grind (arith, common_steps, entry_last es x)
 
 module _ {T N M : Type 0} where
   -- lists of the same tickets have the same tickets missing
@@ -94,11 +62,7 @@ module _ {T N M : Type 0} where
   none_same t [] [] e h = refl
   none_same t [] (y ∷ fs) e h = absurd (let none : ⊥ = cc in none)
   none_same t (x ∷ es) [] e h = absurd (let none : ⊥ = cc in none)
-  none_same t (x ∷ es) (y ∷ fs) e h =
-      let parts = none_parts t x es h in
-      let first : x.ticket ≡ y.ticket = cc in
-      let others : tickets es ≡ tickets fs = cc in
-      none_more t y fs (ap (λ u. eqb u t) (sym first) ∙ parts.0) (none_same t es fs others parts.1)
+  none_same t (x ∷ es) (y ∷ fs) e h = grind (arith, common_steps, none_same t es fs)
 
 module _ {T N : Type 0} where
   -- what holds where a queue is empty and where a round comes, holds of what a round for the queue leaves

@@ -1,8 +1,7 @@
 -- Which entries are filled after a wake round, a leave and one more entry, and that their tickets stay apart.
-use Rattle.flume_model.proofs.Common.{◌≡◌, ℕ, ◌<◌, ◌≤◌, Bool, true, false, ◌||◌, eqb, List, [], ◌∷◌, ◌++◌, Some, None, refl, sym, ◌∙◌, ap}
-use Rattle.flume_model.proofs.Common.{arith, eqb-true, eq-eqb, ne_eqb, or_left, is_filled, round, round_fills, all_woken, entry_of, without}
-use Rattle.flume_model.proofs.Common.{is_ticket, LogEntry, Apart, Entry, Mark, Waiting, Woken, Filled, Kind, Block, Plain, Stream, Arm}
-use Rattle.flume_model.proofs.Common.{common_steps}
+use Rattle.flume_model.proofs.Common.{◌≡◌, ℕ, ◌<◌, ◌≤◌, Bool, false, ◌||◌, eqb, List, [], ◌∷◌, ◌++◌, Some, None, refl, arith, eq-eqb}
+use Rattle.flume_model.proofs.Common.{or_left, is_filled, round, round_fills, all_woken, entry_of, without, is_ticket, LogEntry, Apart}
+use Rattle.flume_model.proofs.Common.{Entry, Mark, Waiting, Woken, Filled, Kind, Block, Plain, Stream, Arm, common_steps}
 use Rattle.flume_model.proofs.EntryLists.{tickets, none_parts, none_more, fills_none_else, none_without, none_push, none_same}
 
 module _ {T N : Type 0} where
@@ -21,11 +20,7 @@ module _ {T N : Type 0} where
   pub filled_more : (was : ℕ → Bool) (t : ℕ) (es : List (Entry T N)) → entry_of t es ≡ None → FilledBy was es
       → FilledBy (λ u. eqb t u || was u) es
   filled_more was t [] h all = tt
-  filled_more was t (x ∷ es) h all =
-      let parts = none_parts t x es h in
-      let other : eqb t x.ticket ≡ false = ne_eqb t x.ticket (λ same. (let eq : eqb x.ticket t ≡ true = eq-eqb x.ticket t (sym same) in
-      let none : ⊥ = cc (parts.0, eq) in none)) in
-      (rw other all.0, filled_more was t es parts.1 all.1)
+  filled_more was t (x ∷ es) h all = grind (arith, common_steps, filled_more was t es)
 
   -- of all entries but one
   pub filled_without : (was : ℕ → Bool) (t : ℕ) (es : List (Entry T N)) → FilledBy was es → FilledBy was (without t es)
@@ -41,13 +36,7 @@ module _ {T N : Type 0} where
   -- where all that wait are woken
   pub filled_woken : (tell : N → N) (was : ℕ → Bool) (es : List (Entry T N)) → FilledBy was es → FilledBy was (all_woken tell es)
   filled_woken tell was [] all = tt
-  filled_woken tell was (x ∷ es) all = by_mark x.mark all.0 (filled_woken tell was es all.1)
-    where
-      by_mark : (m : Mark T) → was x.ticket ≡ is_filled m → FilledBy was (all_woken tell es)
-          → FilledBy was (all_woken tell (record x { mark = m } ∷ es))
-      by_mark Waiting h rest = (h, rest)
-      by_mark Woken h rest = (h, rest)
-      by_mark (Filled held) h rest = (h, rest)
+  filled_woken tell was (x ∷ es) all = grind (arith, common_steps, filled_woken tell was es)
 
 module _ {T : Type 0} where
   -- a greater bound
@@ -58,9 +47,7 @@ module _ {T : Type 0} where
   -- no entry has a ticket at or past the bound
   pub none_past : (n t : ℕ) (es : List (LogEntry T)) → n ≤ t → Apart n es → entry_of t es ≡ None
   none_past n t [] le h = refl
-  none_past n t (x ∷ es) le h =
-      let below = h.0 in
-      none_more t x es (ne_eqb x.ticket t (λ e. omega arith)) (none_past n t es le h.2)
+  none_past n t (x ∷ es) le h = grind (arith, common_steps, none_past n t es)
 
   -- the ticket of an entry that is found is below the bound
   pub found_below : (n t : ℕ) (e : LogEntry T) (es : List (LogEntry T)) → entry_of t es ≡ Some e → Apart n es → t < n
@@ -72,12 +59,7 @@ module _ {T : Type 0} where
   apart_same n [] [] e h = tt
   apart_same n [] (y ∷ fs) e h = absurd (let none : ⊥ = cc in none)
   apart_same n (x ∷ es) [] e h = absurd (let none : ⊥ = cc in none)
-  apart_same n (x ∷ es) (y ∷ fs) e h =
-      let first : x.ticket ≡ y.ticket = cc in
-      let others : tickets es ≡ tickets fs = cc in
-      let below = h.0 in
-      let none : entry_of y.ticket es ≡ None = ap (λ t. entry_of t es) (sym first) ∙ h.1 in
-      (omega arith, none_same y.ticket es fs others none, apart_same n es fs others h.2)
+  apart_same n (x ∷ es) (y ∷ fs) e h = grind (arith, common_steps, apart_same n es fs, none_same)
 
   -- all entries but one are apart
   pub apart_without : (n t : ℕ) (es : List (LogEntry T)) → Apart n es → Apart n (without t es)
@@ -93,11 +75,7 @@ module _ {T : Type 0} where
   pub apart_push : (n : ℕ) (es : List (LogEntry T)) (x : LogEntry T) → Apart n es → entry_of x.ticket es ≡ None → x.ticket < n
       → Apart n (es ++ x ∷ [])
   apart_push n [] x h none below = (below, refl, tt)
-  apart_push n (y ∷ es) x h none below =
-      let parts = none_parts x.ticket y es none in
-      let other : eqb x.ticket y.ticket ≡ false = ne_eqb x.ticket y.ticket (λ same.
-      (let eq : eqb y.ticket x.ticket ≡ true = eq-eqb y.ticket x.ticket (sym same) in let no : ⊥ = cc (parts.0, eq) in no)) in
-      (h.0, none_push y.ticket es x h.1 other, apart_push n es x h.2 parts.1 below)
+  apart_push n (y ∷ es) x h none below = grind (arith, common_steps, apart_push n es x, none_push)
 
   -- after a round, the entry that it fills is filled too
   pub filled_round : (tell : Unit {0} → Unit {0}) (front : T) (n : ℕ) (was : ℕ → Bool) (es : List (LogEntry T)) → Apart n es

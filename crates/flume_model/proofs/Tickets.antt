@@ -2,13 +2,13 @@
 use Rattle.flume_model.proofs.Common.{◌≡◌, ℕ, ◌≤◌, Bool, true, false, not, ◌||◌, List, [], ◌∷◌, ◌++◌, Option, Some, None, refl, sym, ◌∙◌}
 use Rattle.flume_model.proofs.Common.{◌⊎◌, inl, inr, ap, arith, ne_eqb, eq-eqb, eqb-true, or_parts, or_from, or_cases, All-head, All-tail}
 use Rattle.flume_model.proofs.Common.{All-weaker, All-nil, All-push, All-filter, filter-append, list_any-append, list_any_none, All, filter}
-use Rattle.flume_model.proofs.Common.{has_ticket, IsBelow, IsEarlier, Rising, Offer, is_ticket}
+use Rattle.flume_model.proofs.Common.{has_ticket, IsBelow, IsEarlier, Rising, Offer, is_ticket, common_steps}
 
 -- a filter by two tests is two filters
 pub filter_two : {X : Type 0} (a b : X → Bool) (xs : List X)
     → filter (λ x. not (a x || b x)) xs ≡ filter (λ x. not (a x)) (filter (λ x. not (b x)) xs)
 filter_two a b [] = refl
-filter_two a b (x ∷ xs) = by_cases (a x) (b x) refl refl (filter_two a b xs)
+filter_two a b (x ∷ xs) = grind (arith, common_steps, filter_two a b xs)
   where
     by_cases : (u v : Bool) → a x ≡ u → b x ≡ v → filter (λ y. not (a y || b y)) xs ≡ filter (λ y. not (a y)) (filter (λ y. not (b y)) xs)
         → filter (λ y. not (a y || b y)) (x ∷ xs) ≡ filter (λ y. not (a y)) (filter (λ y. not (b y)) (x ∷ xs))
@@ -98,10 +98,7 @@ module _ {T : Type 0} where
   -- a filter by a ticket that no offer has keeps all
   pub filter_none : (t : ℕ) (xs : List (Offer T)) → has_ticket t xs ≡ false → filter (λ x. not (is_ticket t x.ticket)) xs ≡ xs
   filter_none t [] h = refl
-  filter_none t (x ∷ xs) h =
-      let parts = or_parts (is_ticket t x.ticket) (has_ticket t xs) h in
-      let first : is_ticket t x.ticket ≡ false = parts.0 in
-      simp first (ap (λ ys. x ∷ ys) (filter_none t xs parts.1))
+  filter_none t (x ∷ xs) h = grind (arith, common_steps, filter_none t xs)
 
   -- a filter by the ticket of one offer cuts that one out
   pub filter_one : (t : ℕ) (m : T) (xs ys : List (Offer T)) → has_ticket t xs ≡ false → has_ticket t ys ≡ false

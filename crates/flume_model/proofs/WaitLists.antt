@@ -1,7 +1,7 @@
 -- What a change of the entries does to whether some receiver waits.
-use Rattle.flume_model.proofs.Common.{◌≡◌, ℕ, Bool, true, false, List, [], ◌∷◌, Option, Some, None, refl, sym, ◌∙◌, ◌⊎◌, inl, inr, ap, cond}
-use Rattle.flume_model.proofs.Common.{or_left, or_right, is_waiting, is_woken, some_wait, round_fills, round_for_fills, entry_of, without}
-use Rattle.flume_model.proofs.Common.{again_as, again, passes_on, leave_fills, Entry}
+use Rattle.flume_model.proofs.Common.{◌≡◌, ℕ, Bool, true, false, List, [], ◌∷◌, Option, Some, None, refl, sym, ◌∙◌, ◌⊎◌, inl, inr, ap}
+use Rattle.flume_model.proofs.Common.{or_right, is_waiting, is_woken, some_wait, round_fills, round_for_fills, entry_of, without, again_as}
+use Rattle.flume_model.proofs.Common.{again, leave_fills, Entry, arith, common_steps}
 use Rattle.flume_model.proofs.WaitingCounts.{wait_without}
 
 module _ {T N : Type 0} where
@@ -12,13 +12,7 @@ module _ {T N : Type 0} where
   -- a round fills only where one waits
   pub fills_waiting : (es : List (Entry T N)) (u : ℕ) → round_fills es ≡ Some u → some_wait es ≡ true
   fills_waiting [] u h = absurd (let none : ⊥ = cc in none)
-  fills_waiting (e ∷ es) u h = by_case (is_waiting e.mark) refl (fills_waiting es u)
-    where
-      by_case : (b : Bool) → is_waiting e.mark ≡ b → (round_fills es ≡ Some u → some_wait es ≡ true) → some_wait (e ∷ es) ≡ true
-      by_case true is rest = or_left (is_waiting e.mark) (some_wait es) is
-      by_case false is rest =
-          let same : round_fills (e ∷ es) ≡ round_fills es = rw is refl in
-          wait_later e es (rest (sym same ∙ h))
+  fills_waiting (e ∷ es) u h = grind (arith, common_steps, fills_waiting es u)
 
   -- a round for a queue fills only where one waits
   pub fills_waiting_for : (queue : List T) (es : List (Entry T N)) (u : ℕ) → round_for_fills queue es ≡ Some u → some_wait es ≡ true
@@ -28,10 +22,7 @@ module _ {T N : Type 0} where
   -- one that leaves fills another only where one waits
   pub leave_fills_waiting : (t : ℕ) (queue : List T) (es : List (Entry T N)) (u : ℕ) → leave_fills t queue es ≡ Some u
       → some_wait es ≡ true
-  leave_fills_waiting t queue es u h =
-      elim (passes_on (entry_of t es))
-      as (λ b. cond b (round_for_fills queue (without t es)) None ≡ Some u → some_wait es ≡ true)
-      [ true ↦ λ h. wait_without t es (fills_waiting_for queue (without t es) u h) | false ↦ λ h. absurd (let none : ⊥ = cc in none) ] h
+  leave_fills_waiting t queue es u h = grind (arith, common_steps, wait_without t es, fills_waiting_for queue (without t es) u)
 
   -- where one waits after one asked again, one waited, or the one that asked was woken
   pub wait_again : (t : ℕ) (es : List (Entry T N)) → some_wait (again t es) ≡ true

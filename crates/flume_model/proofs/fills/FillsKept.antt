@@ -1,10 +1,9 @@
 -- A filled receiver's entry holds its message through every change but its own leaving, and a wake round fills with the front.
 use Rattle.flume_model.proofs.Common.{◌≡◌, ℕ, Bool, true, false, if◌then◌else◌, eqb, List, [], ◌∷◌, ◌++◌, Option, Some, None, refl, sym}
-use Rattle.flume_model.proofs.Common.{◌∙◌, ap, eqb-true, eq-eqb, ne_eqb, Channel, is_filled, is_woken, marked, round, round_fills}
-use Rattle.flume_model.proofs.Common.{round_for, all_woken, entry_of, without, held_in, held_by, Change, Queues, Blocks, Accepts, Withdraws}
-use Rattle.flume_model.proofs.Common.{Takes, Drains, Parks, Asks, Collects, Leaves, SenderJoins, ReceiverJoins, SenderLeaves}
-use Rattle.flume_model.proofs.Common.{ReceiverLeaves, Stays, is_ticket, LogEntry, untold, entries_after, Apart, Entry, Mark, Waiting, Woken}
-use Rattle.flume_model.proofs.Common.{Filled, Kind, Block, Plain, Stream, Arm}
+use Rattle.flume_model.proofs.Common.{◌∙◌, ap, eq-eqb, ne_eqb, Channel, is_filled, is_woken, round, round_fills, round_for, all_woken}
+use Rattle.flume_model.proofs.Common.{entry_of, without, held_in, held_by, Change, Queues, Takes, Parks, Asks, Collects, Leaves}
+use Rattle.flume_model.proofs.Common.{SenderLeaves, ReceiverLeaves, is_ticket, LogEntry, untold, entries_after, Apart, Entry, Mark, Waiting}
+use Rattle.flume_model.proofs.Common.{Woken, Filled, Kind, Block, Plain, Stream, Arm, arith, common_steps}
 use Rattle.flume_model.proofs.EntryLists.{fills_none_else, round_for_push, again_cases, leave_cases}
 use Rattle.flume_model.proofs.EntryMarks.{apart_without}
 use Rattle.flume_model.proofs.EntryChanges.{fills, fills_none}
@@ -18,73 +17,22 @@ module _ {T N : Type 0} where
   -- an entry still holds the message after a change of the first entry and of the others, if it does in each of the two
   same_first : (t : ℕ) (m : T) (x y : Entry T N) (es fs : List (Entry T N)) → x.ticket ≡ y.ticket
       → (held_in x.mark ≡ Some m → held_in y.mark ≡ Some m) → (IsHeld t m es → IsHeld t m fs) → IsHeld t m (x ∷ es) → IsHeld t m (y ∷ fs)
-  same_first t m x y es fs ticket first others h = by_case (eqb x.ticket t) refl
-    where
-      by_case : (b : Bool) → eqb x.ticket t ≡ b → IsHeld t m (y ∷ fs)
-      by_case true e =
-          let same : eqb y.ticket t ≡ true = ap (λ u. eqb u t) (sym ticket) ∙ e in
-          simp same (first (simp e at h))
-      by_case false e =
-          let same : eqb y.ticket t ≡ false = ap (λ u. eqb u t) (sym ticket) ∙ e in
-          simp same (others (simp e at h))
+  same_first t m x y es fs ticket first others h = grind (arith, common_steps)
 
   -- a wake round takes no message from an entry
   pub held_round : (tell : N → N) (front : T) (t : ℕ) (m : T) (es : List (Entry T N)) → IsHeld t m es → IsHeld t m (round tell front es)
   held_round tell front t m [] h = h
-  held_round tell front t m (x ∷ es) h = by_mark x.kind x.mark (held_round tell front t m es) h
-    where
-      as_marked : Kind → Mark T → Entry T N
-      as_marked k mark = record x { kind = k; mark = mark }
-
-      by_mark : (k : Kind) (mark : Mark T) → (IsHeld t m es → IsHeld t m (round tell front es))
-          → IsHeld t m (as_marked k mark ∷ es) → IsHeld t m (round tell front (as_marked k mark ∷ es))
-      by_mark Block Waiting rest h =
-          let y = as_marked Block Waiting in
-          same_first t m y (marked tell (Filled front) y) es es refl (λ e. absurd (let none : ⊥ = cc in none)) (λ e. e) h
-      by_mark Plain Waiting rest h =
-          let y = as_marked Plain Waiting in
-          same_first t m y (marked tell Woken y) es es refl (λ e. e) (λ e. e) h
-      by_mark Stream Waiting rest h =
-          let y = as_marked Stream Waiting in
-          same_first t m y (marked tell Woken y) es (round tell front es) refl (λ e. e) rest h
-      by_mark Arm Waiting rest h =
-          let y = as_marked Arm Waiting in
-          same_first t m y (marked tell Woken y) es es refl (λ e. e) (λ e. e) h
-      by_mark k Woken rest h =
-          let y = as_marked k Woken in
-          same_first t m y y es (round tell front es) refl (λ e. e) rest h
-      by_mark k (Filled held) rest h =
-          let y = as_marked k (Filled held) in
-          same_first t m y y es (round tell front es) refl (λ e. e) rest h
+  held_round tell front t m (x ∷ es) h = grind (arith, common_steps, held_round tell front t m es)
 
   -- the wake of all takes no message from an entry
   pub held_woken : (tell : N → N) (t : ℕ) (m : T) (es : List (Entry T N)) → IsHeld t m es → IsHeld t m (all_woken tell es)
   held_woken tell t m [] h = h
-  held_woken tell t m (x ∷ es) h = by_mark x.mark (held_woken tell t m es) h
-    where
-      as_marked : Mark T → Entry T N
-      as_marked mark = record x { mark = mark }
-
-      by_mark : (mark : Mark T) → (IsHeld t m es → IsHeld t m (all_woken tell es)) → IsHeld t m (as_marked mark ∷ es)
-          → IsHeld t m (all_woken tell (as_marked mark ∷ es))
-      by_mark Waiting rest h =
-          let y = as_marked Waiting in
-          same_first t m y (marked tell Woken y) es (all_woken tell es) refl (λ e. e) rest h
-      by_mark Woken rest h = same_first t m (as_marked Woken) (as_marked Woken) es (all_woken tell es) refl (λ e. e) rest h
-      by_mark (Filled held) rest h =
-          let y = as_marked (Filled held) in
-          same_first t m y y es (all_woken tell es) refl (λ e. e) rest h
+  held_woken tell t m (x ∷ es) h = grind (arith, common_steps, held_woken tell t m es)
 
   -- the leaving of another takes no message from an entry
   pub held_without : (u t : ℕ) (m : T) (es : List (Entry T N)) → eqb u t ≡ false → IsHeld t m es → IsHeld t m (without u es)
   held_without u t m [] other h = h
-  held_without u t m (x ∷ es) other h = by_case (eqb x.ticket u) refl (held_without u t m es other)
-    where
-      by_case : (b : Bool) → eqb x.ticket u ≡ b → (IsHeld t m es → IsHeld t m (without u es)) → IsHeld t m (without u (x ∷ es))
-      by_case true e rest =
-          let first : eqb x.ticket t ≡ false = ap (λ v. eqb v t) (eqb-true x.ticket u e) ∙ other in
-          simp e (simp first at h)
-      by_case false e rest = simp e (same_first t m x x es (without u es) refl (λ e. e) rest h)
+  held_without u t m (x ∷ es) other h = grind (arith, common_steps, held_without u t m es)
 
   -- one more entry takes no message from another
   pub held_push : (t : ℕ) (m : T) (es : List (Entry T N)) (x : Entry T N) → IsHeld t m es → IsHeld t m (es ++ x ∷ [])

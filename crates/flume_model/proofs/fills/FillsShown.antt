@@ -4,7 +4,7 @@ use Rattle.flume_model.proofs.Common.{◌∙◌, ap, arith, inl, inr, ◌⊎◌,
 use Rattle.flume_model.proofs.Common.{IsGoneMark, IsGone, Channel, channel, is_over, entry_of, without, held_in, held_by, or_else, shows_to}
 use Rattle.flume_model.proofs.Common.{shown, next_ticket, queue, Log, Opening, Change, Takes, Parks, Collects, was_filled, change, LogEntry}
 use Rattle.flume_model.proofs.Common.{entries_after, entries, is_shut, IsReply, IsRun, Mark, Waiting, Woken, Filled, Kind, Reply, Got, Step}
-use Rattle.flume_model.proofs.Common.{Poll, Withdraw}
+use Rattle.flume_model.proofs.Common.{Poll, Withdraw, common_steps}
 use Rattle.flume_model.proofs.EntryMarks.{none_past, left_out}
 use Rattle.flume_model.proofs.EntryChanges.{parks_under, none_by}
 use Rattle.flume_model.proofs.EntryShape.{entries_apart, fits_run}
@@ -14,11 +14,7 @@ use Rattle.flume_model.proofs.waits.WaitingSteps.{nobody_once_over}
 module _ {T : Type 0} where
   -- the ticket and the message of one that got a message, where it was shown to this ticket
   got_is : (u t : ℕ) (m x : T) → (if eqb u t then Some m else None) ≡ Some x → (u ≡ t) × (m ≡ x)
-  got_is u t m x e = by_case (eqb u t) refl
-    where
-      by_case : (b : Bool) → eqb u t ≡ b → (u ≡ t) × (m ≡ x)
-      by_case true same = (eqb-true u t same, (let shows = simp same at e in cc))
-      by_case false same = (let shows = simp same at e in absurd (let none : ⊥ = cc in none))
+  got_is u t m x e = grind (arith, common_steps)
 
   -- one that got a message leaves with what it held, or with the front
   got_leaves : (was : Bool) (u t : ℕ) (m x : T) → (u ≡ t) × (m ≡ x)

@@ -1,6 +1,6 @@
 -- The places that the elements which a filter keeps have in the list.
 use Rattle.flume_model.proofs.Common.{◌≡◌, ℕ, ◌<◌, Bool, true, false, if◌then◌else◌, List, [], ◌∷◌, Some, zero, suc, refl, ◌∙◌, ap, arith}
-use Rattle.flume_model.proofs.Common.{filter, slice_get}
+use Rattle.flume_model.proofs.Common.{filter, slice_get, common_steps}
 
 module _ {X : Type 0} where
   -- the place of the j-th element that the filter keeps
@@ -13,41 +13,15 @@ module _ {X : Type 0} where
   pub at_filter_place : (keeps : X → Bool) (xs : List X) (j : ℕ) (x : X) → slice_get (filter keeps xs) j ≡ Some x
       → slice_get xs (filter_place keeps xs j) ≡ Some x
   at_filter_place keeps [] j x e = absurd (let none : ⊥ = cc in none)
-  at_filter_place keeps (y ∷ ys) zero x e = by_case (keeps y) refl (at_filter_place keeps ys zero x)
-    where
-      by_case : (b : Bool) → keeps y ≡ b
-          → (slice_get (filter keeps ys) zero ≡ Some x → slice_get ys (filter_place keeps ys zero) ≡ Some x)
-          → slice_get (y ∷ ys) (filter_place keeps (y ∷ ys) zero) ≡ Some x
-      by_case true f rest = simp f (simp f at e)
-      by_case false f rest = simp f (rest (simp f at e))
-  at_filter_place keeps (y ∷ ys) (suc j) x e =
-      by_case (keeps y) refl (at_filter_place keeps ys j x) (at_filter_place keeps ys (suc j) x)
-    where
-      by_case : (b : Bool) → keeps y ≡ b
-          → (slice_get (filter keeps ys) j ≡ Some x → slice_get ys (filter_place keeps ys j) ≡ Some x)
-          → (slice_get (filter keeps ys) (suc j) ≡ Some x → slice_get ys (filter_place keeps ys (suc j)) ≡ Some x)
-          → slice_get (y ∷ ys) (filter_place keeps (y ∷ ys) (suc j)) ≡ Some x
-      by_case true f here there = simp f (here (simp f at e))
-      by_case false f here there = simp f (there (simp f at e))
+  at_filter_place keeps (y ∷ ys) zero x e = grind (arith, common_steps, at_filter_place keeps ys zero x)
+  at_filter_place keeps (y ∷ ys) (suc j) x e = grind (arith, common_steps, at_filter_place keeps ys j x, at_filter_place keeps ys (suc j) x)
 
   -- the places rise
   pub filter_places_rise : (keeps : X → Bool) (xs : List X) (j k : ℕ) → j < k → filter_place keeps xs j < filter_place keeps xs k
   filter_places_rise keeps [] j k lt = lt
   filter_places_rise keeps (y ∷ ys) j zero lt = absurd (omega arith)
-  filter_places_rise keeps (y ∷ ys) zero (suc k) lt = by_case (keeps y) refl (filter_places_rise keeps ys zero (suc k) lt)
-    where
-      by_case : (b : Bool) → keeps y ≡ b → filter_place keeps ys zero < filter_place keeps ys (suc k)
-          → filter_place keeps (y ∷ ys) zero < filter_place keeps (y ∷ ys) (suc k)
-      by_case true f rest = simp f (omega arith)
-      by_case false f rest = simp f (omega arith)
-  filter_places_rise keeps (y ∷ ys) (suc j) (suc k) lt =
-      by_case (keeps y) refl (filter_places_rise keeps ys j k (omega arith)) (filter_places_rise keeps ys (suc j) (suc k) lt)
-    where
-      by_case : (b : Bool) → keeps y ≡ b → filter_place keeps ys j < filter_place keeps ys k
-          → filter_place keeps ys (suc j) < filter_place keeps ys (suc k)
-          → filter_place keeps (y ∷ ys) (suc j) < filter_place keeps (y ∷ ys) (suc k)
-      by_case true f here there = simp f (omega arith)
-      by_case false f here there = simp f (omega arith)
+  filter_places_rise keeps (y ∷ ys) zero (suc k) lt = grind (arith, common_steps, filter_places_rise keeps ys zero (suc k))
+  filter_places_rise keeps (y ∷ ys) (suc j) (suc k) lt = grind (arith, common_steps, filter_places_rise keeps ys j k, filter_places_rise keeps ys (suc j) (suc k))
 
   -- an element that the filter keeps, before one of the places, stands at an earlier one of them
   pub place_of_kept : (keeps : X → Bool) (xs : List X) (i k : ℕ) (x : X) → i < filter_place keeps xs k → slice_get xs i ≡ Some x

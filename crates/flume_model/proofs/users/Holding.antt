@@ -1,7 +1,7 @@
 -- What wake rounds, leaves and one more entry do to the weight of the messages that entries hold.
-use Rattle.flume_model.proofs.Common.{◌≡◌, ℕ, ◌+◌, Bool, true, false, eqb, List, [], ◌∷◌, ◌++◌, Option, Some, None, refl, ap, arith, drop}
-use Rattle.flume_model.proofs.Common.{sum_by, sum_by-cons, messages_in, held, round, round_fills, round_for, all_woken, entry_of, without}
-use Rattle.flume_model.proofs.Common.{how_many, Entry, Mark, Waiting, Woken, Filled, Kind, Block, Plain, Stream, Arm}
+use Rattle.flume_model.proofs.Common.{◌≡◌, ℕ, ◌+◌, List, [], ◌∷◌, ◌++◌, Option, Some, None, refl, arith, drop, sum_by, sum_by-cons}
+use Rattle.flume_model.proofs.Common.{messages_in, held, round, round_fills, round_for, all_woken, entry_of, without, how_many, Entry, Mark}
+use Rattle.flume_model.proofs.Common.{Waiting, Woken, Filled, common_steps}
 
 -- what fills a receiver weighs so much, if one is filled
 abbrev fill_weighs : Option ℕ → ℕ → ℕ
@@ -31,43 +31,13 @@ module _ {T N : Type 0} where
   held_round : (weight : T → ℕ) (tell : N → N) (front : T) (es : List (Entry T N))
       → sum_by weight (held (round tell front es)) ≡ fill_weighs (round_fills es) (weight front) + sum_by weight (held es)
   held_round weight tell front [] = omega arith
-  held_round weight tell front (x ∷ es) = by_mark x.kind x.mark (held_round weight tell front es)
-    where
-      by_mark : (k : Kind) (m : Mark T)
-          → sum_by weight (held (round tell front es)) ≡ fill_weighs (round_fills es) (weight front) + sum_by weight (held es)
-          → sum_by weight (held (round tell front (record x { kind = k; mark = m } ∷ es)))
-          ≡ fill_weighs (round_fills (record x { kind = k; mark = m } ∷ es)) (weight front)
-          + sum_by weight (held (record x { kind = k; mark = m } ∷ es))
-      by_mark Block Waiting rest = sum_by-cons weight front (held es)
-      by_mark Plain Waiting rest = omega arith
-      by_mark Arm Waiting rest = omega arith
-      by_mark Stream Waiting rest = rest
-      by_mark k Woken rest = rest
-      by_mark k (Filled other) rest =
-          let after = sum_by-cons weight other (held (round tell front es)) in
-          let before = sum_by-cons weight other (held es) in
-          omega arith
+  held_round weight tell front (x ∷ es) = grind (arith, common_steps, held_round weight tell front es, sum_by-cons)
 
   -- an entry that leaves takes along what it holds
   pub held_without : (weight : T → ℕ) (t : ℕ) (e : Entry T N) (es : List (Entry T N)) → entry_of t es ≡ Some e
       → sum_by weight (held es) ≡ mark_weighs weight e.mark + sum_by weight (held (without t es))
   held_without weight t e [] h = absurd (let none : ⊥ = cc in none)
-  held_without weight t e (x ∷ es) h = by_case (eqb x.ticket t) refl (held_without weight t e es)
-    where
-      by_case : (b : Bool) → eqb x.ticket t ≡ b
-          → (entry_of t es ≡ Some e → sum_by weight (held es) ≡ mark_weighs weight e.mark + sum_by weight (held (without t es)))
-          → sum_by weight (held (x ∷ es)) ≡ mark_weighs weight e.mark + sum_by weight (held (without t (x ∷ es)))
-      by_case true f rest =
-          let h2 = simp f at h in
-          let same : x ≡ e = cc in
-          let weighs : mark_weighs weight x.mark ≡ mark_weighs weight e.mark = ap (λ y. mark_weighs weight y.mark) same in
-          let all = held_cons weight x es in
-          simp f (omega arith)
-      by_case false f rest =
-          let others = rest (simp f at h) in
-          let all = held_cons weight x es in
-          let after = held_cons weight x (without t es) in
-          simp f (omega arith)
+  held_without weight t e (x ∷ es) h = grind (arith, common_steps, held_without weight t e es, held_cons)
 
   -- one more entry adds what it holds
   pub held_push : (weight : T → ℕ) (es : List (Entry T N)) (x : Entry T N)
@@ -82,13 +52,7 @@ module _ {T N : Type 0} where
   -- a wake of all leaves what they hold
   pub held_woken : (tell : N → N) (es : List (Entry T N)) → held (all_woken tell es) ≡ held es
   held_woken tell [] = refl
-  held_woken tell (x ∷ es) = by_mark x.mark (held_woken tell es)
-    where
-      by_mark : (m : Mark T) → held (all_woken tell es) ≡ held es
-          → held (all_woken tell (record x { mark = m } ∷ es)) ≡ held (record x { mark = m } ∷ es)
-      by_mark Waiting rest = rest
-      by_mark Woken rest = rest
-      by_mark (Filled m) rest = ap (λ l. m ∷ l) rest
+  held_woken tell (x ∷ es) = grind (arith, common_steps, held_woken tell es)
 
   -- what a round fills with leaves the front of the messages
   pub round_front : (weight : T → ℕ) (tell : N → N) (front : T) (rest : List T) (es : List (Entry T N))

@@ -1,12 +1,12 @@
 -- A receiver that blocks stands woken only in a closed channel, and only where no sender is blocked.
-use Rattle.flume_model.proofs.Common.{◌≡◌, ℕ, ◌≤◌, Bool, true, false, not, ◌&&◌, ◌||◌, if◌then◌else◌, List, [], ◌∷◌, ◌++◌, length, eqb}
-use Rattle.flume_model.proofs.Common.{Some, None, refl, sym, ◌∙◌, ◌⊎◌, inl, inr, ap, arith, min, eqb-true, or_cases, or_left, or_right}
-use Rattle.flume_model.proofs.Common.{or_from, and_right, and_parts, list_any-append, Channel, channel, senders, receivers, senders_after}
-use Rattle.flume_model.proofs.Common.{receivers_after, is_over, is_woken, some_wait, all_woken, without, round, IsClosed, is_closed, line}
-use Rattle.flume_model.proofs.Common.{boundary, boundary_after, blocked, Log, Opening, Change, Queues, Blocks, Accepts, Withdraws, Takes}
-use Rattle.flume_model.proofs.Common.{Drains, Parks, Asks, Collects, Leaves, SenderJoins, ReceiverJoins, SenderLeaves, ReceiverLeaves}
-use Rattle.flume_model.proofs.Common.{Stays, change, LogEntry, untold, entries_after, entries, IsRun, is_block, block_woken}
-use Rattle.flume_model.proofs.Common.{WokenBlockWhileClosed, Mark, Waiting, Woken, Filled, Kind, Block, Plain, Stream, Arm, Reply, Step}
+use Rattle.flume_model.proofs.Common.{◌≡◌, ℕ, ◌≤◌, Bool, true, false, not, ◌&&◌, if◌then◌else◌, List, [], ◌∷◌, ◌++◌, length, Some, None}
+use Rattle.flume_model.proofs.Common.{refl, sym, ◌∙◌, ◌⊎◌, inl, inr, ap, arith, min, eqb-true, or_cases, or_right, or_from, and_right}
+use Rattle.flume_model.proofs.Common.{and_parts, list_any-append, Channel, channel, senders, receivers, senders_after, receivers_after}
+use Rattle.flume_model.proofs.Common.{is_over, is_woken, some_wait, all_woken, without, round, IsClosed, is_closed, line, boundary}
+use Rattle.flume_model.proofs.Common.{boundary_after, blocked, Log, Opening, Change, Queues, Blocks, Accepts, Withdraws, Takes, Drains}
+use Rattle.flume_model.proofs.Common.{Parks, Asks, Collects, Leaves, SenderJoins, ReceiverJoins, SenderLeaves, ReceiverLeaves, Stays}
+use Rattle.flume_model.proofs.Common.{change, LogEntry, untold, entries_after, entries, IsRun, is_block, block_woken, WokenBlockWhileClosed}
+use Rattle.flume_model.proofs.Common.{Reply, Step, common_steps}
 use Rattle.flume_model.proofs.Fits.{Fits}
 use Rattle.flume_model.proofs.EntryLists.{round_for_push, again_cases, leave_cases}
 use Rattle.flume_model.proofs.waits.WaitingSteps.{Stood, Long, stepped, nobody_once_over, line_long}
@@ -24,38 +24,12 @@ module _ {T : Type 0} where
   -- a round wakes none that blocks
   block_round : (front : T) (es : List (LogEntry T)) → block_woken (round untold front es) ≡ true → block_woken es ≡ true
   block_round front [] h = h
-  block_round front (x ∷ es) h = by_mark x.kind x.mark h (block_round front es)
-    where
-      by_mark : (k : Kind) (m : Mark T) → block_woken (round untold front (record x { kind = k; mark = m } ∷ es)) ≡ true
-          → (block_woken (round untold front es) ≡ true → block_woken es ≡ true)
-          → block_woken (record x { kind = k; mark = m } ∷ es) ≡ true
-      by_mark Block Waiting some rest = some
-      by_mark Plain Waiting some rest = some
-      by_mark Stream Waiting some rest = rest some
-      by_mark Arm Waiting some rest = some
-      by_mark Block Woken some rest = refl
-      by_mark Plain Woken some rest = rest some
-      by_mark Stream Woken some rest = rest some
-      by_mark Arm Woken some rest = rest some
-      by_mark Block (Filled held) some rest = rest some
-      by_mark Plain (Filled held) some rest = rest some
-      by_mark Stream (Filled held) some rest = rest some
-      by_mark Arm (Filled held) some rest = rest some
+  block_round front (x ∷ es) h = grind (arith, common_steps, block_round front es)
 
   -- one of the others
   block_without : (t : ℕ) (es : List (LogEntry T)) → block_woken (without t es) ≡ true → block_woken es ≡ true
   block_without t [] h = h
-  block_without t (x ∷ es) h = by_case (eqb x.ticket t) refl (block_without t es)
-    where
-      one : Bool
-      one = is_block x.kind && is_woken x.mark
-
-      by_case : (b : Bool) → eqb x.ticket t ≡ b → (block_woken (without t es) ≡ true → block_woken es ≡ true) → block_woken (x ∷ es) ≡ true
-      by_case true e rest = block_later x es (simp e at h)
-      by_case false e rest =
-          let some : (one || block_woken (without t es)) ≡ true = simp e at h in
-          elim (or_cases one (block_woken (without t es)) some) as (λ _. (one || block_woken es) ≡ true)
-          [ inl first ↦ or_left one (block_woken es) first | inr others ↦ or_right one (block_woken es) (rest others) ]
+  block_without t (x ∷ es) h = grind (arith, common_steps, block_without t es)
 
   -- with one more that waits
   block_push : (es : List (LogEntry T)) (x : LogEntry T) → is_woken x.mark ≡ false → block_woken (es ++ x ∷ []) ≡ true
@@ -68,20 +42,7 @@ module _ {T : Type 0} where
   -- where all that wait are woken, one that blocks stood woken or one waited
   block_closes : (es : List (LogEntry T)) → block_woken (all_woken untold es) ≡ true → (block_woken es ≡ true) ⊎ (some_wait es ≡ true)
   block_closes [] h = inl h
-  block_closes (x ∷ es) h = by_mark x.kind x.mark h (block_closes es)
-    where
-      by_mark : (k : Kind) (m : Mark T) → block_woken (all_woken untold (record x { kind = k; mark = m } ∷ es)) ≡ true
-          → (block_woken (all_woken untold es) ≡ true → (block_woken es ≡ true) ⊎ (some_wait es ≡ true))
-          → (block_woken (record x { kind = k; mark = m } ∷ es) ≡ true) ⊎ (some_wait (record x { kind = k; mark = m } ∷ es) ≡ true)
-      by_mark k Waiting some rest = inr refl
-      by_mark Block Woken some rest = inl refl
-      by_mark Plain Woken some rest = rest some
-      by_mark Stream Woken some rest = rest some
-      by_mark Arm Woken some rest = rest some
-      by_mark Block (Filled held) some rest = rest some
-      by_mark Plain (Filled held) some rest = rest some
-      by_mark Stream (Filled held) some rest = rest some
-      by_mark Arm (Filled held) some rest = rest some
+  block_closes (x ∷ es) h = grind (arith, common_steps, block_closes es)
 
   -- where an end leaves
   closed_close : (c : Channel T) (s2 r2 n : ℕ) (closes : Bool) → Stood c → n ≡ length c.line
