@@ -13,10 +13,6 @@ module _ {T S A N : Type 0} where
     -- the reply is one that the abstract channel gives, and the state after is the one that this
     -- step leads to
     pub stepped : Extends old step reply new
-<<<<<<< Updated upstream
-    -- who is due after it
-=======
     -- who is due after it was due before and still is, or became due by this step
->>>>>>> Stashed changes
     pub dues : IsLedTo A old → BecomesDue old step reply new
     pub answered : table reply answer
