@@ -1,10 +1,9 @@
 -- What a change that fits does to the tickets of entries and to which of them are filled.
 use Rattle.flume_model.proofs.Common.{◌≡◌, ℕ, ◌+◌, ◌<◌, ◌≤◌, Bool, true, false, ◌||◌, if◌then◌else◌, eqb, List, Option, Some, None, refl}
 use Rattle.flume_model.proofs.Common.{sym, ◌∙◌, ap, arith, inl, inr, ◌⊎◌, eqb-true, ne_eqb, Channel, is_filled, is_woken, all_woken}
-use Rattle.flume_model.proofs.Common.{entry_of, round, round_fills, without, issued, issues, Change, Queues, Blocks, Accepts, Withdraws}
-use Rattle.flume_model.proofs.Common.{Takes, Drains, Parks, Asks, Collects, Leaves, SenderJoins, ReceiverJoins, SenderLeaves}
-use Rattle.flume_model.proofs.Common.{ReceiverLeaves, Stays, is_ticket, LogEntry, untold, entries_after, Apart, Mark, Waiting, Woken}
-use Rattle.flume_model.proofs.Common.{Filled}
+use Rattle.flume_model.proofs.Common.{entry_of, round, round_fills, without, issued, issues, Change, Queues, Blocks, Takes, Parks, Asks}
+use Rattle.flume_model.proofs.Common.{Collects, Leaves, SenderLeaves, ReceiverLeaves, is_ticket, LogEntry, untold, entries_after, Apart}
+use Rattle.flume_model.proofs.Common.{Mark, common_steps}
 use Rattle.flume_model.proofs.EntryLists.{tickets_round, tickets_woken, ticket_of, fills_none_else, none_same, none_without, none_push}
 use Rattle.flume_model.proofs.EntryLists.{round_for_push, again_cases, leave_cases}
 use Rattle.flume_model.proofs.EntryMarks.{FilledBy, filled_found, filled_without, filled_push, filled_woken, filled_round, apart_above}
@@ -94,9 +93,7 @@ module _ {T : Type 0} where
       (ap was (ticket_of t e c.entries found) ∙ filled_found was t e c.entries all found ∙ woken_empty e.mark woken))
     where
       woken_empty : (m : Mark T) → is_woken m ≡ true → is_filled m ≡ false
-      woken_empty Waiting e = refl
-      woken_empty Woken e = refl
-      woken_empty (Filled held) e = absurd (let none : ⊥ = cc in none)
+      woken_empty m e = grind (arith, common_steps)
   filled_by_change c closes (Collects t) was h apart past all = filled_without was t c.entries all
   filled_by_change c closes (Leaves t filled) was h apart past all =
       let others = filled_without was t c.entries all in

@@ -1,7 +1,7 @@
 -- How many entries wait and how many stand woken, after a wake round, a leave and one more entry.
 use Rattle.flume_model.proofs.Common.{◌≡◌, ℕ, ◌+◌, ◌<◌, ◌≤◌, Bool, true, false, if◌then◌else◌, eqb, List, [], ◌∷◌, Option, Some, refl, ap}
 use Rattle.flume_model.proofs.Common.{arith, is_waiting, is_woken, some_wait, waiting_count, woken_count, round, round_fills, entry_of}
-use Rattle.flume_model.proofs.Common.{without, how_many, Entry, Mark, Waiting, Woken, Filled, Kind, Block, Plain, Stream, Arm, common_steps}
+use Rattle.flume_model.proofs.Common.{without, how_many, Entry, Mark, common_steps}
 
 module _ {T : Type 0} where
   -- one for a mark that waits
@@ -33,19 +33,11 @@ module _ {T N : Type 0} where
   pub round_counts : (tell : N → N) (front : T) (es : List (Entry T N)) → Rounded es (round tell front es) (round_fills es)
   round_counts tell front [] =
       record { total = omega arith; no_more = omega arith; fewer = λ some. absurd (let none : ⊥ = cc in none) }
-  round_counts tell front (x ∷ es) = by_mark x.kind x.mark (round_counts tell front es)
-    where
-      by_mark : (k : Kind) (m : Mark T) → Rounded es (round tell front es) (round_fills es)
-          → Rounded (record x { kind = k; mark = m } ∷ es) (round tell front (record x { kind = k; mark = m } ∷ es))
-          (round_fills (record x { kind = k; mark = m } ∷ es))
-      by_mark Block Waiting rest = record { total = omega arith; no_more = omega arith; fewer = λ some. omega arith }
-      by_mark Plain Waiting rest = record { total = omega arith; no_more = omega arith; fewer = λ some. omega arith }
-      by_mark Arm Waiting rest = record { total = omega arith; no_more = omega arith; fewer = λ some. omega arith }
-      by_mark Stream Waiting rest = record { total = omega arith; no_more = omega arith; fewer = λ some. omega arith }
-      by_mark k Woken rest =
-          record { total = omega arith; no_more = omega arith; fewer = λ some. (let less = rest.fewer some in omega arith) }
-      by_mark k (Filled held) rest =
-          record { total = omega arith; no_more = omega arith; fewer = λ some. (let less = rest.fewer some in omega arith) }
+  round_counts tell front (x ∷ es) = let rest = round_counts tell front es in record {
+    total = grind (arith, common_steps, rest.total);
+    no_more = grind (arith, common_steps, rest.no_more);
+    fewer = grind (arith, common_steps, rest.fewer);
+  }
 
   -- what a leave does to the counts
   pub record OneFewer (es after : List (Entry T N)) (m : Mark T) : Type 0 where

@@ -1,13 +1,13 @@
 -- A lawful reply makes a change that fits what stands before it.
-use Rattle.flume_model.proofs.Common.{◌≡◌, ℕ, ◌+◌, ◌<◌, true, false, Bool, if◌then◌else◌, List, [], ◌∷◌, Option, Some, None, refl, sym, ◌∙◌}
-use Rattle.flume_model.proofs.Common.{ap, arith, cond, take, eqb-true, eq-eqb, take-nil, IsPolled, IsGone, Channel, TakesIn, TakesNoneIn}
-use Rattle.flume_model.proofs.Common.{IsAccepted, IsBlocked, IsFront, channel, senders, receivers, senders_after, receivers_after, is_over}
-use Rattle.flume_model.proofs.Common.{is_filled, is_woken, entry_of, round_fills, leave_fills, passes_on, IsOpen, most, line, boundary}
-use Rattle.flume_model.proofs.Common.{queue, messages, Log, Opening, Offer, Change, Queues, Blocks, Accepts, Withdraws, Takes, Drains}
-use Rattle.flume_model.proofs.Common.{Parks, Asks, Collects, Leaves, SenderJoins, ReceiverJoins, SenderLeaves, ReceiverLeaves, Stays}
-use Rattle.flume_model.proofs.Common.{was_filled, change, LogEntry, entries, IsReply, IsRun, ToldFilled, Entry, Filled, Reply, Sent}
-use Rattle.flume_model.proofs.Common.{Pending, Accepted, Returned, Got, Parked, Drained, Done, Step, TrySend, Send, PollSend, WithdrawSend}
-use Rattle.flume_model.proofs.Common.{TryRecv, Recv, Poll, Withdraw, Drain, CloneSender, CloneReceiver, DropSender, DropReceiver}
+use Rattle.flume_model.proofs.Common.{◌≡◌, ℕ, ◌+◌, ◌<◌, true, false, if◌then◌else◌, List, [], ◌∷◌, Option, Some, None, refl, sym, ◌∙◌, ap}
+use Rattle.flume_model.proofs.Common.{arith, cond, take, take-nil, IsPolled, IsGone, Channel, TakesIn, TakesNoneIn, IsAccepted, IsBlocked}
+use Rattle.flume_model.proofs.Common.{IsFront, channel, senders, receivers, senders_after, receivers_after, is_over, is_filled, is_woken}
+use Rattle.flume_model.proofs.Common.{entry_of, round_fills, leave_fills, passes_on, IsOpen, most, line, boundary, queue, messages, Log}
+use Rattle.flume_model.proofs.Common.{Opening, Offer, Change, Queues, Blocks, Accepts, Withdraws, Takes, Drains, Parks, Asks, Collects}
+use Rattle.flume_model.proofs.Common.{Leaves, SenderJoins, ReceiverJoins, SenderLeaves, ReceiverLeaves, Stays, was_filled, change, LogEntry}
+use Rattle.flume_model.proofs.Common.{entries, IsReply, IsRun, ToldFilled, Entry, Filled, Reply, Sent, Pending, Accepted, Returned, Got}
+use Rattle.flume_model.proofs.Common.{Parked, Drained, Done, Step, TrySend, Send, PollSend, WithdrawSend, TryRecv, Recv, Poll, Withdraw}
+use Rattle.flume_model.proofs.Common.{Drain, CloneSender, CloneReceiver, DropSender, DropReceiver, common_steps}
 use Rattle.flume_model.proofs.AskingCases.{Unfilled, polled_cases, gone_cases}
 
 module _ {T : Type 0} where
@@ -123,12 +123,4 @@ module _ {T A : Type 0} where
   -- once over, over for good
   pub not_over_yet : (o : Opening) (past : Log T A) (p : Step T × Reply T A) → ToldFilled o past → IsRun o (p ∷ past)
       → is_over (p ∷ past) ≡ false → is_over past ≡ false
-  not_over_yet o past p told run open_ = by_case (is_over past) refl
-    where
-      by_case : (b : Bool) → is_over past ≡ b → is_over past ≡ false
-      by_case false e = e
-      by_case true e =
-          let none_left = eqb-true (senders past + receivers past) 0 e in
-          let over = over_stays o past (change past p.0 p.1) (fits o past p.0 p.1 told run.0) none_left in
-          let now : is_over (p ∷ past) ≡ true = eq-eqb _ 0 over in
-          absurd (let none : ⊥ = cc in none)
+  not_over_yet o past p told run open_ = grind (arith, common_steps, over_stays o past (change past p.0 p.1) (fits o past p.0 p.1 told run.0))

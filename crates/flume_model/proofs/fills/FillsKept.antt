@@ -42,23 +42,16 @@ module _ {T N : Type 0} where
   -- the ticket of an entry that holds nothing is another
   pub unlike : (u t : ℕ) (m : T) (e : Entry T N) (es : List (Entry T N)) → entry_of u es ≡ Some e → held_in e.mark ≡ None → IsHeld t m es
       → eqb u t ≡ false
-  unlike u t m e es found nothing h = ne_eqb u t (λ same.
-      (let there : held_by (entry_of u es) ≡ held_by (entry_of t es) = ap (λ v. held_by (entry_of v es)) same in
-      let here : held_by (entry_of u es) ≡ None = ap held_by found ∙ nothing in
-      let none : ⊥ = cc in none))
+  unlike u t m e es found nothing h = grind (arith, common_steps, ne_eqb u t)
 
 module _ {T : Type 0} where
   -- an entry that isn't filled holds nothing
   empty_holds : (mark : Mark T) → is_filled mark ≡ false → held_in mark ≡ None
-  empty_holds Waiting e = refl
-  empty_holds Woken e = refl
-  empty_holds (Filled held) e = absurd (let none : ⊥ = cc in none)
+  empty_holds mark e = grind (arith, common_steps)
 
   -- an entry that is woken holds nothing
   woken_holds : (mark : Mark T) → is_woken mark ≡ true → held_in mark ≡ None
-  woken_holds Woken e = refl
-  woken_holds Waiting e = refl
-  woken_holds (Filled held) e = absurd (let none : ⊥ = cc in none)
+  woken_holds mark e = grind (arith, common_steps)
 
   -- where an end leaves, a filled entry keeps its message
   held_close : (closes : Bool) (t : ℕ) (m : T) (es : List (LogEntry T)) → IsHeld t m es

@@ -4,7 +4,7 @@ use Rattle.flume_model.proofs.Common.{suc, refl, sym, ◌∙◌, ap, arith, inl,
 use Rattle.flume_model.proofs.Common.{map-append, take_all, take-append-drop, slice_get_within, slice_get, channel, is_over, entry_of}
 use Rattle.flume_model.proofs.Common.{held_by, FillIs, IsOf, shows_to, shown, InOrder, line, boundary, queue, messages, Log, Opening, Offer}
 use Rattle.flume_model.proofs.Common.{HandOut, Shown, FilledIn, Change, Queues, Takes, Drains, Collects, Leaves, change, fill, handed, kept}
-use Rattle.flume_model.proofs.Common.{handed_out, hand_outs, LogEntry, entries_after, entries, is_shut, IsRun, Reply, Step}
+use Rattle.flume_model.proofs.Common.{handed_out, hand_outs, LogEntry, entries_after, entries, is_shut, IsRun, Reply, Step, common_steps}
 use Rattle.flume_model.proofs.EntryChanges.{fills}
 use Rattle.flume_model.proofs.fills.FillsKept.{held_by_change, first_up, filled_holds, filled_stood}
 use Rattle.flume_model.proofs.fills.FillsShown.{shows_leaves, collects_shows, shows_held, shows_stood, neither, unshown}
@@ -27,9 +27,7 @@ module _ {T : Type 0} where
 
   -- where a receiver is filled, nobody else is
   fill_is : (filled : Option ℕ) (k t : ℕ) → slice_get (fill {T = T} filled) k ≡ Some (FilledIn t) → (filled ≡ Some t) × (k ≡ 0)
-  fill_is None k t e = absurd (let none : ⊥ = cc in none)
-  fill_is (Some u) zero t e = (cc, refl)
-  fill_is (Some u) (suc k) t e = absurd (let none : ⊥ = cc in none)
+  fill_is filled k t e = grind (arith, common_steps)
 
   -- a change that hands out to a receiver that it fills hands out nothing else
   fill_at : (done : Change T) (k t : ℕ) → slice_get (handed done) k ≡ Some (FilledIn t) → (fills done ≡ Some t) × (k ≡ 0)
@@ -65,13 +63,7 @@ module _ {T A : Type 0} where
 
   -- while a receiver is parked the channel isn't over
   stood_open : (o : Opening) (log : Log T A) (t : ℕ) (e : LogEntry T) → entry_of t (entries o log) ≡ Some e → is_over log ≡ false
-  stood_open o log t e found = by_case (is_over log) refl
-    where
-      by_case : (b : Bool) → is_over log ≡ b → is_over log ≡ false
-      by_case false is = is
-      by_case true over =
-          let missing : entry_of t (entries o log) ≡ None = ap (entry_of t) (nobody_once_over o log over) in
-          absurd (let none : ⊥ = cc in none)
+  stood_open o log t e found = grind (arith, common_steps, nobody_once_over o log)
 
   -- a fill is of the same message after one more pair of a run
   fill_stays : (o : Opening) (p : Step T × Reply T A) (past : Log T A) (t : ℕ) (m : T) → IsRun o (p ∷ past) → Fill o past t m

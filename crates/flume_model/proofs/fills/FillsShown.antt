@@ -3,8 +3,8 @@ use Rattle.flume_model.proofs.Common.{◌≡◌, ℕ, ◌≤◌, Bool, true, fal
 use Rattle.flume_model.proofs.Common.{◌∙◌, ap, arith, inl, inr, ◌⊎◌, eqb-true, eq-eqb, subst, cond-false, IsPolledMark, IsPolled}
 use Rattle.flume_model.proofs.Common.{IsGoneMark, IsGone, Channel, channel, is_over, entry_of, without, held_in, held_by, or_else, shows_to}
 use Rattle.flume_model.proofs.Common.{shown, next_ticket, queue, Log, Opening, Change, Takes, Parks, Collects, was_filled, change, LogEntry}
-use Rattle.flume_model.proofs.Common.{entries_after, entries, is_shut, IsReply, IsRun, Mark, Waiting, Woken, Filled, Kind, Reply, Got, Step}
-use Rattle.flume_model.proofs.Common.{Poll, Withdraw, common_steps}
+use Rattle.flume_model.proofs.Common.{entries_after, entries, is_shut, IsReply, IsRun, Mark, Kind, Reply, Got, Step, Poll, Withdraw}
+use Rattle.flume_model.proofs.Common.{common_steps}
 use Rattle.flume_model.proofs.EntryMarks.{none_past, left_out}
 use Rattle.flume_model.proofs.EntryChanges.{parks_under, none_by}
 use Rattle.flume_model.proofs.EntryShape.{entries_apart, fits_run}
@@ -19,8 +19,7 @@ module _ {T : Type 0} where
   -- one that got a message leaves with what it held, or with the front
   got_leaves : (was : Bool) (u t : ℕ) (m x : T) → (u ≡ t) × (m ≡ x)
       → ((if was then Collects u else Takes m (Some u)) ≡ Collects t) ⊎ ((if was then Collects u else Takes m (Some u)) ≡ Takes x (Some t))
-  got_leaves true u t m x is = inl (ap (λ v. Collects v) is.0)
-  got_leaves false u t m x is = inr (let ticket = is.0 in let message = is.1 in cc)
+  got_leaves was u t m x is = grind (arith, common_steps)
 
   -- one that leaves with what it held is shown its message
   got_shows : (was : Bool) (u t : ℕ) (m : T) → (if was then Collects u else Takes m (Some u)) ≡ Collects t
@@ -31,9 +30,7 @@ module _ {T : Type 0} where
   -- a filled receiver that asks gets what its entry holds, by its mark
   asked_held : (A : Type 0) (c : Channel T) (k : Kind) (mark : Mark T) (y m : T) → IsPolledMark {A = A} c k mark (Got y)
       → held_in mark ≡ Some m → y ≡ m
-  asked_held A c k (Filled held) y m h holds = h ∙ (let same : held ≡ m = cc in same)
-  asked_held A c k Waiting y m h holds = absurd (let none : ⊥ = cc in none)
-  asked_held A c k Woken y m h holds = absurd (let none : ⊥ = cc in none)
+  asked_held A c k mark y m h holds = grind (arith, common_steps)
 
   -- a filled receiver that asks gets what its entry holds
   polled_held : (A : Type 0) (c : Channel T) (found : Option (LogEntry T)) (y m : T) → IsPolled {A = A} c found (Got y)
@@ -44,9 +41,7 @@ module _ {T : Type 0} where
   -- a filled receiver that withdraws gets what its entry holds, by its mark
   withdraw_held : (A : Type 0) (c : Channel T) (t : ℕ) (k : Kind) (mark : Mark T) (y m : T) → IsGoneMark {A = A} c t k mark (Got y)
       → held_in mark ≡ Some m → y ≡ m
-  withdraw_held A c t k (Filled held) y m h holds = h ∙ (let same : held ≡ m = cc in same)
-  withdraw_held A c t k Waiting y m h holds = absurd (let none : ⊥ = cc in none)
-  withdraw_held A c t k Woken y m h holds = absurd (let none : ⊥ = cc in none)
+  withdraw_held A c t k mark y m h holds = grind (arith, common_steps)
 
   -- a filled receiver that withdraws gets what its entry holds
   gone_held : (A : Type 0) (c : Channel T) (t : ℕ) (found : Option (LogEntry T)) (y m : T) → IsGone {A = A} c t found (Got y)
@@ -56,8 +51,7 @@ module _ {T : Type 0} where
 
   -- of two messages, where the first isn't there nor the second, there is none
   pub neither : (first second : Option T) → ((x : T) → first ≡ Some x → ⊥) → second ≡ None → or_else first second ≡ None
-  neither None second none e = e
-  neither (Some x) second none e = absurd (none x refl)
+  neither first second none e = grind (arith, common_steps)
 
   -- a receiver parks under the next ticket
   parks_next : (c : Channel T) (done : Change T) (t : ℕ) → Fits c done → parks_under done t ≡ true → c.next ≤ t

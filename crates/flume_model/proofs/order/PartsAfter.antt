@@ -3,7 +3,7 @@ use Rattle.flume_model.proofs.Common.{◌≡◌, ℕ, ◌≤◌, Bool, true, fal
 use Rattle.flume_model.proofs.Common.{refl, sym, ◌∙◌, ap, arith, take-nil, cond-true, append_assoc, append-nil, take-append-drop}
 use Rattle.flume_model.proofs.Common.{length_push, all_zipped_more, AllZip, IsFront, channel, is_over, leave_fills, line, boundary, queue}
 use Rattle.flume_model.proofs.Common.{messages, next_ticket, how_many, Log, Opening, Offer, HandOut, Shown, FilledIn, Change, Queues}
-use Rattle.flume_model.proofs.Common.{Blocks, Withdraws, Takes, Drains, Leaves, fill, kept, handed_out, entries}
+use Rattle.flume_model.proofs.Common.{Blocks, Withdraws, Takes, Drains, Leaves, fill, kept, handed_out, entries, common_steps}
 use Rattle.flume_model.proofs.Fits.{Fits}
 use Rattle.flume_model.proofs.order.Kept.{kept_by, handed_by, open_line, not_withdrawn, kept_more, kept_less, kept_same}
 use Rattle.flume_model.proofs.order.Parts.{ShownIs, Parts, Shape, at_most, front_at, open_at, line_is_rest, withdrawn_at, leave_within}
@@ -67,13 +67,7 @@ module _ {T : Type 0} where
 module _ {T A : Type 0} where
   -- the rest is at least as long as the line
   line_within : (past : Log T A) (parts : Parts (kept past) (handed_out past)) → length (line past) ≤ length parts.rest
-  line_within past parts = by_case (is_over past) refl
-    where
-      by_case : (b : Bool) → is_over past ≡ b → length (line past) ≤ length parts.rest
-      by_case true over =
-          let none : line past ≡ [] = cond-true (is_over past) [] (open_line past) over in
-          omega (arith, ap length none)
-      by_case false open_ = omega (arith, ap length (line_is_rest past parts open_))
+  line_within past parts = grind (arith, common_steps, line_is_rest past parts, cond-true)
 
   -- what is queued stands in front of the rest
   queued_at : (o : Opening) (past : Log T A) (parts : Parts (kept past) (handed_out past))

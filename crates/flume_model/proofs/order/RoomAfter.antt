@@ -133,12 +133,4 @@ module _ {T A : Type 0} where
         in_line = omega arith;
         at_capacity = λ lt. full_left o past t filled shape h.1 (omega arith);
       }
-  room_after o past (Accepts t) shape h open_ = room_same o past (Accepts t) shape open_ refl
-  room_after o past (Parks t kind) shape h open_ = room_same o past (Parks t kind) shape open_ refl
-  room_after o past (Asks t) shape h open_ = room_same o past (Asks t) shape open_ refl
-  room_after o past (Collects t) shape h open_ = room_same o past (Collects t) shape open_ refl
-  room_after o past SenderJoins shape h open_ = room_same o past SenderJoins shape open_ refl
-  room_after o past ReceiverJoins shape h open_ = room_same o past ReceiverJoins shape open_ refl
-  room_after o past SenderLeaves shape h open_ = room_same o past SenderLeaves shape open_ refl
-  room_after o past ReceiverLeaves shape h open_ = room_same o past ReceiverLeaves shape open_ refl
-  room_after o past Stays shape h open_ = room_same o past Stays shape open_ refl
+  room_after o past done shape h open_ = room_same o past done shape open_ refl

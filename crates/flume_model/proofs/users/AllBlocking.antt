@@ -1,12 +1,9 @@
 -- Where all receivers block, no more is queued than the capacity.
-use Rattle.flume_model.proofs.Common.{◌≡◌, ℕ, ◌+◌, ◌-◌, ◌≤◌, Bool, true, false, if◌then◌else◌, not, ◌&&◌, [], ◌∷◌, Option, Some, None, refl}
-use Rattle.flume_model.proofs.Common.{sym, arith, max, subst, cond-true, cond-false, All-head, All-tail, parks_blocking}
-use Rattle.flume_model.proofs.Common.{OnlyBlockingReceivers, IsAtMostCapacity, Channel, channel, is_over, some_wait, round_fills, HasRoom}
-use Rattle.flume_model.proofs.Common.{capacity, boundary, boundary_after, queue, how_many, Log, Opening, Change, Queues, Takes, Drains}
-use Rattle.flume_model.proofs.Common.{Collects, Leaves, was_filled, change, capped, entries, is_shut, IsRun, block_woken, Reply, Sent}
-use Rattle.flume_model.proofs.Common.{Pending, Accepted, Returned, Got, Ended, Parked, Gone, Drained, Done, Step, TrySend, Send, PollSend}
-use Rattle.flume_model.proofs.Common.{WithdrawSend, TryRecv, Recv, Poll, Withdraw, Drain, CloneSender, CloneReceiver, DropSender}
-use Rattle.flume_model.proofs.Common.{DropReceiver}
+use Rattle.flume_model.proofs.Common.{◌≡◌, ℕ, ◌+◌, ◌-◌, ◌≤◌, Bool, true, false, not, ◌&&◌, [], ◌∷◌, Option, Some, None, refl, sym, arith}
+use Rattle.flume_model.proofs.Common.{max, subst, cond-true, cond-false, All-head, All-tail, parks_blocking, OnlyBlockingReceivers}
+use Rattle.flume_model.proofs.Common.{IsAtMostCapacity, Channel, channel, is_over, some_wait, round_fills, HasRoom, capacity, boundary}
+use Rattle.flume_model.proofs.Common.{boundary_after, queue, how_many, Log, Opening, Change, Queues, Takes, Drains, Leaves, change, capped}
+use Rattle.flume_model.proofs.Common.{entries, is_shut, IsRun, Reply, Step, common_steps}
 use Rattle.flume_model.specs.declared.step.Reply.TheVariants.{Waiting}
 use Rattle.flume_model.proofs.Fits.{Fits}
 use Rattle.flume_model.proofs.waits.WaitingSteps.{stepped}
@@ -68,35 +65,7 @@ module _ {T A : Type 0} where
   -- a step that parks none of another kind makes such a change
   change_parks : (past : Log T A) (step : Step T) (reply : Reply T A) → parks_blocking step ≡ true
       → parks_block (change past step reply) ≡ true
-  change_parks past (TrySend m) (Sent filled) e = refl
-  change_parks past (Send m) (Sent filled) e = refl
-  change_parks past (Send m) (Pending t) e = refl
-  change_parks past (PollSend t) Accepted e = refl
-  change_parks past (PollSend t) (Returned m closed) e = refl
-  change_parks past (WithdrawSend t) Accepted e = refl
-  change_parks past (WithdrawSend t) (Returned m closed) e = refl
-  change_parks past TryRecv (Got m) e = refl
-  change_parks past (Recv kind) (Got m) e = refl
-  change_parks past (Recv kind) (Parked t) e = e
-  change_parks past (Poll t) Waiting e = refl
-  change_parks past (Poll t) Ended e = refl
-  change_parks past (Withdraw t) (Gone closed filled) e = refl
-  change_parks past Drain (Drained list) e = refl
-  change_parks past CloneSender Done e = refl
-  change_parks past CloneReceiver Done e = refl
-  change_parks past DropSender Done e = refl
-  change_parks past DropReceiver Done e = refl
-  change_parks past (Poll t) (Got m) e = by_case (was_filled past t)
-    where
-      by_case : (b : Bool) → parks_block (if b then Collects t else Takes m (Some t)) ≡ true
-      by_case true = refl
-      by_case false = refl
-  change_parks past (Withdraw t) (Got m) e = by_case (was_filled past t)
-    where
-      by_case : (b : Bool) → parks_block (if b then Collects t else Takes m (Some t)) ≡ true
-      by_case true = refl
-      by_case false = refl
-  change_parks past _ _ e = refl
+  change_parks past step reply e = grind (arith, common_steps)
 
   -- all entries block
   entries_block : (o : Opening) (log : Log T A) → OnlyBlockingReceivers log → AllBlock (entries o log)
@@ -114,17 +83,7 @@ module _ {T A : Type 0} where
   -- while one of them waits nothing is queued
   none_queued : (o : Opening) (log : Log T A) → IsRun o log → OnlyBlockingReceivers log → some_wait (entries o log) ≡ true
       → boundary o log ≡ 0
-  none_queued o log run only some = by_case (block_woken (entries o log)) refl
-    where
-      by_case : (b : Bool) → block_woken (entries o log) ≡ b → boundary o log ≡ 0
-      by_case true woken =
-          let is_closed = (woken_block_while_closed o log run woken).0 in
-          let is_open = (waits_while_open o log run some).0 in
-          absurd (omega arith)
-      by_case false none =
-          let count = none_woken (entries o log) (entries_block o log only) none in
-          let le = covered o log run some in
-          omega arith
+  none_queued o log run only some = grind (arith, common_steps, woken_block_while_closed o log run, waits_while_open o log run some, none_woken (entries o log) (entries_block o log only), covered o log run some)
 
   -- after one more pair of a run
   within_more : (o : Opening) (past : Log T A) (p : Step T × Reply T A) → IsRun o (p ∷ past) → OnlyBlockingReceivers past

@@ -6,7 +6,7 @@ use Rattle.flume_model.proofs.Common.{is_over, is_woken, is_filled, some_wait, r
 use Rattle.flume_model.proofs.Common.{after_leave, leave_fills, HasRoom, line, boundary, queue, messages, how_many, Log, Opening, Offer}
 use Rattle.flume_model.proofs.Common.{Change, Queues, Blocks, Accepts, Withdraws, Takes, Drains, Parks, Asks, Collects, Leaves, SenderJoins}
 use Rattle.flume_model.proofs.Common.{ReceiverJoins, SenderLeaves, ReceiverLeaves, Stays, change, offered, LogEntry, untold, parks}
-use Rattle.flume_model.proofs.Common.{entries_after, entries, IsRun, Mark, Waiting, Woken, Filled, Reply, Step}
+use Rattle.flume_model.proofs.Common.{entries_after, entries, IsRun, Mark, Waiting, Reply, Step, common_steps}
 use Rattle.flume_model.proofs.Fits.{Fits}
 use Rattle.flume_model.proofs.EntryLists.{again_cases, leave_cases}
 use Rattle.flume_model.proofs.order.Kept.{keeps_line}
@@ -33,15 +33,11 @@ module _ {T : Type 0} where
 
   -- one that isn't filled holds nothing
   unfilled_weighs : (weight : T → ℕ) (m : Mark T) → is_filled m ≡ false → mark_weighs weight m ≡ 0
-  unfilled_weighs weight Waiting e = refl
-  unfilled_weighs weight Woken e = refl
-  unfilled_weighs weight (Filled held) e = absurd (let none : ⊥ = cc in none)
+  unfilled_weighs weight m e = grind (arith, common_steps)
 
   -- one that is woken holds nothing
   woken_weighs : (weight : T → ℕ) (m : Mark T) → is_woken m ≡ true → mark_weighs weight m ≡ 0
-  woken_weighs weight Waiting e = refl
-  woken_weighs weight Woken e = refl
-  woken_weighs weight (Filled held) e = absurd (let none : ⊥ = cc in none)
+  woken_weighs weight m e = grind (arith, common_steps)
 
   -- where an end leaves
   balanced_close : (weight : T → ℕ) (closes : Bool) (es : List (LogEntry T))

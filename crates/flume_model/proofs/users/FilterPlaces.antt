@@ -35,13 +35,7 @@ module _ {X : Type 0} where
       let same : y ≡ x = cc in
       let first : keeps y ≡ true = ap keeps same ∙ is in
       (zero, omega arith, simp first refl)
-  place_of_kept keeps (y ∷ ys) (suc i) zero x lt e is = by_case (keeps y) refl (λ less. place_of_kept keeps ys i zero x less e is)
-    where
-      by_case : (b : Bool) → keeps y ≡ b
-          → (i < filter_place keeps ys zero → (j : ℕ) × (j < zero) × (filter_place keeps ys j ≡ i))
-          → (j : ℕ) × (j < zero) × (filter_place keeps (y ∷ ys) j ≡ suc i)
-      by_case true f rest = absurd (let lt2 = simp f at lt in omega arith)
-      by_case false f rest = let lt2 = simp f at lt in let at = rest (omega arith) in absurd (let none = at.1 in omega arith)
+  place_of_kept keeps (y ∷ ys) (suc i) zero x lt e is = grind (arith, common_steps, place_of_kept keeps ys i zero x)
   place_of_kept keeps (y ∷ ys) (suc i) (suc k) x lt e is =
       by_case (keeps y) refl (λ less. place_of_kept keeps ys i k x less e is) (λ less. place_of_kept keeps ys i (suc k) x less e is)
     where

@@ -2,9 +2,9 @@
 use Rattle.flume_model.proofs.Common.{◌≡◌, ℕ, ◌+◌, ◌-◌, ◌≤◌, Bool, true, false, if◌then◌else◌, List, [], ◌∷◌, length, Option, Some, None}
 use Rattle.flume_model.proofs.Common.{refl, sym, ◌∙◌, ap, arith, max, subst, subst₂, cond-true, Channel, channel, is_over, is_woken}
 use Rattle.flume_model.proofs.Common.{some_wait, waiting_count, round, round_fills, all_woken, entry_of, without, HasRoom, boundary}
-use Rattle.flume_model.proofs.Common.{boundary_after, how_many, Log, Opening, Change, Queues, Blocks, Accepts, Withdraws, Takes, Drains}
-use Rattle.flume_model.proofs.Common.{Parks, Asks, Collects, Leaves, SenderJoins, ReceiverJoins, SenderLeaves, ReceiverLeaves, Stays}
-use Rattle.flume_model.proofs.Common.{change, capped, LogEntry, untold, entries_after, entries, peak, IsRun, IsWithin, Bounded, Reply, Step}
+use Rattle.flume_model.proofs.Common.{boundary_after, how_many, Log, Opening, Change, Queues, Takes, Drains, Parks, Asks, Collects, Leaves}
+use Rattle.flume_model.proofs.Common.{SenderLeaves, ReceiverLeaves, change, capped, LogEntry, untold, entries_after, entries, peak, IsRun}
+use Rattle.flume_model.proofs.Common.{IsWithin, Bounded, Reply, Step, common_steps}
 use Rattle.flume_model.proofs.Fits.{Fits}
 use Rattle.flume_model.proofs.WaitingCounts.{wait_woken}
 use Rattle.flume_model.proofs.WaitLists.{fills_waiting}
@@ -47,11 +47,7 @@ drained_within (Some c) long was = omega arith
 module _ {T : Type 0} where
   -- where none waits a round fills none
   fills_nobody : (es : List (LogEntry T)) → some_wait es ≡ false → how_many (round_fills es) ≡ 0
-  fills_nobody es none = by_fills (round_fills es) refl
-    where
-      by_fills : (f : Option ℕ) → round_fills es ≡ f → how_many (round_fills es) ≡ 0
-      by_fills None e = ap how_many e
-      by_fills (Some u) e = absurd (let some = fills_waiting es u e in let no : ⊥ = cc in no)
+  fills_nobody es none = grind (arith, common_steps, fills_waiting es)
 
   -- once all are woken none is counted
   woken_uncounted : (es : List (LogEntry T)) → waiting_count (all_woken untold es) ≡ 0

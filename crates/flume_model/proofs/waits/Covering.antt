@@ -2,10 +2,9 @@
 use Rattle.flume_model.proofs.Common.{◌≡◌, ℕ, ◌+◌, ◌-◌, ◌≤◌, Bool, true, false, if◌then◌else◌, [], ◌∷◌, length, Some, None, refl, sym, ◌∙◌}
 use Rattle.flume_model.proofs.Common.{◌⊎◌, inl, inr, ap, arith, Channel, channel, is_over, is_woken, some_wait, woken_count, round}
 use Rattle.flume_model.proofs.Common.{round_fills, all_woken, entry_of, without, passes_on, after_leave, leave_fills, boundary}
-use Rattle.flume_model.proofs.Common.{boundary_after, how_many, Log, Opening, Change, Queues, Blocks, Accepts, Withdraws, Takes, Drains}
-use Rattle.flume_model.proofs.Common.{Parks, Asks, Collects, Leaves, SenderJoins, ReceiverJoins, SenderLeaves, ReceiverLeaves, Stays}
-use Rattle.flume_model.proofs.Common.{change, LogEntry, untold, entries_after, entries, IsRun, Covered, Mark, Waiting, Woken, Filled, Reply}
-use Rattle.flume_model.proofs.Common.{Step}
+use Rattle.flume_model.proofs.Common.{boundary_after, how_many, Log, Opening, Change, Queues, Blocks, Takes, Drains, Parks, Asks, Collects}
+use Rattle.flume_model.proofs.Common.{Leaves, SenderLeaves, ReceiverLeaves, change, LogEntry, untold, entries_after, entries, IsRun}
+use Rattle.flume_model.proofs.Common.{Covered, Mark, Filled, Reply, Step, common_steps}
 use Rattle.flume_model.proofs.Fits.{Fits}
 use Rattle.flume_model.proofs.WaitingCounts.{wait_round, wait_round_for, wait_without, wait_woken}
 use Rattle.flume_model.proofs.EntryLists.{round_for_push, again_cases, leave_cases}
@@ -15,21 +14,15 @@ use Rattle.flume_model.proofs.waits.WaitingSteps.{Stood, Long, stepped, nobody_o
 module _ {T : Type 0} where
   -- at most one entry leaves
   woken_at_most : (m : Mark T) → woken_one m ≤ 1
-  woken_at_most Waiting = omega arith
-  woken_at_most Woken = omega arith
-  woken_at_most (Filled held) = omega arith
+  woken_at_most m = grind (arith, common_steps)
 
   -- a filled entry isn't woken
   filled_not_woken : (m : Mark T) (held : T) → m ≡ Filled held → woken_one m ≡ 0
-  filled_not_woken Waiting held e = refl
-  filled_not_woken Woken held e = absurd (let none : ⊥ = cc in none)
-  filled_not_woken (Filled other) held e = refl
+  filled_not_woken m held e = grind (arith, common_steps)
 
   -- one woken, or none
   woken_is : (m : Mark T) → (is_woken m ≡ true) ⊎ (woken_one m ≡ 0)
-  woken_is Waiting = inr refl
-  woken_is Woken = inl refl
-  woken_is (Filled held) = inr refl
+  woken_is m = grind (arith, common_steps)
 
   -- one that leaves with no wake to pass on, where nothing is queued if it was woken
   covered_left : (c : Channel T) (t : ℕ) (e : LogEntry T) → Stood c → entry_of t c.entries ≡ Some e

@@ -1,10 +1,10 @@
 -- A receiver waits only in an open channel, and only while no sender is blocked; once both ends are gone nothing is left.
-use Rattle.flume_model.proofs.Common.{◌≡◌, ℕ, ◌≤◌, Bool, true, false, not, ◌&&◌, if◌then◌else◌, List, [], ◌∷◌, length, Some, None, refl}
-use Rattle.flume_model.proofs.Common.{sym, ◌∙◌, ap, arith, min, drop, ne_eqb, eqb-false, length-drop, drop_all, Channel, channel, senders}
-use Rattle.flume_model.proofs.Common.{receivers, senders_after, receivers_after, is_over, is_woken, some_wait, all_woken, IsOpen, is_closed}
-use Rattle.flume_model.proofs.Common.{line, boundary, blocked, is_live, Log, Opening, Change, Queues, Blocks, Accepts, Withdraws, Takes}
-use Rattle.flume_model.proofs.Common.{Drains, Parks, Asks, Collects, Leaves, SenderJoins, ReceiverJoins, SenderLeaves, ReceiverLeaves}
-use Rattle.flume_model.proofs.Common.{Stays, change, untold, entries_after, entries, IsRun, WaitsWhileOpen, NothingOnceOver, Reply, Step}
+use Rattle.flume_model.proofs.Common.{◌≡◌, ℕ, ◌≤◌, Bool, true, false, not, ◌&&◌, if◌then◌else◌, List, [], ◌∷◌, length, Some, refl, sym, ◌∙◌}
+use Rattle.flume_model.proofs.Common.{ap, arith, drop, eqb-false, length-drop, drop_all, Channel, channel, senders, receivers}
+use Rattle.flume_model.proofs.Common.{senders_after, receivers_after, is_over, is_woken, some_wait, all_woken, IsOpen, is_closed, line}
+use Rattle.flume_model.proofs.Common.{boundary, blocked, is_live, Log, Opening, Change, Queues, Takes, Parks, Asks, Collects, Leaves}
+use Rattle.flume_model.proofs.Common.{SenderJoins, ReceiverJoins, SenderLeaves, ReceiverLeaves, change, untold, entries_after, entries}
+use Rattle.flume_model.proofs.Common.{IsRun, WaitsWhileOpen, NothingOnceOver, Reply, Step, common_steps}
 use Rattle.flume_model.proofs.Fits.{Fits}
 use Rattle.flume_model.proofs.WaitingCounts.{wait_without, wait_after_leave, wait_woken}
 use Rattle.flume_model.proofs.EntryLists.{again_cases}
@@ -24,11 +24,7 @@ module _ {T A : Type 0} where
 
 -- a channel that was open and doesn't close is open
 open_still : (s r s2 r2 : ℕ) → IsOpen s r → (not (is_closed s r) && is_closed s2 r2) ≡ false → IsOpen s2 r2
-open_still s r s2 r2 is_open e =
-    let was : is_closed s r ≡ false = ne_eqb (min s r) 0 (λ same. omega arith) in
-    let now : is_closed s2 r2 ≡ false = rw was at e in
-    let some = eqb-false (min s2 r2) 0 now in
-    omega arith
+open_still s r s2 r2 is_open e = grind (arith, common_steps, eqb-false)
 
 module _ {T : Type 0} where
   -- where an end leaves

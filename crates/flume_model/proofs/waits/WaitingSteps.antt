@@ -103,15 +103,7 @@ module _ {T A : Type 0} where
       let few = leave_within o past t in
       let fills = ap how_many h.1 in
       omega arith
-  long_after o past p (Accepts t) e run h open_ still = long_same o past p (Accepts t) e refl run open_ still
-  long_after o past p (Parks t kind) e run h open_ still = long_same o past p (Parks t kind) e refl run open_ still
-  long_after o past p (Asks t) e run h open_ still = long_same o past p (Asks t) e refl run open_ still
-  long_after o past p (Collects t) e run h open_ still = long_same o past p (Collects t) e refl run open_ still
-  long_after o past p SenderJoins e run h open_ still = long_same o past p SenderJoins e refl run open_ still
-  long_after o past p ReceiverJoins e run h open_ still = long_same o past p ReceiverJoins e refl run open_ still
-  long_after o past p SenderLeaves e run h open_ still = long_same o past p SenderLeaves e refl run open_ still
-  long_after o past p ReceiverLeaves e run h open_ still = long_same o past p ReceiverLeaves e refl run open_ still
-  long_after o past p Stays e run h open_ still = long_same o past p Stays e refl run open_ still
+  long_after o past p done e run h open_ still = long_same o past p done e refl run open_ still
 
   -- what stands after one more pair of a run, while the channel isn't over
   pub record Stepped (o : Opening) (past : Log T A) (p : Step T × Reply T A) : Type 0 where

@@ -1,12 +1,11 @@
 -- A receiver that blocks stands woken only in a closed channel, and only where no sender is blocked.
 use Rattle.flume_model.proofs.Common.{◌≡◌, ℕ, ◌≤◌, Bool, true, false, not, ◌&&◌, if◌then◌else◌, List, [], ◌∷◌, ◌++◌, length, Some, None}
-use Rattle.flume_model.proofs.Common.{refl, sym, ◌∙◌, ◌⊎◌, inl, inr, ap, arith, min, eqb-true, or_cases, or_right, or_from, and_right}
-use Rattle.flume_model.proofs.Common.{and_parts, list_any-append, Channel, channel, senders, receivers, senders_after, receivers_after}
-use Rattle.flume_model.proofs.Common.{is_over, is_woken, some_wait, all_woken, without, round, IsClosed, is_closed, line, boundary}
-use Rattle.flume_model.proofs.Common.{boundary_after, blocked, Log, Opening, Change, Queues, Blocks, Accepts, Withdraws, Takes, Drains}
-use Rattle.flume_model.proofs.Common.{Parks, Asks, Collects, Leaves, SenderJoins, ReceiverJoins, SenderLeaves, ReceiverLeaves, Stays}
-use Rattle.flume_model.proofs.Common.{change, LogEntry, untold, entries_after, entries, IsRun, is_block, block_woken, WokenBlockWhileClosed}
-use Rattle.flume_model.proofs.Common.{Reply, Step, common_steps}
+use Rattle.flume_model.proofs.Common.{refl, sym, ◌∙◌, ◌⊎◌, inl, inr, ap, arith, min, eqb-true, or_right, and_parts, list_any-append}
+use Rattle.flume_model.proofs.Common.{Channel, channel, senders, receivers, senders_after, receivers_after, is_over, is_woken, some_wait}
+use Rattle.flume_model.proofs.Common.{all_woken, without, round, IsClosed, is_closed, line, boundary, boundary_after, blocked, Log, Opening}
+use Rattle.flume_model.proofs.Common.{Change, Queues, Blocks, Accepts, Withdraws, Takes, Drains, Parks, Asks, Collects, Leaves, SenderJoins}
+use Rattle.flume_model.proofs.Common.{ReceiverJoins, SenderLeaves, ReceiverLeaves, Stays, change, LogEntry, untold, entries_after, entries}
+use Rattle.flume_model.proofs.Common.{IsRun, is_block, block_woken, WokenBlockWhileClosed, Reply, Step, common_steps}
 use Rattle.flume_model.proofs.Fits.{Fits}
 use Rattle.flume_model.proofs.EntryLists.{round_for_push, again_cases, leave_cases}
 use Rattle.flume_model.proofs.waits.WaitingSteps.{Stood, Long, stepped, nobody_once_over, line_long}
@@ -34,10 +33,7 @@ module _ {T : Type 0} where
   -- with one more that waits
   block_push : (es : List (LogEntry T)) (x : LogEntry T) → is_woken x.mark ≡ false → block_woken (es ++ x ∷ []) ≡ true
       → block_woken es ≡ true
-  block_push es x e h =
-      let last : block_woken (x ∷ []) ≡ false = or_from _ false (and_right (is_block x.kind) (is_woken x.mark) e) refl in
-      elim (or_cases (block_woken es) (block_woken (x ∷ [])) (sym (list_any-append _ es (x ∷ [])) ∙ h))
-      as (λ _. block_woken es ≡ true) [ inl some ↦ some | inr first ↦ absurd (let none : ⊥ = cc in none) ]
+  block_push es x e h = grind (arith, common_steps, list_any-append)
 
   -- where all that wait are woken, one that blocks stood woken or one waited
   block_closes : (es : List (LogEntry T)) → block_woken (all_woken untold es) ≡ true → (block_woken es ≡ true) ⊎ (some_wait es ≡ true)
