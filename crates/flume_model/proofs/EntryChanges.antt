@@ -39,8 +39,7 @@ module _ {T : Type 0} where
   -- where an end leaves, those entries are filled that were
   filled_close : (was : ℕ → Bool) (closes : Bool) (es : List (LogEntry T)) → FilledBy was es
       → FilledBy was (if closes then all_woken untold es else es)
-  filled_close was true es h = filled_woken untold was es h
-  filled_close was false es h = h
+  filled_close was closes es h = grind (arith, common_steps, filled_woken untold was es)
 
   -- after a change that fits, the tickets of entries are apart
   pub apart_by : (c : Channel T) (closes : Bool) (done : Change T) → Fits c done → Apart c.next c.entries

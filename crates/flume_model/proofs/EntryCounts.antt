@@ -1,7 +1,7 @@
 -- How many entries wait and how many stand woken, after a wake round, a leave and one more entry.
-use Rattle.flume_model.proofs.Common.{◌≡◌, ℕ, ◌+◌, ◌<◌, ◌≤◌, Bool, true, false, if◌then◌else◌, eqb, List, [], ◌∷◌, Option, Some, refl, ap}
-use Rattle.flume_model.proofs.Common.{arith, is_waiting, is_woken, some_wait, waiting_count, woken_count, round, round_fills, entry_of}
-use Rattle.flume_model.proofs.Common.{without, how_many, Entry, Mark, common_steps}
+use Rattle.flume_model.proofs.Common.{◌≡◌, ℕ, ◌+◌, ◌<◌, ◌≤◌, true, false, if◌then◌else◌, List, [], ◌∷◌, Option, Some, refl, arith}
+use Rattle.flume_model.proofs.Common.{is_waiting, is_woken, some_wait, waiting_count, woken_count, round, round_fills, entry_of, without}
+use Rattle.flume_model.proofs.Common.{how_many, Entry, Mark, common_steps}
 
 module _ {T : Type 0} where
   -- one for a mark that waits
@@ -47,14 +47,7 @@ module _ {T N : Type 0} where
   -- where an entry leaves, it is no longer counted
   pub without_counts : (t : ℕ) (e : Entry T N) (es : List (Entry T N)) → entry_of t es ≡ Some e → OneFewer es (without t es) e.mark
   without_counts t e [] h = absurd (let none : ⊥ = cc in none)
-  without_counts t e (x ∷ es) h = by_case (eqb x.ticket t) refl (without_counts t e es)
-    where
-      by_case : (b : Bool) → eqb x.ticket t ≡ b → (entry_of t es ≡ Some e → OneFewer es (without t es) e.mark)
-          → OneFewer (x ∷ es) (without t (x ∷ es)) e.mark
-      by_case true f rest =
-          let h2 = simp f at h in
-          let same : x ≡ e = cc in
-          let same_waits : waits_one x.mark ≡ waits_one e.mark = ap (λ y. waits_one y.mark) same in
-          let same_woken : woken_one x.mark ≡ woken_one e.mark = ap (λ y. woken_one y.mark) same in
-          simp f (record { waiting = omega arith; woken = omega arith })
-      by_case false f rest = let more = rest (simp f at h) in simp f (record { waiting = omega arith; woken = omega arith })
+  without_counts t e (x ∷ es) h = record {
+    waiting = grind (arith, common_steps, without_counts t e es);
+    woken = grind (arith, common_steps, without_counts t e es);
+  }

@@ -4,6 +4,7 @@ use Rattle.flume_model.proofs.Common.{refl, sym, ◌∙◌, ap, subst, arith, in
 use Rattle.flume_model.proofs.Common.{entry_of, next_ticket, queue, issued, issues, spends, is_live, Log, Opening, Takes, Collects}
 use Rattle.flume_model.proofs.Common.{filled_by, was_filled, is_ticket, change, entries_after, entries, is_shut, IsReply, IsRun}
 use Rattle.flume_model.proofs.Common.{EntriesApart, SidesApart, ToldFilled, Reply, Sent, Gone, Step, TrySend, Send, Poll, Withdraw}
+use Rattle.flume_model.proofs.Common.{common_steps}
 use Rattle.flume_model.proofs.EntryMarks.{FilledBy, filled_found, none_past}
 use Rattle.flume_model.proofs.AskingCases.{polled_cases, gone_cases}
 use Rattle.flume_model.proofs.Fits.{Fits, fits}
@@ -12,8 +13,7 @@ use Rattle.flume_model.proofs.EntryChanges.{fills, apart_by, fills_none, filled_
 module _ {T : Type 0} where
   -- a receiver that gets a message fills none
   got_fills_none : (was : Bool) (t : ℕ) (m : T) → None ≡ fills (if was then Collects t else Takes m (Some t))
-  got_fills_none true t m = refl
-  got_fills_none false t m = refl
+  got_fills_none was t m = grind (arith, common_steps)
 
 module _ {T A : Type 0} where
   -- a lawful reply tells as filled what its change fills

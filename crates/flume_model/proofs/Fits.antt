@@ -34,8 +34,7 @@ module _ {T : Type 0} where
 
   -- an end of a line that has no message queues none
   none_taken : (n : ℕ) (xs : List (Offer T)) → messages xs ≡ [] → messages (take n xs) ≡ []
-  none_taken n [] e = ap messages (take-nil n)
-  none_taken n (x ∷ xs) e = absurd (let none : ⊥ = cc in none)
+  none_taken n xs e = grind (arith, common_steps, take-nil)
 
   -- a receiver that leaves where nothing is queued fills nobody
   pub fills_none : {N : Type 0} (t : ℕ) (queue_ : List T) (es : List (Entry T N)) → queue_ ≡ [] → leave_fills t queue_ es ≡ None

@@ -24,28 +24,23 @@ All-at_seam P (y ∷ xs) x ys h = All-at_seam P xs x ys (All-tail P y (xs ++ x �
 
 -- an earlier ticket is another
 earlier_not : (t : ℕ) (o : Option ℕ) → IsEarlier o (Some t) → is_ticket t o ≡ false
-earlier_not t None h = refl
-earlier_not t (Some u) h = ne_eqb u t (λ e. omega arith)
+earlier_not t o h = grind (arith, common_steps, ne_eqb)
 
 -- a later ticket is another
 later_not : (t : ℕ) (o : Option ℕ) → IsEarlier (Some t) o → is_ticket t o ≡ false
-later_not t None h = refl
-later_not t (Some u) h = ne_eqb u t (λ e. omega arith)
+later_not t o h = grind (arith, common_steps, ne_eqb)
 
 -- a ticket below the bound is earlier than one at or past it
 pub below_earlier : (n t : ℕ) (o : Option ℕ) → n ≤ t → IsBelow n o → IsEarlier o (Some t)
-below_earlier n t None le h = tt
-below_earlier n t (Some u) le h = omega arith
+below_earlier n t o le h = grind (arith, common_steps)
 
 -- each ticket is earlier than none
 pub earlier_none : (o : Option ℕ) → IsEarlier o None
-earlier_none None = tt
-earlier_none (Some u) = tt
+earlier_none o = grind (arith, common_steps)
 
 -- a bound holds of what a lesser one holds of
 below_more : (n k : ℕ) (o : Option ℕ) → n ≤ k → IsBelow n o → IsBelow k o
-below_more n k None le h = tt
-below_more n k (Some u) le h = omega arith
+below_more n k o le h = grind (arith, common_steps)
 
 module _ {T : Type 0} where
   -- a ticket among two lists

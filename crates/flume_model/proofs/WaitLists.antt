@@ -16,8 +16,7 @@ module _ {T N : Type 0} where
 
   -- a round for a queue fills only where one waits
   pub fills_waiting_for : (queue : List T) (es : List (Entry T N)) (u : ℕ) → round_for_fills queue es ≡ Some u → some_wait es ≡ true
-  fills_waiting_for [] es u h = absurd (let none : ⊥ = cc in none)
-  fills_waiting_for (front ∷ queue) es u h = fills_waiting es u h
+  fills_waiting_for queue es u h = grind (arith, common_steps, fills_waiting es u)
 
   -- one that leaves fills another only where one waits
   pub leave_fills_waiting : (t : ℕ) (queue : List T) (es : List (Entry T N)) (u : ℕ) → leave_fills t queue es ≡ Some u

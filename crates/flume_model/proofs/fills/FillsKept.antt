@@ -56,8 +56,7 @@ module _ {T : Type 0} where
   -- where an end leaves, a filled entry keeps its message
   held_close : (closes : Bool) (t : ℕ) (m : T) (es : List (LogEntry T)) → IsHeld t m es
       → IsHeld t m (if closes then all_woken untold es else es)
-  held_close true t m es h = held_woken untold t m es h
-  held_close false t m es h = h
+  held_close closes t m es h = grind (arith, common_steps, held_woken untold t m es)
 
   -- through a change that fits, but its own leaving, a filled entry keeps its message
   pub held_by_change : (c : Channel T) (closes : Bool) (done : Change T) (t : ℕ) (m : T) → Fits c done

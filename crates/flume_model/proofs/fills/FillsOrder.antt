@@ -1,10 +1,10 @@
 -- Of each run, a hand-out that filled a receiver is of the message of the kept offer at its place.
-use Rattle.flume_model.proofs.Common.{◌≡◌, ℕ, ◌+◌, Bool, true, false, not, ◌&&◌, List, [], ◌∷◌, ◌++◌, drop, take, Option, Some, None, zero}
-use Rattle.flume_model.proofs.Common.{suc, refl, sym, ◌∙◌, ap, arith, inl, inr, ◌⊎◌, map, cond-false, append-nil, drop-append-le}
-use Rattle.flume_model.proofs.Common.{map-append, take_all, take-append-drop, slice_get_within, slice_get, channel, is_over, entry_of}
-use Rattle.flume_model.proofs.Common.{held_by, FillIs, IsOf, shows_to, shown, InOrder, line, boundary, queue, messages, Log, Opening, Offer}
-use Rattle.flume_model.proofs.Common.{HandOut, Shown, FilledIn, Change, Queues, Takes, Drains, Collects, Leaves, change, fill, handed, kept}
-use Rattle.flume_model.proofs.Common.{handed_out, hand_outs, LogEntry, entries_after, entries, is_shut, IsRun, Reply, Step, common_steps}
+use Rattle.flume_model.proofs.Common.{◌≡◌, ℕ, ◌+◌, Bool, false, not, ◌&&◌, List, [], ◌∷◌, ◌++◌, drop, take, Option, Some, None, zero, suc}
+use Rattle.flume_model.proofs.Common.{refl, sym, ◌∙◌, ap, arith, inl, inr, ◌⊎◌, map, cond-false, append-nil, drop-append-le, map-append}
+use Rattle.flume_model.proofs.Common.{take_all, take-append-drop, slice_get_within, slice_get, channel, is_over, entry_of, held_by, FillIs}
+use Rattle.flume_model.proofs.Common.{IsOf, shows_to, shown, InOrder, line, boundary, queue, messages, Log, Opening, Offer, HandOut, Shown}
+use Rattle.flume_model.proofs.Common.{FilledIn, Change, Queues, Takes, Collects, Leaves, change, fill, handed, kept, handed_out, hand_outs}
+use Rattle.flume_model.proofs.Common.{LogEntry, entries_after, entries, is_shut, IsRun, Reply, Step, common_steps}
 use Rattle.flume_model.proofs.EntryChanges.{fills}
 use Rattle.flume_model.proofs.fills.FillsKept.{held_by_change, first_up, filled_holds, filled_stood}
 use Rattle.flume_model.proofs.fills.FillsShown.{shows_leaves, collects_shows, shows_held, shows_stood, neither, unshown}
@@ -31,12 +31,7 @@ module _ {T : Type 0} where
 
   -- a change that hands out to a receiver that it fills hands out nothing else
   fill_at : (done : Change T) (k t : ℕ) → slice_get (handed done) k ≡ Some (FilledIn t) → (fills done ≡ Some t) × (k ≡ 0)
-  fill_at (Queues m filled) k t e = fill_is filled k t e
-  fill_at (Leaves u filled) k t e = fill_is filled k t e
-  fill_at (Takes m receiver) zero t e = absurd (let none : ⊥ = cc in none)
-  fill_at (Takes m receiver) (suc k) t e = absurd (let none : ⊥ = cc in none)
-  fill_at (Drains list) k t e = absurd (shown_fills_none list k t e)
-  fill_at _ k t e = absurd (let none : ⊥ = cc in none)
+  fill_at done k t e = grind (arith, common_steps, fill_is, shown_fills_none)
 
   -- where the message was shown, the hand-out is of it
   by_shown : (over : Bool) (got held : Option T) (x m : T) → got ≡ Some x → x ≡ m → FillIs over got held m
@@ -48,13 +43,11 @@ module _ {T : Type 0} where
 
   -- where nothing was shown, what an entry holds is of it, or the channel is over
   by_held : (over : Bool) (got held : Option T) (m : T) → got ≡ None → (over ≡ false → held ≡ Some m) → FillIs over got held m
-  by_held true got held m is holds = rw is tt
-  by_held false got held m is holds = rw is (holds refl)
+  by_held over got held m is holds = grind (arith, common_steps)
 
   -- where nothing was shown, and the channel isn't over, an entry holds the message that the fill is of
   held_is : (over : Bool) (got held : Option T) (m : T) → got ≡ None → over ≡ false → FillIs over got held m → held ≡ Some m
-  held_is true got held m is open_ h = absurd (let none : ⊥ = cc in none)
-  held_is false got held m is open_ h = rw is at h
+  held_is over got held m is open_ h = grind (arith, common_steps)
 
 module _ {T A : Type 0} where
   -- the hand-out that filled the receiver with this ticket is of the message

@@ -4,7 +4,7 @@ use Rattle.flume_model.proofs.Common.{None, refl, sym, ◌∙◌, ap, map, lengt
 use Rattle.flume_model.proofs.Common.{append_assoc, append-nil, take-append-drop, drop-append-le, length-map, filter-append, filter}
 use Rattle.flume_model.proofs.Common.{is_over, Rising, line, how_many, Log, Offer, HandOut, Shown, Change, Queues, Blocks, Withdraws, Takes}
 use Rattle.flume_model.proofs.Common.{Drains, Leaves, is_ticket, change, offered, withdraws, fill, handed, offers, withdrawn, kept}
-use Rattle.flume_model.proofs.Common.{handed_out, hand_outs}
+use Rattle.flume_model.proofs.Common.{handed_out, hand_outs, arith, common_steps}
 use Rattle.flume_model.proofs.Tickets.{filter_two, filter_one, apart, rising_filter}
 
 -- as many messages, of whatever type, are handed out as receivers are filled
@@ -48,8 +48,7 @@ module _ {T A : Type 0} where
 module _ {T : Type 0} where
   -- no change withdraws an offer with no ticket
   withdraws_no : (done : Change T) (m : T) → withdraws done (record { message = m; ticket = None }) ≡ false
-  withdraws_no (Withdraws _) m = refl
-  withdraws_no _ m = refl
+  withdraws_no done m = grind (arith, common_steps)
 
 module _ {T A : Type 0} where
   -- an offer with no ticket was never withdrawn

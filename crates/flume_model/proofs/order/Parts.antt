@@ -1,9 +1,9 @@
 -- The parts of the kept offers, the shape of a log, and what they say of the line.
-use Rattle.flume_model.proofs.Common.{◌≡◌, ℕ, ◌+◌, ◌≤◌, true, false, cond, List, [], ◌∷◌, ◌++◌, length, drop, take, Option, Some, None}
-use Rattle.flume_model.proofs.Common.{refl, sym, ◌∙◌, ap, arith, length-append, length-take-le, drop_at, take-nil, append_assoc}
-use Rattle.flume_model.proofs.Common.{take-append-drop, AllZip-long, AllZip, IsBlocked, channel, is_over, some_wait, leave_fills}
-use Rattle.flume_model.proofs.Common.{TicketsRise, BlockedAtCapacity, line, boundary, queue, messages, next_ticket, how_many, Log, Opening}
-use Rattle.flume_model.proofs.Common.{Offer, HandOut, Shown, FilledIn, withdrawn, kept, handed_out, entries}
+use Rattle.flume_model.proofs.Common.{◌≡◌, ℕ, ◌+◌, ◌≤◌, true, false, cond, List, [], ◌∷◌, ◌++◌, length, drop, take, Option, Some, refl, sym}
+use Rattle.flume_model.proofs.Common.{◌∙◌, ap, arith, length-append, length-take-le, drop_at, take-nil, append_assoc, take-append-drop}
+use Rattle.flume_model.proofs.Common.{AllZip-long, AllZip, IsBlocked, channel, is_over, some_wait, leave_fills, TicketsRise}
+use Rattle.flume_model.proofs.Common.{BlockedAtCapacity, line, boundary, queue, messages, next_ticket, how_many, Log, Opening, Offer}
+use Rattle.flume_model.proofs.Common.{HandOut, Shown, FilledIn, withdrawn, kept, handed_out, entries, common_steps}
 use Rattle.flume_model.proofs.Fits.{fills_none}
 use Rattle.flume_model.proofs.order.Kept.{open_line, line_is_open}
 
@@ -38,8 +38,7 @@ pub record Withdrawal {T A : Type 0} (o : Opening) (past : Log T A) (t : ℕ) (m
 
 -- at most one receiver is filled
 pub at_most : (filled : Option ℕ) → how_many filled ≤ 1
-at_most None = omega arith
-at_most (Some t) = omega arith
+at_most filled = grind (arith, common_steps)
 
 module _ {T : Type 0} where
   -- no more messages were handed out than offers kept

@@ -2,9 +2,8 @@
 use Rattle.flume_model.proofs.Common.{◌≡◌, ℕ, ◌+◌, ◌-◌, ◌<◌, ◌≤◌, Bool, true, false, List, [], ◌∷◌, ◌++◌, length, max, Option, Some, None}
 use Rattle.flume_model.proofs.Common.{refl, sym, ◌∙◌, ap, arith, drop, length-append, suc, subst, length_push, length-drop, IsFront}
 use Rattle.flume_model.proofs.Common.{channel, is_over, some_wait, leave_fills, HasRoom, IsAtCapacity, line, queue, boundary}
-use Rattle.flume_model.proofs.Common.{boundary_after, next_ticket, how_many, Log, Opening, Offer, Change, Queues, Blocks, Accepts}
-use Rattle.flume_model.proofs.Common.{Withdraws, Takes, Drains, Parks, Asks, Collects, Leaves, SenderJoins, ReceiverJoins, SenderLeaves}
-use Rattle.flume_model.proofs.Common.{ReceiverLeaves, Stays, capped, kept, handed_out, entries}
+use Rattle.flume_model.proofs.Common.{boundary_after, next_ticket, how_many, Log, Opening, Offer, Change, Queues, Blocks, Withdraws, Takes}
+use Rattle.flume_model.proofs.Common.{Drains, Leaves, capped, kept, handed_out, entries, common_steps}
 use Rattle.flume_model.proofs.WaitLists.{leave_fills_waiting}
 use Rattle.flume_model.proofs.Fits.{Fits}
 use Rattle.flume_model.proofs.order.Kept.{open_line, line_by, line_is_open, line_more, line_queued, line_after_leave, line_drained}
@@ -18,8 +17,7 @@ pub record Room (capacity : Option ℕ) (n long : ℕ) : Type 0 where
 
 -- a queue with room isn't at capacity
 pub room_or_full : (capacity : Option ℕ) (n : ℕ) → HasRoom capacity n → IsAtCapacity capacity n → ⊥
-room_or_full None n h k = k
-room_or_full (Some c) n h k = omega arith
+room_or_full capacity n h k = grind (arith, common_steps)
 
 -- what is queued after a message was taken
 room_taken : (capacity : Option ℕ) (n long : ℕ) → n ≤ long → Room capacity (max n (capped capacity long)) long
@@ -33,8 +31,7 @@ room_drained (Some c) long = record { in_line = omega arith; at_capacity = λ lt
 
 -- what isn't true is false
 pub unlike_true : (b : Bool) → (b ≡ true → ⊥) → b ≡ false
-unlike_true true no_ = absurd (no_ refl)
-unlike_true false no_ = refl
+unlike_true b no_ = grind (arith, common_steps)
 
 module _ {T A : Type 0} where
   -- as much is queued of a line as long

@@ -4,7 +4,7 @@ use Rattle.flume_model.proofs.Common.{refl, sym, ◌∙◌, ◌⊎◌, inl, inr,
 use Rattle.flume_model.proofs.Common.{is_over, is_woken, some_wait, entry_of, all_woken, line, queue, boundary, boundary_after, Log}
 use Rattle.flume_model.proofs.Common.{Opening, Change, Queues, Blocks, Accepts, Withdraws, Takes, Drains, Parks, Asks, Collects, Leaves}
 use Rattle.flume_model.proofs.Common.{SenderJoins, ReceiverJoins, SenderLeaves, ReceiverLeaves, Stays, capped, LogEntry, untold, entries}
-use Rattle.flume_model.proofs.Common.{entries_after}
+use Rattle.flume_model.proofs.Common.{entries_after, common_steps}
 use Rattle.flume_model.proofs.WaitingCounts.{wait_round_for, wait_without, wait_after_leave, wait_woken}
 use Rattle.flume_model.proofs.WaitLists.{wait_again}
 use Rattle.flume_model.proofs.Fits.{Fits}
@@ -15,20 +15,17 @@ use Rattle.flume_model.proofs.order.RoomAfter.{long_queued, long_left, long_drai
 
 -- where the queue was the whole line and one was taken, it is that again
 taken_whole : (capacity : Option ℕ) (n long : ℕ) → n ≡ long → max n (capped capacity long) ≡ long
-taken_whole None n long e = omega arith
-taken_whole (Some c) n long e = omega arith
+taken_whole capacity n long e = grind (arith, common_steps)
 
 -- of an empty line nothing is queued
 capped_none : (capacity : Option ℕ) → capped capacity 0 ≡ 0
-capped_none None = refl
-capped_none (Some c) = omega arith
+capped_none capacity = grind (arith, common_steps)
 
 module _ {T : Type 0} where
   -- where one waits after an end left, one waited before
   wait_closing : (closes : Bool) (es : List (LogEntry T)) → some_wait (if closes then all_woken untold es else es) ≡ true
       → some_wait es ≡ true
-  wait_closing true es some = absurd (let woken = wait_woken untold es in let none : ⊥ = cc in none)
-  wait_closing false es some = some
+  wait_closing closes es some = grind (arith, common_steps, wait_woken untold es)
 
 module _ {T A : Type 0} where
   -- where the entries stay and so does the line, the queue is the whole line as before

@@ -1,6 +1,6 @@
 -- Where all receivers block, no more is queued than the capacity.
-use Rattle.flume_model.proofs.Common.{◌≡◌, ℕ, ◌+◌, ◌-◌, ◌≤◌, Bool, true, false, not, ◌&&◌, [], ◌∷◌, Option, Some, None, refl, sym, arith}
-use Rattle.flume_model.proofs.Common.{max, subst, cond-true, cond-false, All-head, All-tail, parks_blocking, OnlyBlockingReceivers}
+use Rattle.flume_model.proofs.Common.{◌≡◌, ℕ, ◌+◌, ◌-◌, ◌≤◌, Bool, true, false, not, ◌&&◌, [], ◌∷◌, Option, Some, refl, sym, arith, max}
+use Rattle.flume_model.proofs.Common.{subst, cond-true, cond-false, All-head, All-tail, parks_blocking, OnlyBlockingReceivers}
 use Rattle.flume_model.proofs.Common.{IsAtMostCapacity, Channel, channel, is_over, some_wait, round_fills, HasRoom, capacity, boundary}
 use Rattle.flume_model.proofs.Common.{boundary_after, queue, how_many, Log, Opening, Change, Queues, Takes, Drains, Leaves, change, capped}
 use Rattle.flume_model.proofs.Common.{entries, is_shut, IsRun, Reply, Step, common_steps}
@@ -12,28 +12,23 @@ use Rattle.flume_model.proofs.users.BlockEntries.{AllBlock, round_fills_one, non
 
 -- less is at most the capacity too
 less_within : (c : Option ℕ) (n m : ℕ) → n ≤ m → IsAtMostCapacity c m → IsAtMostCapacity c n
-less_within None n m le h = tt
-less_within (Some c) n m le h = omega arith
+less_within c n m le h = grind (arith, common_steps)
 
 -- where there is room for one more, it is within the capacity
 room_within : (c : Option ℕ) (n m : ℕ) → m ≤ n + 1 → HasRoom c n → IsAtMostCapacity c m
-room_within None n m le h = tt
-room_within (Some c) n m le h = omega arith
+room_within c n m le h = grind (arith, common_steps)
 
 -- what is queued where one was taken
 taken_within : (c : Option ℕ) (n long : ℕ) → IsAtMostCapacity c n → IsAtMostCapacity c (max (n - 1) (capped c long))
-taken_within None n long h = tt
-taken_within (Some c) n long h = omega arith
+taken_within c n long h = grind (arith, common_steps)
 
 -- what is queued after a drain
 drained_within : (c : Option ℕ) (long : ℕ) → IsAtMostCapacity c (capped c long)
-drained_within None long = tt
-drained_within (Some c) long = omega arith
+drained_within c long = grind (arith, common_steps)
 
 -- nothing is within each capacity
 none_within : (c : Option ℕ) (n : ℕ) → n ≡ 0 → IsAtMostCapacity c n
-none_within None n e = tt
-none_within (Some c) n e = omega arith
+none_within c n e = grind (arith, common_steps)
 
 module _ {T : Type 0} where
   -- where a message joins the queue

@@ -42,8 +42,7 @@ module _ {T : Type 0} where
   -- where an end leaves
   balanced_close : (weight : T → ℕ) (closes : Bool) (es : List (LogEntry T))
       → sum_by weight (held es) ≡ 0 + sum_by weight (held (if closes then all_woken untold es else es))
-  balanced_close weight true es = let same = ap (sum_by weight) (held_woken untold es) in omega arith
-  balanced_close weight false es = omega arith
+  balanced_close weight closes es = grind (arith, common_steps, held_woken untold es)
 
   -- where one that asks waits again, or keeps its place
   balanced_again : (weight : T → ℕ) (t : ℕ) (es : List (LogEntry T)) → sum_by weight (held es) ≡ 0 + sum_by weight (held (again t es))

@@ -18,8 +18,7 @@ module _ {T N : Type 0} where
 
   -- after a round for a queue
   block_round_for : (tell : N → N) (queue_ : List T) (es : List (Entry T N)) → AllBlock es → AllBlock (round_for tell queue_ es)
-  block_round_for tell [] es h = h
-  block_round_for tell (front ∷ queue_) es h = block_round tell front es h
+  block_round_for tell queue_ es h = grind (arith, common_steps, block_round tell)
 
   -- after one left
   block_without : (t : ℕ) (es : List (Entry T N)) → AllBlock es → AllBlock (without t es)
@@ -59,8 +58,7 @@ module _ {T : Type 0} where
 
   -- where an end leaves
   block_closes : (closes : Bool) (es : List (LogEntry T)) → AllBlock es → AllBlock (if closes then all_woken untold es else es)
-  block_closes true es h = block_all_woken untold es h
-  block_closes false es h = h
+  block_closes closes es h = grind (arith, common_steps, block_all_woken untold es)
 
   -- after a change that parks none of another kind all block, if all did
   pub block_after : (queue_ : List T) (closes : Bool) (es : List (LogEntry T)) (done : Change T) → AllBlock es → parks_block done ≡ true

@@ -1,7 +1,7 @@
 -- What wake rounds, leaves and one more entry do to the weight of the messages that entries hold.
 use Rattle.flume_model.proofs.Common.{◌≡◌, ℕ, ◌+◌, List, [], ◌∷◌, ◌++◌, Option, Some, None, refl, arith, drop, sum_by, sum_by-cons}
 use Rattle.flume_model.proofs.Common.{messages_in, held, round, round_fills, round_for, all_woken, entry_of, without, how_many, Entry, Mark}
-use Rattle.flume_model.proofs.Common.{Waiting, Woken, Filled, common_steps}
+use Rattle.flume_model.proofs.Common.{Filled, common_steps}
 
 -- what fills a receiver weighs so much, if one is filled
 abbrev fill_weighs : Option ℕ → ℕ → ℕ
@@ -17,9 +17,7 @@ module _ {T : Type 0} where
   -- the weight of what a mark and others hold
   held_mark : (weight : T → ℕ) (m : Mark T) (more : List T)
       → sum_by weight (messages_in m ++ more) ≡ mark_weighs weight m + sum_by weight more
-  held_mark weight Waiting more = omega arith
-  held_mark weight Woken more = omega arith
-  held_mark weight (Filled m) more = sum_by-cons weight m more
+  held_mark weight m more = grind (arith, common_steps, sum_by-cons)
 
 module _ {T N : Type 0} where
   -- the weight of what entries hold, by the first one and the others
@@ -58,13 +56,7 @@ module _ {T N : Type 0} where
   pub round_front : (weight : T → ℕ) (tell : N → N) (front : T) (rest : List T) (es : List (Entry T N))
       → sum_by weight (drop (how_many (round_fills es)) (front ∷ rest)) + sum_by weight (held (round tell front es))
       ≡ sum_by weight (front ∷ rest) + sum_by weight (held es)
-  round_front weight tell front rest es = by_fills (round_fills es) (held_round weight tell front es)
-    where
-      by_fills : (f : Option ℕ) → sum_by weight (held (round tell front es)) ≡ fill_weighs f (weight front) + sum_by weight (held es)
-          → sum_by weight (drop (how_many f) (front ∷ rest)) + sum_by weight (held (round tell front es))
-          ≡ sum_by weight (front ∷ rest) + sum_by weight (held es)
-      by_fills None e = omega arith
-      by_fills (Some t) e = let all = sum_by-cons weight front rest in omega arith
+  round_front weight tell front rest es = grind (arith, common_steps, held_round weight tell front es, sum_by-cons)
 
   -- what a round hands to a receiver, where one more message was queued, it takes from the queue
   pub queued_weighs : (weight : T → ℕ) (tell : N → N) (queue_ : List T) (m : T) (es : List (Entry T N))

@@ -24,25 +24,19 @@ data LeavesWithin (capacity : Option ℕ) (was queued waits : ℕ) : Type 0 wher
 -- what is queued and who waits, left within the bound so, are within it
 within_after : (capacity : Option ℕ) (highest was queued waits : ℕ) → IsWithin capacity highest was
     → LeavesWithin capacity was queued waits → IsWithin capacity (max highest waits) (queued + waits)
-within_after None highest was queued waits before leaves = tt
-within_after (Some c) highest was queued waits before (NoMore le) = omega arith
-within_after (Some c) highest was queued waits before (OnlyWaits none) = omega arith
-within_after (Some c) highest was queued waits before (NoneWaits none le) = omega arith
+within_after capacity highest was queued waits before leaves = grind (arith, common_steps)
 
 -- where the queue has room, one more is within the capacity
 room_within : (capacity : Option ℕ) (was n : ℕ) → HasRoom capacity n → IsWithin capacity was (n + 1)
-room_within None was n room = tt
-room_within (Some c) was n room = omega arith
+room_within capacity was n room = grind (arith, common_steps)
 
 -- where one was taken, what is queued is within the capacity, or was queued before
 taken_within : (capacity : Option ℕ) (long n was : ℕ) → n ≤ was → IsWithin capacity was (max (n - 1) (capped capacity long))
-taken_within None long n was le = tt
-taken_within (Some c) long n was le = omega arith
+taken_within capacity long n was le = grind (arith, common_steps)
 
 -- where all that was queued was drained, what is queued then is within the capacity
 drained_within : (capacity : Option ℕ) (long was : ℕ) → IsWithin capacity was (capped capacity long)
-drained_within None long was = tt
-drained_within (Some c) long was = omega arith
+drained_within capacity long was = grind (arith, common_steps)
 
 module _ {T : Type 0} where
   -- where none waits a round fills none
@@ -136,8 +130,7 @@ module _ {T : Type 0} where
 
 -- nothing is within each bound
 none_within : (capacity : Option ℕ) (other n : ℕ) → n ≡ 0 → IsWithin capacity other n
-none_within None other n e = tt
-none_within (Some c) other n e = omega arith
+none_within capacity other n e = grind (arith, common_steps)
 
 module _ {T A : Type 0} where
   -- after one more pair of a run

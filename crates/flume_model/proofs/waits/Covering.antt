@@ -53,8 +53,7 @@ module _ {T : Type 0} where
   covered_close : (c : Channel T) (closes : Bool) → (some_wait c.entries ≡ true → c.boundary ≤ woken_count c.entries)
       → some_wait (if closes then all_woken untold c.entries else c.entries) ≡ true
       → c.boundary ≤ woken_count (if closes then all_woken untold c.entries else c.entries)
-  covered_close c true before some = absurd (let woken = wait_woken untold c.entries in let none : ⊥ = cc in none)
-  covered_close c false before some = before some
+  covered_close c closes before some = grind (arith, common_steps, wait_woken untold c.entries)
 
   -- after a change that fits
   covered_by : (c : Channel T) (closes : Bool) (done : Change T) (n : ℕ) → Stood c → Fits c done → Long c done n

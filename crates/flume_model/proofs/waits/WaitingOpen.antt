@@ -31,8 +31,7 @@ module _ {T : Type 0} where
   open_close : (c : Channel T) (s2 r2 : ℕ) (closes : Bool) → closes ≡ (not (is_closed c.senders c.receivers) && is_closed s2 r2)
       → (some_wait c.entries ≡ true → IsOpen c.senders c.receivers)
       → some_wait (if closes then all_woken untold c.entries else c.entries) ≡ true → IsOpen s2 r2
-  open_close c s2 r2 true e before some = absurd (let woken = wait_woken untold c.entries in let none : ⊥ = cc in none)
-  open_close c s2 r2 false e before some = open_still c.senders c.receivers s2 r2 (before some) (sym e)
+  open_close c s2 r2 closes e before some = grind (arith, common_steps, wait_woken untold c.entries, open_still c.senders c.receivers s2 r2)
 
   -- after a change that fits
   open_by : (c : Channel T) (closes : Bool) (done : Change T) → Fits c done

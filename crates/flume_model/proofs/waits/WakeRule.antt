@@ -2,7 +2,7 @@
 use Rattle.flume_model.proofs.Common.{◌≡◌, ◌≢◌, inl, inr, ℕ, true, if◌then◌else◌, List, [], ◌∷◌, ◌++◌, Option, Some, None, refl, sym, ◌∙◌}
 use Rattle.flume_model.proofs.Common.{ap, append-nil, All-nil, All-cons, All-head, All-tail, All, is_waiting, marked, round, round_fills}
 use Rattle.flume_model.proofs.Common.{all_woken, is_block, IsPassed, IsWakeRound, Entry, Mark, Waiting, Woken, Filled, Kind, Block, Plain}
-use Rattle.flume_model.proofs.Common.{Stream, Arm}
+use Rattle.flume_model.proofs.Common.{Stream, Arm, arith, common_steps}
 
 module _ {T N : Type 0} where
   -- the entry with this kind and mark
@@ -87,16 +87,7 @@ module _ {T N : Type 0} where
   at_first : (tell : N → N) (front : T) (e : Entry T N) (later : List (Entry T N)) → is_waiting e.mark ≡ true → e.kind ≢ Stream
       → (round tell front (e ∷ later) ≡ marked tell (if is_block e.kind then Filled front else Woken) e ∷ later)
       × (round_fills (e ∷ later) ≡ (if is_block e.kind then Some e.ticket else None))
-  at_first tell front e later waits other = by_kind e.kind other
-    where
-      by_kind : (k : Kind) → k ≢ Stream
-          → (round tell front (stands_as e k e.mark ∷ later)
-          ≡ marked tell (if is_block k then Filled front else Woken) (stands_as e k e.mark) ∷ later)
-          × (round_fills (stands_as e k e.mark ∷ later) ≡ (if is_block k then Some e.ticket else None))
-      by_kind Block other = rw waits (refl, refl)
-      by_kind Plain other = rw waits (refl, refl)
-      by_kind Arm other = rw waits (refl, refl)
-      by_kind Stream other = absurd (other refl)
+  at_first tell front e later waits other = grind (arith, common_steps)
 
   -- what follows the rule is the wake round
   pub only_wake_round : (tell : N → N) (front : T) (old new : List (Entry T N)) (filled : Option ℕ)
