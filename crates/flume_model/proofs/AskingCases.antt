@@ -54,9 +54,7 @@ module _ {T A : Type 0} where
   polled_kind : (c : Channel T) (t : ℕ) (P : Reply T A → Type 0) → WhenPolled c t P → (u : Unfilled c t) → (k : Kind) (mark : Mark T)
       → u.entry.mark ≡ mark → (reply : Reply T A) → IsPolledKind c k mark reply → P reply
   polled_kind c t P when u Block mark is reply h = polled_block c t P when u mark is reply h
-  polled_kind c t P when u Plain mark is reply h = polled_other c t P when u reply h
-  polled_kind c t P when u Stream mark is reply h = polled_other c t P when u reply h
-  polled_kind c t P when u Arm mark is reply h = polled_other c t P when u reply h
+  polled_kind c t P when u _ mark is reply h = polled_other c t P when u reply h
 
   -- what holds in each case holds of the reply to one that asks
   pub polled_cases : (c : Channel T) (t : ℕ) (P : Reply T A → Type 0) (reply : Reply T A) → IsPolled c (entry_of t c.entries) reply

@@ -90,11 +90,8 @@ module _ {T A : Type 0} where
       let long = long_left past t filled open_ in
       let before = shape.waits (wait_after_leave untold t (queue o past) (entries o past) some) in
       omega arith
-  waits_after o past (Accepts t) closes shape h open_ some = waits_same o past (Accepts t) shape open_ refl some
-  waits_after o past SenderJoins closes shape h open_ some = waits_same o past SenderJoins shape open_ refl some
-  waits_after o past ReceiverJoins closes shape h open_ some = waits_same o past ReceiverJoins shape open_ refl some
   waits_after o past SenderLeaves closes shape h open_ some =
       waits_same o past SenderLeaves shape open_ refl (wait_closing closes (entries o past) some)
   waits_after o past ReceiverLeaves closes shape h open_ some =
       waits_same o past ReceiverLeaves shape open_ refl (wait_closing closes (entries o past) some)
-  waits_after o past Stays closes shape h open_ some = waits_same o past Stays shape open_ refl some
+  waits_after o past done closes shape h open_ some = waits_same o past done shape open_ refl some

@@ -201,11 +201,5 @@ module _ {T A : Type 0} where
       let none = ap (sum_by weight) g in
       let close = balanced_close weight closes (entries o past) in
       balanced_same weight o past p closes ReceiverLeaves e refl run open_ still given (omega arith)
-  balanced_by weight o past p closes (Accepts t) e run h given g open_ still =
-      let none = ap (sum_by weight) g in balanced_same weight o past p closes (Accepts t) e refl run open_ still given (omega arith)
-  balanced_by weight o past p closes SenderJoins e run h given g open_ still =
-      let none = ap (sum_by weight) g in balanced_same weight o past p closes SenderJoins e refl run open_ still given (omega arith)
-  balanced_by weight o past p closes ReceiverJoins e run h given g open_ still =
-      let none = ap (sum_by weight) g in balanced_same weight o past p closes ReceiverJoins e refl run open_ still given (omega arith)
-  balanced_by weight o past p closes Stays e run h given g open_ still =
-      let none = ap (sum_by weight) g in balanced_same weight o past p closes Stays e refl run open_ still given (omega arith)
+  balanced_by weight o past p closes done e run h given g open_ still =
+      let none = ap (sum_by weight) g in balanced_same weight o past p closes done e refl run open_ still given (omega arith)

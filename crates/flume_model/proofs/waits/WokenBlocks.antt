@@ -70,12 +70,8 @@ module _ {T : Type 0} where
       let closed = (before some).0 in
       let is_open = h.0.0 in
       absurd (omega arith)
-  closed_by c closes (Takes m None) n stood h long e before some =
-      let was = before some in (was.0, let le = was.1 in omega arith)
   closed_by c closes (Takes m (Some t)) n stood h long e before some =
       let was = before (block_without t c.entries some) in (was.0, let le = was.1 in omega arith)
-  closed_by c closes (Drains list) n stood h long e before some =
-      let was = before some in (was.0, let le = was.1 in omega arith)
   closed_by c closes (Parks t kind) n stood h long e before some =
       let closed = (before (block_push c.entries _ refl some)).0 in
       let is_open = h.1 in
@@ -99,13 +95,8 @@ module _ {T : Type 0} where
       closed_close c _ _ n closes stood long e (λ closed. omega arith) before some
   closed_by c closes ReceiverLeaves n stood h long e before some =
       closed_close c _ _ n closes stood long e (λ closed. omega arith) before some
-  closed_by c closes SenderJoins n stood h long e before some =
+  closed_by c closes _ n stood h long e before some =
       let was = before some in let closed = was.0 in (omega arith, let le = was.1 in omega arith)
-  closed_by c closes ReceiverJoins n stood h long e before some =
-      let was = before some in let closed = was.0 in (omega arith, let le = was.1 in omega arith)
-  closed_by c closes (Accepts t) n stood h long e before some = let was = before some in (was.0, let le = was.1 in omega arith)
-  closed_by c closes (Withdraws t) n stood h long e before some = let was = before some in (was.0, let le = was.1 in omega arith)
-  closed_by c closes Stays n stood h long e before some = let was = before some in (was.0, let le = was.1 in omega arith)
 
 module _ {T A : Type 0} where
   -- after one more pair of a run
