@@ -88,9 +88,7 @@ module _ {T A : Type 0} where
       by_kind Block (Got m) h = when.takes u m h
       by_kind Block (Gone closed filled) h = subst (λ f. P (Gone closed f)) (sym h.2) (when.fills_none u closed h.0)
       by_kind Block _ h = absurd h
-      by_kind Plain r h = other r h
-      by_kind Stream r h = other r h
-      by_kind Arm r h = other r h
+      by_kind _ r h = other r h
 
   -- what holds in each case holds of the reply to one that leaves
   pub gone_cases : (c : Channel T) (t : ℕ) (P : Reply T A → Type 0) (reply : Reply T A) → IsGone c t (entry_of t c.entries) reply

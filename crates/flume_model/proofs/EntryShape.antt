@@ -19,8 +19,6 @@ module _ {T A : Type 0} where
   -- a lawful reply tells as filled what its change fills
   told_by : (o : Opening) (past : Log T A) (step : Step T) (reply : Reply T A) → IsReply (channel o past) step reply
       → filled_by reply ≡ fills (change past step reply)
-  told_by o past (TrySend m) (Sent f) h = refl
-  told_by o past (Send m) (Sent f) h = refl
   told_by o past (Poll t) reply h =
       polled_cases (channel o past) t (λ r. filled_by r ≡ fills (change past (Poll t) r)) reply h (record {
         unknown = refl;
@@ -38,9 +36,7 @@ module _ {T A : Type 0} where
         fills_none = λ u closed empty. refl;
         passes_on = λ u closed. refl;
       })
-  told_by o past _ (Sent f) h = absurd h
-  told_by o past _ (Gone closed f) h = absurd h
-  told_by o past _ _ h = refl
+  told_by o past step reply h = grind (arith, common_steps)
 
   -- what the entries of a run are
   pub record Entered (o : Opening) (log : Log T A) : Type 0 where

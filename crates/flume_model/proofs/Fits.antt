@@ -91,24 +91,11 @@ module _ {T A : Type 0} where
   -- a lawful reply changes only what may change
   pub fits : (o : Opening) (past : Log T A) (step : Step T) (reply : Reply T A) → ToldFilled o past
       → IsReply (channel o past) step reply → Fits (channel o past) (change past step reply)
-  fits o past (TrySend m) (Sent filled) told h = h
-  fits o past (Send m) (Sent filled) told h = h
-  fits o past (Send m) (Pending t) told h = h
   fits o past (PollSend t) Accepted told h = h
   fits o past (PollSend t) (Returned m closed) told h = (m, h.0)
-  fits o past (WithdrawSend t) Accepted told h = h
-  fits o past (WithdrawSend t) (Returned m closed) told h = (m, h.0)
-  fits o past TryRecv (Got m) told h = h
-  fits o past (Recv kind) (Got m) told h = h
-  fits o past (Recv kind) (Parked t) told h = h
   fits o past (Poll t) reply told h = polled o past t reply told h
   fits o past (Withdraw t) reply told h = gone o past t reply told h
-  fits o past Drain (Drained list) told h = h
-  fits o past CloneSender Done told h = h.0
-  fits o past CloneReceiver Done told h = h.0
-  fits o past DropSender Done told h = h
-  fits o past DropReceiver Done told h = h
-  fits o past _ _ told h = tt
+  fits o past step reply told h = grind (arith, common_steps)
 
   -- where both ends are gone, no change that fits brings one back
   over_stays : (o : Opening) (past : Log T A) (done : Change T) → Fits (channel o past) done → senders past + receivers past ≡ 0
