@@ -1,8 +1,8 @@
 -- The cases of how a parked receiver is answered, when it asks and when it leaves.
 use Rattle.flume_model.proofs.Common.{◌≡◌, ℕ, Bool, true, false, [], Option, Some, None, refl, sym, ap, subst, IsPolledBlock, IsPolledOther}
 use Rattle.flume_model.proofs.Common.{IsPolledKind, IsPolledMark, IsPolled, IsGoneOther, IsGoneKind, IsGoneMark, IsGone, Channel, IsFront}
-use Rattle.flume_model.proofs.Common.{is_filled, is_woken, entry_of, leave_fills, IsOpen, LogEntry, Mark, Woken, Filled, Kind, Block, Plain}
-use Rattle.flume_model.proofs.Common.{Stream, Arm, Reply, NoMemory, NoTicket, Got, Ended, Gone}
+use Rattle.flume_model.proofs.Common.{is_filled, is_woken, entry_of, leave_fills, IsOpen, LogEntry, Mark, Woken, Filled, Kind, Block, Reply}
+use Rattle.flume_model.proofs.Common.{NoMemory, NoTicket, Got, Ended, Gone}
 use Rattle.flume_model.specs.declared.step.Reply.TheVariants.{Waiting}
 use Rattle.flume_model.specs.declared.entry.Mark.TheVariants.{Waiting as StillWaits}
 

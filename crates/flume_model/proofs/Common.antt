@@ -5,7 +5,7 @@ pub use Rattle.std.proofs.Common.{zero, suc, length, get_or, set, drop, map, len
 pub use Rattle.std.proofs.Common.{subst₂, sum_by, min, ◌≢◌, rules}
 pub use Rattle.std.proofs.Math.Seq.{take-nil}
 pub use Rattle.std.proofs.lemmas.Bool.{or_left, or_from, or_cases, and_parts, or_parts, or_right, cond-false, cond-true, cases_lt}
-pub use Rattle.std.proofs.lemmas.Bool.{eqb-false, and_right}
+pub use Rattle.std.proofs.lemmas.Bool.{eqb-false}
 pub use Rattle.std.proofs.lemmas.Grind.{common_steps}
 pub use Rattle.std.proofs.lemmas.List.{append_assoc, drop_more, drop-set-lt, take-append-drop, take_more_set, append-nil, drop-append-le}
 pub use Rattle.std.proofs.lemmas.List.{map-append, take_all, length-map, length_push, length-drop, take_at, take-append-le, drop-map}
@@ -50,7 +50,7 @@ pub use Rattle.flume_model.specs.declared.step.Kind.{Kind}
 pub use Rattle.flume_model.specs.declared.step.Kind.TheVariants.{Block, Plain, Stream, Arm}
 pub use Rattle.flume_model.specs.declared.step.Reply.{Reply}
 pub use Rattle.flume_model.specs.declared.step.Reply.TheVariants.{NoMemory, NoTicket, Got, Ended, Gone, Sent, Pending, Accepted, Returned}
-pub use Rattle.flume_model.specs.declared.step.Reply.TheVariants.{Parked, Drained, Done}
+pub use Rattle.flume_model.specs.declared.step.Reply.TheVariants.{Parked, Drained}
 pub use Rattle.flume_model.specs.declared.step.Step.{Step}
 pub use Rattle.flume_model.specs.declared.step.Step.TheVariants.{TrySend, Send, Poll, Withdraw, PollSend, WithdrawSend, TryRecv, Recv}
-pub use Rattle.flume_model.specs.declared.step.Step.TheVariants.{Drain, CloneSender, CloneReceiver, DropSender, DropReceiver}
+pub use Rattle.flume_model.specs.declared.step.Step.TheVariants.{Drain}

@@ -2,7 +2,7 @@
 use Rattle.flume_model.proofs.Common.{◌≡◌, ℕ, ◌<◌, ◌≤◌, Bool, false, ◌||◌, eqb, List, [], ◌∷◌, ◌++◌, Some, None, refl, arith, eq-eqb}
 use Rattle.flume_model.proofs.Common.{or_left, is_filled, round, round_fills, all_woken, entry_of, without, is_ticket, LogEntry, Apart}
 use Rattle.flume_model.proofs.Common.{Entry, Mark, Waiting, Woken, Filled, Kind, Block, Plain, Stream, Arm, common_steps}
-use Rattle.flume_model.proofs.EntryLists.{tickets, none_parts, none_more, fills_none_else, none_without, none_push, none_same}
+use Rattle.flume_model.proofs.EntryLists.{tickets, fills_none_else, none_without, none_push, none_same}
 
 module _ {T N : Type 0} where
   -- each entry is filled just where this test says so of its ticket

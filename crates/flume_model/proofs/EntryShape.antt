@@ -3,8 +3,7 @@ use Rattle.flume_model.proofs.Common.{◌≡◌, ℕ, ◌+◌, ◌<◌, ◌≤�
 use Rattle.flume_model.proofs.Common.{refl, sym, ◌∙◌, ap, subst, arith, inl, inr, ◌⊎◌, or_from, or_cases, and_parts, channel, is_over}
 use Rattle.flume_model.proofs.Common.{entry_of, next_ticket, queue, issued, issues, spends, is_live, Log, Opening, Takes, Collects}
 use Rattle.flume_model.proofs.Common.{filled_by, was_filled, is_ticket, change, entries_after, entries, is_shut, IsReply, IsRun}
-use Rattle.flume_model.proofs.Common.{EntriesApart, SidesApart, ToldFilled, Reply, Sent, Gone, Step, TrySend, Send, Poll, Withdraw}
-use Rattle.flume_model.proofs.Common.{common_steps}
+use Rattle.flume_model.proofs.Common.{EntriesApart, SidesApart, ToldFilled, Reply, Step, Poll, Withdraw, common_steps}
 use Rattle.flume_model.proofs.EntryMarks.{FilledBy, filled_found, none_past}
 use Rattle.flume_model.proofs.AskingCases.{polled_cases, gone_cases}
 use Rattle.flume_model.proofs.Fits.{Fits, fits}

@@ -5,9 +5,8 @@ use Rattle.flume_model.proofs.Common.{IsFront, channel, senders, receivers, send
 use Rattle.flume_model.proofs.Common.{entry_of, round_fills, leave_fills, passes_on, IsOpen, most, line, boundary, queue, messages, Log}
 use Rattle.flume_model.proofs.Common.{Opening, Offer, Change, Queues, Blocks, Accepts, Withdraws, Takes, Drains, Parks, Asks, Collects}
 use Rattle.flume_model.proofs.Common.{Leaves, SenderJoins, ReceiverJoins, SenderLeaves, ReceiverLeaves, Stays, was_filled, change, LogEntry}
-use Rattle.flume_model.proofs.Common.{entries, IsReply, IsRun, ToldFilled, Entry, Filled, Reply, Sent, Pending, Accepted, Returned, Got}
-use Rattle.flume_model.proofs.Common.{Parked, Drained, Done, Step, TrySend, Send, PollSend, WithdrawSend, TryRecv, Recv, Poll, Withdraw}
-use Rattle.flume_model.proofs.Common.{Drain, CloneSender, CloneReceiver, DropSender, DropReceiver, common_steps}
+use Rattle.flume_model.proofs.Common.{entries, IsReply, IsRun, ToldFilled, Entry, Filled, Reply, Accepted, Returned, Step, PollSend, Poll}
+use Rattle.flume_model.proofs.Common.{Withdraw, common_steps}
 use Rattle.flume_model.proofs.AskingCases.{Unfilled, polled_cases, gone_cases}
 
 module _ {T : Type 0} where

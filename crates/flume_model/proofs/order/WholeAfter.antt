@@ -2,9 +2,8 @@
 use Rattle.flume_model.proofs.Common.{◌≡◌, ℕ, ◌-◌, Bool, true, false, if◌then◌else◌, List, [], ◌∷◌, ◌++◌, length, max, Option, Some, None}
 use Rattle.flume_model.proofs.Common.{refl, sym, ◌∙◌, ◌⊎◌, inl, inr, ap, arith, take, length-append, length-take-le, length-map, channel}
 use Rattle.flume_model.proofs.Common.{is_over, is_woken, some_wait, entry_of, all_woken, line, queue, boundary, boundary_after, Log}
-use Rattle.flume_model.proofs.Common.{Opening, Change, Queues, Blocks, Accepts, Withdraws, Takes, Drains, Parks, Asks, Collects, Leaves}
-use Rattle.flume_model.proofs.Common.{SenderJoins, ReceiverJoins, SenderLeaves, ReceiverLeaves, Stays, capped, LogEntry, untold, entries}
-use Rattle.flume_model.proofs.Common.{entries_after, common_steps}
+use Rattle.flume_model.proofs.Common.{Opening, Change, Queues, Blocks, Withdraws, Takes, Drains, Parks, Asks, Collects, Leaves}
+use Rattle.flume_model.proofs.Common.{SenderLeaves, ReceiverLeaves, capped, LogEntry, untold, entries, entries_after, common_steps}
 use Rattle.flume_model.proofs.WaitingCounts.{wait_round_for, wait_without, wait_after_leave, wait_woken}
 use Rattle.flume_model.proofs.WaitLists.{wait_again}
 use Rattle.flume_model.proofs.Fits.{Fits}

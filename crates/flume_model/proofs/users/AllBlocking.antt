@@ -4,7 +4,6 @@ use Rattle.flume_model.proofs.Common.{subst, cond-true, cond-false, All-head, Al
 use Rattle.flume_model.proofs.Common.{IsAtMostCapacity, Channel, channel, is_over, some_wait, round_fills, HasRoom, capacity, boundary}
 use Rattle.flume_model.proofs.Common.{boundary_after, queue, how_many, Log, Opening, Change, Queues, Takes, Drains, Leaves, change, capped}
 use Rattle.flume_model.proofs.Common.{entries, is_shut, IsRun, Reply, Step, common_steps}
-use Rattle.flume_model.specs.declared.step.Reply.TheVariants.{Waiting}
 use Rattle.flume_model.proofs.Fits.{Fits}
 use Rattle.flume_model.proofs.waits.WaitingSteps.{stepped}
 use Rattle.flume_model.proofs.waits.WaitingLaws.{covered, waits_while_open, woken_block_while_closed}

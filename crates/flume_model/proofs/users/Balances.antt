@@ -4,9 +4,9 @@ use Rattle.flume_model.proofs.Common.{ap, arith, inl, inr, drop, take, length, s
 use Rattle.flume_model.proofs.Common.{map-append, drop-map, take_all, length-map, sum_by-cons, sum_by-append, sum_by_push, channel, held}
 use Rattle.flume_model.proofs.Common.{is_over, is_woken, is_filled, some_wait, round_fills, all_woken, entry_of, without, again}
 use Rattle.flume_model.proofs.Common.{after_leave, leave_fills, HasRoom, line, boundary, queue, messages, how_many, Log, Opening, Offer}
-use Rattle.flume_model.proofs.Common.{Change, Queues, Blocks, Accepts, Withdraws, Takes, Drains, Parks, Asks, Collects, Leaves, SenderJoins}
-use Rattle.flume_model.proofs.Common.{ReceiverJoins, SenderLeaves, ReceiverLeaves, Stays, change, offered, LogEntry, untold, parks}
-use Rattle.flume_model.proofs.Common.{entries_after, entries, IsRun, Mark, Waiting, Reply, Step, common_steps}
+use Rattle.flume_model.proofs.Common.{Change, Queues, Blocks, Withdraws, Takes, Drains, Parks, Asks, Collects, Leaves, SenderLeaves}
+use Rattle.flume_model.proofs.Common.{ReceiverLeaves, change, offered, LogEntry, untold, parks, entries_after, entries, IsRun, Mark}
+use Rattle.flume_model.proofs.Common.{Waiting, Reply, Step, common_steps}
 use Rattle.flume_model.proofs.Fits.{Fits}
 use Rattle.flume_model.proofs.EntryLists.{again_cases, leave_cases}
 use Rattle.flume_model.proofs.order.Kept.{keeps_line}

@@ -2,9 +2,8 @@
 use Rattle.flume_model.proofs.Common.{◌≡◌, ℕ, ◌+◌, ◌-◌, ◌≤◌, Bool, true, false, not, ◌&&◌, [], ◌∷◌, ◌++◌, length, drop, take, Some, None}
 use Rattle.flume_model.proofs.Common.{refl, sym, ◌∙◌, ap, arith, length-append, length-take-le, cond-true, cond-false, take-append-drop}
 use Rattle.flume_model.proofs.Common.{length-drop, length-map, length_push, Channel, channel, is_over, some_wait, line, boundary}
-use Rattle.flume_model.proofs.Common.{boundary_after, queue, how_many, Log, Opening, Offer, Change, Queues, Blocks, Accepts, Withdraws}
-use Rattle.flume_model.proofs.Common.{Takes, Drains, Parks, Asks, Collects, Leaves, SenderJoins, ReceiverJoins, SenderLeaves}
-use Rattle.flume_model.proofs.Common.{ReceiverLeaves, Stays, change, entries_after, entries, is_shut, IsRun, Reply, Step}
+use Rattle.flume_model.proofs.Common.{boundary_after, queue, how_many, Log, Opening, Offer, Change, Queues, Blocks, Withdraws, Takes}
+use Rattle.flume_model.proofs.Common.{Drains, Leaves, change, entries_after, entries, is_shut, IsRun, Reply, Step}
 use Rattle.flume_model.proofs.Fits.{Fits, not_over_yet}
 use Rattle.flume_model.proofs.EntryShape.{told_filled, fits_run}
 use Rattle.flume_model.proofs.order.Parts.{at_most, front_at, blocked_at, leave_within}

@@ -1,11 +1,11 @@
 -- A receiver that blocks stands woken only in a closed channel, and only where no sender is blocked.
-use Rattle.flume_model.proofs.Common.{◌≡◌, ℕ, ◌≤◌, Bool, true, false, not, ◌&&◌, if◌then◌else◌, List, [], ◌∷◌, ◌++◌, length, Some, None}
-use Rattle.flume_model.proofs.Common.{refl, sym, ◌∙◌, ◌⊎◌, inl, inr, ap, arith, min, eqb-true, or_right, and_parts, list_any-append}
-use Rattle.flume_model.proofs.Common.{Channel, channel, senders, receivers, senders_after, receivers_after, is_over, is_woken, some_wait}
-use Rattle.flume_model.proofs.Common.{all_woken, without, round, IsClosed, is_closed, line, boundary, boundary_after, blocked, Log, Opening}
-use Rattle.flume_model.proofs.Common.{Change, Queues, Blocks, Accepts, Withdraws, Takes, Drains, Parks, Asks, Collects, Leaves, SenderJoins}
-use Rattle.flume_model.proofs.Common.{ReceiverJoins, SenderLeaves, ReceiverLeaves, Stays, change, LogEntry, untold, entries_after, entries}
-use Rattle.flume_model.proofs.Common.{IsRun, is_block, block_woken, WokenBlockWhileClosed, Reply, Step, common_steps}
+use Rattle.flume_model.proofs.Common.{◌≡◌, ℕ, ◌≤◌, Bool, true, false, not, ◌&&◌, if◌then◌else◌, List, [], ◌∷◌, ◌++◌, length, Some, refl}
+use Rattle.flume_model.proofs.Common.{sym, ◌∙◌, ◌⊎◌, inl, inr, ap, arith, min, eqb-true, or_right, and_parts, list_any-append, Channel}
+use Rattle.flume_model.proofs.Common.{channel, senders, receivers, senders_after, receivers_after, is_over, is_woken, some_wait, all_woken}
+use Rattle.flume_model.proofs.Common.{without, round, IsClosed, is_closed, line, boundary, boundary_after, blocked, Log, Opening, Change}
+use Rattle.flume_model.proofs.Common.{Queues, Blocks, Takes, Parks, Asks, Collects, Leaves, SenderLeaves, ReceiverLeaves, change, LogEntry}
+use Rattle.flume_model.proofs.Common.{untold, entries_after, entries, IsRun, is_block, block_woken, WokenBlockWhileClosed, Reply, Step}
+use Rattle.flume_model.proofs.Common.{common_steps}
 use Rattle.flume_model.proofs.Fits.{Fits}
 use Rattle.flume_model.proofs.EntryLists.{round_for_push, again_cases, leave_cases}
 use Rattle.flume_model.proofs.waits.WaitingSteps.{Stood, Long, stepped, nobody_once_over, line_long}
