@@ -108,4 +108,5 @@ module _ {T A : Type 0} where
   -- once over, over for good
   pub not_over_yet : (o : Opening) (past : Log T A) (p : Step T × Reply T A) → ToldFilled o past → IsRun o (p ∷ past)
       → is_over (p ∷ past) ≡ false → is_over past ≡ false
-  not_over_yet o past p told run open_ = grind (arith, common_steps, over_stays o past (change past p.0 p.1) (fits o past p.0 p.1 told run.0))
+  not_over_yet o past p told run open_ =
+      grind (arith, common_steps, over_stays o past (change past p.0 p.1) (fits o past p.0 p.1 told run.0))

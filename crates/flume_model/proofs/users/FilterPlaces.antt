@@ -21,7 +21,8 @@ module _ {X : Type 0} where
   filter_places_rise keeps [] j k lt = lt
   filter_places_rise keeps (y ∷ ys) j zero lt = absurd (omega arith)
   filter_places_rise keeps (y ∷ ys) zero (suc k) lt = grind (arith, common_steps, filter_places_rise keeps ys zero (suc k))
-  filter_places_rise keeps (y ∷ ys) (suc j) (suc k) lt = grind (arith, common_steps, filter_places_rise keeps ys j k, filter_places_rise keeps ys (suc j) (suc k))
+  filter_places_rise keeps (y ∷ ys) (suc j) (suc k) lt =
+      grind (arith, common_steps, filter_places_rise keeps ys j k, filter_places_rise keeps ys (suc j) (suc k))
 
   -- an element that the filter keeps, before one of the places, stands at an earlier one of them
   pub place_of_kept : (keeps : X → Bool) (xs : List X) (i k : ℕ) (x : X) → i < filter_place keeps xs k → slice_get xs i ≡ Some x
