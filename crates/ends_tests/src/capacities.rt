@@ -1,5 +1,5 @@
 //! The plain calls and the queries, at each capacity.
-use crate::fixtures::opened;
+use crate::fixtures::{is, opened};
 use flume::error::{RecvTimeoutError, TryRecvError, TrySendError};
 use flume::{Receiver, Sender, Waits};
 use std::alloc::AllocError;
@@ -16,8 +16,8 @@ fn answers_tries<R: Waits + Abort>(
     sent: Result<(), TrySendError<u64>>,
     received: Result<u64, TryRecvError>,
 ) {
-    assert_eq!(rt; tx.try_send(7), sent);
-    assert_eq!(rt; rx.try_recv(), received);
+    is(&rt, tx.try_send(7), sent);
+    is(&rt, rx.try_recv(), received);
 }
 
 // A message of another thread is received.
@@ -33,9 +33,9 @@ fn serves_a_send<R: Waits + Threads + Send + Sync + 'static>(
 
 // Nothing is left: a tried receive is told so, and a timed one is too late.
 fn has_nothing_left<R: Waits + Abort>(rt: R, rx: &Receiver<u64, R>) {
-    assert_eq!(rt; rx.try_recv(), Err(TryRecvError::Empty));
+    is(&rt, rx.try_recv(), Err(TryRecvError::Empty));
     let timed = rx.recv_timeout(Duration::from_millis(1));
-    assert_eq!(rt; timed, Err(RecvTimeoutError::Timeout));
+    is(&rt, timed, Err(RecvTimeoutError::Timeout));
 }
 
 #[test]
@@ -61,8 +61,8 @@ fn both_hold<R: Waits + Abort>(
     len: usize,
     capacity: Option<usize>,
 ) {
-    assert_eq!(rt; (tx.len(), rx.len()), (len, len));
-    assert_eq!(rt; (tx.capacity(), rx.capacity()), (capacity, capacity));
+    is(&rt, (tx.len(), rx.len()), (len, len));
+    is(&rt, (tx.capacity(), rx.capacity()), (capacity, capacity));
 }
 
 // What both ends answer to is_empty and is_full.
@@ -72,8 +72,8 @@ fn both_are<R: Waits + Abort>(
     is_empty: bool,
     is_full: bool,
 ) {
-    assert_eq!(rt; (tx.is_empty(), rx.is_empty()), (is_empty, is_empty));
-    assert_eq!(rt; (tx.is_full(), rx.is_full()), (is_full, is_full));
+    is(&rt, (tx.is_empty(), rx.is_empty()), (is_empty, is_empty));
+    is(&rt, (tx.is_full(), rx.is_full()), (is_full, is_full));
 }
 
 #[test]
@@ -84,7 +84,7 @@ fn an_unbounded_channel_is_empty_or_not_but_never_full(rt: HostRuntime) -> Resul
     assert!(rt; tx.send(1).is_ok());
     both_hold(rt, (&tx, &rx), 1, None);
     both_are(rt, (&tx, &rx), false, false);
-    assert_eq!(rt; rx.recv(), Ok(1));
+    is(&rt, rx.recv(), Ok(1));
     both_hold(rt, (&tx, &rx), 0, None);
     both_are(rt, (&tx, &rx), true, false);
     Ok(())
@@ -97,7 +97,7 @@ fn a_channel_of_capacity_0_is_empty_and_full_at_once(rt: HostRuntime) -> Result<
     both_are(rt, (&tx, &rx), true, true);
     let other = tx.clone()?;
     let sender = thread::spawn(&rt, move || other.send(1).is_ok())?;
-    assert_eq!(rt; rx.recv(), Ok(1));
+    is(&rt, rx.recv(), Ok(1));
     assert!(rt; sender.join(&rt));
     both_hold(rt, (&tx, &rx), 0, Some(0));
     both_are(rt, (&tx, &rx), true, true);

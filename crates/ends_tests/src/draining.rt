@@ -1,4 +1,5 @@
 //! Drains at the ends.
+use crate::fixtures::is;
 use flume::{bounded, unbounded};
 use flume_core::error::{SendTimeoutError, TrySendError};
 use std::test::Fail;
@@ -10,19 +11,17 @@ fn a_drain_takes_no_message_that_timed_out(rt: HostRuntime) -> Result<(), Fail> 
     let (tx, rx) = bounded::<u64, _, _>(rt, rt.alloc(), 1, 1)?;
     let timeout = Duration::from_millis(350);
     assert!(rt; tx.send_timeout(42, timeout).is_ok());
-    assert!(rt;
-        matches!(
-            tx.send_timeout(43, timeout),
-            Err(SendTimeoutError::Timeout(43))
-        )
+    is(
+        &rt,
+        tx.send_timeout(43, timeout),
+        Err(SendTimeoutError::Timeout(43)),
     );
-    assert_eq!(rt; rx.drain()?.len(), 1);
+    is(&rt, rx.drain()?.len(), 1);
     drop(rx);
-    assert!(rt;
-        matches!(
-            tx.send_timeout(42, timeout),
-            Err(SendTimeoutError::Disconnected(42))
-        )
+    is(
+        &rt,
+        tx.send_timeout(42, timeout),
+        Err(SendTimeoutError::Disconnected(42)),
     );
     Ok(())
 }
@@ -37,8 +36,8 @@ fn a_drain_gives_all_that_was_queued(rt: HostRuntime) -> Result<(), Fail> {
     for message in rx.drain()? {
         sum = sum.saturating_add(message);
     }
-    assert_eq!(rt; sum, 4950);
-    assert_eq!(rt; rx.len(), 0);
+    is(&rt, sum, 4950);
+    is(&rt, rx.len(), 0);
     Ok(())
 }
 
@@ -50,11 +49,11 @@ fn a_drain_knows_how_many_are_left(rt: HostRuntime) -> Result<(), Fail> {
     }
     let mut drain = rx.drain()?;
     for (left, message) in [(3, 1), (2, 2), (1, 3)] {
-        assert_eq!(rt; drain.len(), left);
-        assert_eq!(rt; drain.next(), Some(message));
+        is(&rt, drain.len(), left);
+        is(&rt, drain.next(), Some(message));
     }
-    assert_eq!(rt; drain.next(), None);
-    assert_eq!(rt; rx.len(), 0);
+    is(&rt, drain.next(), None);
+    is(&rt, rx.len(), 0);
     Ok(())
 }
 
@@ -65,10 +64,10 @@ fn a_drain_shows_what_is_left_of_it(rt: HostRuntime) -> Result<(), Fail> {
         assert!(rt; tx.send(message).is_ok());
     }
     let mut drain = rx.drain()?;
-    assert_eq!(rt; drain.next(), Some(0));
-    assert_eq!(rt; drain.size_hint(), (2, Some(2)));
+    is(&rt, drain.next(), Some(0));
+    is(&rt, drain.size_hint(), (2, Some(2)));
     let shown = format!(in rt.alloc(); "{drain:?}")?;
-    assert_eq!(rt; shown.as_str(), "Drain { queue: [1, 2] }");
+    is(&rt, shown.as_str(), "Drain { queue: [1, 2] }");
     Ok(())
 }
 
@@ -79,7 +78,7 @@ fn no_send_passes_one_that_a_drain_let_in(rt: HostRuntime) -> Result<(), Fail> {
     let other = tx.clone()?;
     let sender = thread::spawn(&rt, move || other.send(2).is_ok())?;
     let mut drain = rx.drain()?;
-    assert_eq!(rt; (drain.next(), drain.next()), (Some(1), None));
+    is(&rt, (drain.next(), drain.next()), (Some(1), None));
     // Whether it was blocked as the drain came or sent after it, the thread's message moves in.
     for _ in rt.forever() {
         if rx.len() == 1 {
@@ -87,8 +86,8 @@ fn no_send_passes_one_that_a_drain_let_in(rt: HostRuntime) -> Result<(), Fail> {
         }
         thread::yield_now();
     }
-    assert!(rt; matches!(tx.try_send(3), Err(TrySendError::Full(3))));
-    assert_eq!(rt; rx.recv(), Ok(2));
+    is(&rt, tx.try_send(3), Err(TrySendError::Full(3)));
+    is(&rt, rx.recv(), Ok(2));
     assert!(rt; sender.join(&rt));
     Ok(())
 }

@@ -1,4 +1,5 @@
 //! Each message is dropped once, wherever it ends up.
+use crate::fixtures::is;
 use flume::{Sender, Waits, unbounded};
 use flume_core::chan::Chan;
 use std::process::Abort;
@@ -29,13 +30,13 @@ fn a_message_goes_as_it_is_received_or_with_the_channel(rt: HostRuntime) -> Resu
     let drops = AtomicU64::new(0);
     let (tx, rx) = unbounded::<Counted, _, _>(rt, rt.alloc(), 1)?;
     send_three(rt, &tx, &drops);
-    assert_eq!(rt; drops.load(Ordering::SeqCst), 0);
+    is(&rt, drops.load(Ordering::SeqCst), 0);
     assert!(rt; rx.recv().is_ok());
-    assert_eq!(rt; drops.load(Ordering::SeqCst), 1);
+    is(&rt, drops.load(Ordering::SeqCst), 1);
     drop(rx);
-    assert_eq!(rt; drops.load(Ordering::SeqCst), 1);
+    is(&rt, drops.load(Ordering::SeqCst), 1);
     drop(tx);
-    assert_eq!(rt; drops.load(Ordering::SeqCst), 3);
+    is(&rt, drops.load(Ordering::SeqCst), 3);
     Ok(())
 }
 
@@ -46,12 +47,12 @@ fn what_is_left_of_a_drain_goes_with_it(rt: HostRuntime) -> Result<(), Fail> {
     send_three(rt, &tx, &drops);
     let mut drain = rx.drain()?;
     assert!(rt; drain.next().is_some());
-    assert_eq!(rt; drops.load(Ordering::SeqCst), 1);
+    is(&rt, drops.load(Ordering::SeqCst), 1);
     drop(drain);
-    assert_eq!(rt; drops.load(Ordering::SeqCst), 3);
+    is(&rt, drops.load(Ordering::SeqCst), 3);
     drop(rx);
     drop(tx);
-    assert_eq!(rt; drops.load(Ordering::SeqCst), 3);
+    is(&rt, drops.load(Ordering::SeqCst), 3);
     Ok(())
 }
 
@@ -63,9 +64,9 @@ fn what_an_iterator_did_not_give_goes_with_the_channel(rt: HostRuntime) -> Resul
     drop(tx);
     let mut messages = rx.into_iter();
     assert!(rt; messages.next().is_some());
-    assert_eq!(rt; drops.load(Ordering::SeqCst), 1);
+    is(&rt, drops.load(Ordering::SeqCst), 1);
     drop(messages);
-    assert_eq!(rt; drops.load(Ordering::SeqCst), 3);
+    is(&rt, drops.load(Ordering::SeqCst), 3);
     Ok(())
 }
 
@@ -77,7 +78,7 @@ fn a_blocked_message_goes_with_the_last_end(rt: HostRuntime) {
     drop(chan.send(Counted { drops: &drops }, ()));
     drop(chan.send(Counted { drops: &drops }, ()));
     drop(chan.drop_receiver());
-    assert_eq!(rt; drops.load(Ordering::SeqCst), 0);
+    is(&rt, drops.load(Ordering::SeqCst), 0);
     drop(chan.drop_sender());
-    assert_eq!(rt; drops.load(Ordering::SeqCst), 2);
+    is(&rt, drops.load(Ordering::SeqCst), 2);
 }

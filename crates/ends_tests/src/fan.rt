@@ -1,4 +1,5 @@
 //! Threads that receive from one channel and send into another.
+use crate::fixtures::is;
 use flume::{Receiver, Sender, Waits, bounded, unbounded};
 use flume_core::error::RecvError;
 use std::process::Abort;
@@ -56,7 +57,7 @@ where
 // Joins threads that forward. Each has ended as its senders went.
 fn join_all<R: Threads + Abort>(rt: &R, forwarders: Forwarders) {
     for forwarder in forwarders {
-        assert_eq!(rt; forwarder.join(rt), Err(RecvError::Disconnected));
+        is(rt, forwarder.join(rt), Err(RecvError::Disconnected));
     }
 }
 
@@ -86,10 +87,10 @@ fn eight_threads_forward_from_one_channel_into_another(rt: HostRuntime) -> Resul
     let forwarders = start_fan(rt, first, second)?;
     for _ in 0..3 {
         send_hundred(&tx);
-        assert_eq!(rt; count_and_sum(&rx), (100, 4950));
+        is(&rt, count_and_sum(&rx), (100, 4950));
     }
     drop(tx);
-    assert_eq!(rt; rx.recv(), Err(RecvError::Disconnected));
+    is(&rt, rx.recv(), Err(RecvError::Disconnected));
     join_all(&rt, forwarders);
     Ok(())
 }
@@ -100,9 +101,9 @@ fn a_chain_of_eight_keeps_the_order(rt: HostRuntime) -> Result<(), Fail> {
     let (forwarders, last) = start_chain(rt, first)?;
     let sender = thread::spawn(&rt, move || send_hundred(&tx))?;
     for message in 0..100 {
-        assert_eq!(rt; last.recv(), Ok(message));
+        is(&rt, last.recv(), Ok(message));
     }
-    assert_eq!(rt; last.recv(), Err(RecvError::Disconnected));
+    is(&rt, last.recv(), Err(RecvError::Disconnected));
     sender.join(&rt);
     join_all(&rt, forwarders);
     Ok(())

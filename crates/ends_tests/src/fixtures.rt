@@ -1,8 +1,16 @@
-//! What several tests use: channels of any capacity, a message, and a long time.
+//! What several tests use: answers compared in one place, channels of any capacity, a message, and
+//! a long time.
 use flume::error::NoMemory;
 use flume::{Receiver, Sender, Waits, bounded, unbounded};
 use std::alloc::Global;
+use std::fmt::Debug;
+use std::process::Abort;
 use std::time::Duration;
+
+/// The answer is the wanted one.
+pub(crate) fn is<T: Debug + PartialEq + Drop>(rt: &impl Abort, answer: T, wanted: T) {
+    assert_eq!(rt; answer, wanted);
+}
 
 /// A message that can't be copied.
 #[derive(Debug, PartialEq, Eq, Drop)]

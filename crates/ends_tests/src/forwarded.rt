@@ -1,5 +1,5 @@
 //! Threads that read by iterators, and send on.
-use crate::fixtures::opened;
+use crate::fixtures::{is, opened};
 use flume::{Receiver, Sender, Waits, unbounded};
 use std::sync::Mutex;
 use std::test::Fail;
@@ -28,9 +28,9 @@ fn a_worker_answers_on_another_channel(rt: HostRuntime) -> Result<(), Fail> {
     }
     drop(requests);
     for request in 0..100u64 {
-        assert_eq!(rt; results.recv(), Ok(2 * request));
+        is(&rt, results.recv(), Ok(2 * request));
     }
-    assert_eq!(rt; results.iter().next(), None);
+    is(&rt, results.iter().next(), None);
     worker.join(&rt);
     Ok(())
 }
@@ -61,11 +61,11 @@ fn tried_iterators_play_ping_pong(rt: HostRuntime) -> Result<(), Fail> {
         let other = thread::spawn(&rt, move || answer_pings(&asked, &pongs))?;
         for ping in 0..ANSWERS {
             assert!(rt; pings.send(ping).is_ok());
-            assert_eq!(rt; first_tried(&rt, &answered), ping + 1);
+            is(&rt, first_tried(&rt, &answered), ping + 1);
         }
         drop(pings);
         other.join(&rt);
-        assert_eq!(rt; answered.try_iter().next(), None);
+        is(&rt, answered.try_iter().next(), None);
     }
     Ok(())
 }
@@ -101,7 +101,7 @@ fn iterators_in_eight_threads_share_the_messages(rt: HostRuntime) -> Result<(), 
     });
     assert!(rt; started);
     for count in counts.into_inner() {
-        assert_eq!(rt; count, 1);
+        is(&rt, count, 1);
     }
     Ok(())
 }
@@ -132,10 +132,10 @@ fn eight_forwarders_lead_into_one_channel(rt: HostRuntime) -> Result<(), Fail> {
         for message in forwarded.by_ref().take(MESSAGES) {
             sum = sum.saturating_add(message);
         }
-        assert_eq!(rt; sum, 4950);
+        is(&rt, sum, 4950);
     }
     drop(tx);
-    assert_eq!(rt; forwarded.next(), None);
+    is(&rt, forwarded.next(), None);
     for forwarder in forwarders {
         forwarder.join(&rt);
     }

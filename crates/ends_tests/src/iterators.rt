@@ -1,4 +1,5 @@
 //! Iterators over received messages, in one thread and in two.
+use crate::fixtures::is;
 use flume::{Receiver, Waits, bounded, unbounded};
 use flume_core::error::TrySendError;
 use std::test::Fail;
@@ -10,12 +11,12 @@ fn a_tried_iterator_gives_all_that_a_full_channel_holds(rt: HostRuntime) -> Resu
     for message in 1..33 {
         assert!(rt; tx.send(message).is_ok());
     }
-    assert!(rt; matches!(tx.try_send(33), Err(TrySendError::Full(33))));
+    is(&rt, tx.try_send(33), Err(TrySendError::Full(33)));
     let mut sum = 0u64;
     for message in rx.try_iter() {
         sum = sum.saturating_add(message);
     }
-    assert_eq!(rt; sum, 528);
+    is(&rt, sum, 528);
     Ok(())
 }
 
@@ -27,15 +28,15 @@ fn an_iterator_gives_the_messages_in_order(rt: HostRuntime) -> Result<(), Fail> 
             assert!(rt; tx.send(message).is_ok());
         }
     }
-    assert_eq!(rt; rx.recv(), Ok(0));
+    is(&rt, rx.recv(), Ok(0));
     let mut messages = rx.iter();
     for message in 1..100 {
-        assert_eq!(rt; messages.next(), Some(message));
+        is(&rt, messages.next(), Some(message));
     }
     for message in 0..100 {
-        assert_eq!(rt; messages.next(), Some(message));
+        is(&rt, messages.next(), Some(message));
     }
-    assert_eq!(rt; messages.fault(), false);
+    is(&rt, messages.fault(), false);
     Ok(())
 }
 
@@ -46,10 +47,10 @@ fn an_iterator_ends_without_a_fault_as_the_last_sender_goes(rt: HostRuntime) -> 
     assert!(rt; tx.send(2).is_ok());
     let mut messages = rx.into_iter();
     drop(tx);
-    assert_eq!(rt; messages.next(), Some(1));
-    assert_eq!(rt; messages.next(), Some(2));
-    assert_eq!(rt; messages.next(), None);
-    assert_eq!(rt; messages.fault(), false);
+    is(&rt, messages.next(), Some(1));
+    is(&rt, messages.next(), Some(2));
+    is(&rt, messages.next(), None);
+    is(&rt, messages.fault(), false);
     Ok(())
 }
 
@@ -89,7 +90,7 @@ fn an_iterator_gives_what_another_thread_sends(rt: HostRuntime) -> Result<(), Fa
         } else {
             sum_by_loop(&rx)
         };
-        assert_eq!(rt; sum, 45);
+        is(&rt, sum, 45);
         sender.join(&rt);
     }
     Ok(())
@@ -116,8 +117,8 @@ fn what_an_iterator_left_is_still_received(rt: HostRuntime) -> Result<(), Fail> 
             break;
         }
     }
-    assert_eq!(rt; rx.recv(), Ok(7));
-    assert_eq!(rt; rx.is_empty(), true);
+    is(&rt, rx.recv(), Ok(7));
+    is(&rt, rx.is_empty(), true);
     Ok(())
 }
 
@@ -125,9 +126,9 @@ fn what_an_iterator_left_is_still_received(rt: HostRuntime) -> Result<(), Fail> 
 fn iterators_show_their_receiver(rt: HostRuntime) -> Result<(), Fail> {
     let (_tx, rx) = unbounded::<u64, _, _>(rt, rt.alloc(), 1)?;
     let shown = format!(in rt.alloc(); "{:?}", rx.iter())?;
-    assert_eq!(rt; shown.as_str(), "Iter { receiver: Receiver }");
+    is(&rt, shown.as_str(), "Iter { receiver: Receiver }");
     let shown = format!(in rt.alloc(); "{:?}", rx.try_iter())?;
-    assert_eq!(rt; shown.as_str(), "TryIter { receiver: Receiver }");
+    is(&rt, shown.as_str(), "TryIter { receiver: Receiver }");
     Ok(())
 }
 
@@ -135,7 +136,7 @@ fn iterators_show_their_receiver(rt: HostRuntime) -> Result<(), Fail> {
 fn an_iterator_that_has_its_receiver_shows_it(rt: HostRuntime) -> Result<(), Fail> {
     let (_tx, rx) = unbounded::<u64, _, _>(rt, rt.alloc(), 1)?;
     let shown = format!(in rt.alloc(); "{:?}", rx.into_iter())?;
-    assert_eq!(rt; shown.as_str(), "IntoIter { receiver: Receiver }");
+    is(&rt, shown.as_str(), "IntoIter { receiver: Receiver }");
     Ok(())
 }
 
@@ -143,7 +144,7 @@ fn an_iterator_that_has_its_receiver_shows_it(rt: HostRuntime) -> Result<(), Fai
 fn a_tried_iterator_has_no_fault(rt: HostRuntime) -> Result<(), Fail> {
     let (_tx, rx) = unbounded::<u64, _, _>(rt, rt.alloc(), 1)?;
     let mut messages = rx.try_iter();
-    assert_eq!(rt; messages.next(), None);
-    assert_eq!(rt; messages.fault(), false);
+    is(&rt, messages.next(), None);
+    is(&rt, messages.fault(), false);
     Ok(())
 }

@@ -1,5 +1,5 @@
 //! What becomes of a message as one side goes: it comes back, or it is still received.
-use crate::fixtures::{Parcel, long, opened};
+use crate::fixtures::{Parcel, is, long, opened};
 use flume::error::{
     RecvError, RecvTimeoutError, SendError, SendTimeoutError, TryRecvError, TrySendError,
 };
@@ -25,16 +25,21 @@ fn each_send_hands_its_message_back_once_the_receivers_are_gone(
         let (tx, rx) = opened(rt, rt.alloc(), capacity)?;
         send_three(rt, &tx);
         drop(rx);
-        assert_eq!(rt; tx.send(Parcel(4)), Err(SendError::Disconnected(Parcel(4))));
-        assert_eq!(rt;
+        is(
+            &rt,
+            tx.send(Parcel(4)),
+            Err(SendError::Disconnected(Parcel(4))),
+        );
+        is(
+            &rt,
             tx.try_send(Parcel(5)),
-            Err(TrySendError::Disconnected(Parcel(5)))
+            Err(TrySendError::Disconnected(Parcel(5))),
         );
         let timed = tx.send_timeout(Parcel(6), long());
-        assert_eq!(rt; timed, Err(SendTimeoutError::Disconnected(Parcel(6))));
+        is(&rt, timed, Err(SendTimeoutError::Disconnected(Parcel(6))));
         let timed = tx.send_deadline(Parcel(7), now);
-        assert_eq!(rt; timed, Err(SendTimeoutError::Disconnected(Parcel(7))));
-        assert_eq!(rt; tx.len(), 3);
+        is(&rt, timed, Err(SendTimeoutError::Disconnected(Parcel(7))));
+        is(&rt, tx.len(), 3);
     }
     Ok(())
 }
@@ -46,17 +51,22 @@ fn each_receive_takes_what_the_senders_left_and_then_ends(rt: HostRuntime) -> Re
     assert!(rt; tx.send(Parcel(4)).is_ok());
     drop(tx);
     let now = Instant::now(&rt)?;
-    assert_eq!(rt; rx.try_recv(), Ok(Parcel(1)));
-    assert_eq!(rt; rx.recv(), Ok(Parcel(2)));
-    assert_eq!(rt; rx.recv_timeout(long()), Ok(Parcel(3)));
-    assert_eq!(rt; rx.recv_deadline(now), Ok(Parcel(4)));
-    assert_eq!(rt; rx.try_recv(), Err(TryRecvError::Disconnected));
-    assert_eq!(rt; rx.recv(), Err(RecvError::Disconnected));
-    assert_eq!(rt;
+    is(&rt, rx.try_recv(), Ok(Parcel(1)));
+    is(&rt, rx.recv(), Ok(Parcel(2)));
+    is(&rt, rx.recv_timeout(long()), Ok(Parcel(3)));
+    is(&rt, rx.recv_deadline(now), Ok(Parcel(4)));
+    is(&rt, rx.try_recv(), Err(TryRecvError::Disconnected));
+    is(&rt, rx.recv(), Err(RecvError::Disconnected));
+    is(
+        &rt,
         rx.recv_timeout(long()),
-        Err(RecvTimeoutError::Disconnected)
+        Err(RecvTimeoutError::Disconnected),
     );
-    assert_eq!(rt; rx.recv_deadline(now), Err(RecvTimeoutError::Disconnected));
+    is(
+        &rt,
+        rx.recv_deadline(now),
+        Err(RecvTimeoutError::Disconnected),
+    );
     Ok(())
 }
 
@@ -75,8 +85,8 @@ fn tried_until_one_comes<R: Waits>(rt: &R, rx: &Receiver<Parcel, R>) -> Parcel {
 fn a_tried_receive_takes_a_blocked_send(rt: HostRuntime) -> Result<(), Fail> {
     let (tx, rx) = opened(rt, rt.alloc(), Some(0))?;
     let sender = thread::spawn(&rt, move || tx.send(Parcel(1)).is_ok())?;
-    assert_eq!(rt; tried_until_one_comes(&rt, &rx), Parcel(1));
+    is(&rt, tried_until_one_comes(&rt, &rx), Parcel(1));
     assert!(rt; sender.join(&rt));
-    assert_eq!(rt; rx.try_recv(), Err(TryRecvError::Disconnected));
+    is(&rt, rx.try_recv(), Err(TryRecvError::Disconnected));
     Ok(())
 }

@@ -1,5 +1,5 @@
 //! Messages that hold an end of another channel.
-use crate::fixtures::opened;
+use crate::fixtures::{is, opened};
 use flume::{Receiver, Sender, Waits, WeakSender};
 use flume_core::error::{NoMemory, RecvError, SendError, TryRecvError, TrySendError};
 use std::process::Abort;
@@ -33,8 +33,8 @@ fn ask<R: Waits + AllocGlobal + Abort>(
     for number in 0..100 {
         let (answer, rx) = opened(rt, rt.alloc(), capacity)?;
         assert!(rt; requests.send(Request { number, answer }).is_ok());
-        assert_eq!(rt; rx.recv(), Ok(number * 2));
-        assert_eq!(rt; rx.recv(), Err(RecvError::Disconnected));
+        is(&rt, rx.recv(), Ok(number * 2));
+        is(&rt, rx.recv(), Err(RecvError::Disconnected));
     }
     Ok(())
 }
@@ -82,7 +82,7 @@ fn a_receiver_is_received_and_read(rt: HostRuntime) -> Result<(), Fail> {
         assert!(rt; tx.send(1).is_ok() && tx.send(2).is_ok());
         drop(tx);
         let read = reader.join(&rt);
-        assert_eq!(rt; read, [Ok(1), Ok(2), Err(RecvError::Disconnected)]);
+        is(&rt, read, [Ok(1), Ok(2), Err(RecvError::Disconnected)]);
     }
     Ok(())
 }
@@ -93,10 +93,10 @@ fn a_sender_left_in_a_channel_goes_with_it(rt: HostRuntime) -> Result<(), Fail> 
         let ((outer, outer_rx), (tx, rx)) = opened_both(rt, capacity)?;
         assert!(rt; outer.send(tx).is_ok());
         drop(outer);
-        assert_eq!(rt; rx.try_recv(), Err(TryRecvError::Empty));
+        is(&rt, rx.try_recv(), Err(TryRecvError::Empty));
         drop(outer_rx);
-        assert_eq!(rt; rx.try_recv(), Err(TryRecvError::Disconnected));
-        assert_eq!(rt; rx.recv(), Err(RecvError::Disconnected));
+        is(&rt, rx.try_recv(), Err(TryRecvError::Disconnected));
+        is(&rt, rx.recv(), Err(RecvError::Disconnected));
     }
     Ok(())
 }
@@ -109,7 +109,7 @@ fn a_receive_ends_as_its_sender_goes_with_a_channel(rt: HostRuntime) -> Result<(
         assert!(rt; outer.send(tx).is_ok());
         drop(outer_rx);
         drop(outer);
-        assert_eq!(rt; receiving.join(&rt), Err(RecvError::Disconnected));
+        is(&rt, receiving.join(&rt), Err(RecvError::Disconnected));
     }
     Ok(())
 }
@@ -122,8 +122,8 @@ fn a_receiver_left_in_a_channel_goes_with_it(rt: HostRuntime) -> Result<(), Fail
         drop(outer_rx);
         assert!(rt; tx.try_send(1).is_ok());
         drop(outer);
-        assert!(rt; matches!(tx.try_send(2), Err(TrySendError::Disconnected(2))));
-        assert!(rt; matches!(tx.send(3), Err(SendError::Disconnected(3))));
+        is(&rt, tx.try_send(2), Err(TrySendError::Disconnected(2)));
+        is(&rt, tx.send(3), Err(SendError::Disconnected(3)));
     }
     Ok(())
 }
@@ -133,7 +133,7 @@ fn a_blocked_sender_goes_with_its_send(rt: HostRuntime) -> Result<(), Fail> {
     let ((outer, outer_rx), (tx, rx)) = opened_both(rt, Some(0))?;
     let sending = thread::spawn(&rt, move || outer.send(tx).is_ok())?;
     drop(outer_rx);
-    assert_eq!(rt; rx.recv(), Err(RecvError::Disconnected));
+    is(&rt, rx.recv(), Err(RecvError::Disconnected));
     assert!(rt; !sending.join(&rt));
     Ok(())
 }
@@ -146,9 +146,9 @@ fn a_weak_sender_left_in_a_channel_closes_nothing(rt: HostRuntime) -> Result<(),
         drop(outer);
         drop(outer_rx);
         assert!(rt; tx.send(1).is_ok());
-        assert_eq!(rt; rx.recv(), Ok(1));
+        is(&rt, rx.recv(), Ok(1));
         drop(tx);
-        assert_eq!(rt; rx.recv(), Err(RecvError::Disconnected));
+        is(&rt, rx.recv(), Err(RecvError::Disconnected));
     }
     Ok(())
 }
@@ -173,11 +173,11 @@ fn a_received_weak_sender_upgrades_while_a_sender_lives(rt: HostRuntime) -> Resu
         let weak = tx.downgrade()?;
         let sending = thread::spawn(&rt, move || send_through(&outer_rx))?;
         assert!(rt; outer.send(weak.clone()?).is_ok());
-        assert_eq!(rt; rx.recv(), Ok(7));
+        is(&rt, rx.recv(), Ok(7));
         drop(tx);
-        assert_eq!(rt; rx.recv(), Err(RecvError::Disconnected));
+        is(&rt, rx.recv(), Err(RecvError::Disconnected));
         assert!(rt; outer.send(weak).is_ok());
-        assert_eq!(rt; sending.join(&rt), [true, false]);
+        is(&rt, sending.join(&rt), [true, false]);
     }
     Ok(())
 }

@@ -1,4 +1,5 @@
 //! Tests of the ends in one thread.
+use crate::fixtures::is;
 use flume::error::{
     RecvError, RecvTimeoutError, SendError, SendTimeoutError, TryRecvError, TrySendError,
 };
@@ -17,13 +18,18 @@ fn both_answer<R: Waits + Abort>(
     queries: (usize, bool, bool, usize, usize),
 ) {
     let (len, empty, full, senders, receivers) = queries;
-    assert_eq!(rt; (tx.len(), rx.len()), (len, len));
-    assert_eq!(rt; (tx.is_empty(), rx.is_empty()), (empty, empty));
-    assert_eq!(rt; (tx.is_full(), rx.is_full()), (full, full));
-    assert_eq!(rt; (tx.sender_count(), rx.sender_count()), (senders, senders));
-    assert_eq!(rt;
+    is(&rt, (tx.len(), rx.len()), (len, len));
+    is(&rt, (tx.is_empty(), rx.is_empty()), (empty, empty));
+    is(&rt, (tx.is_full(), rx.is_full()), (full, full));
+    is(
+        &rt,
+        (tx.sender_count(), rx.sender_count()),
+        (senders, senders),
+    );
+    is(
+        &rt,
         (tx.receiver_count(), rx.receiver_count()),
-        (receivers, receivers)
+        (receivers, receivers),
     );
 }
 
@@ -33,10 +39,11 @@ fn both_ends_answer_the_same(rt: HostRuntime) -> Result<(), Fail> {
     let other = tx.clone()?;
     assert!(rt; tx.send(1).is_ok());
     both_answer(rt, &tx, &rx, (1, false, false, 2, 1));
-    assert_eq!(rt; (tx.capacity(), rx.capacity()), (Some(2), Some(2)));
-    assert_eq!(rt;
+    is(&rt, (tx.capacity(), rx.capacity()), (Some(2), Some(2)));
+    is(
+        &rt,
         (tx.is_disconnected(), rx.is_disconnected()),
-        (false, false)
+        (false, false),
     );
 
     assert!(rt; other.send(2).is_ok());
@@ -44,22 +51,22 @@ fn both_ends_answer_the_same(rt: HostRuntime) -> Result<(), Fail> {
     drop(other);
     both_answer(rt, &tx, &rx, (2, false, true, 1, 2));
 
-    assert_eq!(rt; rx.recv(), Ok(1));
-    assert_eq!(rt; another.recv(), Ok(2));
+    is(&rt, rx.recv(), Ok(1));
+    is(&rt, another.recv(), Ok(2));
     both_answer(rt, &tx, &rx, (0, true, false, 1, 2));
 
     drop(rx);
-    assert_eq!(rt; tx.is_disconnected(), false);
+    is(&rt, tx.is_disconnected(), false);
     drop(another);
-    assert_eq!(rt; tx.is_disconnected(), true);
+    is(&rt, tx.is_disconnected(), true);
     Ok(())
 }
 
 #[test]
 fn an_unbounded_channel_has_no_capacity(rt: HostRuntime) -> Result<(), Fail> {
     let (tx, rx) = unbounded::<u64, _, _>(rt, rt.alloc(), 1)?;
-    assert_eq!(rt; (tx.capacity(), rx.capacity()), (None, None));
-    assert_eq!(rt; (tx.is_full(), rx.is_full()), (false, false));
+    is(&rt, (tx.capacity(), rx.capacity()), (None, None));
+    is(&rt, (tx.is_full(), rx.is_full()), (false, false));
     Ok(())
 }
 
@@ -67,9 +74,9 @@ fn an_unbounded_channel_has_no_capacity(rt: HostRuntime) -> Result<(), Fail> {
 fn a_receive_of_an_empty_channel_times_out(rt: HostRuntime) -> Result<(), Fail> {
     let (tx, rx) = bounded::<u64, _, _>(rt, rt.alloc(), 1, 10)?;
     let timed = rx.recv_timeout(Duration::from_millis(100));
-    assert_eq!(rt; timed, Err(RecvTimeoutError::Timeout));
+    is(&rt, timed, Err(RecvTimeoutError::Timeout));
     assert!(rt; tx.send(42).is_ok());
-    assert_eq!(rt; rx.recv(), Ok(42));
+    is(&rt, rx.recv(), Ok(42));
     Ok(())
 }
 
@@ -77,7 +84,7 @@ fn a_receive_of_an_empty_channel_times_out(rt: HostRuntime) -> Result<(), Fail> 
 fn the_longest_timeout_is_no_deadline(rt: HostRuntime) -> Result<(), Fail> {
     let (tx, rx) = unbounded::<u64, _, _>(rt, rt.alloc(), 1)?;
     assert!(rt; tx.send_timeout(1, Duration::MAX).is_ok());
-    assert_eq!(rt; rx.recv_timeout(Duration::MAX), Ok(1));
+    is(&rt, rx.recv_timeout(Duration::MAX), Ok(1));
     Ok(())
 }
 
@@ -86,23 +93,25 @@ fn ends_know_their_channel(rt: HostRuntime) -> Result<(), Fail> {
     let (tx1, rx1) = unbounded::<u64, _, _>(rt, rt.alloc(), 1)?;
     let (tx2, rx2) = unbounded::<u64, _, _>(rt, rt.alloc(), 2)?;
     let copy = tx1.clone()?;
-    assert_eq!(rt;
+    is(
+        &rt,
         (tx1.same_channel(&copy), tx1.same_channel(&tx2)),
-        (true, false)
+        (true, false),
     );
     let other = rx1.clone()?;
-    assert_eq!(rt;
+    is(
+        &rt,
         (rx1.same_channel(&other), rx1.same_channel(&rx2)),
-        (true, false)
+        (true, false),
     );
 
     let weak = tx1.downgrade()?.clone()?;
     let upgraded = weak.upgrade()?.expect(&rt, "a sender lives");
     drop(tx1);
     drop(copy);
-    assert_eq!(rt; rx1.is_disconnected(), false);
+    is(&rt, rx1.is_disconnected(), false);
     assert!(rt; upgraded.send(7).is_ok());
-    assert_eq!(rt; rx1.recv(), Ok(7));
+    is(&rt, rx1.recv(), Ok(7));
     Ok(())
 }
 
@@ -112,15 +121,15 @@ fn a_weak_sender_upgrades_while_a_sender_lives(rt: HostRuntime) -> Result<(), Fa
     let weak = tx.downgrade()?;
     drop(tx);
     assert!(rt; weak.upgrade()?.is_none());
-    assert_eq!(rt; rx.is_disconnected(), true);
-    assert_eq!(rt; rx.try_recv(), Err(TryRecvError::Disconnected));
-    assert_eq!(rt; rx.recv(), Err(RecvError::Disconnected));
+    is(&rt, rx.is_disconnected(), true);
+    is(&rt, rx.try_recv(), Err(TryRecvError::Disconnected));
+    is(&rt, rx.recv(), Err(RecvError::Disconnected));
 
     let (tx, rx) = unbounded::<u64, _, _>(rt, rt.alloc(), 2)?;
     let weak = tx.downgrade()?;
     drop(rx);
     assert!(rt; weak.upgrade()?.is_some());
-    assert_eq!(rt; tx.sender_count(), 1);
+    is(&rt, tx.sender_count(), 1);
     Ok(())
 }
 
@@ -129,9 +138,13 @@ fn calls_whose_deadline_is_now_end_at_once(rt: HostRuntime) -> Result<(), Fail> 
     let (tx, rx) = bounded::<u64, _, _>(rt, rt.alloc(), 1, 1)?;
     let now = Instant::now(&rt)?;
     assert!(rt; tx.send_deadline(1, now).is_ok());
-    assert!(rt; matches!(tx.send_deadline(2, now), Err(SendTimeoutError::Timeout(2))));
-    assert_eq!(rt; rx.recv_deadline(now), Ok(1));
-    assert_eq!(rt; rx.recv_deadline(now), Err(RecvTimeoutError::Timeout));
+    is(
+        &rt,
+        tx.send_deadline(2, now),
+        Err(SendTimeoutError::Timeout(2)),
+    );
+    is(&rt, rx.recv_deadline(now), Ok(1));
+    is(&rt, rx.recv_deadline(now), Err(RecvTimeoutError::Timeout));
     Ok(())
 }
 
@@ -141,15 +154,15 @@ fn a_full_channel_refuses_and_a_closed_one_gives_back(rt: HostRuntime) -> Result
     for message in 0..5 {
         assert!(rt; tx.try_send(message).is_ok());
     }
-    assert!(rt; matches!(tx.try_send(42), Err(TrySendError::Full(42))));
-    assert_eq!(rt; rx.recv(), Ok(0));
+    is(&rt, tx.try_send(42), Err(TrySendError::Full(42)));
+    is(&rt, rx.recv(), Ok(0));
     assert!(rt; tx.try_send(42).is_ok());
-    assert_eq!(rt; rx.recv(), Ok(1));
+    is(&rt, rx.recv(), Ok(1));
     drop(rx);
-    assert!(rt; matches!(tx.try_send(42), Err(TrySendError::Disconnected(42))));
-    assert!(rt; matches!(tx.send(43), Err(SendError::Disconnected(43))));
+    is(&rt, tx.try_send(42), Err(TrySendError::Disconnected(42)));
+    is(&rt, tx.send(43), Err(SendError::Disconnected(43)));
     let timed = tx.send_timeout(44, Duration::from_millis(350));
-    assert!(rt; matches!(timed, Err(SendTimeoutError::Disconnected(44))));
+    is(&rt, timed, Err(SendTimeoutError::Disconnected(44)));
     Ok(())
 }
 
@@ -167,8 +180,12 @@ fn a_wake_before_the_wait_is_not_lost(rt: HostRuntime) -> Result<(), Fail> {
 fn ends_show_as_their_names(rt: HostRuntime) -> Result<(), Fail> {
     let (tx, rx) = unbounded::<u64, _, _>(rt, rt.alloc(), 1)?;
     let weak = tx.downgrade()?;
-    assert_eq!(rt; format!(in rt.alloc(); "{tx:?}")?.as_str(), "Sender");
-    assert_eq!(rt; format!(in rt.alloc(); "{rx:?}")?.as_str(), "Receiver");
-    assert_eq!(rt; format!(in rt.alloc(); "{weak:?}")?.as_str(), "WeakSender");
+    is(&rt, format!(in rt.alloc(); "{tx:?}")?.as_str(), "Sender");
+    is(&rt, format!(in rt.alloc(); "{rx:?}")?.as_str(), "Receiver");
+    is(
+        &rt,
+        format!(in rt.alloc(); "{weak:?}")?.as_str(),
+        "WeakSender",
+    );
     Ok(())
 }

@@ -1,4 +1,5 @@
 //! Queries of both ends while a send waits.
+use crate::fixtures::is;
 use flume::{Receiver, Sender, Waits, bounded};
 use std::process::Abort;
 use std::sync::atomic::{AtomicBool, Ordering};
@@ -11,15 +12,16 @@ const ROUNDS: usize = 1000;
 // Asks both ends of a channel of capacity 0 that has two senders and two receivers. Nothing is
 // ever queued there.
 fn ask_both<R: Waits + Abort>(rt: R, tx: &Sender<u64, R>, rx: &Receiver<u64, R>) {
-    assert_eq!(rt; (tx.len(), rx.len()), (0, 0));
-    assert_eq!(rt; (tx.is_empty(), rx.is_empty()), (true, true));
-    assert_eq!(rt; (tx.is_full(), rx.is_full()), (true, true));
-    assert_eq!(rt; (tx.capacity(), rx.capacity()), (Some(0), Some(0)));
-    assert_eq!(rt; (tx.sender_count(), rx.sender_count()), (2, 2));
-    assert_eq!(rt; (tx.receiver_count(), rx.receiver_count()), (2, 2));
-    assert_eq!(rt;
+    is(&rt, (tx.len(), rx.len()), (0, 0));
+    is(&rt, (tx.is_empty(), rx.is_empty()), (true, true));
+    is(&rt, (tx.is_full(), rx.is_full()), (true, true));
+    is(&rt, (tx.capacity(), rx.capacity()), (Some(0), Some(0)));
+    is(&rt, (tx.sender_count(), rx.sender_count()), (2, 2));
+    is(&rt, (tx.receiver_count(), rx.receiver_count()), (2, 2));
+    is(
+        &rt,
         (tx.is_disconnected(), rx.is_disconnected()),
-        (false, false)
+        (false, false),
     );
 }
 
@@ -43,7 +45,7 @@ fn asking_leaves_a_blocked_send_blocked(rt: HostRuntime) -> Result<(), Fail> {
             assert!(rt; tx.same_channel(sender) && rx.same_channel(&idle));
         }
         assert!(rt; !flag.load(Ordering::SeqCst));
-        assert_eq!(rt; rx.recv(), Ok(7));
+        is(&rt, rx.recv(), Ok(7));
         started.join(&rt)
     });
     assert!(rt; sent && returned.into_inner());

@@ -1,4 +1,5 @@
 //! Ends that threads take with them, or share by reference.
+use crate::fixtures::is;
 use flume::{Receiver, Sender, Waits, WeakSender, bounded, unbounded};
 use flume_core::error::RecvError;
 use std::sync::atomic::{AtomicU64, Ordering};
@@ -37,9 +38,9 @@ fn found_by_four<R: Waits + Threads + Send + Sync>(
 #[test]
 fn a_send_is_seen_by_the_next_try(rt: HostRuntime) -> Result<(), Fail> {
     let (tx, rx) = unbounded::<u64, _, _>(rt, rt.alloc(), 1)?;
-    assert_eq!(rt; found_by_four(&rt, &tx, &rx), 4000);
+    is(&rt, found_by_four(&rt, &tx, &rx), 4000);
     let (tx, rx) = bounded::<u64, _, _>(rt, rt.alloc(), 2, 4)?;
-    assert_eq!(rt; found_by_four(&rt, &tx, &rx), 4000);
+    is(&rt, found_by_four(&rt, &tx, &rx), 4000);
     Ok(())
 }
 
@@ -61,7 +62,7 @@ fn each_end_goes_with_its_thread(rt: HostRuntime) -> Result<(), Fail> {
     let receiving = thread::spawn(&rt, move || [rx.recv(), rx.recv(), rx.recv()])?;
     assert!(rt; sending.join(&rt));
     let received = receiving.join(&rt);
-    assert_eq!(rt; received, [Ok(1), Ok(2), Err(RecvError::Disconnected)]);
+    is(&rt, received, [Ok(1), Ok(2), Err(RecvError::Disconnected)]);
     Ok(())
 }
 
@@ -91,6 +92,6 @@ fn two_threads_use_each_end_by_reference(rt: HostRuntime) -> Result<(), Fail> {
             && scope.spawn(move || add_two(rx, total)).is_ok()
     });
     assert!(rt; started);
-    assert_eq!(rt; sum.into_inner(), 1111);
+    is(&rt, sum.into_inner(), 1111);
     Ok(())
 }

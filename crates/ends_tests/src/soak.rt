@@ -12,7 +12,7 @@ use std::time::{Duration, Instant};
 const THREADS: usize = 4;
 
 // How many messages each of them sends.
-const EACH: usize = 12_500;
+const EACH: usize = 2_500;
 
 // After how many messages a thread takes another end in place of its own.
 const RENEWAL: usize = 100;

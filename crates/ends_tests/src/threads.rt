@@ -1,5 +1,5 @@
 //! Ends in several threads, all of which are joined.
-use crate::fixtures::opened;
+use crate::fixtures::{is, opened};
 use flume::error::{RecvError, SendError, TryRecvError};
 use flume::{Receiver, Sender, Waits, bounded, unbounded};
 use std::alloc::{AllocError, Global};
@@ -25,7 +25,7 @@ const CAPACITIES: [Option<usize>; 4] = [None, Some(0), Some(1), Some(3)];
 fn a_send_without_room_meets_a_receive(rt: HostRuntime) -> Result<(), Fail> {
     let (tx, rx) = bounded::<u64, _, _>(rt, rt.alloc(), 1, 0)?;
     let sender = thread::spawn(&rt, move || tx.send(1).is_ok())?;
-    assert_eq!(rt; rx.recv(), Ok(1));
+    is(&rt, rx.recv(), Ok(1));
     assert!(rt; sender.join(&rt));
     Ok(())
 }
@@ -99,7 +99,7 @@ fn each_message_arrives_once(rt: HostRuntime) -> Result<(), Fail> {
         let counts = Mutex::new([0; EACH]);
         assert!(rt; four_to_four(rt, &tx, &rx, &counts)?);
         assert!(rt; is_each_counted(counts, 4));
-        assert_eq!(rt; rx.try_recv(), Err(TryRecvError::Empty));
+        is(&rt, rx.try_recv(), Err(TryRecvError::Empty));
     }
     Ok(())
 }
@@ -133,7 +133,7 @@ fn eight_receivers_share_the_messages_until_the_sender_goes(rt: HostRuntime) -> 
         let counts = Mutex::new([0; EACH]);
         assert!(rt; one_to_eight(rt, tx, &rx, &counts));
         assert!(rt; is_each_counted(counts, 1));
-        assert_eq!(rt; rx.try_recv(), Err(TryRecvError::Disconnected));
+        is(&rt, rx.try_recv(), Err(TryRecvError::Disconnected));
     }
     Ok(())
 }
@@ -165,10 +165,10 @@ fn one_to_one<R: Waits + Threads + Abort + Send + Sync + 'static>(
     let (tx, rx) = opened::<u64, _>(rt, alloc, capacity)?;
     let sender = thread::spawn(&rt, move || send_within(&tx, capacity))?;
     for message in 0..ALL {
-        assert_eq!(rt; rx.recv(), Ok(message));
+        is(&rt, rx.recv(), Ok(message));
         assert!(rt; is_within(rx.len(), capacity));
     }
-    assert_eq!(rt; rx.recv(), Err(RecvError::Disconnected));
+    is(&rt, rx.recv(), Err(RecvError::Disconnected));
     assert!(rt; sender.join(&rt));
     Ok(())
 }
@@ -189,13 +189,13 @@ fn short_lived<R: Waits + Threads + Abort + Send + Sync + 'static>(
 ) -> Result<(), Fail> {
     let (tx, rx) = opened::<u64, _>(rt, alloc, capacity)?;
     let sender = thread::spawn(&rt, move || tx.send(7).is_ok())?;
-    assert_eq!(rt; rx.recv(), Ok(7));
+    is(&rt, rx.recv(), Ok(7));
     assert!(rt; sender.join(&rt));
 
     let (tx, rx) = opened::<u64, _>(rt, alloc, capacity)?;
     let receiver = thread::spawn(&rt, move || rx.recv())?;
     assert!(rt; tx.send(8).is_ok());
-    assert_eq!(rt; receiver.join(&rt), Ok(8));
+    is(&rt, receiver.join(&rt), Ok(8));
     Ok(())
 }
 
@@ -214,7 +214,7 @@ fn a_receive_ends_as_the_last_sender_goes(rt: HostRuntime) -> Result<(), Fail> {
     let (tx, rx) = unbounded::<u64, _, _>(rt, rt.alloc(), 1)?;
     let receiver = thread::spawn(&rt, move || rx.recv())?;
     drop(tx);
-    assert_eq!(rt; receiver.join(&rt), Err(RecvError::Disconnected));
+    is(&rt, receiver.join(&rt), Err(RecvError::Disconnected));
     Ok(())
 }
 
@@ -223,6 +223,6 @@ fn a_send_ends_as_the_last_receiver_goes(rt: HostRuntime) -> Result<(), Fail> {
     let (tx, rx) = bounded::<u64, _, _>(rt, rt.alloc(), 1, 0)?;
     let sender = thread::spawn(&rt, move || tx.send(9))?;
     drop(rx);
-    assert!(rt; matches!(sender.join(&rt), Err(SendError::Disconnected(9))));
+    is(&rt, sender.join(&rt), Err(SendError::Disconnected(9)));
     Ok(())
 }

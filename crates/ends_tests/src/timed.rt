@@ -1,5 +1,5 @@
 //! Calls with a deadline: served, or closed, while they wait, and two that race.
-use crate::fixtures::{Parcel, long, opened};
+use crate::fixtures::{Parcel, is, long, opened};
 use flume::error::{RecvTimeoutError, SendTimeoutError, TrySendError};
 use flume::{Receiver, Sender, Waits};
 use std::alloc::Global;
@@ -53,7 +53,7 @@ fn a_tried_send_meets_a_blocked_receive(rt: HostRuntime) -> Result<(), Fail> {
     let (tx, rx) = opened(rt, rt.alloc(), Some(0))?;
     let receiver = thread::spawn(&rt, move || rx.recv())?;
     assert!(rt; try_until_taken(&rt, &tx, Parcel(7)));
-    assert_eq!(rt; receiver.join(&rt), Ok(Parcel(7)));
+    is(&rt, receiver.join(&rt), Ok(Parcel(7)));
     Ok(())
 }
 
@@ -72,11 +72,11 @@ fn served_and_closed<R: Waits + Threads + Abort + Send + Sync + 'static>(
         (served, receive_up_to(&rx, deadline))
     })?;
     assert!(rt; try_until_taken(&rt, &tx, Parcel(7)));
-    assert_eq!(rt; begins.recv(), Ok(()));
+    is(&rt, begins.recv(), Ok(()));
     drop(tx);
     let (served, closed) = receiver.join(&rt);
-    assert_eq!(rt; served, Ok(Parcel(7)));
-    assert_eq!(rt; closed, Err(RecvTimeoutError::Disconnected));
+    is(&rt, served, Ok(Parcel(7)));
+    is(&rt, closed, Err(RecvTimeoutError::Disconnected));
     Ok(())
 }
 
@@ -114,12 +114,12 @@ fn taken_and_closed<R: Waits + Threads + Abort + Send + Sync + 'static>(
         let _ = announce.send(());
         (taken, send_up_to(&tx, Parcel(11), deadline))
     })?;
-    assert_eq!(rt; rx.recv(), Ok(Parcel(first)));
-    assert_eq!(rt; begins.recv(), Ok(()));
+    is(&rt, rx.recv(), Ok(Parcel(first)));
+    is(&rt, begins.recv(), Ok(()));
     drop(rx);
     let (taken, closed) = sender.join(&rt);
-    assert_eq!(rt; taken, Ok(()));
-    assert_eq!(rt; closed, Err(SendTimeoutError::Disconnected(Parcel(11))));
+    is(&rt, taken, Ok(()));
+    is(&rt, closed, Err(SendTimeoutError::Disconnected(Parcel(11))));
     Ok(())
 }
 
@@ -186,10 +186,10 @@ fn race<R: Waits + Threads + Abort + Send + Sync + 'static>(
     let (tx, rx) = opened(rt, alloc, capacity)?;
     let sender = thread::spawn(&rt, move || send_all(&rt, &tx, timeout))?;
     for number in 0..RACE {
-        assert_eq!(rt; receive_at_last(&rt, &rx, timeout), Ok(Parcel(number)));
+        is(&rt, receive_at_last(&rt, &rx, timeout), Ok(Parcel(number)));
     }
     let last = receive_at_last(&rt, &rx, timeout);
-    assert_eq!(rt; last, Err(RecvTimeoutError::Disconnected));
+    is(&rt, last, Err(RecvTimeoutError::Disconnected));
     assert!(rt; sender.join(&rt));
     Ok(())
 }
