@@ -5,7 +5,7 @@ ghost use Rattle.flume.specs.declared.gate.Deadline.TheVariants.{Never};
 ghost use Rattle.flume_calls.specs.SendTurns as send;
 ghost use Rattle.flume_calls.specs.ReceiveTurns as receive;
 
-use crate::shared::{Backoff, Shared, Waits, pause};
+use crate::shared::{Shared, Waits};
 use crate::signal::{Parker, Signal};
 use flume_calls::calls::{
     AgainReceive, AgainSend, FirstReceive, FirstSend, ParkReceive, ParkSend, RecvCall, RecvNext,
@@ -91,22 +91,16 @@ impl<'a, T: Drop, R: Waits, A: Allocator + Copy> Gate<'a, T, R, A> {
         }
     }
 
-    // Makes the parker and the copy that the call is to leave, outside the lock, and pauses before
-    // the call parks.
+    // Makes the parker and the copy of it. False: there was no memory for them.
     #[inline(always)]
     fn make_parker(&mut self) -> bool
         ensures same { self.new ≡ self.old }
     {
-        let Backoff { pauses, checks } = self.shared.backoff;
-        let Ok(parker) = Arc::new(self.shared.alloc, Parker::new(checks)) else {
-            return false;
-        };
-        let Ok(copy) = Arc::try_clone(&parker) else {
+        let Some((parker, signal)) = self.shared.new_parker() else {
             return false;
         };
         self.parker = Some(parker);
-        self.signal = Some(Signal::Parker(copy));
-        pause(pauses);
+        self.signal = Some(signal);
         true
     }
 
@@ -151,19 +145,19 @@ impl<T: Drop, R: Waits, A: Allocator + Copy> SendGate<T> for Gate<'_, T, R, A> {
         self.make_parker()
     }
 
-    #[inline(never)]
+    #[inline(always)]
     fn park(&mut self, message: T) -> SendNext<T> {
         match self.signal.take() {
-            Some(signal) => self.shared.make(ParkSend { message, signal }),
+            Some(signal) => self.shared.make_seldom(ParkSend { message, signal }),
             // No call parks before it is armed.
             None => SendNext::Done(Err(SendTimeoutError::NoMemory(message))),
         }
     }
 
-    #[inline(never)]
+    #[inline(always)]
     fn again(&mut self, call: SendCall, late: bool) -> SendNext<T> {
         let signal = None;
-        self.shared.make(AgainSend { call, late, signal })
+        self.shared.make_seldom(AgainSend { call, late, signal })
     }
 
     #[inline(always)]
@@ -194,20 +188,20 @@ impl<T: Drop, R: Waits, A: Allocator + Copy> RecvGate<T> for Gate<'_, T, R, A> {
         self.make_parker()
     }
 
-    #[inline(never)]
+    #[inline(always)]
     fn park(&mut self) -> RecvNext<T> {
         let kind = Kind::Block;
         match self.signal.take() {
-            Some(signal) => self.shared.make(ParkReceive { kind, signal }),
+            Some(signal) => self.shared.make_seldom(ParkReceive { kind, signal }),
             // No call parks before it is armed.
             None => RecvNext::Done(Err(RecvTimeoutError::NoMemory)),
         }
     }
 
-    #[inline(never)]
+    #[inline(always)]
     fn again(&mut self, call: RecvCall, late: bool) -> RecvNext<T> {
         let signal = None;
-        self.shared.make(AgainReceive { call, late, signal })
+        self.shared.make_seldom(AgainReceive { call, late, signal })
     }
 
     #[inline(always)]

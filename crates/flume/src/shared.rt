@@ -1,13 +1,13 @@
 //! What all ends of a channel share.
 ghost use Rattle.std.specs.Prelude.{◌≡◌};
 
-use crate::signal::Signal;
+use crate::signal::{Parker, Signal};
 use flume_calls::due::Bell;
 use flume_calls::locked::Locked;
 use flume_calls::turn::Turn;
 use std::alloc::{Allocator, Global};
 use std::hint::spin_loop;
-use std::sync::{Mutex, MutexGuard, Wait};
+use std::sync::{Arc, Mutex, MutexGuard, Wait};
 use std::time::Clock;
 
 /// What an end's runtime value gives: it waits, and reads a clock. The host's runtime is one.
@@ -27,11 +27,11 @@ const PAUSES: u32 = 300;
 // How a call that is to wait spends its first moments, so that it seldom has to sleep: a sleep and
 // the wake from it cost far more than what it waits for.
 #[derive(Clone, Copy, Drop)]
-pub(crate) struct Backoff {
+struct Backoff {
     // How long it pauses before it parks.
-    pub(crate) pauses: u32,
+    pauses: u32,
     // How often, once it has parked, it checks for its wake before it sleeps.
-    pub(crate) checks: u32,
+    checks: u32,
 }
 
 impl Backoff {
@@ -65,8 +65,8 @@ const TRIES: u32 = 7;
 // How long it pauses before the first of these tries; before each next one twice as long.
 const FIRST_PAUSES: u32 = 16;
 
-/// Lets others go on for a moment, so many pauses of the processor.
-pub(crate) fn pause(pauses: u32) {
+// Lets others go on for a moment, so many pauses of the processor.
+fn pause(pauses: u32) {
     for _ in 0..pauses {
         spin_loop();
     }
@@ -95,7 +95,7 @@ pub(crate) struct Shared<T, R: Waits, A: Allocator + Copy = Global> {
     pub(crate) id: u64,
     pub(crate) rt: R,
     pub(crate) alloc: A,
-    pub(crate) backoff: Backoff,
+    backoff: Backoff,
 }
 
 impl<T: Drop, R: Waits, A: Allocator + Copy> Shared<T, R, A> {
@@ -110,6 +110,16 @@ impl<T: Drop, R: Waits, A: Allocator + Copy> Shared<T, R, A> {
             alloc,
             backoff: Backoff::at(capacity),
         }
+    }
+
+    /// What a call waits on, and the copy of it that the call leaves as it parks. Both are made
+    /// outside the lock, and then the call pauses. `None`: there was no memory for them.
+    #[inline(never)]
+    pub(crate) fn new_parker(&self) -> Option<(Arc<Parker, A>, Signal<A>)> {
+        let parker = Arc::new(self.alloc, Parker::new(self.backoff.checks)).ok()?;
+        let copy = Arc::try_clone(&parker).ok()?;
+        pause(self.backoff.pauses);
+        Some((parker, Signal::Parker(copy)))
     }
 
     /// The channel, locked. Where nobody has the lock it is taken without a call.
@@ -142,5 +152,14 @@ impl<T: Drop, R: Waits, A: Allocator + Copy> Shared<T, R, A> {
         ensures answers { C.answers turn result }
     {
         self.lock().make(turn, &mut Firing { rt: self.rt })
+    }
+
+    /// The same, in code of its own: so a turn that is seldom made costs the other turns of its
+    /// caller nothing.
+    #[inline(never)]
+    pub(crate) fn make_seldom<C: Turn<T, Signal<A>, A>>(&self, turn: C) -> C::Answer
+        ensures answers { C.answers turn result }
+    {
+        self.make(turn)
     }
 }
