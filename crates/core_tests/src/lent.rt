@@ -1,7 +1,9 @@
 //! Gates over a channel, on which another makes a step while the call waits.
 use crate::answers::is;
-use flume_calls::calls::{AgainReceive, FirstReceive, ParkReceive, RecvCall, RecvNext};
-use flume_calls::calls::{AgainSend, FirstSend, ParkSend, SendCall, SendNext};
+use flume_calls::calls::{
+    AgainReceive, AgainSend, FirstReceive, FirstSend, ParkReceive, ParkSend, RecvCall, RecvNext,
+    SendCall, SendNext,
+};
 use flume_calls::due::Bell;
 use flume_calls::gates::{RecvGate, SendGate, recv_over, send_over};
 use flume_calls::locked::Locked;
@@ -58,7 +60,10 @@ impl Lent {
                 self.locked.make(Single::DropSender, &mut self.bell);
             }
             Some(Other::TryRecv) => {
-                if let RecvNext::Done(Ok(message)) = self.locked.make(FirstReceive, &mut self.bell) {
+                if let RecvNext::Done(Ok(message)) = self
+                    .locked
+                    .make(FirstReceive, &mut self.bell)
+                {
                     self.received = Some(message);
                 }
             }
@@ -88,12 +93,14 @@ impl SendGate<u64> for Lent {
 
     fn park(&mut self, message: u64) -> SendNext<u64> {
         let signal = 11;
-        self.locked.make(ParkSend { message, signal }, &mut self.bell)
+        self.locked
+            .make(ParkSend { message, signal }, &mut self.bell)
     }
 
     fn again(&mut self, call: SendCall, late: bool) -> SendNext<u64> {
         let signal = None;
-        self.locked.make(AgainSend { call, late, signal }, &mut self.bell)
+        self.locked
+            .make(AgainSend { call, late, signal }, &mut self.bell)
     }
 
     fn wait(&mut self) -> bool {
@@ -122,12 +129,14 @@ impl RecvGate<u64> for Lent {
 
     fn park(&mut self) -> RecvNext<u64> {
         let (kind, signal) = (Kind::Block, 11);
-        self.locked.make(ParkReceive { kind, signal }, &mut self.bell)
+        self.locked
+            .make(ParkReceive { kind, signal }, &mut self.bell)
     }
 
     fn again(&mut self, call: RecvCall, late: bool) -> RecvNext<u64> {
         let signal = None;
-        self.locked.make(AgainReceive { call, late, signal }, &mut self.bell)
+        self.locked
+            .make(AgainReceive { call, late, signal }, &mut self.bell)
     }
 
     fn wait(&mut self) -> bool {

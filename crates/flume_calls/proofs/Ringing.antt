@@ -29,7 +29,8 @@ module _ {S : Type 0} where
   some_signal (Some signal) parked is = (signal, refl)
 
   -- telling keeps its signal
-  told_signal : (o : Option (LiveSend S)) → option_map (λ send. send.notice.signal) (option_map told_send o) ≡ option_map (λ send. send.notice.signal) o
+  told_signal : (o : Option (LiveSend S))
+      → option_map (λ send. send.notice.signal) (option_map told_send o) ≡ option_map (λ send. send.notice.signal) o
   told_signal None = refl
   told_signal (Some send) = refl
 
@@ -95,7 +96,8 @@ module _ {T S : Type 0} where
   -- and keeps it
   named_keeps : (old new : State T S) (t : ℕ) → Names old new t → signal_of new t ≡ signal_of old t
   named_keeps old new t (Send due is) =
-      let sends : get new.sends t ≡ option_map told_send (get old.sends t) = ap (λ s. get s.sends t) is ∙ get-changed_same old.sends t told_send in
+      let sends : get new.sends t ≡ option_map told_send (get old.sends t) =
+      ap (λ s. get s.sends t) is ∙ get-changed_same old.sends t told_send in
       let same = ap (option_map (λ send. send.notice.signal)) sends ∙ told_signal (get old.sends t) in
       let entries : new.entries ≡ old.entries = ap (λ s. s.entries) is in λ i. signal_or (same i) (entry_signal t (entries i))
   named_keeps old new t (Receive tells is) =

@@ -69,7 +69,6 @@ impl<T, S, A: Allocator> Model for Entries<T, S, A> {
 
     ghost Value = { EntryList T S };
 
-
     ghost view = { λ s. s.entries.items };
 
     ghost invariant = { λ s. (s.waiting ≡ waiting_count s.entries.items)

@@ -34,7 +34,6 @@ impl<T, A: Allocator> Model for Line<T, A> {
 
     ghost Value = { Messages T };
 
-
     ghost use Rattle.flume_state.specs.LineEntry.{line_of};
 
     ghost view = { λ s. line_of s.queued.items s.blocked.items };

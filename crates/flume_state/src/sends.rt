@@ -3,7 +3,8 @@ ghost use Rattle.std.specs.Prelude.{◌≡◌, ℕ, true, false, OnOk, OnErr, If
 ghost use Rattle.std.specs.Option.{option_map, option_copied};
 ghost use Rattle.std.specs.FinMap.{empty, get, insert, remove};
 ghost use Rattle.flume_state.specs.Notices.{due_now, told, resignalled};
-ghost use Rattle.flume_state.specs.Sends.{blocked, accepted_now, changed, noticed_send, is_due, NoneDue};
+ghost use Rattle.flume_state.specs.Sends.{blocked, accepted_now, changed, noticed_send, is_due};
+ghost use Rattle.flume_state.specs.Sends.{NoneDue};
 
 use crate::notice::Notice;
 use std::alloc::{AllocError, Allocator};
@@ -93,7 +94,8 @@ impl<S: Drop, A: Allocator + Clone> Sends<S, A> {
     /// The signal that the sender of a live ticket left last. `None` where the ticket isn't live.
     #[tactic(auto, using(crate::proofs::SendsLemmas::get_of_tree))]
     pub fn signal(&self, ticket: u64) -> Option<&S>
-        ensures value { option_copied result ≡ option_map (λ s. s.notice.signal) (get self.now ticket) }
+        ensures value { option_copied result
+            ≡ option_map (λ s. s.notice.signal) (get self.now ticket) }
     {
         match self.table.get(&ticket) {
             Some(send) => Some(&send.notice.signal),

@@ -78,8 +78,14 @@ module _ {T A : Type 0} where
   none_queued : (o : Opening) (log : Log T A) → IsRun o log → OnlyBlockingReceivers log → some_wait (entries o log) ≡ true
       → boundary o log ≡ 0
   none_queued o log run only some =
-      grind (arith, common_steps, woken_block_while_closed o log run, waits_while_open o log run some,
-      none_woken (entries o log) (entries_block o log only), covered o log run some)
+      grind (
+        arith,
+        common_steps,
+        woken_block_while_closed o log run,
+        waits_while_open o log run some,
+        none_woken (entries o log) (entries_block o log only),
+        covered o log run some,
+      )
 
   -- after one more pair of a run
   within_more : (o : Opening) (past : Log T A) (p : Step T × Reply T A) → IsRun o (p ∷ past) → OnlyBlockingReceivers past
