@@ -64,6 +64,18 @@ filled_again =
     (Recv Block, Parked 1) ∷ (Recv Block, Parked 2) ∷ (TrySend 1, Sent (Some 1))
     ∷ (TrySend 2, Sent (Some 1)) ∷ []
 
+-- one message fills both that wait, so that the next send names none
+abbrev pub one_fills_two : Row
+one_fills_two =
+    (Recv Block, Parked 1) ∷ (Recv Block, Parked 2) ∷ (TrySend 1, Sent (Some 1))
+    ∷ (TrySend 2, Sent None) ∷ []
+
+-- one message fills both that wait, and the second collects it too
+abbrev pub one_collected_by_two : Row
+one_collected_by_two =
+    (Recv Block, Parked 1) ∷ (Recv Block, Parked 2) ∷ (TrySend 1, Sent (Some 1)) ∷ (Poll 1, Got 1)
+    ∷ (Poll 2, Got 1) ∷ []
+
 -- a round fills the last that waits
 abbrev pub last_filled : Row
 last_filled =

@@ -62,6 +62,7 @@ ghost use Rattle.flume_model.specs.WakeNearMisses.{full_while_waiting, send_wake
 ghost use Rattle.flume_model.specs.WakeNearMisses.{send_wakes_all, goes_on_after_plain};
 ghost use Rattle.flume_model.specs.WakeNearMisses.{goes_on_after_arm, goes_on_after_block};
 ghost use Rattle.flume_model.specs.WakeNearMisses.{ends_at_stream, ends_at_woken, filled_again};
+ghost use Rattle.flume_model.specs.WakeNearMisses.{one_fills_two, one_collected_by_two};
 ghost use Rattle.flume_model.specs.WakeNearMisses.{last_filled, plain_filled, filled_and_queued};
 ghost use Rattle.flume_model.specs.WakeNearMisses.{asking_loses_place, again_before_others};
 ghost use Rattle.flume_model.specs.WakeNearMisses.{passed_on_for_nothing, closing_wakes_first};
@@ -259,6 +260,8 @@ pub fn wake_near_misses_are_no_runs()
     ensures ends_at_stream { IsNearMiss None ends_at_stream }
     ensures ends_at_woken { IsNearMiss None ends_at_woken }
     ensures filled_again { IsNearMiss None filled_again }
+    ensures one_fills_two { IsNearMiss None one_fills_two }
+    ensures one_collected_by_two { IsNearMiss None one_collected_by_two }
     ensures last_filled { IsNearMiss None last_filled }
     ensures plain_filled { IsNearMiss None plain_filled }
     ensures filled_and_queued { IsNearMiss None filled_and_queued }
