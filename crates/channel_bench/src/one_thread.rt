@@ -43,7 +43,7 @@ impl<R: Waits> Bench<R> {
         self.time_since(start, sum, 1)
     }
 
-    /// The same by the calls that don't wait.
+    /// Each message sent, and received before the next, by the calls that don't wait.
     pub fn try_pair(&self) -> Result<Duration, Fault> {
         let (tx, rx) = self.open()?;
         let start = Instant::now(&self.rt)?;

@@ -40,7 +40,7 @@ pub(crate) fn replies_are(
     Ok(())
 }
 
-/// The same of one reply, where the end of the line isn't in the wanted text.
+/// The reply is written so, with the end of its line, which isn't in the wanted text.
 pub(crate) fn reply_is(
     rt: &impl Abort,
     alloc: Global,

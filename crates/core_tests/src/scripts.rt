@@ -52,7 +52,7 @@ const RIGHT: &[Row] = &[
     },
 ];
 
-// The same, where a sender blocks or asks after its blocked send.
+// Scripts in which a sender blocks or asks after its blocked send.
 const BLOCKED: &[Row] = &[
     Row {
         title: "capacity 0 takes a message in as it is asked for; a ticket is told of it once",
@@ -108,7 +108,7 @@ const BLOCKED: &[Row] = &[
     },
 ];
 
-// The same, where ends come and go or the channel is asked how it stands.
+// Scripts in which ends come and go or the channel is asked how it stands.
 const ENDS_AND_QUERIES: &[Row] = &[
     Row {
         title: "with both ends gone nothing is left, and no end comes again",
@@ -140,7 +140,7 @@ const ENDS_AND_QUERIES: &[Row] = &[
     },
 ];
 
-// The same, where receivers park.
+// Scripts in which receivers park.
 const PARKED: &[Row] = &[
     Row {
         title: "a drained queue lets the blocked message in",
@@ -227,7 +227,7 @@ const PARKED: &[Row] = &[
     },
 ];
 
-// The same, where wakes are passed on or a receiver waits again.
+// Scripts in which wakes are passed on or a receiver waits again.
 const WAKES: &[Row] = &[
     Row {
         title: "a wake round ends at a plain receiver, and who wasn't woken passes no wake on",

@@ -62,7 +62,7 @@ impl Waiting {
         }
     }
 
-    /// The same of a receive.
+    /// What a turn of a receive led to. One that parks is kept.
     pub(crate) fn after_receive<T: Drop>(&mut self, next: RecvNext<T>) -> Met<T> {
         match next {
             RecvNext::Done(Ok(message)) => Met::Got(message),

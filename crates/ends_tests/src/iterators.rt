@@ -67,7 +67,7 @@ fn sum_by_next<R: Waits>(rx: &Receiver<u64, R>) -> u64 {
     sum
 }
 
-// The same by a loop over the receiver.
+// The sum of what a loop over the receiver gives.
 fn sum_by_loop<R: Waits>(rx: &Receiver<u64, R>) -> u64 {
     let mut sum = 0u64;
     for message in rx {

@@ -58,7 +58,8 @@ fn send_once<R: Waits>(rt: &R, tx: &Sender<Message, R>, message: Message) -> Opt
     timed.err().map(|error| error.into_inner())
 }
 
-// The same, and where the message comes back sends it again, by a call that waits.
+// Sends by the call that the message's number picks. Where the message comes back, it is sent
+// again, by a call that waits.
 fn send_one<R: Waits>(rt: &R, tx: &Sender<Message, R>, message: Message) -> bool {
     match send_once(rt, tx, message) {
         Some(back) => tx.send(back).is_ok(),

@@ -23,7 +23,7 @@ fn receive_up_to<R: Waits>(
     }
 }
 
-// The same of a send.
+// Sends up to the deadline or, where there is none, for a long time.
 fn send_up_to<R: Waits>(
     tx: &Sender<Parcel, R>,
     message: Parcel,
@@ -151,7 +151,7 @@ fn send_at_last<R: Waits>(
     unreachable!()
 }
 
-// The same of a receive.
+// Receives until a message comes or the channel is closed: each call waits so long at most.
 fn receive_at_last<R: Waits>(
     rt: &R,
     rx: &Receiver<Parcel, R>,

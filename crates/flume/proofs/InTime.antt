@@ -28,11 +28,11 @@ module _ {T : Type 0} where
   abbrev SendFirsts : Deadline → T → Deadline → SendNext T → Type 0
   SendFirsts old message new next = (new ≡ old) × send_turn.IsFirst message next
 
-  -- the same of the turn that may park
+  -- what a send's turn that may park does to it, and what it may answer
   abbrev SendParks : Deadline → T → Deadline → SendNext T → Type 0
   SendParks old message new next = (new ≡ old) × send_turn.IsParking message next
 
-  -- the same of a parked send's turn
+  -- what a parked send's turn does to it, and what it may answer
   abbrev SendAgains : Deadline → ℕ → Bool → Deadline → SendNext T → Type 0
   SendAgains old ticket late new next = (new ≡ old) × send_turn.IsAgain ticket late next
 
@@ -43,7 +43,7 @@ module _ {T : Type 0} where
   parked_send (send.Late a w b) never back late = w.1 refl (a.0 ∙ never)
   parked_send (send.Waited a w rest) never back late = parked_send rest (w.0 ∙ a.0 ∙ never) back late
 
-  -- neither is a whole send
+  -- a whole send with no deadline is never too late
   pub send_in_time : {old new : Deadline} {message : T} {result : Result (Unit {0}) (SendTimeoutError T)}
       → send.WholeSend SendFirsts Arms SendParks SendAgains Waits old message new result → old ≡ Never
       → (back : T) → result ≢ Err (SendTimeout back)
@@ -52,15 +52,15 @@ module _ {T : Type 0} where
   send_in_time {message = message} (send.AtPark f a p) never back late = subst (λ r. send_turn.IsParking message (SendDone r)) late p.1
   send_in_time (send.Parked f a p rest) never back late = parked_send rest (p.0 ∙ a ∙ f.0 ∙ never) back late
 
-  -- the same of a receive's first turn
+  -- what a receive's first turn does to the gate of the ends, and what it may answer
   abbrev RecvFirsts : Deadline → Deadline → RecvNext T → Type 0
   RecvFirsts old new next = (new ≡ old) × receive_turn.IsFirst next
 
-  -- of its turn that may park
+  -- what a receive's turn that may park does to it, and what it may answer
   abbrev RecvParks : Deadline → Deadline → RecvNext T → Type 0
   RecvParks old new next = (new ≡ old) × receive_turn.IsParking next
 
-  -- and of a parked receive's turn
+  -- what a parked receive's turn does to it, and what it may answer
   abbrev RecvAgains : Deadline → ℕ → Bool → Deadline → RecvNext T → Type 0
   RecvAgains old ticket late new next = (new ≡ old) × receive_turn.IsAgain ticket late next × receive_turn.IsntRefused next
 
@@ -72,7 +72,7 @@ module _ {T : Type 0} where
   parked_receive (receive.Late a w b) never late = w.1 refl (a.0 ∙ never)
   parked_receive (receive.Waited a w rest) never late = parked_receive rest (w.0 ∙ a.0 ∙ never) late
 
-  -- neither is a whole receive
+  -- a whole receive with no deadline is never too late
   pub receive_in_time : {old new : Deadline} {result : Result T RecvTimeoutError}
       → receive.WholeReceive RecvFirsts Arms RecvParks RecvAgains Waits old new result → old ≡ Never → result ≢ Err RecvTimeout
   receive_in_time (receive.AtFirst f) never late = subst (λ r. receive_turn.IsFirst (RecvDone r)) late f.1

@@ -11,7 +11,7 @@ use std::alloc::{Allocator, Global};
 use std::fmt;
 use std::marker::Model;
 
-/// The same as `Iter`, with the receiver in it, which goes with it.
+/// The iterator over received messages that has its receiver in it, which goes with it.
 ///
 /// ```
 /// for message in rx {

@@ -68,7 +68,8 @@ impl Parker {
         unreachable!()
     }
 
-    /// The same, up to the deadline. A clock that can't be read counts as past it.
+    /// Waits until it is fired, or up to the deadline. A clock that can't be read counts as past
+    /// it.
     ///
     /// ```
     /// parker.wait_until(&rt, Instant::now(&rt)?);    // returns at once

@@ -9,7 +9,7 @@ use Rattle.std.specs.Option.{is_some, option_map}
 use Rattle.std.specs.Ordering.{nat_cmp, eq_by_cmp}
 use Rattle.flume_state.specs.declared.sends.LiveSend.{LiveSend}
 use Rattle.flume_state.specs.Notices.{told}
-use Rattle.flume_state.specs.Sends.{SendMap, noticed_send, due_in, is_due}
+use Rattle.flume_state.specs.Sends.{SendMap, noticed_send, send_due_in, is_due_send}
 use Rattle.flume_state.specs.Receivers.{Entries, Tells}
 use Rattle.flume_state.proofs.SendsLaws.{get-changed_same, get-changed_other}
 use Rattle.flume_state.specs.State.{State}
@@ -25,39 +25,39 @@ module _ {S : Type 0} where
   -- of these tickets, how many are of sends that are due
   abbrev pub due_sends : SendMap S → List ℕ → ℕ
   due_sends m [] = 0
-  due_sends m (t ∷ tickets) = cond (is_due m t) 1 0 + due_sends m tickets
+  due_sends m (t ∷ tickets) = cond (is_due_send m t) 1 0 + due_sends m tickets
 
   -- each that is due in one map is due in the other
   abbrev pub DueIn : SendMap S → SendMap S → Type 0
-  DueIn n m = (t : ℕ) → is_due n t ≡ true → is_due m t ≡ true
+  DueIn n m = (t : ℕ) → is_due_send n t ≡ true → is_due_send m t ≡ true
 
   -- one that was told isn't due
-  told_not_due : (o : Option (LiveSend S)) → due_in (option_map told_send o) ≡ false
+  told_not_due : (o : Option (LiveSend S)) → send_due_in (option_map told_send o) ≡ false
   told_not_due None = refl
   told_not_due (Some send) = refl
 
   -- so it isn't in the map where it was told
-  named_not_due : (m : SendMap S) (k : ℕ) → is_due (noticed_send told k m) k ≡ false
-  named_not_due m k = ap due_in (get-changed_same m k told_send) ∙ told_not_due (get m k)
+  named_not_due : (m : SendMap S) (k : ℕ) → is_due_send (noticed_send told k m) k ≡ false
+  named_not_due m k = ap send_due_in (get-changed_same m k told_send) ∙ told_not_due (get m k)
 
   -- and no other became due
   pub none_became_due : (m : SendMap S) (k : ℕ) → DueIn (noticed_send told k m) m
   none_became_due m k t due = go (eqb t k) refl
     where
-      go : (b : Bool) → eqb t k ≡ b → is_due m t ≡ true
+      go : (b : Bool) → eqb t k ≡ b → is_due_send m t ≡ true
       go true e =
           let same : t ≡ k = eqb-true t k e in
-          let over : is_due (noticed_send told k m) t ≡ false = rw same (named_not_due m k) in
+          let over : is_due_send (noticed_send told k m) t ≡ false = rw same (named_not_due m k) in
           absurd (let none : ⊥ = cc in none)
       go false e = rw (← get-changed_other m k told_send t (eqb-false t k e)) due
 
   -- where none became due, no more are
   due_sends_le : (m n : SendMap S) (tickets : List ℕ) → DueIn n m → due_sends n tickets ≤ due_sends m tickets
   due_sends_le m n [] fewer = omega arith
-  due_sends_le m n (t ∷ tickets) fewer = omega (arith, weight_le (is_due n t) (is_due m t) (fewer t), due_sends_le m n tickets fewer)
+  due_sends_le m n (t ∷ tickets) fewer = omega (arith, weight_le (is_due_send n t) (is_due_send m t) (fewer t), due_sends_le m n tickets fewer)
 
   -- and where one of them isn't due any more, fewer are
-  due_sends_less : (m n : SendMap S) (k : ℕ) (tickets : List ℕ) → DueIn n m → is_due m k ≡ true → is_due n k ≡ false
+  due_sends_less : (m n : SendMap S) (k : ℕ) (tickets : List ℕ) → DueIn n m → is_due_send m k ≡ true → is_due_send n k ≡ false
       → list_any (eq_by_cmp nat_cmp k) tickets ≡ true → due_sends n tickets < due_sends m tickets
   due_sends_less m n k [] fewer was is listed = absurd (let none : ⊥ = cc in none)
   due_sends_less m n k (t ∷ tickets) fewer was is listed =
@@ -72,15 +72,15 @@ module _ {S : Type 0} where
           rw (← same, was, is) (omega (arith, rest))
       go false e less =
           let later : list_any (eq_by_cmp nat_cmp k) tickets ≡ true = rw e at listed in
-          omega (arith, weight_le (is_due n t) (is_due m t) (fewer t), less later)
+          omega (arith, weight_le (is_due_send n t) (is_due_send m t) (fewer t), less later)
 
   -- one that is due is there
-  due_some : (o : Option (LiveSend S)) → due_in o ≡ true → is_some o ≡ true
+  due_some : (o : Option (LiveSend S)) → send_due_in o ≡ true → is_some o ≡ true
   due_some None due = due
   due_some (Some send) due = refl
 
   -- so its ticket is a key
-  due_listed : (m : SendMap S) (k : ℕ) → is_due m k ≡ true → list_any (eq_by_cmp nat_cmp k) (keys m) ≡ true
+  due_listed : (m : SendMap S) (k : ℕ) → is_due_send m k ≡ true → list_any (eq_by_cmp nat_cmp k) (keys m) ≡ true
   due_listed m k due = sym (contains_key-keys m k) ∙ due_some (get m k) due
 
 module _ {T S : Type 0} where

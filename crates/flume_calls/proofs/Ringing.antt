@@ -10,16 +10,16 @@ use Rattle.flume_model.specs.declared.entry.Entry.{Entry}
 use Rattle.flume_state.specs.declared.notice.Notice.{Notice}
 use Rattle.flume_state.specs.declared.sends.LiveSend.{LiveSend}
 use Rattle.flume_state.specs.Notices.{told}
-use Rattle.flume_state.specs.Sends.{SendMap, noticed_send, due_in, NoneDue}
-use Rattle.flume_state.specs.Receivers.{Entries, NoneDueIn}
+use Rattle.flume_state.specs.Sends.{SendMap, noticed_send, send_due_in, NoDueSend}
+use Rattle.flume_state.specs.Receivers.{Entries, NoDueReceiver}
 use Rattle.flume_state.proofs.SendsLaws.{get-changed_same, get-changed_other}
 use Rattle.flume_state.specs.State.{State}
 use Rattle.flume_state.specs.Told.{Names, Send, Receive, signal_of, signal_or}
-use Rattle.flume_calls.specs.Due.{Rings, Over, Rung, AllTold, told_entry, told_send}
+use Rattle.flume_calls.specs.Due.{Rings, Over, Rung, AllTold, told_receiver, told_send}
 
 module _ {S : Type 0} where
   -- a due send has a signal
-  due_signal : (o : Option (LiveSend S)) → due_in o ≡ true → (signal : S) × (option_map (λ send. send.notice.signal) o ≡ Some signal)
+  due_signal : (o : Option (LiveSend S)) → send_due_in o ≡ true → (signal : S) × (option_map (λ send. send.notice.signal) o ≡ Some signal)
   due_signal None due = absurd (let none : ⊥ = cc in none)
   due_signal (Some send) due = (send.notice.signal, refl)
 
@@ -40,7 +40,7 @@ module _ {S : Type 0} where
   told_twice (Some send) = refl
 
   -- telling changes nothing of one that isn't due
-  told_idle : (o : Option (LiveSend S)) → due_in o ≡ false → o ≡ option_map told_send o
+  told_idle : (o : Option (LiveSend S)) → send_due_in o ≡ false → o ≡ option_map told_send o
   told_idle None idle = refl
   told_idle (Some send) idle = ap (λ (b : Bool). Some (record send { notice = record send.notice { due = b } })) idle
 
@@ -61,12 +61,12 @@ module _ {T S : Type 0} where
 
   -- telling one keeps it
   signal_kept : (before : Entries T S) (e : Entry T (Notice S)) (later : Entries T S) (t : ℕ)
-      → entry_signal t (before ++ told_entry e ∷ later) ≡ entry_signal t (before ++ e ∷ later)
+      → entry_signal t (before ++ told_receiver e ∷ later) ≡ entry_signal t (before ++ e ∷ later)
   signal_kept [] e later t =
-      elim (eqb e.ticket t) as (λ b. option_map (λ e. e.notice.signal) (cond b (Some (told_entry e)) (entry_of t later))
+      elim (eqb e.ticket t) as (λ b. option_map (λ e. e.notice.signal) (cond b (Some (told_receiver e)) (entry_of t later))
       ≡ option_map (λ e. e.notice.signal) (cond b (Some e) (entry_of t later))) [ true ↦ refl | false ↦ refl ]
   signal_kept (x ∷ before) e later t =
-      elim (eqb x.ticket t) as (λ b. option_map (λ e. e.notice.signal) (cond b (Some x) (entry_of t (before ++ told_entry e ∷ later)))
+      elim (eqb x.ticket t) as (λ b. option_map (λ e. e.notice.signal) (cond b (Some x) (entry_of t (before ++ told_receiver e ∷ later)))
       ≡ option_map (λ e. e.notice.signal) (cond b (Some x) (entry_of t (before ++ e ∷ later))))
       [ true ↦ refl | false ↦ signal_kept before e later t ]
 
@@ -80,7 +80,7 @@ module _ {T S : Type 0} where
       × (option_map (λ e. e.notice.signal) (cond b (Some x) (entry_of e.ticket (before ++ e ∷ later))) ≡ Some signal))
       [ true ↦ (x.notice.signal, refl) | false ↦ parked_signal before e later ]
 
-  -- the same where it is found so
+  -- an entry that is found in the list so has a signal
   found_signal : (entries before : Entries T S) (e : Entry T (Notice S)) (later : Entries T S) (t : ℕ)
       → entries ≡ before ++ e ∷ later → e.ticket ≡ t → (signal : S) × (entry_signal t entries ≡ Some signal)
   found_signal entries before e later t found is =
@@ -136,11 +136,11 @@ module _ {T S : Type 0} where
   named_sends old named t (Receive tells is) k = ap (λ s. option_map told_send (get s.sends k)) is
 
   -- and all entries told
-  named_entries : (old named : State T S) (t : ℕ) → Names old named t → map told_entry named.entries ≡ map told_entry old.entries
-  named_entries old named t (Send due is) = ap (λ s. map told_entry s.entries) is
+  named_entries : (old named : State T S) (t : ℕ) → Names old named t → map told_receiver named.entries ≡ map told_receiver old.entries
+  named_entries old named t (Send due is) = ap (λ s. map told_receiver s.entries) is
   named_entries old named t (Receive tells is) =
-      ap (map told_entry) tells.told ∙ map-append told_entry tells.before _
-      ∙ sym (ap (map told_entry) tells.found ∙ map-append told_entry tells.before _)
+      ap (map told_receiver) tells.told ∙ map-append told_receiver tells.before _
+      ∙ sym (ap (map told_receiver) tells.found ∙ map-append told_receiver tells.before _)
 
   -- all told, with one told before
   told_first : (old named new : State T S) (t : ℕ) → Names old named t → AllTold named new → AllTold old new
@@ -153,15 +153,15 @@ module _ {T S : Type 0} where
       }
 
   -- telling changes no entry that isn't due
-  idle_entries : (entries : Entries T S) → NoneDueIn entries → entries ≡ map told_entry entries
+  idle_entries : (entries : Entries T S) → NoDueReceiver entries → entries ≡ map told_receiver entries
   idle_entries [] idle = refl
   idle_entries (e ∷ entries) idle =
-      let first : e ≡ told_entry e =
+      let first : e ≡ told_receiver e =
       ap (λ (b : Bool). record e { notice = record e.notice { due = b } }) (idle 0 e (omega arith)) in
       let others = idle_entries entries (λ k d within. idle (suc k) d (omega (arith, within))) in λ i. first i ∷ others i
 
   -- nothing due: all are told
-  told_over : (s : State T S) → NoneDue s.sends → NoneDueIn s.entries → AllTold s s
+  told_over : (s : State T S) → NoDueSend s.sends → NoDueReceiver s.entries → AllTold s s
   told_over s sends entries = record {
     rest = refl;
     sends = λ t. told_idle (get s.sends t) (sends t);
@@ -170,7 +170,7 @@ module _ {T S : Type 0} where
 
 module _ {B S : Type 0} (rings : B → ℕ → S → B → Type 0) {T : Type 0} where
   -- after a round of rings nothing is due
-  pub none_left : {old new : State T S} {bell end : B} → Rings rings old bell new end → NoneDue new.sends × NoneDueIn new.entries
+  pub none_left : {old new : State T S} {bell end : B} → Rings rings old bell new end → NoDueSend new.sends × NoDueReceiver new.entries
   none_left (Over sends entries) = (sends, entries)
   none_left (Rung named signal rung rest) = none_left rest
 

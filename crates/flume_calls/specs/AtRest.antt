@@ -2,8 +2,8 @@
 use Rattle.std.specs.Prelude.{ℕ}
 use Rattle.flume_model.specs.declared.step.Step.{Step}
 use Rattle.flume_model.specs.declared.step.Reply.{Reply}
-use Rattle.flume_state.specs.Sends.{NoneDue}
-use Rattle.flume_state.specs.Receivers.{NoneDueIn}
+use Rattle.flume_state.specs.Sends.{NoDueSend}
+use Rattle.flume_state.specs.Receivers.{NoDueReceiver}
 use Rattle.flume_state.specs.State.{State}
 use Rattle.flume_core.specs.StandsFor.{IsLedTo, Keeps}
 use Rattle.flume_calls.specs.Turns.{Turned}
@@ -13,8 +13,8 @@ module _ {T S : Type 0} where
   -- some run led to the state, and no ticket is due: it is so between two calls
   pub record IsAtRest (A : Type 0) (s : State T S) : Type 0 where
     pub led : IsLedTo A s
-    pub sends : NoneDue s.sends
-    pub receivers : NoneDueIn s.entries
+    pub sends : NoDueSend s.sends
+    pub receivers : NoDueReceiver s.entries
 
 module _ {T S A N B : Type 0} (rings : B → ℕ → S → B → Type 0) where
   -- One turn, and then one ring of the bell for each ticket that its step made due: from the

@@ -6,8 +6,8 @@ use Rattle.flume_model.specs.declared.entry.Entry.{Entry}
 use Rattle.flume_state.specs.declared.notice.Notice.{Notice}
 use Rattle.flume_state.specs.declared.sends.LiveSend.{LiveSend}
 use Rattle.flume_state.specs.Notices.{told}
-use Rattle.flume_state.specs.Sends.{NoneDue, with_notice}
-use Rattle.flume_state.specs.Receivers.{NoneDueIn}
+use Rattle.flume_state.specs.Sends.{NoDueSend, with_notice}
+use Rattle.flume_state.specs.Receivers.{NoDueReceiver}
 use Rattle.flume_state.specs.State.{State}
 use Rattle.flume_state.specs.Told.{Names, signal_of}
 
@@ -17,7 +17,8 @@ module _ {B S : Type 0} (rings : B → ℕ → S → B → Type 0) {T : Type 0} 
   -- ring, and the last is the one after which nothing is due.
   pub data Rings : State T S → B → State T S → B → Type 0 where
     -- nothing is due
-    Over : {s : State T S} {bell : B} → NoneDue s.sends → NoneDueIn s.entries → Rings s bell s bell
+    Over : {s : State T S} {bell : B} → NoDueSend s.sends → NoDueReceiver s.entries
+        → Rings s bell s bell
     -- one that is due, and then the others
     Rung : {old named new : State T S} {bell rung end : B} {ticket : ℕ} {signal : S}
         → Names old named ticket → signal_of old ticket ≡ Some signal
@@ -29,11 +30,11 @@ told_send = with_notice told
 
 module _ {T S : Type 0} where
   -- an entry that isn't due, and is otherwise this one
-  abbrev pub told_entry : Entry T (Notice S) → Entry T (Notice S)
-  told_entry e = record e { notice = told e.notice }
+  abbrev pub told_receiver : Entry T (Notice S) → Entry T (Notice S)
+  told_receiver e = record e { notice = told e.notice }
 
   -- nothing is due any more, and all else is as it was
   pub record AllTold (old new : State T S) : Type 0 where
     pub rest : new ≡ record old { sends = new.sends; entries = new.entries }
     pub sends : (ticket : ℕ) → get new.sends ticket ≡ option_map told_send (get old.sends ticket)
-    pub entries : new.entries ≡ map told_entry old.entries
+    pub entries : new.entries ≡ map told_receiver old.entries

@@ -4,7 +4,7 @@ use Rattle.std.specs.Prelude.{List, ◌∷◌, []}
 use Rattle.flume_model.specs.declared.step.Kind.{Kind}
 use Rattle.flume_model.specs.Limits.{IsOpen, IsClosed, most}
 use Rattle.flume_model.specs.Entries.{entry_of, held_by, again}
-use Rattle.flume_state.specs.Receivers.{standing, looks, blocks, noticed, waits_on}
+use Rattle.flume_state.specs.Receivers.{standing, looks, blocks, noticed_receiver, waits_on}
 use Rattle.flume_state.specs.declared.entries.Standing.TheVariants.{BlockWaiting}
 use Rattle.flume_state.specs.State.{State}
 use Rattle.flume_state.specs.Effects.{fronted, taken, unparked, waiting_so, Begins, Departs}
@@ -47,7 +47,7 @@ module _ {T S : Type 0} where
         ⊎ ((looks (standing call old.entries) ≡ true)
         × ((fronted old).queue ≡ []) × IsOpen old.senders old.receivers))
     pub replaced : next ≡ Park call
-        → new ≡ waiting_so (again call (noticed (waits_on signal) call old.entries)) old
+        → new ≡ waiting_so (again call (noticed_receiver (waits_on signal) call old.entries)) old
     pub collected : (message : T) → held_by (entry_of call old.entries) ≡ Some message
         → (next ≡ Done (Ok message)) × (new ≡ unparked call old)
     pub got : (message : T) (rest : List T) → late ≡ false

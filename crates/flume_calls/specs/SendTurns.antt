@@ -21,7 +21,8 @@ module _ {T : Type 0} where
   IsFirst message (NeedSignal back) = back ≡ message
   IsFirst message (Park ticket) = ⊥
 
-  -- the turn that may park never needs a signal and is never too late; the same of a message
+  -- the turn that may park never needs a signal and is never too late; a message that comes back
+  -- is this one
   abbrev pub IsParking : T → SendNext T → Type 0
   IsParking message (NeedSignal back) = ⊥
   IsParking message (Park ticket) = Unit {0}

@@ -9,7 +9,7 @@ use Rattle.flume_calls.specs.declared.single.AskTruth.{AskTruth}
 use Rattle.flume_calls.specs.declared.single.AskTruth.TheVariants as truth
 
 module _ {T : Type 0} where
-  -- the step of its name
+  -- the step that a single turn makes: it has the turn's name
   abbrev pub step_of : Single → Step T
   step_of single.Drain = step.Drain
   step_of single.CloneSender = step.CloneSender
@@ -17,13 +17,13 @@ module _ {T : Type 0} where
   step_of single.DropSender = step.DropSender
   step_of single.DropReceiver = step.DropReceiver
 
-  -- the same of a query for a number
+  -- the step that asks for a number
   abbrev pub step_for_number : AskNumber → Step T
   step_for_number number.Len = step.Len
   step_for_number number.SenderCount = step.SenderCount
   step_for_number number.ReceiverCount = step.ReceiverCount
 
-  -- the same of a query for a truth
+  -- the step that asks for a truth
   abbrev pub step_for_truth : AskTruth → Step T
   step_for_truth truth.IsEmpty = step.IsEmpty
   step_for_truth truth.IsFull = step.IsFull

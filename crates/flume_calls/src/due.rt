@@ -1,7 +1,7 @@
 //! Telling those who are due.
 ghost use Rattle.std.specs.Prelude.{ℕ};
-ghost use Rattle.flume_state.specs.Sends.{NoneDue};
-ghost use Rattle.flume_state.specs.Receivers.{NoneDueIn};
+ghost use Rattle.flume_state.specs.Sends.{NoDueSend};
+ghost use Rattle.flume_state.specs.Receivers.{NoDueReceiver};
 ghost use Rattle.flume_core.specs.StandsFor.{Keeps};
 ghost use Rattle.flume_calls.specs.Due.{Rings, AllTold};
 
@@ -35,8 +35,8 @@ pub fn fire_due<T: Drop, S: Drop, A: Allocator + Copy, B: Bell<S>>(
     bell: &mut B,
 )
     ensures rings { Rings B.rings chan.old bell.old chan.new bell.new }
-    ensures sends { NoneDue chan.new.sends }
-    ensures receivers { NoneDueIn chan.new.entries }
+    ensures sends { NoDueSend chan.new.sends }
+    ensures receivers { NoDueReceiver chan.new.entries }
     ensures told { AllTold chan.old chan.new }
     ensures stands { Keeps A chan.old chan.new }
 {

@@ -1,8 +1,8 @@
 //! What stands behind a channel's lock.
 ghost use Rattle.std.specs.Prelude.{◌≡◌};
 ghost use Rattle.flume_model.specs.Log.{opens};
-ghost use Rattle.flume_state.specs.Sends.{NoneDue};
-ghost use Rattle.flume_state.specs.Receivers.{NoneDueIn};
+ghost use Rattle.flume_state.specs.Sends.{NoDueSend};
+ghost use Rattle.flume_state.specs.Receivers.{NoDueReceiver};
 ghost use Rattle.flume_state.specs.State.{State, opened};
 ghost use Rattle.flume_core.specs.StateFacts.{ChannelFacts};
 ghost use Rattle.flume_calls.specs.AtRest.{IsAtRest, IsCall};
@@ -58,8 +58,8 @@ impl<T: Drop, S: Drop, A: Allocator + Copy> Locked<T, S, A> {
     /// What holds of the channel whenever its lock is free. Does nothing.
     pub fn facts(&self)
         ensures facts { ChannelFacts self.now }
-        ensures no_send_is_due { NoneDue self.now.sends }
-        ensures no_receiver_is_due { NoneDueIn self.now.entries }
+        ensures no_send_is_due { NoDueSend self.now.sends }
+        ensures no_receiver_is_due { NoDueReceiver self.now.entries }
     {
         facts(&self.chan);
     }

@@ -20,7 +20,7 @@ use Rattle.flume_model.specs.Entries.{is_woken, is_filled, entry_of, again, leav
 use Rattle.flume_model.specs.Parked.{LogEntry, entries}
 use Rattle.flume_model.specs.Channel.{channel}
 use Rattle.flume_model.specs.WaitLaws.{is_block, block_woken}
-use Rattle.flume_state.specs.Receivers.{standing_of, standing, looks, blocks, noticed}
+use Rattle.flume_state.specs.Receivers.{standing_of, standing, looks, blocks, noticed_receiver}
 use Rattle.flume_model.specs.Entries.{held_by, held_in}
 use Rattle.flume_state.specs.State.{State, bare}
 use Rattle.flume_core.specs.StandsFor.{StandsFor}
@@ -113,7 +113,7 @@ module _ {T A S : Type 0} where
 
   -- one that blocks and waits, waits on
   pub poll_waits : (o : Opening) (log : Log T A) (s new : State T S) (t : ℕ) (f : Notice S → Notice S) → StandsFor o log s
-      → standing t s.entries ≡ Some BlockWaiting → new ≡ waiting_so (again t (noticed f t s.entries)) s
+      → standing t s.entries ≡ Some BlockWaiting → new ≡ waiting_so (again t (noticed_receiver f t s.entries)) s
       → StandsFor o ((Poll t, WaitsOn) ∷ log) new
   poll_waits o log s new t f h stands is =
       let at = one_found (entry_of t s.entries) BlockWaiting stands in
@@ -148,7 +148,7 @@ module _ {T A S : Type 0} where
   pub poll_waits_on : (o : Opening) (log : Log T A) (s new : State T S) (t : ℕ) (st : Standing) (f : Notice S → Notice S)
       → StandsFor o log s
       → standing t s.entries ≡ Some st → looks (Some st) ≡ true → (fronted s).queue ≡ [] → IsOpen s.senders s.receivers
-      → new ≡ waiting_so (again t (noticed f t s.entries)) s → StandsFor o ((Poll t, WaitsOn) ∷ log) new
+      → new ≡ waiting_so (again t (noticed_receiver f t s.entries)) s → StandsFor o ((Poll t, WaitsOn) ∷ log) new
   poll_waits_on o log s new t st f h stands looking none open_ is =
       let at = one_found (entry_of t s.entries) st stands in
       let look : looks (Some (standing_of at.0)) ≡ true = ap (λ x. looks (Some x)) at.2 ∙ looking in

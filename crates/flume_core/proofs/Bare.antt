@@ -12,7 +12,7 @@ use Rattle.flume_model.specs.Entries.{is_waiting, is_woken, some_wait, waiting_c
 use Rattle.flume_model.specs.Entries.{round_for_fills, all_woken, entry_of, held_by, without, again_as, again, passes_on}
 use Rattle.flume_model.specs.Entries.{after_leave, leave_fills}
 use Rattle.flume_model.specs.Parked.{untold}
-use Rattle.flume_state.specs.Receivers.{noticed}
+use Rattle.flume_state.specs.Receivers.{noticed_receiver}
 use Rattle.flume_state.specs.State.{bare}
 
 module _ {T N : Type 0} where
@@ -131,11 +131,11 @@ module _ {T N : Type 0} where
 
 module _ {T S : Type 0} where
   -- another notice
-  pub bare_noticed : (f : Notice S → Notice S) (t : ℕ) (es : List (Entry T (Notice S))) → map bare (noticed f t es) ≡ map bare es
+  pub bare_noticed : (f : Notice S → Notice S) (t : ℕ) (es : List (Entry T (Notice S))) → map bare (noticed_receiver f t es) ≡ map bare es
   bare_noticed f t [] = refl
   bare_noticed f t (e ∷ es) = by_case (eqb e.ticket t) refl (bare_noticed f t es)
     where
-      by_case : (b : Bool) → eqb e.ticket t ≡ b → map bare (noticed f t es) ≡ map bare es
-          → map bare (noticed f t (e ∷ es)) ≡ map bare (e ∷ es)
+      by_case : (b : Bool) → eqb e.ticket t ≡ b → map bare (noticed_receiver f t es) ≡ map bare es
+          → map bare (noticed_receiver f t (e ∷ es)) ≡ map bare (e ∷ es)
       by_case true same rest = simp same refl
       by_case false other rest = simp other (ap (λ l. bare e ∷ l) rest)

@@ -16,7 +16,7 @@ use Rattle.flume_model.specs.Entries.{entry_of, without, again, after_leave, lea
 use Rattle.flume_model.specs.Entries.{waiting_count}
 use Rattle.flume_model.specs.Parked.{LogEntry, entries}
 use Rattle.flume_state.specs.Notices.{due_now}
-use Rattle.flume_state.specs.Receivers.{begins, noticed}
+use Rattle.flume_state.specs.Receivers.{begins, noticed_receiver}
 use Rattle.flume_state.specs.State.{State, offers_of, bare}
 use Rattle.flume_core.specs.StandsFor.{StandsFor}
 use Rattle.flume_state.specs.Effects.{unparked, departed, waiting_so}
@@ -104,13 +104,13 @@ module _ {T A S : Type 0} where
   pub asks : (o : Opening) (past : Log T A) (p : Step T × Reply T A) (old new : State T S) (t : ℕ) (f : Notice S → Notice S)
       → StandsFor o past old
       → IsReply (channel o past) p.0 p.1 → change past p.0 p.1 ≡ Asks t
-      → new ≡ waiting_so (again t (noticed f t old.entries)) old → StandsFor o (p ∷ past) new
+      → new ≡ waiting_so (again t (noticed_receiver f t old.entries)) old → StandsFor o (p ∷ past) new
   asks o past p old new t f h reply e is =
       let fit = fits_as o past p (Asks t) h.run reply e in
-      let es = again t (noticed f t old.entries) in
+      let es = again t (noticed_receiver f t old.entries) in
       keeps_standing o past p (Asks t) old new old.sends es (max old.peak (waiting_count es)) old.next h reply e refl
       (over_same past p (Asks t) e refl ∙ entry_not_over o past t fit.0 h.run fit.1) is (λ q. refl)
-      (bare_again t (noticed f t old.entries) ∙ ap (again t) (bare_noticed f t old.entries)) refl (omega arith)
+      (bare_again t (noticed_receiver f t old.entries) ∙ ap (again t) (bare_noticed f t old.entries)) refl (omega arith)
 
   -- a filled receiver leaves with its message
   pub collects : (o : Opening) (past : Log T A) (p : Step T × Reply T A) (old new : State T S) (t : ℕ) → StandsFor o past old

@@ -20,7 +20,7 @@ use Rattle.flume_script.specs.Script.{IsCall, IsStepLine, kind_name}
 abbrev pub NoSpace : List ℕ → Type 0
 NoSpace bytes = All (λ x. eqb x 32 ≡ false) bytes
 
--- the same by recursion, which a tactic computes of a text that is written out
+-- no byte of the text is a space, by recursion, which a tactic computes of a text that is written out
 abbrev pub IsWord : List ℕ → Type 0
 IsWord text = AllByRecursion (λ x. eqb x 32 ≡ false) text
 
@@ -69,7 +69,7 @@ call_word _ = None
 abbrev pub IsCallOf : List ℕ → List ℕ → Option (List ℕ) → Type 0
 IsCallOf word later called = (Some word ≡ called) × IsNumeral 10 later × (digits_value 10 later < 2 ^ 64)
 
--- the same, or it is the word of a receiver, and after the space is the name of its kind
+-- a line in two words: the step's word and its number, or of a receiver its word and the name of its kind
 abbrev pub IsParted : List ℕ → List ℕ → Step ℕ → Type 0
 IsParted word later (Recv kind) = (word ≡ codes "recv") × (later ≡ kind_name kind)
 IsParted word later step = IsCallOf word later (call_word step)

@@ -6,7 +6,7 @@ use Rattle.std.specs.List.{All, position, remove, slice_get}
 use Rattle.std.proofs.lemmas.List.Quantifiers.{position-Some}
 use Rattle.std.proofs.lemmas.Option.{get_or_from_slice_get}
 use Rattle.flume_model.specs.Entries.{is_waiting, is_woken, waiting_count, some_wait, entry_of, without}
-use Rattle.flume_state.specs.Receivers.{Entries, noticed}
+use Rattle.flume_state.specs.Receivers.{Entries, noticed_receiver}
 use Rattle.flume_model.specs.declared.entry.Entry.{Entry}
 use Rattle.flume_model.specs.declared.entry.Mark.{Mark}
 use Rattle.flume_model.specs.declared.entry.Mark.TheVariants.{Waiting, Woken, Filled}
@@ -124,7 +124,7 @@ module _ {T N : Type 0} where
   without_found t (x ∷ xs) zero e at = rw at.1 refl
   without_found t (x ∷ xs) (suc i) e at = rw at.0 (ap (λ ys. x ∷ ys) (without_found t xs i e at.1))
 
-  -- the same where `position` found it
+  -- the entry that `position` found is the one of the ticket
   pub entry_first : (t : ℕ) (xs : List (Entry T N)) (i : ℕ) (e : Entry T N) → position (λ x. eqb x.ticket t) xs ≡ Some i
       → slice_get xs i ≡ Some e → entry_of t xs ≡ Some e
   entry_first t xs i e found is = entry_found t xs i e (first_at _ xs i e found is)
@@ -146,39 +146,39 @@ module _ {T N : Type 0} where
       let here : eqb x.ticket t ≡ false = fails 0 x (omega arith) in
       rw here (entry_other t xs (λ k d within. fails (suc k) d (omega (arith, within))))
 
-  -- to leave it out changes nothing there
+  -- to leave out a ticket that no entry has changes nothing
   without_other : (t : ℕ) (xs : List (Entry T N)) → All (λ x. eqb x.ticket t ≡ false) xs → xs ≡ without t xs
   without_other t [] fails = refl
   without_other t (x ∷ xs) fails =
       let here : eqb x.ticket t ≡ false = fails 0 x (omega arith) in
       rw here (ap (λ ys. x ∷ ys) (without_other t xs (λ k d within. fails (suc k) d (omega (arith, within)))))
 
-  -- the same where `position` finds none
+  -- where `position` finds none, no entry has the ticket
   pub entry_absent : (t : ℕ) (xs : List (Entry T N)) → position (λ x. eqb x.ticket t) xs ≡ None → entry_of t xs ≡ None
   entry_absent t xs none = entry_other t xs (fails_all _ xs none)
 
-  -- and to leave it out changes nothing
+  -- where `position` finds none, to leave the ticket out changes nothing
   pub without_absent : (t : ℕ) (xs : List (Entry T N)) → position (λ x. eqb x.ticket t) xs ≡ None → xs ≡ without t xs
   without_absent t xs none = without_other t xs (fails_all _ xs none)
 
 module _ {T S : Type 0} where
   -- the notice of the ticket's entry is changed in its place
   pub noticed_found : (f : Notice S → Notice S) (t : ℕ) (xs : Entries T S) (i : ℕ) (e : Entry T (Notice S))
-      → FirstAt (λ x. eqb x.ticket t) xs i e → set xs i (record e { notice = f e.notice }) ≡ noticed f t xs
+      → FirstAt (λ x. eqb x.ticket t) xs i e → set xs i (record e { notice = f e.notice }) ≡ noticed_receiver f t xs
   noticed_found f t [] i e at = absurd at
   noticed_found f t (x ∷ xs) zero e at = rw at.1 (rw at.0 refl)
   noticed_found f t (x ∷ xs) (suc i) e at = rw at.0 (ap (λ ys. x ∷ ys) (noticed_found f t xs i e at.1))
 
-  -- and where no entry has the ticket, none is changed
-  noticed_other : (f : Notice S → Notice S) (t : ℕ) (xs : Entries T S) → All (λ x. eqb x.ticket t ≡ false) xs → xs ≡ noticed f t xs
+  -- where no entry has the ticket, none is changed
+  noticed_other : (f : Notice S → Notice S) (t : ℕ) (xs : Entries T S) → All (λ x. eqb x.ticket t ≡ false) xs → xs ≡ noticed_receiver f t xs
   noticed_other f t [] fails = refl
   noticed_other f t (x ∷ xs) fails =
       let here : eqb x.ticket t ≡ false = fails 0 x (omega arith) in
       rw here (ap (λ ys. x ∷ ys) (noticed_other f t xs (λ k d within. fails (suc k) d (omega (arith, within)))))
 
-  -- the same where `position` finds none
+  -- where `position` finds none, no notice is changed
   pub noticed_absent : (f : Notice S → Notice S) (t : ℕ) (xs : Entries T S) → position (λ x. eqb x.ticket t) xs ≡ None
-      → xs ≡ noticed f t xs
+      → xs ≡ noticed_receiver f t xs
   noticed_absent f t xs none = noticed_other f t xs (fails_all _ xs none)
 
   -- one whose notice is changed in its place

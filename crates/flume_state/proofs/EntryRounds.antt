@@ -171,7 +171,7 @@ module _ {T N : Type 0} where
         rw is (length-set old i x),
       )
 
-  -- the same of the round that wakes all
+  -- past the last place, the round that wakes all has nobody left
   pub all_over : (tell : N → N) (xs : List (Entry T N)) (i : ℕ) → length xs ≤ i → take i xs ++ all_woken tell (drop i xs) ≡ xs
   all_over tell xs i past = rw (drop_all i xs past, take_all i xs past) (append-nil xs)
 

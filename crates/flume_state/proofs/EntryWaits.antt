@@ -5,7 +5,7 @@ use Rattle.std.specs.List.{position, remove, slice_get}
 use Rattle.std.proofs.lemmas.List.Quantifiers.{position-Some}
 use Rattle.std.proofs.lemmas.Option.{slice_get-get_or}
 use Rattle.flume_model.specs.Entries.{again, is_woken}
-use Rattle.flume_state.specs.Receivers.{Entries, noticed}
+use Rattle.flume_state.specs.Receivers.{Entries, noticed_receiver}
 use Rattle.flume_model.specs.declared.entry.Entry.{Entry}
 use Rattle.flume_model.specs.declared.entry.Mark.TheVariants.{Waiting}
 use Rattle.flume_state.specs.declared.notice.Notice.{Notice}
@@ -46,14 +46,14 @@ module _ {T N : Type 0} where
 module _ {T S : Type 0} where
   -- nobody has the ticket
   pub waits_absent : (f : Notice S → Notice S) (t : ℕ) (xs : Entries T S) → position (λ x. eqb x.ticket t) xs ≡ None
-      → xs ≡ again t (noticed f t xs)
+      → xs ≡ again t (noticed_receiver f t xs)
   waits_absent f t xs none = rw (← noticed_absent f t xs none) (rw (entry_absent t xs none) refl)
 
   -- the entry that has it is told, and waits again behind all others where it stood woken
   pub waits_woken : (f : Notice S → Notice S) (t : ℕ) (xs mid new : Entries T S) (i : ℕ) (e : Entry T (Notice S))
       → position (λ x. eqb x.ticket t) xs ≡ Some i → slice_get xs i ≡ Some e → is_woken e.mark ≡ true
       → mid ≡ set xs i (record e { notice = f e.notice })
-      → new ≡ remove mid i ++ record (record e { notice = f e.notice }) { mark = Waiting } ∷ [] → new ≡ again t (noticed f t xs)
+      → new ≡ remove mid i ++ record (record e { notice = f e.notice }) { mark = Waiting } ∷ [] → new ≡ again t (noticed_receiver f t xs)
   waits_woken f t xs mid new i e found at woken is moved =
       let p = λ (x : Entry T (Notice S)). eqb x.ticket t in
       let x = record e { notice = f e.notice } in
@@ -64,7 +64,7 @@ module _ {T S : Type 0} where
   -- or keeps its place
   pub waits_other : (f : Notice S → Notice S) (t : ℕ) (xs mid : Entries T S) (i : ℕ) (e : Entry T (Notice S))
       → position (λ x. eqb x.ticket t) xs ≡ Some i → slice_get xs i ≡ Some e → is_woken e.mark ≡ false
-      → mid ≡ set xs i (record e { notice = f e.notice }) → mid ≡ again t (noticed f t xs)
+      → mid ≡ set xs i (record e { notice = f e.notice }) → mid ≡ again t (noticed_receiver f t xs)
   waits_other f t xs mid i e found at other is =
       let p = λ (x : Entry T (Notice S)). eqb x.ticket t in
       let x = record e { notice = f e.notice } in

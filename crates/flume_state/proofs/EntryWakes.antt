@@ -45,7 +45,7 @@ module _ {T N : Type 0} where
     pub fills : round_fills (drop i now) ≡ round_fills initial
     pub as_long : length now ≡ n
 
-  -- the same with the line, which has this front, and stays
+  -- up to a place, with a line that has this front and stays: the entries are as `Reached` says
   pub record Wakes (tell : N → N) (initial now : List (Entry T N)) (line line_now : Messages T) (i n : ℕ) : Type 0 where
     pub front : T
     pub rest : List T
@@ -65,7 +65,7 @@ module _ {T N : Type 0} where
         queue = rw is (rw (round_fills_idle xs none) refl);
       }
 
-  -- the same where nothing is queued
+  -- nothing is done where nothing is queued
   pub idle_by_queue : (tell : N → N) (xs : List (Entry T N)) (line : Messages T) → length line.queued ≡ 0 → Woke tell xs line None xs line
   idle_by_queue tell xs line none = by_queue line.queued refl
     where
@@ -152,7 +152,7 @@ module _ {T N : Type 0} where
     queue = rw queue (rw (← fills) takes);
   }
 
-  -- the same of a round that ended at this place
+  -- a round that ended at this place, and filled nobody
   ended_none : (tell : N → N) (initial old new : List (Entry T N)) (line line_now : Messages T) (i n : ℕ)
       (w : Wakes tell initial old line line_now i n) → EndsAt tell w.front old new i None → Woke tell initial line None new line_now
   ended_none tell initial old new line line_now i n w e =

@@ -9,7 +9,7 @@ use Rattle.std.specs.Map.{lookup}
 use Rattle.std.specs.Option.{is_some}
 use Rattle.std.specs.Ordering.{nat_cmp, eq_by_cmp}
 use Rattle.flume_state.specs.declared.sends.LiveSend.{LiveSend}
-use Rattle.flume_state.specs.Sends.{SendMap, changed, due_in, NoneDue}
+use Rattle.flume_state.specs.Sends.{SendMap, changed, send_due_in, NoDueSend}
 use Rattle.flume_state.proofs.SendsLaws.{same, changed_some, changed_none}
 
 -- the finite map of some entries
@@ -61,64 +61,64 @@ module _ {X : Type 0} where
       ap (λ t. seen t.entries) h ∙ is ∙ sym (changed_none s k f (get_of_tree m s is k ∙ sym e))
 
 -- no send is due in the empty map
-none_due_empty : (S : Type 0) → NoneDue {S = S} empty
-none_due_empty S t = ap due_in (get-empty nat_cmp t)
+no_due_send_empty : (S : Type 0) → NoDueSend {S = S} empty
+no_due_send_empty S t = ap send_due_in (get-empty nat_cmp t)
 
 module _ {S : Type 0} where
-  due_in_either : (b : Bool) (x y : Option (LiveSend S)) → due_in x ≡ false → due_in y ≡ false → due_in (cond b x y) ≡ false
+  due_in_either : (b : Bool) (x y : Option (LiveSend S)) → send_due_in x ≡ false → send_due_in y ≡ false → send_due_in (cond b x y) ≡ false
   due_in_either true x y h k = h
   due_in_either false x y h k = k
 
   -- nor after one that is not due was put in
-  pub none_due_insert : (m : SendMap S) (k : ℕ) (s : LiveSend S) → NoneDue m → s.notice.due ≡ false → NoneDue (insert m k s)
-  none_due_insert m k s h e t =
-      ap due_in (get-insert nat_cmp_total m k s t) ∙ due_in_either (eq_by_cmp nat_cmp t k) (Some s) (get m t) e (h t)
+  pub no_due_send_insert : (m : SendMap S) (k : ℕ) (s : LiveSend S) → NoDueSend m → s.notice.due ≡ false → NoDueSend (insert m k s)
+  no_due_send_insert m k s h e t =
+      ap send_due_in (get-insert nat_cmp_total m k s t) ∙ due_in_either (eq_by_cmp nat_cmp t k) (Some s) (get m t) e (h t)
 
   -- nor after one was taken out
-  pub none_due_remove : (m : SendMap S) (k : ℕ) → NoneDue m → NoneDue (remove m k)
-  none_due_remove m k h t =
-      ap due_in (get-remove nat_cmp_total m k t) ∙ due_in_either (eq_by_cmp nat_cmp t k) None (get m t) refl (h t)
+  pub no_due_send_remove : (m : SendMap S) (k : ℕ) → NoDueSend m → NoDueSend (remove m k)
+  no_due_send_remove m k h t =
+      ap send_due_in (get-remove nat_cmp_total m k t) ∙ due_in_either (eq_by_cmp nat_cmp t k) None (get m t) refl (h t)
 
   -- nor after a change that keeps what is not due so
-  pub none_due_changed : (m : SendMap S) (k : ℕ) (f : LiveSend S → LiveSend S) → NoneDue m
-      → ((s : LiveSend S) → s.notice.due ≡ false → (f s).notice.due ≡ false) → NoneDue (changed m k f)
-  none_due_changed m k f h keeps =
-      elim (get m k) as (λ o. get m k ≡ o → NoneDue (changed m k f)) [
-        | None ↦ λ e. subst NoneDue (sym (changed_none m k f e)) h
+  pub no_due_send_changed : (m : SendMap S) (k : ℕ) (f : LiveSend S → LiveSend S) → NoDueSend m
+      → ((s : LiveSend S) → s.notice.due ≡ false → (f s).notice.due ≡ false) → NoDueSend (changed m k f)
+  no_due_send_changed m k f h keeps =
+      elim (get m k) as (λ o. get m k ≡ o → NoDueSend (changed m k f)) [
+        | None ↦ λ e. subst NoDueSend (sym (changed_none m k f e)) h
         | Some s ↦ λ e.
-            subst NoneDue (sym (changed_some m k f s e)) (none_due_insert m k (f s) h (keeps s (ap due_in (sym e) ∙ h k)))
+            subst NoDueSend (sym (changed_some m k f s e)) (no_due_send_insert m k (f s) h (keeps s (ap send_due_in (sym e) ∙ h k)))
       ] refl
 
   -- no send is due in a list with no entries
-  pub none_due_nil : (es : List (ℕ × LiveSend S)) → es ≡ [] → NoneDue (seen es)
-  none_due_nil es e = subst (λ (fs : List (ℕ × LiveSend S)). NoneDue (seen fs)) (sym e) (none_due_empty S)
+  pub no_due_send_nil : (es : List (ℕ × LiveSend S)) → es ≡ [] → NoDueSend (seen es)
+  no_due_send_nil es e = subst (λ (fs : List (ℕ × LiveSend S)). NoDueSend (seen fs)) (sym e) (no_due_send_empty S)
 
   -- nor in a list whose first send and others are not due
-  pub none_due_cons : (es fs : List (ℕ × LiveSend S)) (k : ℕ) (s : LiveSend S) → es ≡ (k, s) ∷ fs
-      → NoneDue (seen fs) → s.notice.due ≡ false → NoneDue (seen es)
-  none_due_cons es fs k s e h not_due =
-      subst (λ (xs : List (ℕ × LiveSend S)). NoneDue (seen xs)) (sym e) (none_due_insert _ k s h not_due)
+  pub no_due_send_cons : (es fs : List (ℕ × LiveSend S)) (k : ℕ) (s : LiveSend S) → es ≡ (k, s) ∷ fs
+      → NoDueSend (seen fs) → s.notice.due ≡ false → NoDueSend (seen es)
+  no_due_send_cons es fs k s e h not_due =
+      subst (λ (xs : List (ℕ × LiveSend S)). NoDueSend (seen xs)) (sym e) (no_due_send_insert _ k s h not_due)
 
   -- nor in a tree into which one that is not due was inserted
-  pub none_due_inserted : (m n : BTreeMap ℕ (LiveSend S)) (k : ℕ) (s : LiveSend S) → NoneDue (seen m.entries)
-      → s.notice.due ≡ false → tree.Updates nat_cmp m n k (Some s) → NoneDue (seen n.entries)
-  none_due_inserted m n k s h e u = subst NoneDue (sym (inserted m n _ k s refl u)) (none_due_insert _ k s h e)
+  pub no_due_send_inserted : (m n : BTreeMap ℕ (LiveSend S)) (k : ℕ) (s : LiveSend S) → NoDueSend (seen m.entries)
+      → s.notice.due ≡ false → tree.Updates nat_cmp m n k (Some s) → NoDueSend (seen n.entries)
+  no_due_send_inserted m n k s h e u = subst NoDueSend (sym (inserted m n _ k s refl u)) (no_due_send_insert _ k s h e)
 
   -- nor in a tree from which one was removed
-  pub none_due_removed : (m n : BTreeMap ℕ (LiveSend S)) (k : ℕ) → NoneDue (seen m.entries)
-      → tree.Updates nat_cmp m n k None → NoneDue (seen n.entries)
-  none_due_removed m n k h u = subst NoneDue (sym (removed m n _ k refl u)) (none_due_remove _ k h)
+  pub no_due_send_removed : (m n : BTreeMap ℕ (LiveSend S)) (k : ℕ) → NoDueSend (seen m.entries)
+      → tree.Updates nat_cmp m n k None → NoDueSend (seen n.entries)
+  no_due_send_removed m n k h u = subst NoDueSend (sym (removed m n _ k refl u)) (no_due_send_remove _ k h)
 
   -- nor in a tree through which f of a send was written, where f keeps what is not due so
-  pub none_due_written : (m : BTreeMap ℕ (LiveSend S)) (lender : LiveSend S → BTreeMap ℕ (LiveSend S)) (k : ℕ)
-      (f : LiveSend S → LiveSend S) (x : LiveSend S) → NoneDue (seen m.entries) → Some x ≡ tree.get nat_cmp m k
+  pub no_due_send_written : (m : BTreeMap ℕ (LiveSend S)) (lender : LiveSend S → BTreeMap ℕ (LiveSend S)) (k : ℕ)
+      (f : LiveSend S → LiveSend S) (x : LiveSend S) → NoDueSend (seen m.entries) → Some x ≡ tree.get nat_cmp m k
       → ((w : LiveSend S) → tree.WritesThrough nat_cmp (nat_cmp k) m w (lender w))
-      → ((s : LiveSend S) → s.notice.due ≡ false → (f s).notice.due ≡ false) → NoneDue (seen (lender (f x)).entries)
-  none_due_written m lender k f x h e w keeps =
-      subst NoneDue (sym (written m lender _ k f x refl e w)) (none_due_changed _ k f h keeps)
+      → ((s : LiveSend S) → s.notice.due ≡ false → (f s).notice.due ≡ false) → NoDueSend (seen (lender (f x)).entries)
+  no_due_send_written m lender k f x h e w keeps =
+      subst NoDueSend (sym (written m lender _ k f x refl e w)) (no_due_send_changed _ k f h keeps)
 
 -- what `block` needs
-pub ruleset inserts = (inserted, none_due_inserted)
+pub ruleset inserts = (inserted, no_due_send_inserted)
 
 -- what `spend` needs
-pub ruleset removes = (removed, none_due_removed)
+pub ruleset removes = (removed, no_due_send_removed)

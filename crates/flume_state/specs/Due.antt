@@ -11,7 +11,7 @@ use Rattle.flume_model.specs.Limits.{is_closed}
 use Rattle.flume_model.specs.Entries.{is_waiting, entry_of}
 use Rattle.flume_state.specs.declared.notice.Notice.{Notice}
 use Rattle.flume_state.specs.declared.sends.LiveSend.{LiveSend}
-use Rattle.flume_state.specs.Sends.{due_in}
+use Rattle.flume_state.specs.Sends.{send_due_in}
 use Rattle.flume_state.specs.State.{State}
 
 module _ {T A : Type 0} where
@@ -26,7 +26,7 @@ module _ {S : Type 0} where
   blocked_in None = false
   blocked_in (Some send) = not send.accepted
 
-  -- its message was accepted
+  -- the message of the live send that may be there was accepted
   abbrev pub accepted_in : Option (LiveSend S) → Bool
   accepted_in None = false
   accepted_in (Some send) = send.accepted
@@ -35,8 +35,8 @@ module _ {S : Type 0} where
   -- was due before, or was accepted meanwhile, or was blocked as the channel was closed.
   abbrev pub SendDue : Bool → Option (LiveSend S) → Option (LiveSend S) → Type 0
   SendDue closed old new =
-      due_in new
-      ≡ (is_some new && (due_in old || (blocked_in old && accepted_in new)
+      send_due_in new
+      ≡ (is_some new && (send_due_in old || (blocked_in old && accepted_in new)
       || (closed && blocked_in old)))
 
 module _ {T S : Type 0} where
@@ -45,10 +45,10 @@ module _ {T S : Type 0} where
   waits_in None = false
   waits_in (Some e) = is_waiting e.mark
 
-  -- it is due
-  abbrev pub entry_due_in : Option (Entry T (Notice S)) → Bool
-  entry_due_in None = false
-  entry_due_in (Some e) = e.notice.due
+  -- the parked receiver that may be there is due
+  abbrev pub receiver_due_in : Option (Entry T (Notice S)) → Bool
+  receiver_due_in None = false
+  receiver_due_in (Some e) = e.notice.due
 
   -- between these states the channel was closed
   abbrev pub closed_between : State T S → State T S → Bool
@@ -56,11 +56,11 @@ module _ {T S : Type 0} where
       not (is_closed old.senders old.receivers) && is_closed new.senders new.receivers
 
   -- Given whether it waits on or again, and the receiver as it was and as it is: it is due exactly
-  -- where it is parked, doesn't so, and was due before, or was woken or filled meanwhile.
+  -- where it is parked, doesn't wait so, and was due before, or was woken or filled meanwhile.
   abbrev pub ReceiverDue : Bool → Option (Entry T (Notice S)) → Option (Entry T (Notice S)) → Type 0
   ReceiverDue waits old new =
-      entry_due_in new
-      ≡ (is_some new && not waits && (entry_due_in old || (waits_in old && not (waits_in new))))
+      receiver_due_in new
+      ≡ (is_some new && not waits && (receiver_due_in old || (waits_in old && not (waits_in new))))
 
   -- After the step a ticket is due exactly where it is live, doesn't wait on or again by the step,
   -- and was due before, or was accepted, woken or filled by it, or was blocked as it closed the

@@ -1,4 +1,4 @@
--- What the contracts of the parked receivers cite: their signals, and who is to be told.
+-- What the contracts of the parked receivers cite: how they stand, their notices, and who is due.
 use Rattle.std.specs.Prelude.{◌≡◌, ◌==◌, ℕ, Bool, true, false, if◌then◌else◌, List, [], ◌∷◌, ◌++◌}
 use Rattle.std.specs.Prelude.{Option, Some, None}
 use Rattle.std.specs.List.{All}
@@ -71,10 +71,11 @@ module _ {T S : Type 0} where
   }
 
   -- the entries with the notice of a ticket changed
-  abbrev pub noticed : (Notice S → Notice S) → ℕ → Entries T S → Entries T S
-  noticed f t [] = []
-  noticed f t (e ∷ entries) =
-      if e.ticket == t then record e { notice = f e.notice } ∷ entries else e ∷ noticed f t entries
+  abbrev pub noticed_receiver : (Notice S → Notice S) → ℕ → Entries T S → Entries T S
+  noticed_receiver f t [] = []
+  noticed_receiver f t (e ∷ entries) =
+      if e.ticket == t then record e { notice = f e.notice } ∷ entries
+      else e ∷ noticed_receiver f t entries
 
   -- how an entry stands
   abbrev pub standing_of : Entry T (Notice S) → Standing
@@ -84,9 +85,9 @@ module _ {T S : Type 0} where
   abbrev pub standing : ℕ → Entries T S → Option Standing
   standing t entries = option_map standing_of (entry_of t entries)
 
-  -- no receiver is due
-  abbrev pub NoneDueIn : Entries T S → Type 0
-  NoneDueIn entries = All (λ e. e.notice.due ≡ false) entries
+  -- no parked receiver is due
+  abbrev pub NoDueReceiver : Entries T S → Type 0
+  NoDueReceiver entries = All (λ e. e.notice.due ≡ false) entries
 
   -- one that was due, under this ticket, is due no more
   pub record Tells (old new : Entries T S) (ticket : ℕ) : Type 0 where

@@ -18,7 +18,7 @@ live_send_code {S} c =
     (λ s. (s.accepted, (s.notice.signal, s.notice.due)))
     (λ p. record { accepted = p.0; notice = record { signal = p.1.0; due = p.1.1 } }) (λ _. refl)
 
--- and the map of them as a list of pairs of a ticket and a live send
+-- the map of live sends is stored as a list of pairs of a ticket and a live send
 abbrev pub send_map_code : {S : Type 0} → Coded S → Coded (SendMap S)
 send_map_code c = code coded_ℕ (live_send_code c)
 
@@ -47,15 +47,15 @@ changed m k f = put_changed m k f (get m k)
 abbrev pub noticed_send : {S : Type 0} → (Notice S → Notice S) → ℕ → SendMap S → SendMap S
 noticed_send f t sends = changed sends t (with_notice f)
 
--- whether there is a send and it is due
-abbrev pub due_in : {S : Type 0} → Option (LiveSend S) → Bool
-due_in None = false
-due_in (Some s) = s.notice.due
+-- the live send that may be there is due
+abbrev pub send_due_in : {S : Type 0} → Option (LiveSend S) → Bool
+send_due_in None = false
+send_due_in (Some s) = s.notice.due
 
--- whether the ticket is live and due
-abbrev pub is_due : {S : Type 0} → SendMap S → ℕ → Bool
-is_due m t = due_in (get m t)
+-- the ticket is one of a live send, which is due
+abbrev pub is_due_send : {S : Type 0} → SendMap S → ℕ → Bool
+is_due_send m t = send_due_in (get m t)
 
--- no live ticket is due
-abbrev pub NoneDue : {S : Type 0} → SendMap S → Type 0
-NoneDue m = (t : ℕ) → is_due m t ≡ false
+-- no live send is due
+abbrev pub NoDueSend : {S : Type 0} → SendMap S → Type 0
+NoDueSend m = (t : ℕ) → is_due_send m t ≡ false

@@ -6,8 +6,9 @@ ghost use Rattle.std.specs.List.{position, remove};
 ghost use Rattle.flume_model.specs.Entries.{is_woken, some_wait, waiting_count, entry_of, held_by};
 ghost use Rattle.flume_model.specs.Entries.{without, again};
 ghost use Rattle.flume_model.specs.declared.entry.Mark.TheVariants.{Waiting, Woken, Filled};
-ghost use Rattle.flume_state.specs.Receivers.{begins, waits_on, noticed, standing_as, standing_of};
-ghost use Rattle.flume_state.specs.Receivers.{NoneDueIn};
+ghost use Rattle.flume_state.specs.Receivers.{begins, waits_on, noticed_receiver};
+ghost use Rattle.flume_state.specs.Receivers.{standing_as, standing_of};
+ghost use Rattle.flume_state.specs.Receivers.{NoDueReceiver};
 
 mod wakes;
 
@@ -65,14 +66,14 @@ impl Standing {
 impl<T, S, A: Allocator> Model for Entries<T, S, A> {
     ghost use Rattle.std.specs.Prelude.{◌≡◌, false};
     ghost use Rattle.flume_model.specs.Entries.{waiting_count};
-    ghost use Rattle.flume_state.specs.Receivers.{Entries as EntryList, NoneDueIn};
+    ghost use Rattle.flume_state.specs.Receivers.{Entries as EntryList, NoDueReceiver};
 
     ghost Value = { EntryList T S };
 
     ghost view = { λ s. s.entries.items };
 
     ghost invariant = { λ s. (s.waiting ≡ waiting_count s.entries.items)
-        × (s.some_due ≡ false → NoneDueIn s.entries.items) };
+        × (s.some_due ≡ false → NoDueReceiver s.entries.items) };
 }
 
 impl<T: Drop, S: Drop, A: Allocator + Copy> Entries<T, S, A> {
@@ -183,7 +184,8 @@ impl<T: Drop, S: Drop, A: Allocator + Copy> Entries<T, S, A> {
     /// is due no more; a signal given here replaces the one that it left. A filled one keeps its
     /// message. Nothing changes where nobody is parked under it. Takes no memory.
     pub fn wait_on(&mut self, ticket: u64, signal: Option<S>)
-        ensures waits { self.new ≡ again ticket (noticed (waits_on signal) ticket self.old) }
+        ensures waits { self.new
+            ≡ again ticket (noticed_receiver (waits_on signal) ticket self.old) }
     {
         let Some(place) = self.place_of(ticket) else {
             return;

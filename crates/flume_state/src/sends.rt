@@ -3,8 +3,8 @@ ghost use Rattle.std.specs.Prelude.{◌≡◌, ℕ, true, false, OnOk, OnErr, If
 ghost use Rattle.std.specs.Option.{option_map, option_copied};
 ghost use Rattle.std.specs.FinMap.{empty, get, insert, remove};
 ghost use Rattle.flume_state.specs.Notices.{due_now, told, resignalled};
-ghost use Rattle.flume_state.specs.Sends.{blocked, accepted_now, changed, noticed_send, is_due};
-ghost use Rattle.flume_state.specs.Sends.{NoneDue};
+ghost use Rattle.flume_state.specs.Sends.{blocked, accepted_now, changed, noticed_send};
+ghost use Rattle.flume_state.specs.Sends.{is_due_send, NoDueSend};
 
 use crate::notice::Notice;
 use std::alloc::{AllocError, Allocator};
@@ -31,7 +31,7 @@ pub struct Sends<S, A: Allocator> {
 impl<S, A: Allocator> Model for Sends<S, A> {
     ghost use Rattle.std.specs.Prelude.{◌≡◌, false};
     ghost use Rattle.std.specs.FinMap.{from_entries};
-    ghost use Rattle.flume_state.specs.Sends.{SendMap, send_map_code, NoneDue};
+    ghost use Rattle.flume_state.specs.Sends.{SendMap, send_map_code, NoDueSend};
 
     ghost Value = { SendMap S };
 
@@ -39,7 +39,7 @@ impl<S, A: Allocator> Model for Sends<S, A> {
 
     ghost view = { λ a. from_entries a.table.entries };
 
-    ghost invariant = { λ a. a.some_due ≡ false → NoneDue (from_entries a.table.entries) };
+    ghost invariant = { λ a. a.some_due ≡ false → NoDueSend (from_entries a.table.entries) };
 }
 
 impl<S: Drop, A: Allocator + Clone> Sends<S, A> {
@@ -53,7 +53,7 @@ impl<S: Drop, A: Allocator + Clone> Sends<S, A> {
     /// sends.accepted(7);                 // Some(true)
     /// sends.next_due();                  // Some(7)
     /// ```
-    #[tactic(auto, using(crate::proofs::SendsLemmas::none_due_nil))]
+    #[tactic(auto, using(crate::proofs::SendsLemmas::no_due_send_nil))]
     pub fn new(alloc: A) -> Self
         ensures empty { result ≡ empty }
     {
@@ -153,7 +153,7 @@ impl<S: Drop, A: Allocator + Clone> Sends<S, A> {
     /// Whether some ticket may be due. It reads a flag, whatever the length.
     #[inline(always)]
     pub fn may_be_due(&self) -> bool
-        ensures none { result ≡ false → NoneDue self.now }
+        ensures none { result ≡ false → NoDueSend self.now }
     {
         self.some_due
     }
@@ -162,9 +162,9 @@ impl<S: Drop, A: Allocator + Clone> Sends<S, A> {
     /// then nothing changes. It doesn't look through the tickets again until one is made due. Takes
     /// no memory.
     pub fn next_due(&mut self) -> Option<u64>
-        ensures was_due { IfSome result (λ t. is_due self.old t ≡ true) }
+        ensures was_due { IfSome result (λ t. is_due_send self.old t ≡ true) }
         ensures taken { IfSome result (λ t. self.new ≡ noticed_send told t self.old) }
-        ensures none_due { IfNone result (NoneDue self.old) }
+        ensures none_due { IfNone result (NoDueSend self.old) }
         ensures unchanged { IfNone result (self.new ≡ self.old) }
     {
         if !self.some_due {
@@ -182,8 +182,8 @@ impl<S: Drop, A: Allocator + Clone> Sends<S, A> {
 
     // Reads the table, so the time grows with it.
     fn first_due(&self) -> Option<u64>
-        ensures due { IfSome result (λ t. is_due self.now t ≡ true) }
-        ensures none_due { IfNone result (NoneDue self.now) }
+        ensures due { IfSome result (λ t. is_due_send self.now t ≡ true) }
+        ensures none_due { IfNone result (NoDueSend self.now) }
     {
         for (&ticket, send) in &self.table {
             if send.notice.due {
@@ -194,7 +194,7 @@ impl<S: Drop, A: Allocator + Clone> Sends<S, A> {
     }
 
     /// Every ticket is live no more. Takes no memory.
-    #[tactic(auto, using(crate::proofs::SendsLemmas::none_due_nil))]
+    #[tactic(auto, using(crate::proofs::SendsLemmas::no_due_send_nil))]
     pub fn clear(&mut self)
         ensures empty { self.new ≡ empty }
     {

@@ -15,10 +15,10 @@ use Rattle.flume_model.specs.Entries.{again, entry_of, passes_on, without}
 use Rattle.flume_state.specs.Messages.{Blocked}
 use Rattle.flume_state.specs.Notices.{due_now, resignalled}
 use Rattle.flume_state.specs.Sends.{blocked, noticed_send, with_notice}
-use Rattle.flume_state.specs.Receivers.{Entries, begins, noticed, waits_on}
+use Rattle.flume_state.specs.Receivers.{Entries, begins, noticed_receiver, waits_on}
 use Rattle.flume_state.specs.State.{State}
 use Rattle.flume_state.specs.Effects.{Returns, after_leaving, departed, rounded, taken, unparked, waiting_so, filled_up}
-use Rattle.flume_state.specs.Due.{BecomesDue, SendDue, ReceiverDue, blocked_in, closed_between, entry_due_in, waits_by}
+use Rattle.flume_state.specs.Due.{BecomesDue, SendDue, ReceiverDue, blocked_in, closed_between, receiver_due_in, waits_by}
 use Rattle.flume_core.specs.StandsFor.{IsLedTo, IsRefusal}
 use Rattle.flume_core.proofs.dues.OneTicket.{send_kept, send_closed, receiver_kept, receiver_waits}
 use Rattle.flume_core.proofs.dues.SendsDue.{accepts_due, all_due_at}
@@ -151,7 +151,7 @@ module _ {T S A : Type 0} where
 
   -- a parked receiver waits on, or again
   pub waits : (old new : State T S) (t : ℕ) (given : Option S) → IsLedTo A old
-      → new ≡ waiting_so (again t (noticed (waits_on given) t old.entries)) old → BecomesDue {A = A} old (Poll t) Waiting new
+      → new ≡ waiting_so (again t (noticed_receiver (waits_on given) t old.entries)) old → BecomesDue {A = A} old (Poll t) Waiting new
   waits old new t given led is = subst (λ s. BecomesDue {A = A} old (Poll t) Waiting s) (sym is) record {
     sends = λ u.
         subst (λ c. SendDue c (get old.sends u) (get old.sends u)) (sym (not_closed (is_closed old.senders old.receivers)))
@@ -160,7 +160,7 @@ module _ {T S A : Type 0} where
   }
     where
       asked : Entries T S
-      asked = noticed (waits_on given) t old.entries
+      asked = noticed_receiver (waits_on given) t old.entries
 
       by_case : (u : ℕ) (b : Bool) → eqb t u ≡ b → ReceiverDue (eqb t u) (entry_of u old.entries) (entry_of u (again t asked))
       by_case u true e =
@@ -168,7 +168,7 @@ module _ {T S A : Type 0} where
           let idle = again_idle t asked alone (noticed_idle (waits_on given) (λ n. refl) t old.entries) in
           subst (λ w. ReceiverDue w (entry_of u old.entries) (entry_of u (again t asked))) (sym e)
           (receiver_waits (entry_of u old.entries) (entry_of u (again t asked))
-          (subst (λ k. entry_due_in (entry_of k (again t asked)) ≡ false) (eqb-true t u e) idle))
+          (subst (λ k. receiver_due_in (entry_of k (again t asked)) ≡ false) (eqb-true t u e) idle))
       by_case u false e =
           let same = entry_again u t asked e ∙ entry_noticed (waits_on given) u t old.entries e in
           subst (λ w. ReceiverDue w (entry_of u old.entries) (entry_of u (again t asked))) (sym e)

@@ -44,7 +44,7 @@ module _ {T S : Type 0} where
         still_blocked = λ k d within. all (suc k) d (omega (arith, within));
       }
 
-  -- the same if one is blocked
+  -- the first blocked message is moved in, if one is blocked
   moves_admitted : (old s : State T S) → MovesIn old s → MovesIn old (admitted s)
   moves_admitted old s h = by_list s.blocked refl
     where

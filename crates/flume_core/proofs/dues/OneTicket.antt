@@ -8,7 +8,7 @@ use Rattle.flume_state.specs.declared.notice.Notice.{Notice}
 use Rattle.flume_state.specs.declared.sends.LiveSend.{LiveSend}
 use Rattle.flume_state.specs.Notices.{due_now, resignalled}
 use Rattle.flume_state.specs.Sends.{blocked, accepted_now, with_notice}
-use Rattle.flume_state.specs.Due.{SendDue, ReceiverDue, blocked_in, entry_due_in}
+use Rattle.flume_state.specs.Due.{SendDue, ReceiverDue, blocked_in, receiver_due_in}
 
 -- nothing became of a send
 kept_bits : (a d : Bool) → d ≡ (d || (not a && a) || false)
@@ -90,6 +90,6 @@ module _ {T S : Type 0} where
   receiver_woken e mark waits awake = rw (waits, awake) (woken_bits e.notice.due)
 
   -- one that waits on, or again, and isn't due
-  pub receiver_waits : (x y : Option (Entry T (Notice S))) → entry_due_in y ≡ false → ReceiverDue true x y
+  pub receiver_waits : (x y : Option (Entry T (Notice S))) → receiver_due_in y ≡ false → ReceiverDue true x y
   receiver_waits x None idle = refl
   receiver_waits x (Some e) idle = idle

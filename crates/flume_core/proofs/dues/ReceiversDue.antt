@@ -9,8 +9,8 @@ use Rattle.flume_model.specs.declared.entry.Mark.TheVariants.{Waiting, Woken, Fi
 use Rattle.flume_model.specs.Entries.{all_woken, entry_of, round, round_for, without, again}
 use Rattle.flume_state.specs.declared.notice.Notice.{Notice}
 use Rattle.flume_state.specs.Notices.{due_now}
-use Rattle.flume_state.specs.Receivers.{Entries, noticed}
-use Rattle.flume_state.specs.Due.{ReceiverDue, entry_due_in}
+use Rattle.flume_state.specs.Receivers.{Entries, noticed_receiver}
+use Rattle.flume_state.specs.Due.{ReceiverDue, receiver_due_in}
 use Rattle.flume_model.proofs.EntryLists.{again_cases, entry_last, ticket_of}
 use Rattle.flume_core.proofs.dues.OneTicket.{receiver_kept, receiver_woken}
 
@@ -43,50 +43,50 @@ module _ {T N : Type 0} where
 module _ {T S : Type 0} where
   -- another receiver's notice is changed
   pub entry_noticed : (f : Notice S → Notice S) (t u : ℕ) (es : Entries T S) → eqb u t ≡ false
-      → entry_of t (noticed f u es) ≡ entry_of t es
+      → entry_of t (noticed_receiver f u es) ≡ entry_of t es
   entry_noticed f t u [] other = refl
   entry_noticed f t u (e ∷ es) other = by_case (eqb e.ticket u) refl (entry_noticed f t u es other)
     where
-      by_case : (b : Bool) → eqb e.ticket u ≡ b → entry_of t (noticed f u es) ≡ entry_of t es
-          → entry_of t (noticed f u (e ∷ es)) ≡ entry_of t (e ∷ es)
+      by_case : (b : Bool) → eqb e.ticket u ≡ b → entry_of t (noticed_receiver f u es) ≡ entry_of t es
+          → entry_of t (noticed_receiver f u (e ∷ es)) ≡ entry_of t (e ∷ es)
       by_case true same rest =
           let not_it : eqb e.ticket t ≡ false = rw (eqb-true e.ticket u same) other in
           simp (same, not_it) refl
       by_case false differ rest = simp differ (ap (cond (eqb e.ticket t) (Some e)) rest)
 
   -- the others where it leaves
-  pub without_noticed : (f : Notice S → Notice S) (t : ℕ) (es : Entries T S) → without t (noticed f t es) ≡ without t es
+  pub without_noticed : (f : Notice S → Notice S) (t : ℕ) (es : Entries T S) → without t (noticed_receiver f t es) ≡ without t es
   without_noticed f t [] = refl
   without_noticed f t (e ∷ es) = by_case (eqb e.ticket t) refl (without_noticed f t es)
     where
-      by_case : (b : Bool) → eqb e.ticket t ≡ b → without t (noticed f t es) ≡ without t es
-          → without t (noticed f t (e ∷ es)) ≡ without t (e ∷ es)
+      by_case : (b : Bool) → eqb e.ticket t ≡ b → without t (noticed_receiver f t es) ≡ without t es
+          → without t (noticed_receiver f t (e ∷ es)) ≡ without t (e ∷ es)
       by_case true same rest = simp same refl
       by_case false differ rest = simp differ (ap (λ l. e ∷ l) rest)
 
   -- one whose notice was told isn't due
   pub noticed_idle : (f : Notice S → Notice S) → ((n : Notice S) → (f n).due ≡ false) → (t : ℕ) (es : Entries T S)
-      → entry_due_in (entry_of t (noticed f t es)) ≡ false
+      → receiver_due_in (entry_of t (noticed_receiver f t es)) ≡ false
   noticed_idle f told t [] = refl
   noticed_idle f told t (e ∷ es) = by_case (eqb e.ticket t) refl (noticed_idle f told t es)
     where
-      by_case : (b : Bool) → eqb e.ticket t ≡ b → entry_due_in (entry_of t (noticed f t es)) ≡ false
-          → entry_due_in (entry_of t (noticed f t (e ∷ es))) ≡ false
+      by_case : (b : Bool) → eqb e.ticket t ≡ b → receiver_due_in (entry_of t (noticed_receiver f t es)) ≡ false
+          → receiver_due_in (entry_of t (noticed_receiver f t (e ∷ es))) ≡ false
       by_case true same rest = simp same (told e.notice)
       by_case false differ rest = simp differ rest
 
   -- nor where it waits again
-  pub again_idle : (t : ℕ) (es : Entries T S) → entry_of t (without t es) ≡ None → entry_due_in (entry_of t es) ≡ false
-      → entry_due_in (entry_of t (again t es)) ≡ false
+  pub again_idle : (t : ℕ) (es : Entries T S) → entry_of t (without t es) ≡ None → receiver_due_in (entry_of t es) ≡ false
+      → receiver_due_in (entry_of t (again t es)) ≡ false
   again_idle t es alone idle =
-      again_cases (λ l. entry_due_in (entry_of t l) ≡ false) t es idle
+      again_cases (λ l. receiver_due_in (entry_of t l) ≡ false) t es idle
       (λ e found woken.
       let same : e.ticket ≡ t = ticket_of t e es found in
       let x = record e { mark = Waiting } in
       let last : entry_of t (without t es ++ x ∷ []) ≡ Some x =
       ap (λ k. entry_of k (without t es ++ x ∷ [])) (sym same)
       ∙ entry_last (without t es) x (ap (λ k. entry_of k (without t es)) same ∙ alone) in
-      ap entry_due_in last ∙ sym (ap entry_due_in found) ∙ idle)
+      ap receiver_due_in last ∙ sym (ap receiver_due_in found) ∙ idle)
 
   -- a wake round
   pub round_due : (t : ℕ) (front : T) (es : Entries T S) → ReceiverDue false (entry_of t es) (entry_of t (round due_now front es))
@@ -110,7 +110,7 @@ module _ {T S : Type 0} where
       by_mark k Woken false other rest = simp other rest
       by_mark k (Filled m) false other rest = simp other rest
 
-  -- the same where there is one only if something is queued
+  -- who is due after a wake round that comes only if something is queued
   pub round_for_due : (t : ℕ) (queue : List T) (es : Entries T S)
       → ReceiverDue false (entry_of t es) (entry_of t (round_for due_now queue es))
   round_for_due t [] es = receiver_kept (entry_of t es)

@@ -4,7 +4,7 @@ ghost use Rattle.std.specs.Prelude.{None};
 ghost use Rattle.flume_model.specs.Limits.{IsOpen, IsClosed, is_closed};
 ghost use Rattle.flume_model.specs.Entries.{entry_of, again, passes_on, leave_fills};
 ghost use Rattle.flume_model.specs.Entries.{round_for_fills};
-ghost use Rattle.flume_state.specs.Receivers.{standing, looks, blocks, noticed, waits_on};
+ghost use Rattle.flume_state.specs.Receivers.{standing, looks, blocks, noticed_receiver, waits_on};
 ghost use Rattle.flume_state.specs.Receivers.{only_leaves};
 ghost use Rattle.flume_model.specs.Entries.{held_by};
 ghost use Rattle.flume_state.specs.declared.entries.Standing.TheVariants.{BlockWaiting, Filled};
@@ -54,7 +54,7 @@ impl<T: Drop, S: Drop, A: Allocator + Copy> Chan<T, S, A> {
             × ((fronted self.old).queue ≡ []) × IsOpen self.old.senders self.old.receivers) }
         ensures leaves_at_end { result ≡ Reply.Ended → self.new ≡ unparked ticket self.old }
         ensures waits { result ≡ Reply.Waiting → self.new ≡ waiting_so
-            (again ticket (noticed (waits_on signal) ticket self.old.entries)) self.old }
+            (again ticket (noticed_receiver (waits_on signal) ticket self.old.entries)) self.old }
         ensures unchanged { ChangesNothing (Step.Poll ticket) result → self.new ≡ self.old }
     {
         let Some(standing) = self.entries.standing(ticket) else {
@@ -161,7 +161,7 @@ impl<T: Drop, S: Drop, A: Allocator + Copy> Chan<T, S, A> {
     // The receiver waits on, or again.
     fn wait_on(&mut self, ticket: u64, signal: Option<S>)
         ensures waits { self.new ≡ waiting_so
-            (again ticket (noticed (waits_on signal) ticket self.old.entries)) self.old }
+            (again ticket (noticed_receiver (waits_on signal) ticket self.old.entries)) self.old }
     {
         self.entries.wait_on(ticket, signal);
         self.count_waiting();

@@ -2,8 +2,8 @@
 ghost use Rattle.std.specs.Prelude.{◌≡◌, ◌==◌, length, IfNone, IfSome, false};
 ghost use Rattle.std.specs.Option.{option_copied};
 ghost use Rattle.flume_model.specs.Limits.{is_closed, is_full};
-ghost use Rattle.flume_state.specs.Sends.{NoneDue};
-ghost use Rattle.flume_state.specs.Receivers.{NoneDueIn};
+ghost use Rattle.flume_state.specs.Sends.{NoDueSend};
+ghost use Rattle.flume_state.specs.Receivers.{NoDueReceiver};
 ghost use Rattle.flume_state.specs.Told.{Names, signal_of};
 ghost use Rattle.flume_state.specs.State.{State};
 ghost use Rattle.flume_core.specs.StandsFor.{Extends, Keeps};
@@ -94,7 +94,7 @@ impl<T: Drop, S: Drop, A: Allocator + Copy> Chan<T, S, A> {
     /// ```
     #[inline(always)]
     pub fn may_be_due(&self) -> bool
-        ensures none { result ≡ false → NoneDue self.now.sends × NoneDueIn self.now.entries }
+        ensures none { result ≡ false → NoDueSend self.now.sends × NoDueReceiver self.now.entries }
     {
         self.sends.may_be_due() || self.entries.may_be_due()
     }
@@ -105,7 +105,7 @@ impl<T: Drop, S: Drop, A: Allocator + Copy> Chan<T, S, A> {
     /// memory.
     pub fn next_due(&mut self) -> Option<u64>
         ensures named { IfSome result (λ ticket. Names self.old self.new ticket) }
-        ensures none { IfNone result (NoneDue self.old.sends × NoneDueIn self.old.entries) }
+        ensures none { IfNone result (NoDueSend self.old.sends × NoDueReceiver self.old.entries) }
         ensures unchanged { IfNone result (self.new ≡ self.old) }
         ensures stands { Keeps A self.old self.new }
     {

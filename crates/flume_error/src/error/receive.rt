@@ -38,7 +38,7 @@ pub enum RecvTimeoutError {
     NoMemory,
 }
 
-/// The same case.
+/// Each case becomes the one of its name.
 impl From<RecvError> for TryRecvError {
     ghost from_gives = { λ error result. result ≡ as_try_receive error };
 
@@ -50,7 +50,7 @@ impl From<RecvError> for TryRecvError {
     }
 }
 
-/// The same case.
+/// Each case becomes the one of its name.
 impl From<RecvError> for RecvTimeoutError {
     ghost from_gives = { λ error result. result ≡ as_receive_timeout error };
 

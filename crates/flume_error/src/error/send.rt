@@ -91,7 +91,7 @@ impl<T> SendTimeoutError<T> {
     }
 }
 
-/// The same case, with the same message.
+/// Each case becomes the one of its name, with the same message.
 impl<T> From<SendError<T>> for TrySendError<T> {
     ghost from_gives = { λ error result. result ≡ as_try_send error };
 
@@ -103,7 +103,7 @@ impl<T> From<SendError<T>> for TrySendError<T> {
     }
 }
 
-/// The same case, with the same message.
+/// Each case becomes the one of its name, with the same message.
 impl<T> From<SendError<T>> for SendTimeoutError<T> {
     ghost from_gives = { λ error result. result ≡ as_send_timeout error };
 

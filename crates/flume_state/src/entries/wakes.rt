@@ -7,7 +7,7 @@ ghost use Rattle.flume_model.specs.Entries.{is_waiting, marked, all_woken};
 ghost use Rattle.flume_model.specs.Entries.{round_for, round_for_fills};
 ghost use Rattle.flume_model.specs.declared.entry.Mark.TheVariants.{Woken, Filled};
 ghost use Rattle.flume_state.specs.Notices.{due_now};
-ghost use Rattle.flume_state.specs.Receivers.{unfilled, NoneDueIn, Tells};
+ghost use Rattle.flume_state.specs.Receivers.{unfilled, NoDueReceiver, Tells};
 
 use super::Entries;
 use crate::line::Line;
@@ -104,7 +104,7 @@ impl<T: Drop, S: Drop, A: Allocator + Copy> Entries<T, S, A> {
     /// Whether some receiver may be due. It reads a flag, whatever the length.
     #[inline(always)]
     pub fn may_be_due(&self) -> bool
-        ensures none { result ≡ false → NoneDueIn self.now }
+        ensures none { result ≡ false → NoDueReceiver self.now }
     {
         self.some_due
     }
@@ -114,7 +114,7 @@ impl<T: Drop, S: Drop, A: Allocator + Copy> Entries<T, S, A> {
     /// due. Takes no memory.
     pub fn next_due(&mut self) -> Option<u64>
         ensures told { IfSome result (λ ticket. Tells self.old self.new ticket) }
-        ensures none_due { IfNone result (NoneDueIn self.old) }
+        ensures none_due { IfNone result (NoDueReceiver self.old) }
         ensures unchanged { IfNone result (self.new ≡ self.old) }
     {
         if !self.some_due {
