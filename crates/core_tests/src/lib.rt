@@ -4,15 +4,21 @@
 #![tactic(auto)]
 
 #[cfg(test)]
+mod altered;
+#[cfg(test)]
 mod answers;
 #[cfg(test)]
 mod calls;
 #[cfg(test)]
 mod chan_calls;
 #[cfg(test)]
+mod draws;
+#[cfg(test)]
 mod errors;
 #[cfg(test)]
 mod gates;
+#[cfg(test)]
+mod judge;
 #[cfg(test)]
 mod lent;
 #[cfg(test)]
