@@ -36,11 +36,11 @@ module _ {S : Type 0} where
   told_not_due None = refl
   told_not_due (Some send) = refl
 
-  -- so it isn't in the map where it was told
+  -- a ticket that was told isn't due in the map
   named_not_due : (m : SendMap S) (k : ℕ) → is_due_send (noticed_send told k m) k ≡ false
   named_not_due m k = ap send_due_in (get-changed_same m k told_send) ∙ told_not_due (get m k)
 
-  -- and no other became due
+  -- where one was told, no other became due
   pub none_became_due : (m : SendMap S) (k : ℕ) → DueIn (noticed_send told k m) m
   none_became_due m k t due = go (eqb t k) refl
     where
@@ -56,7 +56,7 @@ module _ {S : Type 0} where
   due_sends_le m n [] fewer = omega arith
   due_sends_le m n (t ∷ tickets) fewer = omega (arith, weight_le (is_due_send n t) (is_due_send m t) (fewer t), due_sends_le m n tickets fewer)
 
-  -- and where one of them isn't due any more, fewer are
+  -- where none became due and one isn't due any more, fewer are
   due_sends_less : (m n : SendMap S) (k : ℕ) (tickets : List ℕ) → DueIn n m → is_due_send m k ≡ true → is_due_send n k ≡ false
       → list_any (eq_by_cmp nat_cmp k) tickets ≡ true → due_sends n tickets < due_sends m tickets
   due_sends_less m n k [] fewer was is listed = absurd (let none : ⊥ = cc in none)
@@ -79,7 +79,7 @@ module _ {S : Type 0} where
   due_some None due = due
   due_some (Some send) due = refl
 
-  -- so its ticket is a key
+  -- the ticket of one that is due is a key
   due_listed : (m : SendMap S) (k : ℕ) → is_due_send m k ≡ true → list_any (eq_by_cmp nat_cmp k) (keys m) ≡ true
   due_listed m k due = sym (contains_key-keys m k) ∙ due_some (get m k) due
 

@@ -59,7 +59,7 @@ module _ {T S : Type 0} where
   abbrev entry_signal : ℕ → Entries T S → Option S
   entry_signal t entries = option_map (λ e. e.notice.signal) (entry_of t entries)
 
-  -- telling one keeps it
+  -- telling an entry keeps each ticket's signal
   signal_kept : (before : Entries T S) (e : Entry T (Notice S)) (later : Entries T S) (t : ℕ)
       → entry_signal t (before ++ told_receiver e ∷ later) ≡ entry_signal t (before ++ e ∷ later)
   signal_kept [] e later t =
@@ -93,7 +93,7 @@ module _ {T S : Type 0} where
   named_signal old new t (Receive tells is) =
       some_signal _ _ (found_signal old.entries tells.before tells.entry tells.later t tells.found tells.is_it)
 
-  -- and keeps it
+  -- one that is named keeps its signal
   named_keeps : (old new : State T S) (t : ℕ) → Names old new t → signal_of new t ≡ signal_of old t
   named_keeps old new t (Send due is) =
       let sends : get new.sends t ≡ option_map told_send (get old.sends t) =
@@ -106,12 +106,12 @@ module _ {T S : Type 0} where
       ap (entry_signal t) tells.told ∙ signal_kept tells.before tells.entry tells.later t ∙ sym (ap (entry_signal t) tells.found) in
       λ i. signal_or (option_map (λ send. send.notice.signal) (get (sends i) t)) (kept i)
 
-  -- so the signal that it has then is the one it left
+  -- the signal that one has after it was named is the one that it left
   pub same_signal : (old new : State T S) (t : ℕ) (signal : S) → Names old new t
       → Some signal ≡ signal_of new t → signal_of old t ≡ Some signal
   same_signal old new t signal named is = sym (named_keeps old new t named) ∙ sym is
 
-  -- and it has one
+  -- one that was named has a signal
   pub still_signal : (old new : State T S) (t : ℕ) → Names old new t → signal_of new t ≢ None
   still_signal old new t named none =
       let signal = named_signal old new t named in
@@ -129,13 +129,13 @@ module _ {T S : Type 0} where
   named_rest old named t (Send due is) = rest_from old named (noticed_send told t old.sends) old.entries is
   named_rest old named t (Receive tells is) = rest_from old named old.sends named.entries is
 
-  -- and all sends told are the same
+  -- naming one leaves all sends, once told, the same
   named_sends : (old named : State T S) (t : ℕ) → Names old named t → (k : ℕ)
       → option_map told_send (get named.sends k) ≡ option_map told_send (get old.sends k)
   named_sends old named t (Send due is) k = ap (λ s. option_map told_send (get s.sends k)) is ∙ told_after old.sends t k
   named_sends old named t (Receive tells is) k = ap (λ s. option_map told_send (get s.sends k)) is
 
-  -- and all entries told
+  -- naming one leaves all entries, once told, the same
   named_entries : (old named : State T S) (t : ℕ) → Names old named t → map told_receiver named.entries ≡ map told_receiver old.entries
   named_entries old named t (Send due is) = ap (λ s. map told_receiver s.entries) is
   named_entries old named t (Receive tells is) =
@@ -174,7 +174,7 @@ module _ {B S : Type 0} (rings : B → ℕ → S → B → Type 0) {T : Type 0} 
   none_left (Over sends entries) = (sends, entries)
   none_left (Rung named signal rung rest) = none_left rest
 
-  -- and all else is as it was
+  -- after a round of rings all are told, and all else is as it was
   pub all_told : {old new : State T S} {bell end : B} → Rings rings old bell new end → AllTold old new
   all_told (Over sends entries) = told_over _ sends entries
   all_told (Rung named signal rung rest) = told_first _ _ _ _ named (all_told rest)

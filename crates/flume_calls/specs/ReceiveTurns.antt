@@ -44,7 +44,7 @@ module _ {T : Type 0} where
   IsEnd (Done result) = Unit {0}
   IsEnd _ = ⊥
 
-  -- either, by whether the deadline is reached
+  -- a turn of a parked receive, by whether its deadline is reached
   abbrev pub IsAgain : ℕ → Bool → RecvNext T → Type 0
   IsAgain ticket false next = IsLater ticket next
   IsAgain ticket true next = IsEnd next
@@ -102,7 +102,7 @@ module _ {T A : Type 0} where
   after_withdraw NoTicket next = next ≡ Done (Err Disconnected)
   after_withdraw _ next = ⊥
 
-  -- either, by whether the deadline is reached
+  -- a turn of a parked receive, to the reply of its step, by whether its deadline is reached
   abbrev pub after_parked_receive : ℕ → Bool → Reply T A → RecvNext T → Type 0
   after_parked_receive ticket false reply next = after_poll ticket reply next
   after_parked_receive ticket true reply next = after_withdraw reply next

@@ -43,7 +43,7 @@ module _ {T : Type 0} where
   IsEnd (Done (Err (Timeout back))) = Unit {0}
   IsEnd _ = ⊥
 
-  -- either, by whether the deadline is reached
+  -- a turn of a parked send, by whether its deadline is reached
   abbrev pub IsAgain : ℕ → Bool → SendNext T → Type 0
   IsAgain ticket false next = IsLater ticket next
   IsAgain ticket true next = IsEnd next
@@ -95,7 +95,7 @@ module _ {T A : Type 0} where
   after_withdraw_send (Returned back false) next = next ≡ Done (Err (Timeout back))
   after_withdraw_send _ next = ⊥
 
-  -- either, by whether the deadline is reached
+  -- a turn of a parked send, to the reply of its step, by whether its deadline is reached
   abbrev pub after_parked_send : ℕ → Bool → Reply T A → SendNext T → Type 0
   after_parked_send ticket false reply next = after_poll_send ticket reply next
   after_parked_send ticket true reply next = after_withdraw_send reply next

@@ -66,7 +66,7 @@ module _ {T A S : Type 0} where
       → entry_of t s.entries ≡ Some e → entry_of t (entries o log) ≡ Some (bare e)
   entry_in_log {o} {log} {s} h t e found = entry_at_log h t ∙ ap (option_map bare) found
 
-  -- which was filled or not as its mark says
+  -- such an entry was filled or not as its mark says
   told_in_log : {o : Opening} {log : Log T A} {s : State T S} → StandsFor o log s → (t : ℕ) (e : Entry T (Notice S)) (b : Bool)
       → entry_of t s.entries ≡ Some e → is_filled e.mark ≡ b → was_filled log t ≡ b
   told_in_log {o} {log} {s} h t e b found is = told_filled o log h.run t (bare e) (entry_in_log h t e found) ∙ is
@@ -131,7 +131,7 @@ module _ {T A S : Type 0} where
       (rw (entry_in_log h t at.0 at.1) (polled_got A (channel o log) at.0.kind at.0.mark m look (front_line o log s m rest h front)))
       (rw told refl) front is
 
-  -- or finds the channel at its end
+  -- one that looks finds the channel at its end
   pub poll_ends : (o : Opening) (log : Log T A) (s new : State T S) (t : ℕ) (st : Standing) → StandsFor o log s
       → standing t s.entries ≡ Some st → looks (Some st) ≡ true → (fronted s).queue ≡ [] → IsClosed s.senders s.receivers
       → new ≡ unparked t s → StandsFor o ((Poll t, Ended) ∷ log) new
@@ -144,7 +144,7 @@ module _ {T A S : Type 0} where
       (polled_ended A (channel o log) at.0.kind at.0.mark look (empty_line o log s h none) (closed_at_log h closed)))
       refl (sym (fills_none t s.queue s.entries empty_)) (is ∙ sym (departed_empty t s empty_))
 
-  -- or waits on, or again
+  -- one that looks waits on, or again
   pub poll_waits_on : (o : Opening) (log : Log T A) (s new : State T S) (t : ℕ) (st : Standing) (f : Notice S → Notice S)
       → StandsFor o log s
       → standing t s.entries ≡ Some st → looks (Some st) ≡ true → (fronted s).queue ≡ [] → IsOpen s.senders s.receivers
@@ -181,7 +181,7 @@ module _ {T A S : Type 0} where
       (rw (entry_in_log h t at.0 at.1) (gone_got A (channel o log) t at.0.kind at.0.mark m block (front_line o log s m rest h front)))
       (rw told refl) front is
 
-  -- or with none
+  -- one that blocks leaves with no message
   pub withdraw_leaves : (o : Opening) (log : Log T A) (s new : State T S) (t : ℕ) (st : Standing) (closed : Bool) → StandsFor o log s
       → standing t s.entries ≡ Some st → blocks (Some st) ≡ true → (fronted s).queue ≡ [] → closed ≡ is_closed s.senders s.receivers
       → new ≡ unparked t s → StandsFor o ((Withdraw t, Gone closed None) ∷ log) new

@@ -39,7 +39,7 @@ module _ {T : Type 0} where
   looks_unfilled k Waiting e = refl
   looks_unfilled k Woken e = refl
 
-  -- nor is one that blocks as it waits or was woken
+  -- one that blocks, as it waits or was woken, isn't filled
   pub blocks_unfilled : (k : Kind) (mark : Mark T) → blocks (Some (standing_as k mark)) ≡ true → is_filled mark ≡ false
   blocks_unfilled k (Filled m) e = absurd (let none : ⊥ = cc in none)
   blocks_unfilled k Waiting e = refl
@@ -78,7 +78,7 @@ module _ {T : Type 0} (A : Type 0) where
   polled_got c Block Woken m e front = front
   polled_got c _ _ m e front = front
 
-  -- or be told of the end
+  -- one that looks may be told of the end
   pub polled_ended : (c : Channel T) (k : Kind) (mark : Mark T) → looks (Some (standing_as k mark)) ≡ true → c.line ≡ []
       → IsClosed c.senders c.receivers → IsPolledMark {A = A} c k mark Ended
   polled_ended c k (Filled x) e none closed = absurd (let no : ⊥ = cc in no)
@@ -86,7 +86,7 @@ module _ {T : Type 0} (A : Type 0) where
   polled_ended c Block Woken e none closed = none
   polled_ended c _ _ e none closed = (none, closed)
 
-  -- or wait on, where it wasn't woken as one that blocks
+  -- one that looks may wait on, where it wasn't woken as one that blocks
   pub polled_waits : (c : Channel T) (k : Kind) (mark : Mark T) → looks (Some (standing_as k mark)) ≡ true → c.line ≡ []
       → IsOpen c.senders c.receivers → (is_block k && is_woken mark) ≡ false → IsPolledMark {A = A} c k mark WaitsOn
   polled_waits c k (Filled x) e none open_ other = absurd (let no : ⊥ = cc in no)
@@ -110,7 +110,7 @@ module _ {T : Type 0} (A : Type 0) where
   gone_got c t Block Woken m e front = front
   gone_got c t _ _ m e front = absurd (let none : ⊥ = cc in none)
 
-  -- or with none
+  -- one that blocks may leave with no message
   pub gone_none : (c : Channel T) (t : ℕ) (k : Kind) (mark : Mark T) (closed : Bool) → blocks (Some (standing_as k mark)) ≡ true
       → c.line ≡ []
       → closed ≡ is_closed c.senders c.receivers → IsGoneMark {A = A} c t k mark (Gone closed None)

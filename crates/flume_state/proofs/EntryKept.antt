@@ -11,27 +11,27 @@ use Rattle.flume_state.specs.declared.notice.Notice.{Notice}
 use Rattle.flume_state.proofs.EntryListLemmas.{count-append, count-remove, count-set, count_at, weight}
 
 module _ {T S : Type 0} where
-  -- nobody is to be told in a list with one entry more that isn't
+  -- no receiver is due in a list with one entry more that isn't due
   pub no_due_receiver_push : (xs : Entries T S) (e : Entry T (Notice S)) → NoDueReceiver xs → e.notice.due ≡ false → NoDueReceiver (xs ++ e ∷ [])
   no_due_receiver_push xs e none is =
       let not_due = λ (x : Entry T (Notice S)). x.notice.due ≡ false in
       All-append not_due xs (e ∷ []) none (All-cons not_due e [] is (All-nil not_due))
 
-  -- nor in a list with one less
+  -- no receiver is due in a list with one entry less
   pub no_due_receiver_remove : (xs : Entries T S) (i : ℕ) → NoDueReceiver xs → NoDueReceiver (remove xs i)
   no_due_receiver_remove xs i none =
       let not_due = λ (x : Entry T (Notice S)). x.notice.due ≡ false in
       All-append not_due _ _ (All-take not_due i xs none) (All-drop not_due (suc i) xs none)
 
-  -- nor in a list where one is replaced by one that isn't
+  -- no receiver is due in a list where an entry is replaced by one that isn't due
   pub no_due_receiver_set : (xs : Entries T S) (i : ℕ) (x : Entry T (Notice S)) → NoDueReceiver xs → x.notice.due ≡ false → NoDueReceiver (set xs i x)
   no_due_receiver_set xs i x none is = All-set (λ (y : Entry T (Notice S)). y.notice.due ≡ false) xs i x is none
 
-  -- this number counts those that wait, and where this bit is false nobody is to be told
+  -- this number counts those that wait, and where this bit is false no receiver is due
   abbrev pub Kept : ℕ → Bool → Entries T S → Type 0
   Kept n some_due xs = (n ≡ waiting_count xs) × (some_due ≡ false → NoDueReceiver xs)
 
-  -- that stays true of one that waits behind the others
+  -- `Kept` stays where one that waits comes behind the others: the number is one more
   pub kept_push : (n : ℕ) (b : Bool) (xs : Entries T S) (e : Entry T (Notice S)) → Kept n b xs → is_waiting e.mark ≡ true
       → (b ≡ false → e.notice.due ≡ false) → Kept (n + 1) b (xs ++ e ∷ [])
   kept_push n b xs e kept waits due =
@@ -39,14 +39,14 @@ module _ {T S : Type 0} where
       let sum : waiting_count (xs ++ e ∷ []) ≡ waiting_count xs + (weight e + 0) = count-append xs (e ∷ []) in
       (omega (arith, kept.0), λ none. no_due_receiver_push xs e (kept.1 none) (due none))
 
-  -- of the others where one leaves that doesn't wait
+  -- `Kept` stays where one leaves that doesn't wait
   pub kept_remove_awake : (n : ℕ) (b : Bool) (xs : Entries T S) (i : ℕ) (e : Entry T (Notice S)) → Kept n b xs
       → slice_get xs i ≡ Some e → is_waiting e.mark ≡ false → Kept n b (remove xs i)
   kept_remove_awake n b xs i e kept at awake =
       let zero_weight : weight e ≡ 0 = rw awake refl in
       (omega (arith, kept.0, count-remove xs i e at), λ none. no_due_receiver_remove xs i (kept.1 none))
 
-  -- and of the number less one where one leaves that waits
+  -- `Kept` stays where one leaves that waits: the number is one less
   pub kept_remove_waiting : (n : ℕ) (b : Bool) (xs : Entries T S) (i : ℕ) (e : Entry T (Notice S)) → Kept n b xs
       → slice_get xs i ≡ Some e → is_waiting e.mark ≡ true → Kept (n - 1) b (remove xs i)
   kept_remove_waiting n b xs i e kept at waits =
@@ -59,12 +59,12 @@ module _ {T S : Type 0} where
   counted_waiting n xs i e counts at waits =
       let one : weight e ≡ 1 = rw waits refl in omega (arith, counts, count_at xs i e at)
 
-  -- where nobody is to be told, the one at a place isn't
+  -- where no receiver is due, the one at a place isn't
   pub not_due_at : (xs : Entries T S) (i : ℕ) (e : Entry T (Notice S)) → slice_get xs i ≡ Some e → NoDueReceiver xs → e.notice.due ≡ false
   not_due_at xs i e at none =
       ap (λ (x : Entry T (Notice S)). x.notice.due) (sym (get_or_from_slice_get xs i e e at)) ∙ none i e (slice_get_within xs i e at)
 
-  -- it stays true where one is replaced that waits as the old one does, and is to be told only where that was
+  -- `Kept` stays where one is replaced by one that waits as it does, and is due only where it was
   pub kept_set : (n : ℕ) (b : Bool) (xs : Entries T S) (i : ℕ) (e x : Entry T (Notice S)) → Kept n b xs
       → slice_get xs i ≡ Some e → is_waiting x.mark ≡ is_waiting e.mark → (e.notice.due ≡ false → x.notice.due ≡ false)
       → Kept n b (set xs i x)
@@ -74,7 +74,7 @@ module _ {T S : Type 0} where
         λ none. no_due_receiver_set xs i x (kept.1 none) (due (not_due_at xs i e at (kept.1 none))),
       )
 
-  -- and of the number less one where one that waits is replaced by one that doesn't
+  -- `Kept` stays where one that waits is replaced by one that doesn't: the number is one less
   pub kept_woken : (n : ℕ) (b : Bool) (xs : Entries T S) (i : ℕ) (e x : Entry T (Notice S)) → Kept n b xs
       → slice_get xs i ≡ Some e → is_waiting e.mark ≡ true → is_waiting x.mark ≡ false → Kept (n - 1) true (set xs i x)
   kept_woken n b xs i e x kept at waits awake =
@@ -82,7 +82,7 @@ module _ {T S : Type 0} where
       let zero_weight : weight x ≡ 0 = rw awake refl in
       (omega (arith, kept.0, count-set xs i e x at), λ none. absurd (let no_bit : ⊥ = cc in no_bit))
 
-  -- and of the number more by one where one that doesn't wait goes behind all others, and waits
+  -- `Kept` stays where one that doesn't wait goes behind all others, and waits: the number is one more
   pub kept_to_back : (n : ℕ) (b : Bool) (xs : Entries T S) (i : ℕ) (e x : Entry T (Notice S)) → Kept n b xs
       → slice_get xs i ≡ Some e → is_waiting e.mark ≡ false → is_waiting x.mark ≡ true → (e.notice.due ≡ false → x.notice.due ≡ false)
       → Kept (n + 1) b (remove xs i ++ x ∷ [])

@@ -25,7 +25,7 @@ no_kind : (b : Bool) (kind : Kind) → cond b (Some kind) None ≡ None → b �
 no_kind true kind is = absurd (let none : ⊥ = cc in none)
 no_kind false kind is = refl
 
--- and which one is given
+-- where a kind is given, it is this one, and the bit is true
 some_kind : (b : Bool) (kind given : Kind) → cond b (Some kind) None ≡ Some given → (b ≡ true) × (kind ≡ given)
 some_kind true kind given is = (refl, cc)
 some_kind false kind given is = absurd (let none : ⊥ = cc in none)
@@ -39,32 +39,32 @@ module _ {T N : Type 0} where
   abbrev pub kind_if : Entry T N → Option Kind
   kind_if e = cond (is_waiting e.mark) (Some e.kind) None
 
-  -- what `wake_at` leaves and gives of an entry that waits
+  -- what `wake_at` leaves of an entry that waits
   pub woken_set : (tell : N → N) (xs ys : List (Entry T N)) (i : ℕ) (e x : Entry T N) → xs ≡ ys → x ≡ e → is_waiting e.mark ≡ true
       → set xs i (marked tell Woken e) ≡ set ys i (woken_if tell x)
   woken_set tell xs ys i e x view same waits = rw view (rw same (rw waits refl))
 
-  -- and its kind is given
+  -- `wake_at` gives the kind of an entry that waits
   pub woken_kind : (e x : Entry T N) → x ≡ e → is_waiting e.mark ≡ true → Some e.kind ≡ kind_if x
   woken_kind e x same waits = rw same (rw waits refl)
 
-  -- and of one that doesn't
+  -- what `wake_at` leaves of an entry that doesn't wait
   pub awake_set : (tell : N → N) (xs ys : List (Entry T N)) (i : ℕ) (e x : Entry T N) → xs ≡ ys → x ≡ e → is_waiting e.mark ≡ false
       → set xs i e ≡ set ys i (woken_if tell x)
   awake_set tell xs ys i e x view same awake = rw view (rw same (rw awake refl))
 
-  -- and no kind is given
+  -- `wake_at` gives no kind of an entry that doesn't wait
   pub awake_kind : (e x : Entry T N) → x ≡ e → is_waiting e.mark ≡ false → None ≡ kind_if x
   awake_kind e x same awake = rw same (rw awake refl)
 
-  -- where nobody waits a round changes nothing, and fills nobody
+  -- where nobody waits a round changes nothing
   pub round_idle : (tell : N → N) (front : T) (xs : List (Entry T N)) → waiting_count xs ≡ 0 → round tell front xs ≡ xs
   round_idle tell front [] zero = refl
   round_idle tell front (x ∷ xs) zero =
       let both = sum_zero (is_waiting x.mark) (waiting_count xs) zero in
       rw both.0 (ap (λ ys. x ∷ ys) (round_idle tell front xs both.1))
 
-  -- and nobody is filled
+  -- where nobody waits a round fills nobody
   pub round_fills_idle : (xs : List (Entry T N)) → waiting_count xs ≡ 0 → round_fills xs ≡ None
   round_fills_idle [] zero = refl
   round_fills_idle (x ∷ xs) zero =
@@ -85,7 +85,7 @@ module _ {T N : Type 0} where
     pub fills : round_fills (drop (i + 1) new) ≡ round_fills (drop i old)
     pub as_long : length new ≡ length old
 
-  -- so it does where the entry there is replaced as a round replaces it
+  -- the round goes on behind a place where the entry there is replaced as a round replaces it
   behind : (tell : N → N) (front : T) (old new : List (Entry T N)) (i : ℕ) (e x : Entry T N) → slice_get old i ≡ Some e
       → new ≡ set old i x → ((xs : List (Entry T N)) → round tell front (e ∷ xs) ≡ x ∷ round tell front xs)
       → ((xs : List (Entry T N)) → round_fills (e ∷ xs) ≡ round_fills xs) → GoesOn tell front old new i
@@ -99,13 +99,13 @@ module _ {T N : Type 0} where
         as_long = rw is (length-set old i x);
       }
 
-  -- where it doesn't wait
+  -- the round goes on behind an entry that doesn't wait
   pub behind_awake : (tell : N → N) (front : T) (old new : List (Entry T N)) (i : ℕ) (e : Entry T N) → slice_get old i ≡ Some e
       → new ≡ set old i (woken_if tell e) → is_waiting e.mark ≡ false → GoesOn tell front old new i
   behind_awake tell front old new i e at is awake =
       behind tell front old new i e (woken_if tell e) at is (λ xs. rw awake refl) (λ xs. rw awake refl)
 
-  -- and where it is a stream's
+  -- the round goes on behind a stream's entry
   pub behind_stream : (tell : N → N) (front : T) (old new : List (Entry T N)) (i : ℕ) (e : Entry T N) → slice_get old i ≡ Some e
       → new ≡ set old i (woken_if tell e) → is_waiting e.mark ≡ true → e.kind ≡ Stream → GoesOn tell front old new i
   behind_stream tell front old new i e at is waits kind =
@@ -116,7 +116,7 @@ module _ {T N : Type 0} where
     pub leaves : new ≡ take i old ++ round tell front (drop i old)
     pub fills : filled ≡ round_fills (drop i old)
 
-  -- so it does where the entry there is replaced as a round replaces it
+  -- the round ends at a place where the entry there is replaced as a round replaces it
   ends : (tell : N → N) (front : T) (old new : List (Entry T N)) (i : ℕ) (filled : Option ℕ) (e x : Entry T N) → slice_get old i ≡ Some e
       → new ≡ set old i x → ((xs : List (Entry T N)) → round tell front (e ∷ xs) ≡ x ∷ xs)
       → ((xs : List (Entry T N)) → round_fills (e ∷ xs) ≡ filled) → EndsAt tell front old new i filled
@@ -128,19 +128,19 @@ module _ {T N : Type 0} where
         fills = sym (fills rest) ∙ ap round_fills (sym (rest_at old i e at));
       }
 
-  -- at one that is of the plain kind
+  -- the round ends at an entry of the plain kind
   pub ends_plain : (tell : N → N) (front : T) (old new : List (Entry T N)) (i : ℕ) (e : Entry T N) → slice_get old i ≡ Some e
       → new ≡ set old i (woken_if tell e) → is_waiting e.mark ≡ true → e.kind ≡ Plain → EndsAt tell front old new i None
   ends_plain tell front old new i e at is waits kind =
       ends tell front old new i None e (woken_if tell e) at is (λ xs. rw waits (rw kind refl)) (λ xs. rw waits (rw kind refl))
 
-  -- at an arm of a select
+  -- the round ends at an arm of a selector
   pub ends_arm : (tell : N → N) (front : T) (old new : List (Entry T N)) (i : ℕ) (e : Entry T N) → slice_get old i ≡ Some e
       → new ≡ set old i (woken_if tell e) → is_waiting e.mark ≡ true → e.kind ≡ Arm → EndsAt tell front old new i None
   ends_arm tell front old new i e at is waits kind =
       ends tell front old new i None e (woken_if tell e) at is (λ xs. rw waits (rw kind refl)) (λ xs. rw waits (rw kind refl))
 
-  -- and at one that blocks, which is filled
+  -- the round ends at an entry that blocks, which is filled
   pub ends_block : (tell : N → N) (front : T) (old mid new : List (Entry T N)) (i : ℕ) (e : Entry T N) → slice_get old i ≡ Some e
       → mid ≡ set old i (woken_if tell e) → is_waiting e.mark ≡ true → e.kind ≡ Block
       → new ≡ set mid i (record (woken_if tell e) { mark = Filled front }) → EndsAt tell front old new i (Some e.ticket)
@@ -154,7 +154,7 @@ module _ {T N : Type 0} where
       → take i xs ++ round tell front (drop i xs) ≡ xs
   round_over tell front xs i past = rw (drop_all i xs past, take_all i xs past) (append-nil xs)
 
-  -- and nobody is left to fill
+  -- at the end of the list nobody is left to fill
   pub round_fills_over : (xs : List (Entry T N)) (i : ℕ) → length xs ≤ i → None ≡ round_fills (drop i xs)
   round_fills_over xs i past = rw (drop_all i xs past) refl
 

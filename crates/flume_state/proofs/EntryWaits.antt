@@ -38,7 +38,7 @@ module _ {T N : Type 0} where
       → remove xs i ++ record e { mark = Waiting } ∷ [] ≡ again t xs
   again_woken t xs i e at woken = rw (entry_found t xs i e at) (rw woken (rw (without_found t xs i e at) refl))
 
-  -- else nothing changes
+  -- where the ticket's entry doesn't stand woken, nothing changes
   again_other : (t : ℕ) (xs : List (Entry T N)) (i : ℕ) (e : Entry T N) → FirstAt (λ x. eqb x.ticket t) xs i e → is_woken e.mark ≡ false
       → xs ≡ again t xs
   again_other t xs i e at other = rw (entry_found t xs i e at) (rw other refl)
@@ -61,7 +61,7 @@ module _ {T S : Type 0} where
       let there = first_set p xs i e x first (first_passes p xs i e first) in
       moved ∙ rw is (again_woken t (set xs i x) i x there woken ∙ ap (again t) (noticed_found f t xs i e first))
 
-  -- or keeps its place
+  -- the entry that has the ticket is told, and keeps its place where it stood otherwise
   pub waits_other : (f : Notice S → Notice S) (t : ℕ) (xs mid : Entries T S) (i : ℕ) (e : Entry T (Notice S))
       → position (λ x. eqb x.ticket t) xs ≡ Some i → slice_get xs i ≡ Some e → is_woken e.mark ≡ false
       → mid ≡ set xs i (record e { notice = f e.notice }) → mid ≡ again t (noticed_receiver f t xs)
@@ -77,7 +77,7 @@ module _ {T S : Type 0} where
       → mid ≡ set xs i (record e { notice = f e.notice }) → slice_get mid i ≡ Some (record e { notice = f e.notice })
   told_there f xs mid i e at is = rw is (get_set xs i e (record e { notice = f e.notice }) at)
 
-  -- and what stands there is woken where it was
+  -- what stands at its place after the telling is woken where it was
   pub woken_there : (f : Notice S → Notice S) (xs mid : Entries T S) (i : ℕ) (e x : Entry T (Notice S)) → slice_get xs i ≡ Some e
       → is_woken e.mark ≡ true → mid ≡ set xs i (record e { notice = f e.notice }) → slice_get mid i ≡ Some x → is_woken x.mark ≡ true
   woken_there f xs mid i e x at woken is there = rw (same_at mid i _ x (told_there f xs mid i e at is) there) woken

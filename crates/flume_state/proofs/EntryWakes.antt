@@ -124,7 +124,7 @@ module _ {T N : Type 0} where
       wakes_more tell initial old new line line_now i n w
       (behind_awake tell w.front old new i a.entry a.at a.is (kind_none a.entry kind a.kind_is none))
 
-  -- and behind a stream
+  -- the loop goes on behind a stream
   pub wakes_stream : (tell : N → N) (initial old new : List (Entry T N)) (line line_now : Messages T) (kind : Option Kind) (i n : ℕ)
       → Wakes tell initial old line line_now i n → WokenAt tell old new kind i → kind ≡ Some Stream
       → Wakes tell initial new line line_now (i + 1) n
@@ -142,7 +142,7 @@ module _ {T N : Type 0} where
     queue = rw queue (rw (← fills) (stays ∙ same_line line _ queue));
   }
 
-  -- or filled this one
+  -- the round ended here, and filled this one
   woke_some : (tell : N → N) (initial now : List (Entry T N)) (line line_now : Messages T) (ticket : ℕ) (front : T) (rest : List T)
       → line.queued ≡ front ∷ rest → line_now ≡ record line { queued = rest } → now ≡ round tell front initial
       → Some ticket ≡ round_fills initial → Woke tell initial line (Some ticket) now line_now
@@ -166,7 +166,7 @@ module _ {T N : Type 0} where
       let both = kind_some a.entry kind Plain a.kind_is some in
       ended_none tell initial old new line line_now i n w (ends_plain tell w.front old new i a.entry a.at a.is both.0 both.1)
 
-  -- and at an arm of a select
+  -- the loop ends at an arm of a selector
   pub woke_arm : (tell : N → N) (initial old new : List (Entry T N)) (line line_now : Messages T) (kind : Option Kind) (i n : ℕ)
       → Wakes tell initial old line line_now i n → WokenAt tell old new kind i → kind ≡ Some Arm → Woke tell initial line None new line_now
   woke_arm tell initial old new line line_now kind i n w a some =
@@ -178,7 +178,7 @@ module _ {T N : Type 0} where
     pub does : (e : Entry T N) → slice_get old i ≡ Some e → (front : T) (rest : List T) → line_old.queued ≡ front ∷ rest
         → (filled ≡ Some e.ticket) × (new ≡ set old i (record e { mark = Filled front })) × (line_new ≡ record line_old { queued = rest })
 
-  -- and what it leaves then
+  -- the loop ends at one that blocks, which `fill` filled
   pub woke_block : (tell : N → N) (initial old mid new : List (Entry T N)) (line line_mid line_now : Messages T) (kind : Option Kind)
       (filled : Option ℕ) (i n : ℕ) → Wakes tell initial old line line_mid i n → WokenAt tell old mid kind i → kind ≡ Some Block
       → FilledAt mid new line_mid line_now filled i → Woke tell initial line filled new line_now

@@ -69,17 +69,17 @@ module _ {S : Type 0} where
   due_in_either true x y h k = h
   due_in_either false x y h k = k
 
-  -- nor after one that is not due was put in
+  -- no send is due after one that isn't due was put in
   pub no_due_send_insert : (m : SendMap S) (k : ℕ) (s : LiveSend S) → NoDueSend m → s.notice.due ≡ false → NoDueSend (insert m k s)
   no_due_send_insert m k s h e t =
       ap send_due_in (get-insert nat_cmp_total m k s t) ∙ due_in_either (eq_by_cmp nat_cmp t k) (Some s) (get m t) e (h t)
 
-  -- nor after one was taken out
+  -- no send is due after one was taken out
   pub no_due_send_remove : (m : SendMap S) (k : ℕ) → NoDueSend m → NoDueSend (remove m k)
   no_due_send_remove m k h t =
       ap send_due_in (get-remove nat_cmp_total m k t) ∙ due_in_either (eq_by_cmp nat_cmp t k) None (get m t) refl (h t)
 
-  -- nor after a change that keeps what is not due so
+  -- no send is due after a change that makes none due
   pub no_due_send_changed : (m : SendMap S) (k : ℕ) (f : LiveSend S → LiveSend S) → NoDueSend m
       → ((s : LiveSend S) → s.notice.due ≡ false → (f s).notice.due ≡ false) → NoDueSend (changed m k f)
   no_due_send_changed m k f h keeps =
@@ -93,23 +93,23 @@ module _ {S : Type 0} where
   pub no_due_send_nil : (es : List (ℕ × LiveSend S)) → es ≡ [] → NoDueSend (seen es)
   no_due_send_nil es e = subst (λ (fs : List (ℕ × LiveSend S)). NoDueSend (seen fs)) (sym e) (no_due_send_empty S)
 
-  -- nor in a list whose first send and others are not due
+  -- no send is due in a list whose first send isn't due, nor any other
   pub no_due_send_cons : (es fs : List (ℕ × LiveSend S)) (k : ℕ) (s : LiveSend S) → es ≡ (k, s) ∷ fs
       → NoDueSend (seen fs) → s.notice.due ≡ false → NoDueSend (seen es)
   no_due_send_cons es fs k s e h not_due =
       subst (λ (xs : List (ℕ × LiveSend S)). NoDueSend (seen xs)) (sym e) (no_due_send_insert _ k s h not_due)
 
-  -- nor in a tree into which one that is not due was inserted
+  -- no send is due in a tree into which one that isn't due was inserted
   pub no_due_send_inserted : (m n : BTreeMap ℕ (LiveSend S)) (k : ℕ) (s : LiveSend S) → NoDueSend (seen m.entries)
       → s.notice.due ≡ false → tree.Updates nat_cmp m n k (Some s) → NoDueSend (seen n.entries)
   no_due_send_inserted m n k s h e u = subst NoDueSend (sym (inserted m n _ k s refl u)) (no_due_send_insert _ k s h e)
 
-  -- nor in a tree from which one was removed
+  -- no send is due in a tree from which one was removed
   pub no_due_send_removed : (m n : BTreeMap ℕ (LiveSend S)) (k : ℕ) → NoDueSend (seen m.entries)
       → tree.Updates nat_cmp m n k None → NoDueSend (seen n.entries)
   no_due_send_removed m n k h u = subst NoDueSend (sym (removed m n _ k refl u)) (no_due_send_remove _ k h)
 
-  -- nor in a tree through which f of a send was written, where f keeps what is not due so
+  -- no send is due in a tree through which f of a send was written, where f makes none due
   pub no_due_send_written : (m : BTreeMap ℕ (LiveSend S)) (lender : LiveSend S → BTreeMap ℕ (LiveSend S)) (k : ℕ)
       (f : LiveSend S → LiveSend S) (x : LiveSend S) → NoDueSend (seen m.entries) → Some x ≡ tree.get nat_cmp m k
       → ((w : LiveSend S) → tree.WritesThrough nat_cmp (nat_cmp k) m w (lender w))

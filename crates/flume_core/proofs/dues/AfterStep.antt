@@ -106,7 +106,7 @@ module _ {T S A : Type 0} where
       by_sides old mid new step reply is moves.senders moves.receivers idle (accepts_due old.sends mid.sends moves.sends)
       (subst (λ es. ReceiversDue old.entries es) (sym moves.entries) (λ u. receiver_kept (entry_of u old.entries)))
 
-  -- and a receiver leaves
+  -- messages move in, and a receiver leaves
   moved_left : (old mid new : State T S) (step : Step T) (reply : Reply T A) (t : ℕ) → NoneWaits step reply → MovesIn old mid
       → entry_of t (without t old.entries) ≡ None → new ≡ unparked t mid → BecomesDue old step reply new
   moved_left old mid new step reply t idle moves alone is =
@@ -119,7 +119,7 @@ module _ {T S A : Type 0} where
   took old new step reply rest idle led is =
       moved old _ new step reply idle (moves_taken old rest (moves_none old (tickets_of old led).live)) is
 
-  -- to a parked receiver
+  -- the front is handed out to a parked receiver, which leaves
   pub took_parked : (old new : State T S) (step : Step T) (reply : Reply T A) (rest : List T) (t : ℕ) → NoneWaits step reply
       → IsLedTo A old → new ≡ unparked t (taken rest old) → BecomesDue old step reply new
   took_parked old new step reply rest t idle led is =

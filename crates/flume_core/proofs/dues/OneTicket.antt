@@ -51,7 +51,7 @@ module _ {S : Type 0} where
   send_kept None = refl
   send_kept (Some send) = kept_bits send.accepted send.notice.due
 
-  -- or has another signal
+  -- a send that has another signal
   pub send_signalled : (given : Option S) (x : Option (LiveSend S)) → SendDue false x (option_map (with_notice (resignalled given)) x)
   send_signalled given None = refl
   send_signalled None (Some send) = kept_bits send.accepted send.notice.due

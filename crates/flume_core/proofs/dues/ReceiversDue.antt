@@ -54,7 +54,7 @@ module _ {T S : Type 0} where
           simp (same, not_it) refl
       by_case false differ rest = simp differ (ap (cond (eqb e.ticket t) (Some e)) rest)
 
-  -- the others where it leaves
+  -- leaving a receiver out also leaves out how its notice was changed
   pub without_noticed : (f : Notice S → Notice S) (t : ℕ) (es : Entries T S) → without t (noticed_receiver f t es) ≡ without t es
   without_noticed f t [] = refl
   without_noticed f t (e ∷ es) = by_case (eqb e.ticket t) refl (without_noticed f t es)
@@ -75,7 +75,7 @@ module _ {T S : Type 0} where
       by_case true same rest = simp same (told e.notice)
       by_case false differ rest = simp differ rest
 
-  -- nor where it waits again
+  -- one that isn't due isn't due either where it waits again
   pub again_idle : (t : ℕ) (es : Entries T S) → entry_of t (without t es) ≡ None → receiver_due_in (entry_of t es) ≡ false
       → receiver_due_in (entry_of t (again t es)) ≡ false
   again_idle t es alone idle =
@@ -88,7 +88,7 @@ module _ {T S : Type 0} where
       ∙ entry_last (without t es) x (ap (λ k. entry_of k (without t es)) same ∙ alone) in
       ap receiver_due_in last ∙ sym (ap receiver_due_in found) ∙ idle)
 
-  -- a wake round
+  -- who is due after a wake round
   pub round_due : (t : ℕ) (front : T) (es : Entries T S) → ReceiverDue false (entry_of t es) (entry_of t (round due_now front es))
   round_due t front [] = refl
   round_due t front (e ∷ es) = by_mark e.kind e.mark (eqb e.ticket t) refl (round_due t front es)
@@ -116,7 +116,7 @@ module _ {T S : Type 0} where
   round_for_due t [] es = receiver_kept (entry_of t es)
   round_for_due t (front ∷ queue) es = round_due t front es
 
-  -- all that wait are woken
+  -- who is due where all that wait are woken
   pub all_woken_due : (t : ℕ) (es : Entries T S) → ReceiverDue false (entry_of t es) (entry_of t (all_woken due_now es))
   all_woken_due t [] = refl
   all_woken_due t (e ∷ es) = by_mark e.mark (eqb e.ticket t) refl (all_woken_due t es)
