@@ -16,6 +16,8 @@ mod forwarded;
 #[cfg(test)]
 mod iterators;
 #[cfg(test)]
+mod memory;
+#[cfg(test)]
 mod messages;
 #[cfg(test)]
 mod nested;
