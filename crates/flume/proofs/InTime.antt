@@ -1,5 +1,5 @@
 -- A call that waits as long as it takes is never too late.
-use Rattle.std.proofs.Common.{◌≡◌, ◌≢◌, ℕ, Bool, true, Result, Ok, Err, refl, sym, ◌∙◌, subst}
+use Rattle.std.proofs.Common.{◌≡◌, ◌≢◌, ℕ, Bool, true, Result, Err, refl, ◌∙◌, subst}
 use Rattle.flume_core.specs.declared.error.SendTimeoutError.{SendTimeoutError}
 use Rattle.flume_core.specs.declared.error.SendTimeoutError.TheVariants.{Timeout as SendTimeout}
 use Rattle.flume_core.specs.declared.error.RecvTimeoutError.{RecvTimeoutError}
@@ -8,8 +8,8 @@ use Rattle.flume_calls.specs.declared.calls.send.SendNext.{SendNext}
 use Rattle.flume_calls.specs.declared.calls.send.SendNext.TheVariants.{Done as SendDone}
 use Rattle.flume_calls.specs.declared.calls.receive.RecvNext.{RecvNext}
 use Rattle.flume_calls.specs.declared.calls.receive.RecvNext.TheVariants.{Done as RecvDone}
-use Rattle.flume.specs.declared.gate.Deadline.{Deadline}
-use Rattle.flume.specs.declared.gate.Deadline.TheVariants.{Never}
+use Rattle.flume.specs.declared.deadline.Deadline.{Deadline}
+use Rattle.flume.specs.declared.deadline.Deadline.TheVariants.{Never}
 use Rattle.flume_calls.specs.SendTurns as send_turn
 use Rattle.flume_calls.specs.SendGates as send
 use Rattle.flume_calls.specs.ReceiveTurns as receive_turn

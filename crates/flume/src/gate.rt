@@ -1,10 +1,11 @@
 //! The gate of the ends: each turn of a call is made under the channel's lock, and the call waits
 //! on a parker of its own.
 ghost use Rattle.std.specs.Prelude.{◌≡◌, ◌≢◌, Bool, true, false};
-ghost use Rattle.flume.specs.declared.gate.Deadline.TheVariants.{Never};
+ghost use Rattle.flume.specs.declared.deadline.Deadline.TheVariants.{Never};
 ghost use Rattle.flume_calls.specs.SendTurns as send;
 ghost use Rattle.flume_calls.specs.ReceiveTurns as receive;
 
+use crate::deadline::Deadline;
 use crate::shared::{Shared, Waits};
 use crate::signal::{Parker, Signal};
 use flume_calls::calls::{
@@ -17,47 +18,6 @@ use flume_core::step::Kind;
 use std::alloc::Allocator;
 use std::marker::Model;
 use std::sync::Arc;
-use std::time::{Duration, Instant};
-
-/// Up to when a call waits.
-#[derive(Clone, Copy, Drop)]
-pub(crate) enum Deadline {
-    /// As long as it takes.
-    Never,
-    /// Up to this time.
-    At(Instant),
-    /// It is reached.
-    Reached,
-}
-
-impl Deadline {
-    /// So long from now. Where no time is that late, never; where the clock can't be read, it is
-    /// reached.
-    pub(crate) fn after<R: Waits>(rt: &R, timeout: Duration) -> Deadline {
-        match Instant::now(rt) {
-            Ok(now) => match now.checked_add(timeout) {
-                Some(deadline) => Deadline::At(deadline),
-                None => Deadline::Never,
-            },
-            Err(_) => Deadline::Reached,
-        }
-    }
-
-    // Whether it is reached, by the clock. A clock that can't be read counts as past it.
-    fn is_reached<R: Waits>(self, rt: &R) -> bool
-        ensures never { result ≡ true → self ≢ Deadline.Never }
-        ensures reached { self ≡ Deadline.Reached → result ≡ true }
-    {
-        match self {
-            Deadline::Never => false,
-            Deadline::At(deadline) => match Instant::now(rt) {
-                Ok(now) => now >= deadline,
-                Err(_) => true,
-            },
-            Deadline::Reached => true,
-        }
-    }
-}
 
 /// What one blocking call of an end goes through.
 #[derive(Drop)]
@@ -70,7 +30,7 @@ pub(crate) struct Gate<'a, T, R: Waits, A: Allocator + Copy> {
 }
 
 impl<'a, T, R: Waits, A: Allocator + Copy> Model for Gate<'a, T, R, A> {
-    ghost use Rattle.flume.specs.declared.gate.Deadline.{Deadline};
+    ghost use Rattle.flume.specs.declared.deadline.Deadline.{Deadline};
 
     ghost Value = { Deadline };
 

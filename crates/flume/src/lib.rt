@@ -12,6 +12,8 @@
 //! ```
 #![tactic(auto)]
 
+mod answers;
+mod deadline;
 mod drain;
 mod gate;
 mod into_iter;

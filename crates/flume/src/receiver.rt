@@ -2,11 +2,13 @@
 ghost use Rattle.std.specs.Prelude.{◌≡◌, ◌≢◌, ℕ, ◌==◌, Err};
 ghost use Rattle.flume.specs.Iterators.{receiving_from};
 
+use crate::answers::{tried_receive, waited_receive};
+use crate::deadline::Deadline;
 use crate::drain::Drain;
-use crate::gate::{Deadline, Gate};
+use crate::gate::Gate;
 use crate::iterators::{Iter, TryIter};
 use crate::shared::{Shared, Waits};
-use flume_calls::calls::{FirstReceive, RecvNext};
+use flume_calls::calls::FirstReceive;
 use flume_calls::gates::recv_over;
 use flume_calls::single::{AskCapacity, AskNumber, AskTruth, Single};
 use flume_core::error::{NoMemory, RecvError, RecvTimeoutError, TryRecvError};
@@ -52,14 +54,7 @@ impl<T: Drop, R: Waits, A: Allocator + Copy> Receiver<T, R, A> {
     pub fn try_recv(&self) -> Result<T, TryRecvError>
         ensures never_no_memory { result ≢ Err TryRecvError.NoMemory }
     {
-        match self.shared.make(FirstReceive) {
-            RecvNext::Done(Ok(message)) => Ok(message),
-            RecvNext::Done(Err(RecvTimeoutError::Disconnected)) => Err(TryRecvError::Disconnected),
-            RecvNext::NeedSignal => Err(TryRecvError::Empty),
-            RecvNext::Done(Err(RecvTimeoutError::Timeout | RecvTimeoutError::NoMemory))
-            | RecvNext::Park(_)
-            | RecvNext::Refused(_) => unreachable!(),
-        }
+        tried_receive(self.shared.make(FirstReceive))
     }
 
     /// Takes the next message, and waits while there is none. `Disconnected`: none is there, and
@@ -73,12 +68,7 @@ impl<T: Drop, R: Waits, A: Allocator + Copy> Receiver<T, R, A> {
     /// ```
     pub fn recv(&self) -> Result<T, RecvError> {
         let mut gate = Gate::new(&self.shared, Deadline::Never);
-        match recv_over(&self.shared.rt, &mut gate) {
-            Ok(message) => Ok(message),
-            Err(RecvTimeoutError::NoMemory) => Err(RecvError::NoMemory),
-            Err(RecvTimeoutError::Disconnected) => Err(RecvError::Disconnected),
-            Err(RecvTimeoutError::Timeout) => unreachable!(),
-        }
+        waited_receive(recv_over(&self.shared.rt, &mut gate))
     }
 
     /// Takes the next message, and waits while there is none, up to the deadline. `Timeout`: it is

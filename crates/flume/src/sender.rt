@@ -1,10 +1,12 @@
 //! The senders of a channel.
 ghost use Rattle.std.specs.Prelude.{◌≡◌, ◌≢◌, ℕ, ◌==◌, IfOk, Err};
 
-use crate::gate::{Deadline, Gate};
+use crate::answers::{tried_send, waited_send};
+use crate::deadline::Deadline;
+use crate::gate::Gate;
 use crate::shared::{Shared, Waits};
 use crate::weak::WeakSender;
-use flume_calls::calls::{FirstSend, SendNext};
+use flume_calls::calls::FirstSend;
 use flume_calls::gates::send_over;
 use flume_calls::single::{AskCapacity, AskNumber, AskTruth, Single};
 use flume_core::error::{NoMemory, SendError, SendTimeoutError, TrySendError};
@@ -56,17 +58,7 @@ impl<T: Drop, R: Waits, A: Allocator + Copy> Sender<T, R, A> {
         ensures no_memory { (back : T) → result ≡ Err (TrySendError.NoMemory back)
             → back ≡ message }
     {
-        match self.shared.make(FirstSend { message }) {
-            SendNext::Done(Ok(())) => Ok(()),
-            SendNext::Done(Err(SendTimeoutError::Disconnected(message))) => {
-                Err(TrySendError::Disconnected(message))
-            }
-            SendNext::Done(Err(SendTimeoutError::NoMemory(message))) => {
-                Err(TrySendError::NoMemory(message))
-            }
-            SendNext::NeedSignal(message) => Err(TrySendError::Full(message)),
-            SendNext::Done(Err(SendTimeoutError::Timeout(_))) | SendNext::Park(_) => unreachable!(),
-        }
+        tried_send(self.shared.make(FirstSend { message }))
     }
 
     /// Sends a message, and waits while the channel is full. `Disconnected`: all receivers are
@@ -82,12 +74,7 @@ impl<T: Drop, R: Waits, A: Allocator + Copy> Sender<T, R, A> {
         ensures no_memory { (back : T) → result ≡ Err (SendError.NoMemory back) → back ≡ message }
     {
         let mut gate = Gate::new(&self.shared, Deadline::Never);
-        match send_over(&self.shared.rt, &mut gate, message) {
-            Ok(()) => Ok(()),
-            Err(SendTimeoutError::NoMemory(message)) => Err(SendError::NoMemory(message)),
-            Err(SendTimeoutError::Disconnected(message)) => Err(SendError::Disconnected(message)),
-            Err(SendTimeoutError::Timeout(_)) => unreachable!(),
-        }
+        waited_send(send_over(&self.shared.rt, &mut gate, message))
     }
 
     /// Sends a message, and waits while the channel is full, up to the deadline. `Timeout`: it is

@@ -1,9 +1,10 @@
 //! What a parked call leaves with the channel, and what wakes it.
+use crate::deadline::left_until;
 use std::alloc::{Allocator, Global};
 use std::hint::spin_loop;
 use std::sync::atomic::{AtomicU64, Ordering};
 use std::sync::{Arc, Condvar, Mutex, Wait};
-use std::time::{Clock, Duration, Instant};
+use std::time::{Clock, Instant};
 
 // What a parker's word says: no wake has come that wasn't taken, one has, or its call sleeps.
 const IDLE: u64 = 0;
@@ -122,13 +123,6 @@ impl Parker {
             .compare_exchange(from, to, Ordering::SeqCst, Ordering::SeqCst)
             .is_ok()
     }
-}
-
-// How long it is to the deadline: `None` once it is reached, or where the clock can't be read.
-pub(crate) fn left_until<R: Clock>(rt: &R, deadline: Instant) -> Option<Duration> {
-    let now = Instant::now(rt).ok()?;
-    let left = deadline.saturating_duration_since(now);
-    if left.is_zero() { None } else { Some(left) }
 }
 
 /// What a parked call leaves with the channel, to be woken by.

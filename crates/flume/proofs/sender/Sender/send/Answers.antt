@@ -1,8 +1,9 @@
-use Rattle.std.proofs.Common.{Err, ap, ◌∙◌}
 use Rattle.flume.proofs.InTime.{send_in_time}
 use Rattle.flume.proofs.sender.Sender.send.Goals as goal
 
-pub unreachable-requires : goal.unreachable-requires
-unreachable-requires g c =
-    let late = c.in-Err-Timeout.is ∙ ap Err c.in-Err-Timeout.field-0-is in
-    send_in_time c.send_over.ensures.run c.new-gate.ensures.deadline _ late
+pub waited_send-requires : goal.waited_send-requires
+waited_send-requires g c = record { in_time = send_in_time c.send_over.ensures.run c.new-gate.ensures.deadline }
+
+pub returns : goal.returns
+returns g c = record { no_memory = λ back said.
+    c.send_over.ensures.no_memory_holds back ((c.waited_send.ensures.no_memory back).1 said) }

@@ -1,0 +1,77 @@
+//! Up to when a call waits. What a clock reads is a value here, and each table is one of values.
+ghost use Rattle.std.specs.Prelude.{◌≡◌, ◌≢◌, ◌+◌, ◌≤◌, ◌↔◌, true, IsErr, IsNone, IfSome, Ok};
+ghost use Rattle.std.specs.Duration.{as_nanos};
+ghost use Rattle.std.specs.Time.{instant_nanos, FitsClock};
+ghost use Rattle.flume.specs.Endings.{IsAt};
+
+use crate::shared::Waits;
+use std::io;
+use std::time::{Clock, Duration, Instant};
+
+/// Up to when a call waits.
+#[derive(Clone, Copy, Drop)]
+pub(crate) enum Deadline {
+    /// As long as it takes.
+    Never,
+    /// Up to this time.
+    At(Instant),
+    /// It is reached.
+    Reached,
+}
+
+impl Deadline {
+    /// So long from now.
+    pub(crate) fn after<R: Waits>(rt: &R, timeout: Duration) -> Deadline {
+        Deadline::past(Instant::now(rt), timeout)
+    }
+
+    // So long past what the clock read. Where no time is that late, never; where the clock couldn't
+    // be read, it is reached.
+    fn past(now: io::Result<Instant>, timeout: Duration) -> Deadline
+        ensures unread { IsErr now → result ≡ Deadline.Reached }
+        ensures sum { (time : Instant) → now ≡ Ok time
+            → FitsClock (instant_nanos time + as_nanos timeout)
+            → IsAt result (instant_nanos time + as_nanos timeout) }
+        ensures no_sum { (time : Instant) → now ≡ Ok time
+            → (FitsClock (instant_nanos time + as_nanos timeout) → ⊥)
+            → result ≡ Deadline.Never }
+    {
+        match now {
+            Ok(now) => match now.checked_add(timeout) {
+                Some(deadline) => Deadline::At(deadline),
+                None => Deadline::Never,
+            },
+            Err(_) => Deadline::Reached,
+        }
+    }
+
+    /// Whether it is reached, by the clock. A clock that can't be read counts as past it.
+    pub(crate) fn is_reached<R: Waits>(self, rt: &R) -> bool
+        ensures never { result ≡ true → self ≢ Deadline.Never }
+        ensures reached { self ≡ Deadline.Reached → result ≡ true }
+    {
+        match self {
+            Deadline::Never => false,
+            Deadline::At(deadline) => left_until(rt, deadline).is_none(),
+            Deadline::Reached => true,
+        }
+    }
+}
+
+/// How long it is to the deadline: `None` once it is reached, or where the clock can't be read.
+pub(crate) fn left_until<R: Clock>(rt: &R, deadline: Instant) -> Option<Duration> {
+    left_from(Instant::now(rt), deadline)
+}
+
+// How long it is from what the clock read to the deadline.
+fn left_from(now: io::Result<Instant>, deadline: Instant) -> Option<Duration>
+    ensures unread { IsErr now → IsNone result }
+    ensures reached { (time : Instant) → now ≡ Ok time
+        → (IsNone result ↔ (instant_nanos deadline ≤ instant_nanos time)) }
+    ensures left { (time : Instant) → now ≡ Ok time
+        → IfSome result (λ d. as_nanos d + instant_nanos time ≡ instant_nanos deadline) }
+{
+    let now = now.ok()?;
+    let left = deadline.saturating_duration_since(now);
+    if left.is_zero() { None } else { Some(left) }
+}
