@@ -13,7 +13,7 @@ use std::test::Fail;
 // those that were issued before it, and a few that weren't.
 const SCRIPTS: u64 = 2_000;
 
-// How many of them run on a channel with a fault.
+// How many scripts are run on a channel with a fault, for each fault.
 const FAULTY_SCRIPTS: u64 = 400;
 
 const LISTS: u64 = 10;
