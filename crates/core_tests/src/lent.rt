@@ -1,28 +1,35 @@
-//! Gates over a channel, on which another makes a step while the call waits.
-use crate::answers::is;
+//! A gate over a channel of one owner, whose relations say which step each turn made; and a caller
+//! that concludes from them what became of its message.
+ghost use Rattle.std.specs.Prelude.{◌≡◌, Ok, Err};
+ghost use Rattle.flume_core.specs.declared.error.SendTimeoutError.TheVariants.{Timeout};
+ghost use Rattle.core_tests.specs.Lent.{Others, IsSent, IsTakenBack};
+
 use flume_calls::calls::{
     AgainReceive, AgainSend, FirstReceive, FirstSend, ParkReceive, ParkSend, RecvCall, RecvNext,
     SendCall, SendNext,
 };
 use flume_calls::due::Bell;
-use flume_calls::gates::{RecvGate, SendGate, recv_over, send_over};
+use flume_calls::gates::{RecvGate, SendGate, send_over};
 use flume_calls::locked::Locked;
 use flume_calls::single::Single;
-use flume_core::error::{RecvTimeoutError, SendTimeoutError};
+use flume_core::error::SendTimeoutError;
 use flume_core::step::Kind;
-use std::alloc::Global;
+use std::alloc::Allocator;
+use std::sync::Wait;
 
-// What another does.
+/// What another does while the call waits.
 #[derive(Clone, Copy, Drop)]
-enum Other {
+pub enum Other {
+    /// It tries to receive.
     TryRecv,
+    /// It drops a sender.
     DropSender,
 }
 
-// Counts its rings.
+/// Counts its rings.
 #[derive(Drop)]
-struct Counter {
-    rings: u64,
+pub struct Counter {
+    pub rings: u64,
 }
 
 impl Bell<u64> for Counter {
@@ -33,17 +40,18 @@ impl Bell<u64> for Counter {
     }
 }
 
-// The channel, what another is to do while the call waits, and what that one received.
+/// The channel, what another is to do while the call waits, and what that one received.
 #[derive(Drop)]
-struct Lent {
-    locked: Locked<u64, u64, Global>,
-    bell: Counter,
-    other: Option<Other>,
-    received: Option<u64>,
+pub struct Lent<T, A: Allocator> {
+    pub locked: Locked<T, u64, A>,
+    pub bell: Counter,
+    pub other: Option<Other>,
+    pub received: Option<T>,
 }
 
-impl Lent {
-    fn new(alloc: Global, capacity: Option<usize>, other: Option<Other>) -> Lent {
+impl<T: Drop, A: Allocator + Copy> Lent<T, A> {
+    /// A new channel of this capacity.
+    pub fn new(alloc: A, capacity: Option<usize>, other: Option<Other>) -> Self {
         Lent {
             locked: Locked::new(alloc, capacity),
             bell: Counter { rings: 0 },
@@ -53,7 +61,9 @@ impl Lent {
     }
 
     // Lets the other do it. True where there is nothing to do.
-    fn let_other(&mut self) -> bool {
+    fn let_other(&mut self) -> bool
+        ensures does { Others A self.old.locked self.new.locked }
+    {
         match self.other.take() {
             None => return true,
             Some(Other::DropSender) => {
@@ -72,18 +82,27 @@ impl Lent {
     }
 }
 
-impl SendGate<u64> for Lent {
-    ghost firsts = { λ old message new answer. Unit {0} };
+impl<T: Drop, A: Allocator + Copy> SendGate<T> for Lent<T, A> {
+    ghost use Rattle.std.specs.Prelude.{◌≡◌};
+    ghost use Rattle.flume_model.specs.declared.step.Step.TheVariants.{TrySend, Send};
+    ghost use Rattle.flume_calls.specs.SendTurns.{after_try_send, after_send, after_parked_send};
+    ghost use Rattle.flume_calls.specs.SendTurns.{step_of_parked_send};
+    ghost use Rattle.core_tests.specs.Lent.{Makes, Others};
 
-    ghost arms = { λ old new answer. Unit {0} };
+    ghost firsts = { λ old message new answer.
+        Makes A (TrySend message) after_try_send old.locked new.locked answer };
 
-    ghost parks = { λ old message new answer. Unit {0} };
+    ghost arms = { λ old new answer. new.locked ≡ old.locked };
 
-    ghost agains = { λ old ticket late new answer. Unit {0} };
+    ghost parks = { λ old message new answer.
+        Makes A (Send message) after_send old.locked new.locked answer };
 
-    ghost waits = { λ old new answer. Unit {0} };
+    ghost agains = { λ old ticket late new answer. Makes A (step_of_parked_send ticket late)
+        (after_parked_send ticket late) old.locked new.locked answer };
 
-    fn first(&mut self, message: u64) -> SendNext<u64> {
+    ghost waits = { λ old new answer. Others A old.locked new.locked };
+
+    fn first(&mut self, message: T) -> SendNext<T> {
         self.locked.make(FirstSend { message }, &mut self.bell)
     }
 
@@ -91,13 +110,13 @@ impl SendGate<u64> for Lent {
         true
     }
 
-    fn park(&mut self, message: u64) -> SendNext<u64> {
+    fn park(&mut self, message: T) -> SendNext<T> {
         let signal = 11;
         self.locked
             .make(ParkSend { message, signal }, &mut self.bell)
     }
 
-    fn again(&mut self, call: SendCall, late: bool) -> SendNext<u64> {
+    fn again(&mut self, call: SendCall, late: bool) -> SendNext<T> {
         let signal = None;
         self.locked
             .make(AgainSend { call, late, signal }, &mut self.bell)
@@ -108,18 +127,29 @@ impl SendGate<u64> for Lent {
     }
 }
 
-impl RecvGate<u64> for Lent {
-    ghost firsts = { λ old new answer. Unit {0} };
+impl<T: Drop, A: Allocator + Copy> RecvGate<T> for Lent<T, A> {
+    ghost use Rattle.std.specs.Prelude.{◌≡◌};
+    ghost use Rattle.flume_model.specs.declared.step.Kind.TheVariants.{Block};
+    ghost use Rattle.flume_model.specs.declared.step.Step.TheVariants.{TryRecv, Recv};
+    ghost use Rattle.flume_calls.specs.ReceiveTurns.{after_try_recv, after_recv};
+    ghost use Rattle.flume_calls.specs.ReceiveTurns.{step_of_parked_receive};
+    ghost use Rattle.flume_calls.specs.ReceiveTurns.{after_parked_receive};
+    ghost use Rattle.core_tests.specs.Lent.{Makes, Others};
 
-    ghost arms = { λ old new answer. Unit {0} };
+    ghost firsts = { λ old new answer.
+        Makes A TryRecv after_try_recv old.locked new.locked answer };
 
-    ghost parks = { λ old new answer. Unit {0} };
+    ghost arms = { λ old new answer. new.locked ≡ old.locked };
 
-    ghost agains = { λ old ticket late new answer. Unit {0} };
+    ghost parks = { λ old new answer.
+        Makes A (Recv Block) after_recv old.locked new.locked answer };
 
-    ghost waits = { λ old new answer. Unit {0} };
+    ghost agains = { λ old ticket late new answer. Makes A (step_of_parked_receive ticket late)
+        (after_parked_receive ticket late) old.locked new.locked answer };
 
-    fn first(&mut self) -> RecvNext<u64> {
+    ghost waits = { λ old new answer. Others A old.locked new.locked };
+
+    fn first(&mut self) -> RecvNext<T> {
         self.locked.make(FirstReceive, &mut self.bell)
     }
 
@@ -127,13 +157,13 @@ impl RecvGate<u64> for Lent {
         true
     }
 
-    fn park(&mut self) -> RecvNext<u64> {
+    fn park(&mut self) -> RecvNext<T> {
         let (kind, signal) = (Kind::Block, 11);
         self.locked
             .make(ParkReceive { kind, signal }, &mut self.bell)
     }
 
-    fn again(&mut self, call: RecvCall, late: bool) -> RecvNext<u64> {
+    fn again(&mut self, call: RecvCall, late: bool) -> RecvNext<T> {
         let signal = None;
         self.locked
             .make(AgainReceive { call, late, signal }, &mut self.bell)
@@ -144,26 +174,49 @@ impl RecvGate<u64> for Lent {
     }
 }
 
-#[test]
-fn a_blocked_send_is_taken_while_it_waits(rt: HostRuntime) {
-    let mut gate = Lent::new(rt.alloc(), Some(0), Some(Other::TryRecv));
-    assert!(rt; send_over(&rt, &mut gate, 7).is_ok());
-    is(&rt, gate.received, Some(7));
-    is(&rt, gate.bell.rings, 1);
+/// A send through the gate. Where it ends well its message was offered, and is not blocked any
+/// more; where it ends at its deadline its message was offered and blocked, and its last step took
+/// back the one that blocked under its ticket.
+pub fn send_through<T: Drop, A: Allocator + Copy, R: Wait>(
+    rt: &R,
+    gate: &mut Lent<T, A>,
+    message: T,
+) -> Result<(), SendTimeoutError<T>>
+    ensures sent { result ≡ Ok tt → IsSent A message gate.old.locked gate.new.locked }
+    ensures taken_back { (back : T) → result ≡ Err (Timeout back)
+        → IsTakenBack A message back gate.old.locked gate.new.locked }
+{
+    send_over(rt, gate, message)
 }
 
-#[test]
-fn a_blocked_send_that_nobody_takes_times_out(rt: HostRuntime) {
-    let mut gate = Lent::new(rt.alloc(), Some(0), None);
-    let sent = send_over(&rt, &mut gate, 7);
-    assert!(rt; matches!(sent, Err(SendTimeoutError::Timeout(7))));
-    is(&rt, gate.bell.rings, 0);
-}
+#[cfg(test)]
+mod tests {
+    use crate::answers::is;
+    use crate::lent::{Lent, Other, send_through};
+    use flume_calls::gates::recv_over;
+    use flume_core::error::{RecvTimeoutError, SendTimeoutError};
 
-#[test]
-fn a_receive_ends_as_the_sender_goes_while_it_waits(rt: HostRuntime) {
-    let mut gate = Lent::new(rt.alloc(), None, Some(Other::DropSender));
-    let received = recv_over(&rt, &mut gate);
-    is(&rt, received, Err(RecvTimeoutError::Disconnected));
-    is(&rt, gate.bell.rings, 1);
+    #[test]
+    fn a_blocked_send_is_taken_while_it_waits(rt: HostRuntime) {
+        let mut gate = Lent::new(rt.alloc(), Some(0), Some(Other::TryRecv));
+        assert!(rt; send_through(&rt, &mut gate, 7u64).is_ok());
+        is(&rt, gate.received, Some(7));
+        is(&rt, gate.bell.rings, 1);
+    }
+
+    #[test]
+    fn a_blocked_send_that_nobody_takes_times_out(rt: HostRuntime) {
+        let mut gate = Lent::new(rt.alloc(), Some(0), None);
+        let sent = send_through(&rt, &mut gate, 7u64);
+        assert!(rt; matches!(sent, Err(SendTimeoutError::Timeout(7))));
+        is(&rt, gate.bell.rings, 0);
+    }
+
+    #[test]
+    fn a_receive_ends_as_the_sender_goes_while_it_waits(rt: HostRuntime) {
+        let mut gate: Lent<u64, _> = Lent::new(rt.alloc(), None, Some(Other::DropSender));
+        let received = recv_over(&rt, &mut gate);
+        is(&rt, received, Err(RecvTimeoutError::Disconnected));
+        is(&rt, gate.bell.rings, 1);
+    }
 }

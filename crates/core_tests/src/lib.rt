@@ -20,7 +20,12 @@ mod gates;
 #[cfg(test)]
 mod judge;
 #[cfg(test)]
-mod lent;
+mod leak_rows;
+#[cfg(test)]
+mod leaks;
+pub mod lent;
+#[cfg(test)]
+mod list_rows;
 #[cfg(test)]
 mod lists;
 #[cfg(test)]

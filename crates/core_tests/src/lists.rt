@@ -1,134 +1,14 @@
-//! Lists of steps, with the texts of their replies.
+//! Lists of steps, with their replies: at numbers, at texts, and at messages that can't be copied.
 use crate::answers::{is, replies_are};
+use crate::list_rows::ROWS;
 use flume_core::chan::Chan;
 use flume_core::run::run;
 use flume_core::step::Step::{
-    DropReceiver, DropSender, Len, PollSend, Send, TryRecv, TrySend, WithdrawSend,
+    DropReceiver, DropSender, IsDisconnected, PollSend, Send, TryRecv, TrySend,
 };
-use flume_core::step::{Kind, Reply, Step};
+use flume_core::step::{Reply, Step};
 use std::alloc::Global;
 use std::test::Fail;
-
-// A sentence on what a channel of this capacity shows, whose first ticket is this one, and lists of
-// steps, each with the text of its replies.
-struct Row {
-    title: &'static str,
-    capacity: Option<usize>,
-    ticket: u64,
-    lists: &'static [(&'static [Step<u64>], &'static str)],
-}
-
-// The ticket one below the greatest number, and so the last one that is issued.
-const LAST: u64 = u64::MAX - 1;
-
-const ROWS: &[Row] = &[
-    Row {
-        title: "a message sent is got once",
-        capacity: None,
-        ticket: 1,
-        lists: &[(
-            &[TryRecv, TrySend(42), TryRecv, TryRecv],
-            "empty\nsent\ngot 42\nempty\n",
-        )],
-    },
-    Row {
-        title: "a full queue hands the message back",
-        capacity: Some(2),
-        ticket: 1,
-        lists: &[(
-            &[TrySend(1), TrySend(2), TrySend(3), TryRecv, Len],
-            "sent\nsent\nfull 3\ngot 1\n1\n",
-        )],
-    },
-    Row {
-        title: "queued messages outlive the last sender",
-        capacity: None,
-        ticket: 1,
-        lists: &[(
-            &[TrySend(1), DropSender, TryRecv, TryRecv],
-            "sent\ndone\ngot 1\nended\n",
-        )],
-    },
-    Row {
-        title: "a channel of capacity 0 queues nothing unasked",
-        capacity: Some(0),
-        ticket: 1,
-        lists: &[(&[Len, TrySend(1), TryRecv], "0\nfull 1\nempty\n")],
-    },
-    Row {
-        title: "nothing is left where both ends are gone",
-        capacity: None,
-        ticket: 1,
-        lists: &[(
-            &[
-                TrySend(1),
-                DropReceiver,
-                DropSender,
-                Len,
-                TryRecv,
-                DropReceiver,
-            ],
-            "sent\ndone\ndone\n0\nended\nnoend\n",
-        )],
-    },
-    Row {
-        title: "a ticket is told of its message once",
-        capacity: Some(0),
-        ticket: 1,
-        lists: &[(
-            &[TrySend(7), Send(7), Len, TryRecv, PollSend(1), PollSend(1)],
-            "full 7\npending 1\n0\ngot 7\naccepted\nnoticket\n",
-        )],
-    },
-    Row {
-        title: "a message withdrawn from the middle comes back, and the others keep their order",
-        capacity: Some(1),
-        ticket: 1,
-        lists: &[
-            (
-                &[Send(1), Send(2), Send(3), Send(4), WithdrawSend(2)],
-                "sent\npending 1\npending 2\npending 3\nreturned 3\n",
-            ),
-            (
-                &[TryRecv, TryRecv, TryRecv, TryRecv, PollSend(1), PollSend(3)],
-                "got 1\ngot 2\ngot 4\nempty\naccepted\naccepted\n",
-            ),
-        ],
-    },
-    Row {
-        title: "a second list goes on where the first ended",
-        capacity: Some(1),
-        ticket: 1,
-        lists: &[
-            (&[TrySend(1), TrySend(2)], "sent\nfull 2\n"),
-            (&[TryRecv, TrySend(3), Len], "got 1\nsent\n1\n"),
-        ],
-    },
-    Row {
-        title: "the greatest ticket is never issued",
-        capacity: Some(0),
-        ticket: u64::MAX,
-        lists: &[(
-            &[Send(7), Step::Recv(Kind::Block), Len],
-            "spent 7\nspent\n0\n",
-        )],
-    },
-    Row {
-        title: "the last ticket is issued once",
-        capacity: Some(0),
-        ticket: LAST,
-        lists: &[(
-            &[
-                Send(7),
-                Send(8),
-                PollSend(LAST),
-                WithdrawSend(LAST),
-                Send(9),
-            ],
-            "pending 18446744073709551614\nspent 8\nwaiting\nreturned 7\nspent 9\n",
-        )],
-    },
-];
 
 // The replies to the steps on this channel.
 fn replies_to<T: Drop>(
@@ -147,6 +27,103 @@ fn each_list_is_answered_as_its_row_says(rt: HostRuntime) -> Result<(), Fail> {
         for (steps, wanted) in row.lists {
             let replies = replies_to(rt.alloc(), &mut chan, steps.to_vec(rt.alloc())?)?;
             replies_are(&rt, rt.alloc(), row.title, &replies, wanted)?;
+        }
+    }
+    Ok(())
+}
+
+// The text of a number.
+fn text_of(alloc: Global, number: u64) -> Result<String, Fail> {
+    Ok(number.to_string(alloc)?)
+}
+
+// The number of a text; no row has the greatest one.
+fn number_of(text: &String) -> u64 {
+    text.as_str().parse().unwrap_or(u64::MAX)
+}
+
+// The step, with a text for its message.
+fn with_text(alloc: Global, step: &Step<u64>) -> Result<Step<String>, Fail> {
+    Ok(match *step {
+        Step::TrySend(number) => Step::TrySend(text_of(alloc, number)?),
+        Step::Send(number) => Step::Send(text_of(alloc, number)?),
+        Step::PollSend(ticket) => Step::PollSend(ticket),
+        Step::WithdrawSend(ticket) => Step::WithdrawSend(ticket),
+        Step::TryRecv => Step::TryRecv,
+        Step::Recv(kind) => Step::Recv(kind),
+        Step::Poll(ticket) => Step::Poll(ticket),
+        Step::Withdraw(ticket) => Step::Withdraw(ticket),
+        Step::Drain => Step::Drain,
+        Step::CloneSender => Step::CloneSender,
+        Step::CloneReceiver => Step::CloneReceiver,
+        Step::DropSender => Step::DropSender,
+        Step::DropReceiver => Step::DropReceiver,
+        Step::Len => Step::Len,
+        Step::IsEmpty => Step::IsEmpty,
+        Step::IsFull => Step::IsFull,
+        Step::Capacity => Step::Capacity,
+        Step::SenderCount => Step::SenderCount,
+        Step::ReceiverCount => Step::ReceiverCount,
+        Step::IsDisconnected => Step::IsDisconnected,
+    })
+}
+
+// The reply, with a number for its text.
+fn with_number(alloc: Global, reply: &Reply<String>) -> Reply<u64> {
+    match reply {
+        Reply::Full(text) => Reply::Full(number_of(text)),
+        Reply::Closed(text) => Reply::Closed(number_of(text)),
+        Reply::Got(text) => Reply::Got(number_of(text)),
+        Reply::NoMemory(back) => Reply::NoMemory(back.as_ref().map(|text| number_of(text))),
+        Reply::Spent(back) => Reply::Spent(back.as_ref().map(|text| number_of(text))),
+        Reply::Returned { message, closed } => Reply::Returned {
+            message: number_of(message),
+            closed: *closed,
+        },
+        Reply::Sent { filled } => Reply::Sent { filled: *filled },
+        Reply::Pending(ticket) => Reply::Pending(*ticket),
+        Reply::Parked(ticket) => Reply::Parked(*ticket),
+        Reply::Number(number) => Reply::Number(*number),
+        Reply::Truth(truth) => Reply::Truth(*truth),
+        Reply::Capacity(capacity) => Reply::Capacity(*capacity),
+        other => bare(alloc, other),
+    }
+}
+
+// The same of a reply that has no text. The rows drain nothing.
+fn bare(alloc: Global, reply: &Reply<String>) -> Reply<u64> {
+    match reply {
+        Reply::Accepted => Reply::Accepted,
+        Reply::Waiting => Reply::Waiting,
+        Reply::NoTicket => Reply::NoTicket,
+        Reply::Empty => Reply::Empty,
+        Reply::Ended => Reply::Ended,
+        Reply::Done => Reply::Done,
+        Reply::NoEnd => Reply::NoEnd,
+        Reply::CountFull => Reply::CountFull,
+        Reply::Gone { closed, filled } => Reply::Gone {
+            closed: *closed,
+            filled: *filled,
+        },
+        _ => Reply::Drained(Vec::new(alloc)),
+    }
+}
+
+#[test]
+fn each_list_is_answered_so_where_messages_are_texts(rt: HostRuntime) -> Result<(), Fail> {
+    let a = rt.alloc();
+    for row in ROWS {
+        let mut chan: Chan<String, ()> = Chan::starting_at(a, row.capacity, row.ticket);
+        for (steps, wanted) in row.lists {
+            let mut texts = Vec::new(a);
+            for step in *steps {
+                texts.push(with_text(a, step)?)?;
+            }
+            let mut replies = Vec::new(a);
+            for reply in &replies_to(a, &mut chan, texts)? {
+                replies.push(with_number(a, reply))?;
+            }
+            replies_are(&rt, a, row.title, &replies, wanted)?;
         }
     }
     Ok(())
@@ -196,7 +173,7 @@ fn blocked_messages_need_not_be_copied(rt: HostRuntime) -> Result<(), Fail> {
         Send(Parcel(2)),
         DropReceiver,
         PollSend(1),
-        Step::IsDisconnected,
+        IsDisconnected,
     ]?;
     let wanted = vec![in rt.alloc();
         Reply::Sent { filled: None },
