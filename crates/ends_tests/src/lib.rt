@@ -4,6 +4,8 @@
 #[cfg(test)]
 mod capacities;
 #[cfg(test)]
+mod clocks;
+#[cfg(test)]
 mod draining;
 #[cfg(test)]
 mod dropped;
@@ -15,6 +17,8 @@ mod fixtures;
 mod forwarded;
 #[cfg(test)]
 mod iterators;
+#[cfg(test)]
+mod leaks;
 #[cfg(test)]
 mod memory;
 #[cfg(test)]
