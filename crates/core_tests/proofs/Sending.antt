@@ -105,7 +105,7 @@ module _ {T A : Type 0} where
   first_in_time (NoneLeft (Some m)) result told back is = cc
   first_in_time _ result told back is = absurd told
 
-  -- nor is the turn that may park
+  -- the turn that may park is never late
   second_in_time : (reply : Reply T A) (result : Ending T) → after_send reply (Done result)
       → (back : T) → result ≡ Err (Timeout back) → ⊥
   second_in_time (Sent filled) result told back is = cc
@@ -125,7 +125,7 @@ module _ {T A S : Type 0} where
   first_sent m old new (NoneLeft (Some back)) result leads told ok = absurd (let none : ⊥ = cc in none)
   first_sent m old new _ result leads told ok = absurd told
 
-  -- or the one that may park
+  -- a send that the turn that may park ended well
   second_sent : (m : T) (old new : State T S) (reply : Reply T A) (result : Ending T)
       → Leads old ((Send m, reply) ∷ (TrySend m, Full m) ∷ []) new
       → after_send reply (Done result) → result ≡ Ok tt → IsSent A m old new

@@ -50,7 +50,7 @@ module _ {T A : Type 0} where
     -- by the step that may block
     Second : (filled : Option ℕ)
         → Offers message ((Send message, Sent filled) ∷ (TrySend message, Full message) ∷ [])
-    -- or later, after it blocked
+    -- after it blocked, as who asks is told
     Later : (ticket : ℕ) (others : Log T A) (step : Step T) (reply : Reply T A)
         → IsAccepted ticket step reply
         → Offers message ((step, reply) ∷ others ++ blocks message ticket)

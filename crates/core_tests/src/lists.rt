@@ -90,7 +90,7 @@ fn with_number(alloc: Global, reply: &Reply<String>) -> Reply<u64> {
     }
 }
 
-// The same of a reply that has no text. The rows drain nothing.
+// A reply without a text. The rows drain nothing, so none of them wants the list.
 fn bare(alloc: Global, reply: &Reply<String>) -> Reply<u64> {
     match reply {
         Reply::Accepted => Reply::Accepted,
