@@ -5,6 +5,7 @@
 mod capacities;
 #[cfg(test)]
 mod clocks;
+pub mod counting;
 #[cfg(test)]
 mod draining;
 #[cfg(test)]
@@ -27,6 +28,8 @@ mod messages;
 mod nested;
 #[cfg(test)]
 mod one_thread;
+#[cfg(test)]
+mod parked;
 #[cfg(test)]
 mod queries;
 #[cfg(test)]

@@ -1,0 +1,2 @@
+mod CountUp
+mod CountDown
