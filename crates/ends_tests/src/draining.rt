@@ -1,7 +1,8 @@
 //! Drains at the ends.
 use crate::fixtures::is;
-use flume::{bounded, unbounded};
-use flume_core::error::{SendTimeoutError, TrySendError};
+use flume::{Drain, Sender, Waits, bounded, unbounded};
+use flume_core::error::{SendTimeoutError, TryRecvError, TrySendError};
+use std::process::Abort;
 use std::test::Fail;
 use std::thread;
 use std::time::Duration;
@@ -26,18 +27,64 @@ fn a_drain_takes_no_message_that_timed_out(rt: HostRuntime) -> Result<(), Fail> 
     Ok(())
 }
 
+// The sum of what a drain gives.
+fn sum_of(drain: Drain<'_, u64>) -> u64 {
+    let mut sum = 0u64;
+    for message in drain {
+        sum = sum.saturating_add(message);
+    }
+    sum
+}
+
 #[test]
 fn a_drain_gives_all_that_was_queued(rt: HostRuntime) -> Result<(), Fail> {
     let (tx, rx) = unbounded::<u64, _, _>(rt, rt.alloc(), 1)?;
     for message in 0..100 {
         assert!(rt; tx.send(message).is_ok());
     }
-    let mut sum = 0u64;
-    for message in rx.drain()? {
-        sum = sum.saturating_add(message);
-    }
-    is(&rt, sum, 4950);
+    is(&rt, sum_of(rx.drain()?), 4950);
     is(&rt, rx.len(), 0);
+    Ok(())
+}
+
+// Sends 0 to 99.
+fn send_hundred<R: Waits + Abort>(rt: R, tx: &Sender<u64, R>) {
+    for message in 0..100 {
+        assert!(rt; tx.send(message).is_ok());
+    }
+}
+
+#[test]
+fn a_channel_goes_on_after_a_drain(rt: HostRuntime) -> Result<(), Fail> {
+    let (tx, rx) = unbounded::<u64, _, _>(rt, rt.alloc(), 1)?;
+    send_hundred(rt, &tx);
+    is(&rt, sum_of(rx.drain()?), 4950);
+    send_hundred(rt, &tx);
+    send_hundred(rt, &tx);
+    is(&rt, rx.recv(), Ok(0));
+    let mut messages = rx.iter();
+    for place in 1..200 {
+        is(&rt, messages.next(), Some(place % 100));
+    }
+    is(&rt, rx.try_recv(), Err(TryRecvError::Empty));
+    Ok(())
+}
+
+#[test]
+fn a_thread_takes_a_drain_with_it(rt: HostRuntime) -> Result<(), Fail> {
+    let (tx, rx) = unbounded::<u64, _, _>(rt, rt.alloc(), 1)?;
+    send_hundred(rt, &tx);
+    let drain = rx.drain()?;
+    let sum = thread::scope(thread::scope_env(), &rt, |scope| {
+        let Ok(summing) = scope.spawn(move || sum_of(drain)) else {
+            return 0;
+        };
+        // Not one of the drain's.
+        assert!(rt; tx.send(7).is_ok());
+        summing.join(&rt)
+    });
+    is(&rt, sum, 4950);
+    is(&rt, rx.recv(), Ok(7));
     Ok(())
 }
 

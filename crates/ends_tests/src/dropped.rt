@@ -2,6 +2,7 @@
 use crate::fixtures::is;
 use flume::{Sender, Waits, unbounded};
 use flume_core::chan::Chan;
+use flume_core::step::Reply;
 use std::process::Abort;
 use std::sync::atomic::{AtomicU64, Ordering};
 use std::test::Fail;
@@ -75,10 +76,12 @@ fn a_blocked_message_goes_with_the_last_end(rt: HostRuntime) {
     let drops = AtomicU64::new(0);
     let mut chan: Chan<Counted, ()> = Chan::new(rt.alloc(), Some(1));
     // The first is queued, and the second blocks.
-    drop(chan.send(Counted { drops: &drops }, ()));
-    drop(chan.send(Counted { drops: &drops }, ()));
-    drop(chan.drop_receiver());
+    let queued = chan.send(Counted { drops: &drops }, ());
+    assert!(rt; matches!(queued, Reply::Sent { filled: None }));
+    let blocked = chan.send(Counted { drops: &drops }, ());
+    assert!(rt; matches!(blocked, Reply::Pending(1)));
+    assert!(rt; matches!(chan.drop_receiver(), Reply::Done));
     is(&rt, drops.load(Ordering::SeqCst), 0);
-    drop(chan.drop_sender());
+    assert!(rt; matches!(chan.drop_sender(), Reply::Done));
     is(&rt, drops.load(Ordering::SeqCst), 2);
 }

@@ -1,9 +1,14 @@
 //! Threads that read by iterators, and send on.
 use crate::fixtures::{is, opened};
-use flume::{Receiver, Sender, Waits, unbounded};
+use flume::{Iter, Receiver, Sender, Waits};
+use std::process::Abort;
 use std::sync::Mutex;
 use std::test::Fail;
 use std::thread;
+use std::thread::{JoinHandle, Threads};
+
+// The capacities of the channels; `None` is unbounded.
+const CAPACITIES: [Option<usize>; 4] = [None, Some(0), Some(1), Some(3)];
 
 // How many threads share a channel.
 const THREADS: usize = 8;
@@ -14,24 +19,34 @@ const MESSAGES: usize = 100;
 // How many answers a game of ping-pong has.
 const ANSWERS: u64 = 1000;
 
+// Answers each request by its double.
+fn answer_requests<R: Waits>(work: &Receiver<u64, R>, answers: &Sender<u64, R>) {
+    for request in work {
+        let _ = answers.send(request.wrapping_mul(2));
+    }
+}
+
+// Sends 0 to 99.
+fn ask_hundred<R: Waits>(requests: &Sender<u64, R>) {
+    for request in 0..100 {
+        let _ = requests.send(request);
+    }
+}
+
 #[test]
 fn a_worker_answers_on_another_channel(rt: HostRuntime) -> Result<(), Fail> {
-    let (requests, work) = unbounded::<u64, _, _>(rt, rt.alloc(), 1)?;
-    let (answers, results) = unbounded::<u64, _, _>(rt, rt.alloc(), 2)?;
-    let worker = thread::spawn(&rt, move || {
-        for request in &work {
-            let _ = answers.send(request.wrapping_mul(2));
+    for capacity in CAPACITIES {
+        let (requests, work) = opened::<u64, _>(rt, rt.alloc(), capacity)?;
+        let (answers, results) = opened::<u64, _>(rt, rt.alloc(), capacity)?;
+        let worker = thread::spawn(&rt, move || answer_requests(&work, &answers))?;
+        let asking = thread::spawn(&rt, move || ask_hundred(&requests))?;
+        for request in 0..100u64 {
+            is(&rt, results.recv(), Ok(2 * request));
         }
-    })?;
-    for request in 0..100 {
-        assert!(rt; requests.send(request).is_ok());
+        is(&rt, results.iter().next(), None);
+        asking.join(&rt);
+        worker.join(&rt);
     }
-    drop(requests);
-    for request in 0..100u64 {
-        is(&rt, results.recv(), Ok(2 * request));
-    }
-    is(&rt, results.iter().next(), None);
-    worker.join(&rt);
     Ok(())
 }
 
@@ -55,7 +70,7 @@ fn answer_pings<R: Waits>(pings: &Receiver<u64, R>, pongs: &Sender<u64, R>) {
 
 #[test]
 fn tried_iterators_play_ping_pong(rt: HostRuntime) -> Result<(), Fail> {
-    for capacity in [None, Some(0), Some(1)] {
+    for capacity in CAPACITIES {
         let (pings, asked) = opened(rt, rt.alloc(), capacity)?;
         let (pongs, answered) = opened(rt, rt.alloc(), capacity)?;
         let other = thread::spawn(&rt, move || answer_pings(&asked, &pongs))?;
@@ -79,29 +94,41 @@ fn count_each<R: Waits>(rt: &R, rx: Receiver<usize, R>, counts: &Mutex<[u32; MES
     }
 }
 
-#[test]
-fn iterators_in_eight_threads_share_the_messages(rt: HostRuntime) -> Result<(), Fail> {
-    let (tx, rx) = unbounded::<usize, _, _>(rt, rt.alloc(), 1)?;
-    let counts = Mutex::new([0; MESSAGES]);
-    let seen = &counts;
-    let started = thread::scope(thread::scope_env(), &rt, |scope| {
+// Eight threads read by iterators what this one sends. False: a thread or a clone was refused.
+fn read_by_eight<R: Waits + Threads + Send + Sync>(
+    rt: R,
+    (tx, rx): (Sender<usize, R>, Receiver<usize, R>),
+    counts: &Mutex<[u32; MESSAGES]>,
+) -> bool {
+    thread::scope(thread::scope_env(), &rt, |scope| {
         for _ in 0..THREADS {
             let Ok(copy) = rx.clone() else {
                 return false;
             };
-            if scope.spawn(move || count_each(&rt, copy, seen)).is_err() {
+            if scope.spawn(move || count_each(&rt, copy, counts)).is_err() {
                 return false;
             }
         }
-        for message in 0..MESSAGES {
-            let _ = tx.send(message);
-        }
+        send_each(&tx);
         drop(tx);
         true
-    });
-    assert!(rt; started);
-    for count in counts.into_inner() {
-        is(&rt, count, 1);
+    })
+}
+
+// Sends 0 to 99.
+fn send_each<R: Waits>(tx: &Sender<usize, R>) {
+    for message in 0..MESSAGES {
+        let _ = tx.send(message);
+    }
+}
+
+#[test]
+fn iterators_in_eight_threads_share_the_messages(rt: HostRuntime) -> Result<(), Fail> {
+    for capacity in CAPACITIES {
+        let ends = opened::<usize, _>(rt, rt.alloc(), capacity)?;
+        let counts = Mutex::new([0; MESSAGES]);
+        assert!(rt; read_by_eight(rt, ends, &counts));
+        assert!(rt; counts.into_inner().iter().all(|&count| count == 1));
     }
     Ok(())
 }
@@ -113,31 +140,61 @@ fn forward<R: Waits>(from: Receiver<usize, R>, to: Sender<usize, R>) {
     }
 }
 
-#[test]
-fn eight_forwarders_lead_into_one_channel(rt: HostRuntime) -> Result<(), Fail> {
-    let (tx, from) = unbounded::<usize, _, _>(rt, rt.alloc(), 1)?;
-    let (to, rx) = unbounded::<usize, _, _>(rt, rt.alloc(), 2)?;
+// Starts eight threads that forward from the one channel into the other.
+fn start_forwarders<R: Waits + AllocGlobal + Threads + Send + Sync + 'static>(
+    rt: R,
+    from: Receiver<usize, R>,
+    to: Sender<usize, R>,
+) -> Result<Vec<JoinHandle<()>>, Fail> {
     let mut forwarders = Vec::new(rt.alloc());
     for _ in 0..THREADS {
         let (from, to) = (from.clone()?, to.clone()?);
         forwarders.push(thread::spawn(&rt, move || forward(from, to))?)?;
     }
-    drop(to);
+    Ok(forwarders)
+}
+
+// The sum of the next hundred messages of an iterator.
+fn sum_of_hundred<R: Waits>(messages: &mut Iter<'_, usize, R>) -> usize {
+    let mut sum = 0usize;
+    for message in messages.by_ref().take(MESSAGES) {
+        sum = sum.saturating_add(message);
+    }
+    sum
+}
+
+// Three times 0 to 99, of another thread, through eight.
+fn forward_three_times<R>(rt: R, capacity: Option<usize>) -> Result<(), Fail>
+where
+    R: Waits + AllocGlobal + Threads + Abort + Send + Sync + 'static,
+{
+    let (tx, from) = opened::<usize, _>(rt, rt.alloc(), capacity)?;
+    let (to, rx) = opened::<usize, _>(rt, rt.alloc(), capacity)?;
+    let forwarders = start_forwarders(rt, from, to)?;
     let mut forwarded = rx.iter();
     for _ in 0..3 {
-        for message in 0..MESSAGES {
-            assert!(rt; tx.send(message).is_ok());
-        }
-        let mut sum = 0usize;
-        for message in forwarded.by_ref().take(MESSAGES) {
-            sum = sum.saturating_add(message);
-        }
-        is(&rt, sum, 4950);
+        let other = tx.clone()?;
+        let sending = thread::spawn(&rt, move || send_each(&other))?;
+        is(&rt, sum_of_hundred(&mut forwarded), 4950);
+        sending.join(&rt);
     }
     drop(tx);
     is(&rt, forwarded.next(), None);
+    join_all(&rt, forwarders);
+    Ok(())
+}
+
+// Joins threads that forward.
+fn join_all<R: Threads>(rt: &R, forwarders: Vec<JoinHandle<()>>) {
     for forwarder in forwarders {
-        forwarder.join(&rt);
+        forwarder.join(rt);
+    }
+}
+
+#[test]
+fn eight_forwarders_lead_into_one_channel(rt: HostRuntime) -> Result<(), Fail> {
+    for capacity in CAPACITIES {
+        forward_three_times(rt, capacity)?;
     }
     Ok(())
 }

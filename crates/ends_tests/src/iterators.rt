@@ -1,6 +1,6 @@
 //! Iterators over received messages, in one thread and in two.
 use crate::fixtures::is;
-use flume::{Receiver, Waits, bounded, unbounded};
+use flume::{IntoIter, Receiver, Waits, bounded, unbounded};
 use flume_core::error::TrySendError;
 use std::test::Fail;
 use std::thread;
@@ -93,6 +93,30 @@ fn an_iterator_gives_what_another_thread_sends(rt: HostRuntime) -> Result<(), Fa
         is(&rt, sum, 45);
         sender.join(&rt);
     }
+    Ok(())
+}
+
+// The sum of what an iterator gives that has its receiver.
+fn sum_of<R: Waits>(messages: IntoIter<u64, R>) -> u64 {
+    let mut sum = 0u64;
+    for message in messages {
+        sum = sum.saturating_add(message);
+    }
+    sum
+}
+
+#[test]
+fn a_thread_takes_an_iterator_with_it(rt: HostRuntime) -> Result<(), Fail> {
+    let (tx, rx) = unbounded::<u64, _, _>(rt, rt.alloc(), 1)?;
+    let mut messages = rx.into_iter();
+    assert!(rt; tx.send(1).is_ok());
+    is(&rt, messages.next(), Some(1));
+    let summing = thread::spawn(&rt, move || sum_of(messages))?;
+    for message in 0..100 {
+        assert!(rt; tx.send(message).is_ok());
+    }
+    drop(tx);
+    is(&rt, summing.join(&rt), 4950);
     Ok(())
 }
 

@@ -1,10 +1,11 @@
 //! Messages that hold an end of another channel.
-use crate::fixtures::{is, opened};
+use crate::fixtures::{MOST_YIELDS, is, opened, yield_often};
 use flume::{Receiver, Sender, Waits, WeakSender};
 use flume_core::error::{NoMemory, RecvError, SendError, TryRecvError, TrySendError};
 use std::process::Abort;
 use std::test::Fail;
 use std::thread;
+use std::thread::Threads;
 
 // A question, and the sender for its answer.
 #[derive(Drop)]
@@ -101,15 +102,32 @@ fn a_sender_left_in_a_channel_goes_with_it(rt: HostRuntime) -> Result<(), Fail> 
     Ok(())
 }
 
+// A receive in a thread, against the end of a channel that has its last sender. The thread says
+// that it begins, and the end comes so many yields later.
+fn ends_with_a_channel<R>(rt: R, capacity: Option<usize>, yields: u32) -> Result<(), Fail>
+where
+    R: Waits + AllocGlobal + Threads + Abort + Send + Sync + 'static,
+{
+    let ((outer, outer_rx), (tx, rx)) = opened_both(rt, capacity)?;
+    let (announce, begins) = opened(rt, rt.alloc(), None)?;
+    assert!(rt; outer.send(tx).is_ok());
+    let receiving = thread::spawn(&rt, move || {
+        let _ = announce.send(());
+        rx.recv()
+    })?;
+    is(&rt, begins.recv(), Ok(()));
+    yield_often(yields);
+    drop(outer_rx);
+    drop(outer);
+    is(&rt, receiving.join(&rt), Err(RecvError::Disconnected));
+    Ok(())
+}
+
 #[test]
 fn a_receive_ends_as_its_sender_goes_with_a_channel(rt: HostRuntime) -> Result<(), Fail> {
-    for capacity in [None, Some(1)] {
-        let ((outer, outer_rx), (tx, rx)) = opened_both(rt, capacity)?;
-        let receiving = thread::spawn(&rt, move || rx.recv())?;
-        assert!(rt; outer.send(tx).is_ok());
-        drop(outer_rx);
-        drop(outer);
-        is(&rt, receiving.join(&rt), Err(RecvError::Disconnected));
+    for round in 0..128 {
+        ends_with_a_channel(rt, None, round % MOST_YIELDS)?;
+        ends_with_a_channel(rt, Some(1), round % MOST_YIELDS)?;
     }
     Ok(())
 }

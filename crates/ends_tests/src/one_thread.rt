@@ -5,9 +5,12 @@ use flume::error::{
 };
 use flume::signal::Parker;
 use flume::{Receiver, Sender, Waits, bounded, unbounded};
+use std::io;
 use std::process::Abort;
+use std::sync::Wait;
+use std::sync::atomic::{AtomicU64, Ordering};
 use std::test::Fail;
-use std::time::{Duration, Instant};
+use std::time::{Clock, Duration, Instant};
 
 // What both ends answer to the queries of which each has one: len, is_empty, is_full,
 // sender_count, receiver_count.
@@ -166,13 +169,68 @@ fn a_full_channel_refuses_and_a_closed_one_gives_back(rt: HostRuntime) -> Result
     Ok(())
 }
 
+// A clock that counts its readings: each is a millisecond after the one before.
+#[derive(Clone, Copy)]
+struct Counting<'a, R> {
+    rt: &'a R,
+    readings: &'a AtomicU64,
+}
+
+impl<R: Wait> Wait for Counting<'_, R> {}
+
+impl<R> Clock for Counting<'_, R> {
+    fn monotonic(&self) -> io::Result<Duration> {
+        let before = self.readings.fetch_add(1, Ordering::SeqCst);
+        Ok(Duration::from_millis(before))
+    }
+
+    fn since_1970(&self) -> io::Result<Duration> {
+        self.monotonic()
+    }
+}
+
+// Whether a wait takes a wake. Else it looks at the clock, and ends at the third reading.
+fn takes_a_wake<R: Wait>(rt: &R, parker: &Parker) -> io::Result<bool> {
+    let readings = AtomicU64::new(0);
+    let counting = Counting {
+        rt,
+        readings: &readings,
+    };
+    // The first reading, of 0, is the one that the deadline is made of.
+    let now = Instant::now(&counting)?;
+    let deadline = now.checked_add(Duration::from_millis(2)).unwrap_or(now);
+    parker.wait_until(&counting, deadline);
+    Ok(readings.into_inner() == 1)
+}
+
 #[test]
 fn a_wake_before_the_wait_is_not_lost(rt: HostRuntime) -> Result<(), Fail> {
-    let parker = Parker::new(0);
-    parker.fire(&rt);
-    parker.fire(&rt);
-    parker.wait(&rt);
-    parker.wait_until(&rt, Instant::now(&rt)?);
+    for checks in [0, 100] {
+        let parker = Parker::new(checks);
+        is(&rt, takes_a_wake(&rt, &parker)?, false);
+        parker.fire(&rt);
+        is(&rt, takes_a_wake(&rt, &parker)?, true);
+        is(&rt, takes_a_wake(&rt, &parker)?, false);
+        parker.fire(&rt);
+        is(&rt, takes_a_wake(&rt, &parker)?, true);
+    }
+    Ok(())
+}
+
+#[test]
+fn two_wakes_before_a_wait_count_as_one(rt: HostRuntime) -> Result<(), Fail> {
+    for checks in [0, 100] {
+        let parker = Parker::new(checks);
+        parker.fire(&rt);
+        parker.fire(&rt);
+        is(&rt, takes_a_wake(&rt, &parker)?, true);
+        is(&rt, takes_a_wake(&rt, &parker)?, false);
+        // And so they do for a wait with no deadline.
+        parker.fire(&rt);
+        parker.fire(&rt);
+        parker.wait(&rt);
+        is(&rt, takes_a_wake(&rt, &parker)?, false);
+    }
     Ok(())
 }
 

@@ -1,5 +1,5 @@
 //! Ends in several threads, all of which are joined.
-use crate::fixtures::{is, opened};
+use crate::fixtures::{MOST_YIELDS, is, opened, yield_often};
 use flume::error::{RecvError, SendError, TryRecvError};
 use flume::{Receiver, Sender, Waits, bounded, unbounded};
 use std::alloc::{AllocError, Global};
@@ -17,6 +17,9 @@ const ALL: u64 = 1000;
 
 // How many threads receive until the channel is closed.
 const RECEIVERS: usize = 8;
+
+// How often a blocked call and the drop of the other side run against each other.
+const ROUNDS: u32 = 256;
 
 // The capacities at which several threads meet; `None` is unbounded.
 const CAPACITIES: [Option<usize>; 4] = [None, Some(0), Some(1), Some(3)];
@@ -209,20 +212,57 @@ fn short_lived_channels_each_pass_their_message(rt: HostRuntime) -> Result<(), F
     Ok(())
 }
 
-#[test]
-fn a_receive_ends_as_the_last_sender_goes(rt: HostRuntime) -> Result<(), Fail> {
-    let (tx, rx) = unbounded::<u64, _, _>(rt, rt.alloc(), 1)?;
-    let receiver = thread::spawn(&rt, move || rx.recv())?;
+// A receive in a thread, against the drop of the last sender. The thread says that it begins, and
+// the drop comes so many yields later: before the call or, where the yields are enough, after it.
+fn receive_ends<R: Waits + Threads + Abort + Send + Sync + 'static>(
+    rt: R,
+    alloc: Global,
+    yields: u32,
+) -> Result<(), Fail> {
+    let (tx, rx) = unbounded::<u64, _, _>(rt, alloc, 1)?;
+    let (announce, begins) = unbounded::<(), _, _>(rt, alloc, 2)?;
+    let receiver = thread::spawn(&rt, move || {
+        let _ = announce.send(());
+        rx.recv()
+    })?;
+    is(&rt, begins.recv(), Ok(()));
+    yield_often(yields);
     drop(tx);
     is(&rt, receiver.join(&rt), Err(RecvError::Disconnected));
     Ok(())
 }
 
-#[test]
-fn a_send_ends_as_the_last_receiver_goes(rt: HostRuntime) -> Result<(), Fail> {
-    let (tx, rx) = bounded::<u64, _, _>(rt, rt.alloc(), 1, 0)?;
-    let sender = thread::spawn(&rt, move || tx.send(9))?;
+// A send without room in a thread, against the drop of the last receiver.
+fn send_ends<R: Waits + Threads + Abort + Send + Sync + 'static>(
+    rt: R,
+    alloc: Global,
+    yields: u32,
+) -> Result<(), Fail> {
+    let (tx, rx) = bounded::<u64, _, _>(rt, alloc, 1, 0)?;
+    let (announce, begins) = unbounded::<(), _, _>(rt, alloc, 2)?;
+    let sender = thread::spawn(&rt, move || {
+        let _ = announce.send(());
+        tx.send(9)
+    })?;
+    is(&rt, begins.recv(), Ok(()));
+    yield_often(yields);
     drop(rx);
     is(&rt, sender.join(&rt), Err(SendError::Disconnected(9)));
+    Ok(())
+}
+
+#[test]
+fn a_receive_ends_as_the_last_sender_goes(rt: HostRuntime) -> Result<(), Fail> {
+    for round in 0..ROUNDS {
+        receive_ends(rt, rt.alloc(), round % MOST_YIELDS)?;
+    }
+    Ok(())
+}
+
+#[test]
+fn a_send_ends_as_the_last_receiver_goes(rt: HostRuntime) -> Result<(), Fail> {
+    for round in 0..ROUNDS {
+        send_ends(rt, rt.alloc(), round % MOST_YIELDS)?;
+    }
     Ok(())
 }
