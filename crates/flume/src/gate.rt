@@ -13,7 +13,6 @@ use flume_calls::calls::{
     SendCall, SendNext,
 };
 use flume_calls::gates::{RecvGate, SendGate};
-use flume_core::error::{RecvTimeoutError, SendTimeoutError};
 use flume_core::step::Kind;
 use std::alloc::Allocator;
 use std::marker::Model;
@@ -24,9 +23,6 @@ use std::sync::Arc;
 pub(crate) struct Gate<'a, T, R: Waits, A: Allocator + Copy> {
     shared: &'a Shared<T, R, A>,
     deadline: Deadline,
-    // What the call waits on, once it is made, and the copy of it that the call leaves as it parks.
-    parker: Option<Arc<Parker, A>>,
-    signal: Option<Signal<A>>,
 }
 
 impl<'a, T, R: Waits, A: Allocator + Copy> Model for Gate<'a, T, R, A> {
@@ -43,48 +39,31 @@ impl<'a, T: Drop, R: Waits, A: Allocator + Copy> Gate<'a, T, R, A> {
     pub(crate) fn new(shared: &'a Shared<T, R, A>, deadline: Deadline) -> Self
         ensures deadline { result ≡ deadline }
     {
-        Gate {
-            shared,
-            deadline,
-            parker: None,
-            signal: None,
-        }
-    }
-
-    // Makes the parker and the copy of it. False: there was no memory for them.
-    #[inline(always)]
-    fn make_parker(&mut self) -> bool
-        ensures same { self.new ≡ self.old }
-    {
-        let Some((parker, signal)) = self.shared.new_parker() else {
-            return false;
-        };
-        self.parker = Some(parker);
-        self.signal = Some(signal);
-        true
+        Gate { shared, deadline }
     }
 
     // Waits for the parker's wake or the deadline. True, at once, where the deadline is reached.
     #[inline(always)]
-    fn wait_for_wake(&mut self) -> bool
-        ensures same { self.new ≡ self.old }
-        ensures late { result ≡ true → self.old ≢ Deadline.Never }
+    fn wait_on(&self, parker: &Parker) -> bool
+        ensures late { result ≡ true → self.now ≢ Deadline.Never }
     {
         let rt = &self.shared.rt;
         if self.deadline.is_reached(rt) {
             return true;
         }
-        if let Some(parker) = &self.parker {
-            match self.deadline {
-                Deadline::At(deadline) => parker.wait_until(rt, deadline),
-                _ => parker.wait(rt),
-            }
+        match self.deadline {
+            Deadline::At(deadline) => parker.wait_until(rt, deadline),
+            _ => parker.wait(rt),
         }
         false
     }
 }
 
 impl<T: Drop, R: Waits, A: Allocator + Copy> SendGate<T> for Gate<'_, T, R, A> {
+    type Waiter = Arc<Parker, A>;
+
+    type Signal = Signal<A>;
+
     ghost firsts = { λ old message new next. (new ≡ old) × send.IsFirst message next };
 
     ghost arms = { λ old new _. new ≡ old };
@@ -101,17 +80,13 @@ impl<T: Drop, R: Waits, A: Allocator + Copy> SendGate<T> for Gate<'_, T, R, A> {
     }
 
     #[inline(always)]
-    fn arm(&mut self) -> bool {
-        self.make_parker()
+    fn arm(&mut self) -> Option<(Arc<Parker, A>, Signal<A>)> {
+        self.shared.new_parker()
     }
 
     #[inline(always)]
-    fn park(&mut self, message: T) -> SendNext<T> {
-        match self.signal.take() {
-            Some(signal) => self.shared.make_seldom(ParkSend { message, signal }),
-            // No call parks before it is armed.
-            None => SendNext::Done(Err(SendTimeoutError::NoMemory(message))),
-        }
+    fn park(&mut self, message: T, signal: Signal<A>) -> SendNext<T> {
+        self.shared.make_seldom(ParkSend { message, signal })
     }
 
     #[inline(always)]
@@ -121,12 +96,16 @@ impl<T: Drop, R: Waits, A: Allocator + Copy> SendGate<T> for Gate<'_, T, R, A> {
     }
 
     #[inline(always)]
-    fn wait(&mut self) -> bool {
-        self.wait_for_wake()
+    fn wait(&mut self, parker: &Arc<Parker, A>) -> bool {
+        self.wait_on(parker)
     }
 }
 
 impl<T: Drop, R: Waits, A: Allocator + Copy> RecvGate<T> for Gate<'_, T, R, A> {
+    type Waiter = Arc<Parker, A>;
+
+    type Signal = Signal<A>;
+
     ghost firsts = { λ old new next. (new ≡ old) × receive.IsFirst next };
 
     ghost arms = { λ old new _. new ≡ old };
@@ -144,18 +123,14 @@ impl<T: Drop, R: Waits, A: Allocator + Copy> RecvGate<T> for Gate<'_, T, R, A> {
     }
 
     #[inline(always)]
-    fn arm(&mut self) -> bool {
-        self.make_parker()
+    fn arm(&mut self) -> Option<(Arc<Parker, A>, Signal<A>)> {
+        self.shared.new_parker()
     }
 
     #[inline(always)]
-    fn park(&mut self) -> RecvNext<T> {
+    fn park(&mut self, signal: Signal<A>) -> RecvNext<T> {
         let kind = Kind::Block;
-        match self.signal.take() {
-            Some(signal) => self.shared.make_seldom(ParkReceive { kind, signal }),
-            // No call parks before it is armed.
-            None => RecvNext::Done(Err(RecvTimeoutError::NoMemory)),
-        }
+        self.shared.make_seldom(ParkReceive { kind, signal })
     }
 
     #[inline(always)]
@@ -165,7 +140,7 @@ impl<T: Drop, R: Waits, A: Allocator + Copy> RecvGate<T> for Gate<'_, T, R, A> {
     }
 
     #[inline(always)]
-    fn wait(&mut self) -> bool {
-        self.wait_for_wake()
+    fn wait(&mut self, parker: &Arc<Parker, A>) -> bool {
+        self.wait_on(parker)
     }
 }

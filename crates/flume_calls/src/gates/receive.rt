@@ -1,5 +1,5 @@
 //! A receive through a gate.
-ghost use Rattle.std.specs.Prelude.{◌≡◌, ◌≢◌, ℕ, Bool, true, Result, Err};
+ghost use Rattle.std.specs.Prelude.{◌≡◌, ◌≢◌, ℕ, Bool, true, Result, Err, is_some};
 ghost use Rattle.flume_calls.specs.declared.calls.receive.RecvNext.{RecvNext};
 ghost use Rattle.flume_calls.specs.ReceiveTurns.{IsFirst, IsParking, IsAgain};
 ghost use Rattle.flume_calls.specs.ReceiveGates.{got_or_no_memory, IsNeverRefused, EndsUnparked};
@@ -12,10 +12,16 @@ use std::sync::Wait;
 /// What a blocking receive of messages `T` goes through. Each turn says by its relation what it
 /// does to the gate, from the gate before to the gate after, and what it answers.
 pub trait RecvGate<T> {
+    /// What the call waits on.
+    type Waiter: Drop;
+
+    /// What the call leaves as it parks, to be told by.
+    type Signal: Drop;
+
     // The gate before, the gate after, and the answer.
     ghost firsts: { Self → Self → RecvNext T → Type 0 };
 
-    // The gate before, the gate after, and the answer.
+    // The gate before, the gate after, and whether there is something to wait on.
     ghost arms: { Self → Self → Bool → Type 0 };
 
     // The gate before, the gate after, and the answer.
@@ -32,12 +38,13 @@ pub trait RecvGate<T> {
         ensures does { firsts self.old self.new result }
         ensures answers { IsFirst result };
 
-    /// Makes what the call parks on. False: there was no memory for it.
-    fn arm(&mut self) -> bool
-        ensures does { arms self.old self.new result };
+    /// Makes what the call waits on, and the signal that it leaves as it parks. `None`: there was no
+    /// memory for them.
+    fn arm(&mut self) -> Option<(Self::Waiter, Self::Signal)>
+        ensures does { arms self.old self.new (is_some result) };
 
     /// The turn that parks the call where it can't end at once.
-    fn park(&mut self) -> RecvNext<T>
+    fn park(&mut self, signal: Self::Signal) -> RecvNext<T>
         ensures does { parks self.old self.new result }
         ensures answers { IsParking result };
 
@@ -47,7 +54,7 @@ pub trait RecvGate<T> {
         ensures answers { IsAgain call late result };
 
     /// Waits for a wake or for the deadline. True, at once, where the deadline is reached.
-    fn wait(&mut self) -> bool
+    fn wait(&mut self, waiter: &Self::Waiter) -> bool
         ensures does { waits self.old self.new result };
 }
 
@@ -93,12 +100,12 @@ fn waiting_receive<T: Drop, G: RecvGate<T>, R: Wait>(
         → IsNeverRefused G.agains → result ≡ Err RecvTimeoutError.NoMemory
         → EndsUnparked G.firsts G.arms G.parks start gate.new }
 {
-    if !gate.arm() {
+    let Some((waiter, signal)) = gate.arm() else {
         return Err(NoMemory);
-    }
-    match gate.park() {
+    };
+    match gate.park(signal) {
         RecvNext::Done(result) => result,
-        RecvNext::Park(call) => parked_receive(rt, gate, call),
+        RecvNext::Park(call) => parked_receive(rt, gate, &waiter, call),
         RecvNext::NeedSignal | RecvNext::Refused(_) => unreachable!(),
     }
 }
@@ -108,6 +115,7 @@ fn waiting_receive<T: Drop, G: RecvGate<T>, R: Wait>(
 fn parked_receive<T: Drop, G: RecvGate<T>, R: Wait>(
     rt: &R,
     gate: &mut G,
+    waiter: &G::Waiter,
     mut call: RecvCall,
 ) -> Result<T, RecvTimeoutError>
     ensures run { ParkedReceive G.agains G.waits gate.old call gate.new result }
@@ -120,7 +128,7 @@ fn parked_receive<T: Drop, G: RecvGate<T>, R: Wait>(
             RecvNext::Refused(same) => return withdrawn(gate, same),
             RecvNext::NeedSignal => unreachable!(),
         };
-        if gate.wait() {
+        if gate.wait(waiter) {
             return match gate.again(call, true) {
                 RecvNext::Done(result) => result,
                 _ => unreachable!(),

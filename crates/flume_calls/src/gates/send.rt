@@ -1,5 +1,5 @@
 //! A send through a gate.
-ghost use Rattle.std.specs.Prelude.{◌≡◌, ◌≢◌, ℕ, Bool};
+ghost use Rattle.std.specs.Prelude.{◌≡◌, ◌≢◌, ℕ, Bool, is_some};
 ghost use Rattle.flume_calls.specs.declared.calls.send.SendNext.{SendNext};
 ghost use Rattle.flume_calls.specs.SendTurns.{IsFirst, IsParking, IsAgain};
 ghost use Rattle.flume_calls.specs.SendGates.{ParkedSend, WholeSend};
@@ -12,10 +12,16 @@ use std::sync::Wait;
 /// What a blocking send of messages `T` goes through. Each turn says by its relation what it does
 /// to the gate, from the gate before to the gate after, and what it answers.
 pub trait SendGate<T> {
+    /// What the call waits on.
+    type Waiter: Drop;
+
+    /// What the call leaves as it parks, to be told by.
+    type Signal: Drop;
+
     // The gate before, the message, the gate after, and the answer.
     ghost firsts: { Self → T → Self → SendNext T → Type 0 };
 
-    // The gate before, the gate after, and the answer.
+    // The gate before, the gate after, and whether there is something to wait on.
     ghost arms: { Self → Self → Bool → Type 0 };
 
     // The gate before, the message, the gate after, and the answer.
@@ -32,12 +38,13 @@ pub trait SendGate<T> {
         ensures does { firsts self.old message self.new result }
         ensures answers { IsFirst message result };
 
-    /// Makes what the call parks on. False: there was no memory for it.
-    fn arm(&mut self) -> bool
-        ensures does { arms self.old self.new result };
+    /// Makes what the call waits on, and the signal that it leaves as it parks. `None`: there was no
+    /// memory for them.
+    fn arm(&mut self) -> Option<(Self::Waiter, Self::Signal)>
+        ensures does { arms self.old self.new (is_some result) };
 
     /// The turn that parks the call where it can't end at once.
-    fn park(&mut self, message: T) -> SendNext<T>
+    fn park(&mut self, message: T, signal: Self::Signal) -> SendNext<T>
         ensures does { parks self.old message self.new result }
         ensures answers { IsParking message result };
 
@@ -47,7 +54,7 @@ pub trait SendGate<T> {
         ensures answers { IsAgain call late result };
 
     /// Waits for a wake or for the deadline. True, at once, where the deadline is reached.
-    fn wait(&mut self) -> bool
+    fn wait(&mut self, waiter: &Self::Waiter) -> bool
         ensures does { waits self.old self.new result };
 }
 
@@ -92,12 +99,12 @@ fn waiting_send<T, G: SendGate<T>, R: Wait>(
     ensures no_memory_holds { (back : T) → result ≡ Err (SendTimeoutError.NoMemory back)
         → back ≡ message }
 {
-    if !gate.arm() {
+    let Some((waiter, signal)) = gate.arm() else {
         return Err(NoMemory(message));
-    }
-    match gate.park(message) {
+    };
+    match gate.park(message, signal) {
         SendNext::Done(result) => result,
-        SendNext::Park(call) => parked_send(rt, gate, call),
+        SendNext::Park(call) => parked_send(rt, gate, &waiter, call),
         SendNext::NeedSignal(_) => unreachable!(),
     }
 }
@@ -107,6 +114,7 @@ fn waiting_send<T, G: SendGate<T>, R: Wait>(
 fn parked_send<T, G: SendGate<T>, R: Wait>(
     rt: &R,
     gate: &mut G,
+    waiter: &G::Waiter,
     mut call: SendCall,
 ) -> Result<(), SendTimeoutError<T>>
     ensures run { ParkedSend G.agains G.waits gate.old call gate.new result }
@@ -118,7 +126,7 @@ fn parked_send<T, G: SendGate<T>, R: Wait>(
             SendNext::Park(same) => same,
             SendNext::NeedSignal(_) => unreachable!(),
         };
-        if gate.wait() {
+        if gate.wait(waiter) {
             return match gate.again(call, true) {
                 SendNext::Done(result) => result,
                 SendNext::NeedSignal(_) | SendNext::Park(_) => unreachable!(),

@@ -3,22 +3,22 @@ use Rattle.std.proofs.Common.{refl, inl, inr}
 use Rattle.flume_calls.specs.ReceiveGates.{Unarmed, AtPark, Parked}
 use Rattle.flume_calls.proofs.gates.receive.waiting_receive.Goals as goal
 
-pub returns-then-not-arm : goal.returns-then-not-arm
-returns-then-not-arm g c = record {
-  run = λ start first. Unarmed first c.if-not-arm.ensures.does refl;
-  no_memory = λ start first never e. (_, first, inl c.if-not-arm.ensures.does);
+pub returns-in_default : goal.returns-in_default
+returns-in_default g c = record {
+  run = λ start first. Unarmed first c.in_default.ensures.does refl;
+  no_memory = λ start first never e. (_, first, inl c.in_default.ensures.does);
 }
 
 pub returns-in-Done : goal.returns-in-Done
 returns-in-Done g c = record {
-  run = λ start first. AtPark first c.if-not-arm.ensures.does c.in-Done.ensures.does;
+  run = λ start first. AtPark first c.in-Some.ensures.does c.in-Done.ensures.does;
   no_memory = λ start first never e.
-      (_, first, inr (_, c.if-not-arm.ensures.does, rw e at c.in-Done.ensures.does));
+      (_, first, inr (_, c.in-Some.ensures.does, rw e at c.in-Done.ensures.does));
 }
 
 pub returns-in-Park : goal.returns-in-Park
 returns-in-Park g c = record {
   run = λ start first.
-      Parked first c.if-not-arm.ensures.does c.in-Park.ensures.does c.parked_receive.ensures.run;
+      Parked first c.in-Some.ensures.does c.in-Park.ensures.does c.parked_receive.ensures.run;
   no_memory = λ start first never e. absurd (c.parked_receive.ensures.wants_no_memory never e);
 }

@@ -3,14 +3,14 @@ use Rattle.std.proofs.Common.{refl}
 use Rattle.flume_calls.specs.SendGates.{Unarmed, AtPark, Parked}
 use Rattle.flume_calls.proofs.gates.send.waiting_send.Goals as goal
 
-pub returns-then-not-arm-clause-run : goal.returns-then-not-arm-clause-run
-returns-then-not-arm-clause-run g c start first = Unarmed first c.if-not-arm.ensures.does refl
+pub returns-in_default-clause-run : goal.returns-in_default-clause-run
+returns-in_default-clause-run g c start first = Unarmed first c.in_default.ensures.does refl
 
 pub returns-in-Done-clause-run : goal.returns-in-Done-clause-run
 returns-in-Done-clause-run g c start first =
-    AtPark {armed = c.arm.new.self} first c.if-not-arm.ensures.does c.in-Done.ensures.does
+    AtPark {armed = c.arm.new.self} first c.in-Some.ensures.does c.in-Done.ensures.does
 
 pub returns-in-Park-clause-run : goal.returns-in-Park-clause-run
 returns-in-Park-clause-run g c start first =
-    Parked {armed = c.arm.new.self} {parked = c.park.new.self} first c.if-not-arm.ensures.does c.in-Park.ensures.does
+    Parked {armed = c.arm.new.self} {parked = c.park.new.self} first c.in-Some.ensures.does c.in-Park.ensures.does
     c.parked_send.ensures.run
