@@ -44,6 +44,10 @@ impl<'a, C> Toy<'a, C> {
 }
 
 impl<'a> SendGate<u64> for Toy<'a, SendCall> {
+    type Waiter = ();
+
+    type Signal = ();
+
     ghost firsts = { λ old message new answer. Unit {0} };
 
     ghost arms = { λ old new answer. Unit {0} };
@@ -62,11 +66,15 @@ impl<'a> SendGate<u64> for Toy<'a, SendCall> {
         }
     }
 
-    fn arm(&mut self) -> bool {
-        self.says(2) == Says::Done
+    fn arm(&mut self) -> Option<((), ())> {
+        if self.says(2) == Says::Done {
+            Some(((), ()))
+        } else {
+            None
+        }
     }
 
-    fn park(&mut self, message: u64) -> SendNext<u64> {
+    fn park(&mut self, message: u64, _signal: ()) -> SendNext<u64> {
         match (self.says(3), self.call.take()) {
             (Says::Done, _) => SendNext::Done(Ok(())),
             (Says::Parks, Some(call)) => SendNext::Park(call),
@@ -83,12 +91,16 @@ impl<'a> SendGate<u64> for Toy<'a, SendCall> {
         }
     }
 
-    fn wait(&mut self) -> bool {
+    fn wait(&mut self, _waiter: &()) -> bool {
         self.says(6) == Says::Late
     }
 }
 
 impl<'a> RecvGate<u64> for Toy<'a, RecvCall> {
+    type Waiter = ();
+
+    type Signal = ();
+
     ghost firsts = { λ old new answer. Unit {0} };
 
     ghost arms = { λ old new answer. Unit {0} };
@@ -107,11 +119,15 @@ impl<'a> RecvGate<u64> for Toy<'a, RecvCall> {
         }
     }
 
-    fn arm(&mut self) -> bool {
-        self.says(2) == Says::Done
+    fn arm(&mut self) -> Option<((), ())> {
+        if self.says(2) == Says::Done {
+            Some(((), ()))
+        } else {
+            None
+        }
     }
 
-    fn park(&mut self) -> RecvNext<u64> {
+    fn park(&mut self, _signal: ()) -> RecvNext<u64> {
         match (self.says(3), self.call.take()) {
             (Says::Done, _) => RecvNext::Done(Ok(7)),
             (Says::Parks, Some(call)) => RecvNext::Park(call),
@@ -129,7 +145,7 @@ impl<'a> RecvGate<u64> for Toy<'a, RecvCall> {
         }
     }
 
-    fn wait(&mut self) -> bool {
+    fn wait(&mut self, _waiter: &()) -> bool {
         self.says(6) == Says::Late
     }
 }

@@ -89,6 +89,10 @@ impl<T: Drop, A: Allocator + Copy> SendGate<T> for Lent<T, A> {
     ghost use Rattle.flume_calls.specs.SendTurns.{step_of_parked_send};
     ghost use Rattle.core_tests.specs.Lent.{Makes, Others};
 
+    type Waiter = ();
+
+    type Signal = u64;
+
     ghost firsts = { λ old message new answer.
         Makes A (TrySend message) after_try_send old.locked new.locked answer };
 
@@ -106,12 +110,11 @@ impl<T: Drop, A: Allocator + Copy> SendGate<T> for Lent<T, A> {
         self.locked.make(FirstSend { message }, &mut self.bell)
     }
 
-    fn arm(&mut self) -> bool {
-        true
+    fn arm(&mut self) -> Option<((), u64)> {
+        Some(((), 11))
     }
 
-    fn park(&mut self, message: T) -> SendNext<T> {
-        let signal = 11;
+    fn park(&mut self, message: T, signal: u64) -> SendNext<T> {
         self.locked
             .make(ParkSend { message, signal }, &mut self.bell)
     }
@@ -122,7 +125,7 @@ impl<T: Drop, A: Allocator + Copy> SendGate<T> for Lent<T, A> {
             .make(AgainSend { call, late, signal }, &mut self.bell)
     }
 
-    fn wait(&mut self) -> bool {
+    fn wait(&mut self, _waiter: &()) -> bool {
         self.let_other()
     }
 }
@@ -135,6 +138,10 @@ impl<T: Drop, A: Allocator + Copy> RecvGate<T> for Lent<T, A> {
     ghost use Rattle.flume_calls.specs.ReceiveTurns.{step_of_parked_receive};
     ghost use Rattle.flume_calls.specs.ReceiveTurns.{after_parked_receive};
     ghost use Rattle.core_tests.specs.Lent.{Makes, Others};
+
+    type Waiter = ();
+
+    type Signal = u64;
 
     ghost firsts = { λ old new answer.
         Makes A TryRecv after_try_recv old.locked new.locked answer };
@@ -153,12 +160,12 @@ impl<T: Drop, A: Allocator + Copy> RecvGate<T> for Lent<T, A> {
         self.locked.make(FirstReceive, &mut self.bell)
     }
 
-    fn arm(&mut self) -> bool {
-        true
+    fn arm(&mut self) -> Option<((), u64)> {
+        Some(((), 11))
     }
 
-    fn park(&mut self) -> RecvNext<T> {
-        let (kind, signal) = (Kind::Block, 11);
+    fn park(&mut self, signal: u64) -> RecvNext<T> {
+        let kind = Kind::Block;
         self.locked
             .make(ParkReceive { kind, signal }, &mut self.bell)
     }
@@ -169,7 +176,7 @@ impl<T: Drop, A: Allocator + Copy> RecvGate<T> for Lent<T, A> {
             .make(AgainReceive { call, late, signal }, &mut self.bell)
     }
 
-    fn wait(&mut self) -> bool {
+    fn wait(&mut self, _waiter: &()) -> bool {
         self.let_other()
     }
 }
