@@ -5,7 +5,6 @@ use flume::{Receiver, Sender, Waits, bounded, unbounded};
 use std::alloc::Global;
 use std::fmt::Debug;
 use std::process::Abort;
-use std::thread;
 use std::time::Duration;
 
 /// The answer is the wanted one.
@@ -32,14 +31,4 @@ pub(crate) fn opened<T: Drop, R: Waits>(
 /// So long that no test waits for its end.
 pub(crate) fn long() -> Duration {
     Duration::from_secs(3600)
-}
-
-/// A drop that runs against a call comes after a number of yields below this one.
-pub(crate) const MOST_YIELDS: u32 = 32;
-
-/// Lets other threads run, so often.
-pub(crate) fn yield_often(times: u32) {
-    for _ in 0..times {
-        thread::yield_now();
-    }
 }

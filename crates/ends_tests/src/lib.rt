@@ -1,4 +1,4 @@
-//! Tests of the ends of `flume`, in one thread and in several.
+//! Tests of the ends of `flume`: each call, its errors, clocks, memory, and what is dropped.
 #![tactic(auto)]
 
 #[cfg(test)]
@@ -11,11 +11,7 @@ mod draining;
 #[cfg(test)]
 mod dropped;
 #[cfg(test)]
-mod fan;
-#[cfg(test)]
 mod fixtures;
-#[cfg(test)]
-mod forwarded;
 #[cfg(test)]
 mod iterators;
 #[cfg(test)]
@@ -25,18 +21,6 @@ mod memory;
 #[cfg(test)]
 mod messages;
 #[cfg(test)]
-mod nested;
-#[cfg(test)]
 mod one_thread;
 #[cfg(test)]
 mod parked;
-#[cfg(test)]
-mod queries;
-#[cfg(test)]
-mod shared;
-#[cfg(test)]
-mod soak;
-#[cfg(test)]
-mod threads;
-#[cfg(test)]
-mod timed;

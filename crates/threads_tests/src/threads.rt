@@ -1,5 +1,7 @@
 //! Ends in several threads, all of which are joined.
 use crate::fixtures::{MOST_YIELDS, is, opened, yield_often};
+use crate::watch::begin_watch;
+use crate::works::{ReceiveOne, SendOne, Work, started};
 use flume::error::{RecvError, SendError, TryRecvError};
 use flume::{Receiver, Sender, Waits, bounded, unbounded};
 use std::alloc::{AllocError, Global};
@@ -26,10 +28,17 @@ const CAPACITIES: [Option<usize>; 4] = [None, Some(0), Some(1), Some(3)];
 
 #[test]
 fn a_send_without_room_meets_a_receive(rt: HostRuntime) -> Result<(), Fail> {
+    let watch = begin_watch(rt, rt.alloc())?;
     let (tx, rx) = bounded::<u64, _, _>(rt, rt.alloc(), 1, 0)?;
-    let sender = thread::spawn(&rt, move || tx.send(1).is_ok())?;
+    let send = SendOne {
+        begins: None,
+        tx,
+        message: 1,
+    };
+    let sender = started(&rt, send)?;
     is(&rt, rx.recv(), Ok(1));
-    assert!(rt; sender.join(&rt));
+    is(&rt, sender.join(&rt), Ok(()));
+    watch.end(&rt);
     Ok(())
 }
 
@@ -97,6 +106,7 @@ fn four_to_four<R: Waits + Threads + Send + Sync + 'static>(
 
 #[test]
 fn each_message_arrives_once(rt: HostRuntime) -> Result<(), Fail> {
+    let watch = begin_watch(rt, rt.alloc())?;
     for capacity in CAPACITIES {
         let (tx, rx) = opened(rt, rt.alloc(), capacity)?;
         let counts = Mutex::new([0; EACH]);
@@ -104,6 +114,7 @@ fn each_message_arrives_once(rt: HostRuntime) -> Result<(), Fail> {
         assert!(rt; is_each_counted(counts, 4));
         is(&rt, rx.try_recv(), Err(TryRecvError::Empty));
     }
+    watch.end(&rt);
     Ok(())
 }
 
@@ -131,6 +142,7 @@ fn one_to_eight<R: Waits + Threads + Send + Sync + 'static>(
 
 #[test]
 fn eight_receivers_share_the_messages_until_the_sender_goes(rt: HostRuntime) -> Result<(), Fail> {
+    let watch = begin_watch(rt, rt.alloc())?;
     for capacity in CAPACITIES {
         let (tx, rx) = opened(rt, rt.alloc(), capacity)?;
         let counts = Mutex::new([0; EACH]);
@@ -138,6 +150,7 @@ fn eight_receivers_share_the_messages_until_the_sender_goes(rt: HostRuntime) -> 
         assert!(rt; is_each_counted(counts, 1));
         is(&rt, rx.try_recv(), Err(TryRecvError::Disconnected));
     }
+    watch.end(&rt);
     Ok(())
 }
 
@@ -159,6 +172,22 @@ fn send_within<R: Waits>(tx: &Sender<u64, R>, capacity: Option<usize>) -> bool {
     true
 }
 
+// Sends all messages into a channel of this capacity.
+#[derive(Drop)]
+struct SendWithin<R: Waits> {
+    tx: Sender<u64, R>,
+    capacity: Option<usize>,
+}
+
+impl<R: Waits> Work for SendWithin<R> {
+    type Answer = bool;
+
+    fn work(self) -> bool {
+        let SendWithin { tx, capacity } = self;
+        send_within(&tx, capacity)
+    }
+}
+
 // One thread sends to one.
 fn one_to_one<R: Waits + Threads + Abort + Send + Sync + 'static>(
     rt: R,
@@ -166,7 +195,7 @@ fn one_to_one<R: Waits + Threads + Abort + Send + Sync + 'static>(
     capacity: Option<usize>,
 ) -> Result<(), Fail> {
     let (tx, rx) = opened::<u64, _>(rt, alloc, capacity)?;
-    let sender = thread::spawn(&rt, move || send_within(&tx, capacity))?;
+    let sender = started(&rt, SendWithin { tx, capacity })?;
     for message in 0..ALL {
         is(&rt, rx.recv(), Ok(message));
         assert!(rt; is_within(rx.len(), capacity));
@@ -178,9 +207,11 @@ fn one_to_one<R: Waits + Threads + Abort + Send + Sync + 'static>(
 
 #[test]
 fn one_thread_receives_in_the_order_of_the_other(rt: HostRuntime) -> Result<(), Fail> {
+    let watch = begin_watch(rt, rt.alloc())?;
     for capacity in CAPACITIES {
         one_to_one(rt, rt.alloc(), capacity)?;
     }
+    watch.end(&rt);
     Ok(())
 }
 
@@ -191,24 +222,31 @@ fn short_lived<R: Waits + Threads + Abort + Send + Sync + 'static>(
     capacity: Option<usize>,
 ) -> Result<(), Fail> {
     let (tx, rx) = opened::<u64, _>(rt, alloc, capacity)?;
-    let sender = thread::spawn(&rt, move || tx.send(7).is_ok())?;
+    let send = SendOne {
+        begins: None,
+        tx,
+        message: 7,
+    };
+    let sender = started(&rt, send)?;
     is(&rt, rx.recv(), Ok(7));
-    assert!(rt; sender.join(&rt));
+    is(&rt, sender.join(&rt), Ok(()));
 
     let (tx, rx) = opened::<u64, _>(rt, alloc, capacity)?;
-    let receiver = thread::spawn(&rt, move || rx.recv())?;
-    assert!(rt; tx.send(8).is_ok());
+    let receiver = started(&rt, ReceiveOne { begins: None, rx })?;
+    is(&rt, tx.send(8), Ok(()));
     is(&rt, receiver.join(&rt), Ok(8));
     Ok(())
 }
 
 #[test]
 fn short_lived_channels_each_pass_their_message(rt: HostRuntime) -> Result<(), Fail> {
+    let watch = begin_watch(rt, rt.alloc())?;
     for _ in 0..100 {
         short_lived(rt, rt.alloc(), None)?;
         short_lived(rt, rt.alloc(), Some(0))?;
         short_lived(rt, rt.alloc(), Some(1))?;
     }
+    watch.end(&rt);
     Ok(())
 }
 
@@ -221,10 +259,11 @@ fn receive_ends<R: Waits + Threads + Abort + Send + Sync + 'static>(
 ) -> Result<(), Fail> {
     let (tx, rx) = unbounded::<u64, _, _>(rt, alloc, 1)?;
     let (announce, begins) = unbounded::<(), _, _>(rt, alloc, 2)?;
-    let receiver = thread::spawn(&rt, move || {
-        let _ = announce.send(());
-        rx.recv()
-    })?;
+    let receive = ReceiveOne {
+        begins: Some(announce),
+        rx,
+    };
+    let receiver = started(&rt, receive)?;
     is(&rt, begins.recv(), Ok(()));
     yield_often(yields);
     drop(tx);
@@ -240,10 +279,12 @@ fn send_ends<R: Waits + Threads + Abort + Send + Sync + 'static>(
 ) -> Result<(), Fail> {
     let (tx, rx) = bounded::<u64, _, _>(rt, alloc, 1, 0)?;
     let (announce, begins) = unbounded::<(), _, _>(rt, alloc, 2)?;
-    let sender = thread::spawn(&rt, move || {
-        let _ = announce.send(());
-        tx.send(9)
-    })?;
+    let send = SendOne {
+        begins: Some(announce),
+        tx,
+        message: 9,
+    };
+    let sender = started(&rt, send)?;
     is(&rt, begins.recv(), Ok(()));
     yield_often(yields);
     drop(rx);
@@ -253,16 +294,20 @@ fn send_ends<R: Waits + Threads + Abort + Send + Sync + 'static>(
 
 #[test]
 fn a_receive_ends_as_the_last_sender_goes(rt: HostRuntime) -> Result<(), Fail> {
+    let watch = begin_watch(rt, rt.alloc())?;
     for round in 0..ROUNDS {
         receive_ends(rt, rt.alloc(), round % MOST_YIELDS)?;
     }
+    watch.end(&rt);
     Ok(())
 }
 
 #[test]
 fn a_send_ends_as_the_last_receiver_goes(rt: HostRuntime) -> Result<(), Fail> {
+    let watch = begin_watch(rt, rt.alloc())?;
     for round in 0..ROUNDS {
         send_ends(rt, rt.alloc(), round % MOST_YIELDS)?;
     }
+    watch.end(&rt);
     Ok(())
 }

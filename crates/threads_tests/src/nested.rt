@@ -1,5 +1,7 @@
 //! Messages that hold an end of another channel.
 use crate::fixtures::{MOST_YIELDS, is, opened, yield_often};
+use crate::watch::begin_watch;
+use crate::works::{ReceiveOne, started};
 use flume::{Receiver, Sender, Waits, WeakSender};
 use flume_core::error::{NoMemory, RecvError, SendError, TryRecvError, TrySendError};
 use std::process::Abort;
@@ -111,10 +113,11 @@ where
     let ((outer, outer_rx), (tx, rx)) = opened_both(rt, capacity)?;
     let (announce, begins) = opened(rt, rt.alloc(), None)?;
     assert!(rt; outer.send(tx).is_ok());
-    let receiving = thread::spawn(&rt, move || {
-        let _ = announce.send(());
-        rx.recv()
-    })?;
+    let receive = ReceiveOne {
+        begins: Some(announce),
+        rx,
+    };
+    let receiving = started(&rt, receive)?;
     is(&rt, begins.recv(), Ok(()));
     yield_often(yields);
     drop(outer_rx);
@@ -125,10 +128,12 @@ where
 
 #[test]
 fn a_receive_ends_as_its_sender_goes_with_a_channel(rt: HostRuntime) -> Result<(), Fail> {
+    let watch = begin_watch(rt, rt.alloc())?;
     for round in 0..128 {
         ends_with_a_channel(rt, None, round % MOST_YIELDS)?;
         ends_with_a_channel(rt, Some(1), round % MOST_YIELDS)?;
     }
+    watch.end(&rt);
     Ok(())
 }
 

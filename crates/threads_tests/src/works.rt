@@ -1,0 +1,72 @@
+//! What a thread does, as a value: a closure costs the prover several times as much in each test.
+use flume::error::{RecvError, SendError};
+use flume::{Receiver, Sender, Waits};
+use std::test::Fail;
+use std::thread;
+use std::thread::{JoinHandle, Threads};
+
+/// What a thread does.
+pub(crate) trait Work {
+    /// What it answers as it ends.
+    type Answer;
+
+    /// Does it.
+    fn work(self) -> Self::Answer;
+}
+
+/// Starts a thread that does this.
+pub(crate) fn started<R: Threads, W: Work + Send + Drop + 'static>(
+    rt: &R,
+    work: W,
+) -> Result<JoinHandle<W::Answer>, Fail>
+where
+    W::Answer: Send + Drop + 'static,
+{
+    Ok(thread::spawn(rt, move || work.work())?)
+}
+
+/// Says that it begins, and sends a number.
+#[derive(Drop)]
+pub(crate) struct SendOne<R: Waits> {
+    pub(crate) begins: Option<Sender<(), R>>,
+    pub(crate) tx: Sender<u64, R>,
+    pub(crate) message: u64,
+}
+
+impl<R: Waits> Work for SendOne<R> {
+    type Answer = Result<(), SendError<u64>>;
+
+    fn work(self) -> Result<(), SendError<u64>> {
+        let SendOne {
+            begins,
+            tx,
+            message,
+        } = self;
+        say_so(begins);
+        tx.send(message)
+    }
+}
+
+/// Says that it begins, and receives a number.
+#[derive(Drop)]
+pub(crate) struct ReceiveOne<R: Waits> {
+    pub(crate) begins: Option<Sender<(), R>>,
+    pub(crate) rx: Receiver<u64, R>,
+}
+
+impl<R: Waits> Work for ReceiveOne<R> {
+    type Answer = Result<u64, RecvError>;
+
+    fn work(self) -> Result<u64, RecvError> {
+        let ReceiveOne { begins, rx } = self;
+        say_so(begins);
+        rx.recv()
+    }
+}
+
+// Says that the thread begins, where anybody is to know.
+fn say_so<R: Waits>(begins: Option<Sender<(), R>>) {
+    if let Some(begins) = begins {
+        let _ = begins.send(());
+    }
+}
