@@ -84,7 +84,8 @@ impl<T: Drop, R: Waits, A: Allocator + Copy> Receiver<T, R, A> {
         recv_over(&self.shared.rt, &mut gate)
     }
 
-    /// The same, up to so long from now. Where no time is that late it waits as `recv` does.
+    /// Takes the next message, and waits while there is none, up to so long from now. The errors
+    /// are those of `recv_deadline`. Where no time is that late it waits as `recv` does.
     ///
     /// ```
     /// rx.recv_timeout(Duration::from_millis(100));

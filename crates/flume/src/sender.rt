@@ -95,7 +95,8 @@ impl<T: Drop, R: Waits, A: Allocator + Copy> Sender<T, R, A> {
         send_over(&self.shared.rt, &mut gate, message)
     }
 
-    /// The same, up to so long from now. Where no time is that late it waits as `send` does.
+    /// Sends a message, and waits while the channel is full, up to so long from now. The errors are
+    /// those of `send_deadline`. Where no time is that late it waits as `send` does.
     ///
     /// ```
     /// tx.send_timeout(1, Duration::from_millis(350));

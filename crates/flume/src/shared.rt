@@ -131,8 +131,8 @@ impl<T: Drop, R: Waits, A: Allocator + Copy> Shared<T, R, A> {
         }
     }
 
-    // The same, where somebody has it. Whoever has it is let be for longer and longer, since each
-    // try takes the lock's memory from them; then the call sleeps for it.
+    // The channel, locked, where somebody else has the lock. They are let be for longer and longer,
+    // since each try takes the lock's memory from them; then the call sleeps for it.
     #[inline(never)]
     fn wait_for_lock(&self) -> MutexGuard<'_, Locked<T, Signal<A>, A>> {
         let mut pauses = FIRST_PAUSES;
@@ -154,8 +154,8 @@ impl<T: Drop, R: Waits, A: Allocator + Copy> Shared<T, R, A> {
         self.lock().make(turn, &mut Firing { rt: self.rt })
     }
 
-    /// The same, in code of its own: so a turn that is seldom made costs the other turns of its
-    /// caller nothing.
+    /// Makes the turn under the lock, in code of its own: so a turn that is seldom made costs the
+    /// other turns of its caller nothing.
     #[inline(never)]
     pub(crate) fn make_seldom<C: Turn<T, Signal<A>, A>>(&self, turn: C) -> C::Answer
         ensures answers { C.answers turn result }
