@@ -118,7 +118,7 @@ module _ {S : Type 0} where
       subst NoDueSend (sym (written m lender _ k f x refl e w)) (no_due_send_changed _ k f h keeps)
 
 -- what `block` needs
-pub ruleset inserts = (inserted, no_due_send_inserted)
+pub ruleset inserts = (inserted, no_due_send_inserted, get_of_tree)
 
 -- what `spend` needs
 pub ruleset removes = (removed, no_due_send_removed)

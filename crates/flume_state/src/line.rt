@@ -1,9 +1,10 @@
 //! The line of a channel: its queued messages, and behind them those whose senders block.
-ghost use Rattle.std.specs.Prelude.{◌≡◌, ◌≢◌, ◌+◌, ◌≤◌, ◌==◌, List, [], ◌∷◌, ◌++◌};
+ghost use Rattle.std.specs.Prelude.{◌≡◌, ◌≢◌, ◌+◌, ◌≤◌, ◌<◌, ◌==◌, List, [], ◌∷◌, ◌++◌};
 ghost use Rattle.std.specs.Prelude.{length, Some, None};
-ghost use Rattle.std.specs.Prelude.{IfNone, IfSome, IfOk, IfErr, OnOk, OnErr};
+ghost use Rattle.std.specs.Prelude.{IfNone, IfSome, IfOk, IfErr, OnOk, OnErr, IsOk};
 ghost use Rattle.std.specs.Prelude.{slice_get, option_map};
 ghost use Rattle.std.specs.List.{All, position};
+ghost use Rattle.std.specs.VecDeque.{deque_len, deque_capacity, DequeUnchanged};
 ghost use Rattle.flume_state.specs.Messages.{Admits, Blocked, TakesBack};
 
 use std::alloc::{AllocError, Allocator};
@@ -46,6 +47,59 @@ fn place_of<T, A: Allocator>(entries: &VecDeque<LineEntry<T>, A>, ticket: u64) -
     ensures first { result ≡ position (λ e. e.ticket == ticket) entries.now.items }
 {
     entries.iter().position(|entry| entry.ticket == ticket)
+}
+
+// Puts a message at the back of the queue, and keeps room there for the blocked ones. It succeeds
+// wherever the queue has room for all of them already.
+#[inline(always)]
+fn push_to_queue<T, A: Allocator>(
+    queued: &mut VecDeque<T, A>,
+    blocked: &VecDeque<LineEntry<T>, A>,
+    message: T,
+) -> Result<(), T>
+    ensures pushed { OnOk result (queued.new.items ≡ queued.old.items ++ message ∷ []) }
+    ensures room { OnOk result (deque_len queued.new + deque_len blocked.now
+        ≤ deque_capacity queued.new) }
+    ensures returned { IfErr result (λ back. back ≡ message) }
+    ensures unchanged { OnErr result (DequeUnchanged queued.old queued.new) }
+    ensures capacity { deque_capacity queued.old ≤ deque_capacity queued.new }
+    ensures succeeds { deque_len queued.old + deque_len blocked.now < deque_capacity queued.old
+        → IsOk result }
+{
+    if queued.reserve(blocked.len() + 1).is_err() {
+        return Err(message);
+    }
+    queued.push_back_reserved(message);
+    Ok(())
+}
+
+// Puts a message behind the other blocked ones, under this ticket, and makes room for it in the
+// queue. It succeeds wherever both have that room already.
+#[inline(always)]
+fn push_behind<T, A: Allocator>(
+    queued: &mut VecDeque<T, A>,
+    blocked: &mut VecDeque<LineEntry<T>, A>,
+    ticket: u64,
+    message: T,
+) -> Result<(), T>
+    ensures pushed { OnOk result (blocked.new.items
+        ≡ blocked.old.items ++ record { ticket = ticket; message = message } ∷ []) }
+    ensures room { OnOk result (deque_len queued.new + deque_len blocked.new
+        ≤ deque_capacity queued.new) }
+    ensures same_queue { DequeUnchanged queued.old queued.new }
+    ensures capacity { deque_capacity queued.old ≤ deque_capacity queued.new }
+    ensures returned { IfErr result (λ back. back ≡ message) }
+    ensures unchanged { OnErr result (DequeUnchanged blocked.old blocked.new) }
+    ensures succeeds { deque_len queued.old + deque_len blocked.old < deque_capacity queued.old
+        → deque_len blocked.old < deque_capacity blocked.old → IsOk result }
+{
+    if queued.reserve(blocked.len() + 1).is_err() {
+        return Err(message);
+    }
+    match blocked.push_back(LineEntry { ticket, message }) {
+        Ok(()) => Ok(()),
+        Err(failed) => Err(failed.value.message),
+    }
 }
 
 impl<T, A: Allocator + Copy> Line<T, A> {
@@ -92,11 +146,7 @@ impl<T, A: Allocator + Copy> Line<T, A> {
         ensures returned { IfErr result (λ back. back ≡ message) }
         ensures unchanged { OnErr result (self.new ≡ self.old) }
     {
-        if self.queued.reserve(self.blocked.len() + 1).is_err() {
-            return Err(message);
-        }
-        self.queued.push_back_reserved(message);
-        Ok(())
+        push_to_queue(&mut self.queued, &self.blocked, message)
     }
 
     /// Puts a message behind all others, as one that blocks under this ticket. With no memory
@@ -108,13 +158,7 @@ impl<T, A: Allocator + Copy> Line<T, A> {
         ensures returned { IfErr result (λ back. back ≡ message) }
         ensures unchanged { OnErr result (self.new ≡ self.old) }
     {
-        if self.queued.reserve(self.blocked.len() + 1).is_err() {
-            return Err(message);
-        }
-        match self.blocked.push_back(LineEntry { ticket, message }) {
-            Ok(()) => Ok(()),
-            Err(failed) => Err(failed.value.message),
-        }
+        push_behind(&mut self.queued, &mut self.blocked, ticket, message)
     }
 
     /// Takes the last blocked message back, as after a `push_blocked` that is to be undone. `None`

@@ -1,5 +1,5 @@
 //! The live send tickets of a channel: each send that blocked and isn't spent.
-ghost use Rattle.std.specs.Prelude.{◌≡◌, ℕ, true, false, OnOk, OnErr, IfSome, IfNone};
+ghost use Rattle.std.specs.Prelude.{◌≡◌, ℕ, true, false, None, OnOk, OnErr, IfSome, IfNone};
 ghost use Rattle.std.specs.Option.{option_map, option_copied};
 ghost use Rattle.std.specs.FinMap.{empty, get, insert, remove};
 ghost use Rattle.flume_state.specs.Notices.{due_now, told, resignalled};
@@ -64,12 +64,13 @@ impl<S: Drop, A: Allocator + Clone> Sends<S, A> {
     }
 
     /// Makes `ticket` live, with its message blocked and nothing due. A live send that had this
-    /// ticket is replaced. All room for what happens to it later is made here. With no memory left,
-    /// nothing changes.
+    /// ticket is replaced, which needs no memory. All room for what happens to it later is made
+    /// here. With no memory left, nothing changes.
     #[tactic(auto, using(crate::proofs::SendsLemmas::inserts))]
     pub fn block(&mut self, ticket: u64, signal: S) -> Result<(), AllocError>
         ensures ok { OnOk result (self.new ≡ insert self.old ticket (blocked signal)) }
         ensures err { OnErr result (self.new ≡ self.old) }
+        ensures absent { OnErr result (get self.old ticket ≡ None) }
     {
         let notice = Notice { signal, due: false };
         let send = LiveSend {
