@@ -1,1 +1,2 @@
+mod Returning
 mod Sending

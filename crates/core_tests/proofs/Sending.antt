@@ -9,6 +9,7 @@ use Rattle.flume_model.specs.declared.step.Reply.TheVariants.{Waiting, NoTicket,
 use Rattle.flume_model.specs.declared.step.Reply.TheVariants.{NoMemory as NoneLeft}
 use Rattle.flume_model.specs.Log.{Log}
 use Rattle.flume_state.specs.State.{State}
+use Rattle.flume_core.specs.StandsFor.{IsLedTo}
 use Rattle.flume_core.specs.declared.error.SendTimeoutError.{SendTimeoutError}
 use Rattle.flume_core.specs.declared.error.SendTimeoutError.TheVariants.{Timeout}
 use Rattle.flume_calls.specs.declared.calls.send.SendNext.{SendNext}
@@ -18,6 +19,7 @@ use Rattle.flume_calls.specs.SendTurns.{after_try_send, after_send, after_poll_s
 use Rattle.flume_calls.specs.SendTurns.{after_parked_send, step_of_parked_send}
 use Rattle.flume_calls.specs.SendGates.{ParkedSend, Asked, Late, Waited, WholeSend, AtFirst, Unarmed, AtPark, Parked}
 use Rattle.core_tests.specs.Lent.{Leads, Makes, Others, IsAccepted, blocks, First, Second, Later, IsSent, IsTakenBack}
+use Rattle.core_tests.proofs.Returning.{blocked_is}
 
 abbrev pub Ending : Type 0 → Type 0
 Ending T = Result (Unit {0}) (SendTimeoutError T)
@@ -147,6 +149,14 @@ module _ {T S : Type 0} where
     pub step_is : (back : T) → result ≡ Err (Timeout back) → step ≡ WithdrawSend ticket
     pub reply_is : (back : T) → result ≡ Err (Timeout back) → reply ≡ Returned back false
 
+module _ {T A S : Type 0} where
+  -- the message that comes back is the one that blocked, however long the log was before
+  came_back : {old new : State T S} (m back : T) (ticket : ℕ) (others : Log T A) → IsLedTo A old
+      → Leads old ((WithdrawSend ticket, Returned back false) ∷ others ++ blocks m ticket) new → back ≡ m
+  came_back m back ticket others led leads =
+      let run = rw (append_assoc others (blocks m ticket) led.1) at (leads led.0 led.1 led.2).run in
+      blocked_is led.0 others ((TrySend m, Full m) ∷ led.1) ticket m back run.1 run.0.0
+
 module _ {G T S : Type 0} (A : Type 0) (at : G → State T S) where
   -- what a turn of the parked send tells
   abbrev pub Agains : G → ℕ → Bool → G → SendNext T → Type 0
@@ -226,18 +236,15 @@ module _ {G T S : Type 0} (A : Type 0) (at : G → State T S) where
         Later ticket end.others end.step end.reply (end.accepted ok),
       )
 
-  pub taken_back : {old new : G} {m : T} {result : Ending T}
+  pub taken_back : {old new : G} {m : T} {result : Ending T} → IsLedTo A (at old)
       → WholeSend Firsts Arms Parks Agains Waits old m new result
       → (back : T) → result ≡ Err (Timeout back) → IsTakenBack A m back (at old) (at new)
-  taken_back (AtFirst made) back late = absurd (first_in_time made.reply _ made.answered back late)
-  taken_back (Unarmed made arms is) back late = absurd (let none : ⊥ = cc in none)
-  taken_back (AtPark made arms parks) back late = absurd (second_in_time parks.reply _ parks.answered back late)
-  taken_back {m = m} (Parked {ticket = ticket} made arms parks rest) back late =
+  taken_back led (AtFirst made) back late = absurd (first_in_time made.reply _ made.answered back late)
+  taken_back led (Unarmed made arms is) back late = absurd (let none : ⊥ = cc in none)
+  taken_back led (AtPark made arms parks) back late = absurd (second_in_time parks.reply _ parks.answered back late)
+  taken_back {m = m} led (Parked {ticket = ticket} made arms parks rest) back late =
       let blocked = rw (pending ticket parks.reply parks.answered) at (up_to made arms parks) in
       let end = parked_ended rest in
       let last = rw (end.step_is back late, end.reply_is back late) at end.leads in
-      record {
-        ticket = ticket;
-        others = end.others;
-        leads = chain (blocks m ticket) ((WithdrawSend ticket, Returned back false) ∷ end.others) blocked last;
-      }
+      let leads = chain (blocks m ticket) ((WithdrawSend ticket, Returned back false) ∷ end.others) blocked last in
+      record { ticket = ticket; others = end.others; leads = leads; same = came_back m back ticket end.others led leads }

@@ -61,9 +61,11 @@ module _ {T S : Type 0} where
   IsSent A message old new =
       (steps : Log T A) × Leads old steps new × Offers message steps
 
-  -- a send ended at its deadline: its message blocked, and the last step of all took it back
+  -- a send ended at its deadline: its message blocked, and the last step of all took it back: what
+  -- comes back is what was sent
   pub record IsTakenBack (A : Type 0) (message back : T) (old new : State T S) : Type 0 where
     pub ticket : ℕ
     pub others : Log T A
     pub leads : Leads {A = A} old
         ((WithdrawSend ticket, Returned back false) ∷ others ++ blocks message ticket) new
+    pub same : back ≡ message

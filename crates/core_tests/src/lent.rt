@@ -183,7 +183,7 @@ impl<T: Drop, A: Allocator + Copy> RecvGate<T> for Lent<T, A> {
 
 /// A send through the gate. Where it ends well its message was offered, and is not blocked any
 /// more; where it ends at its deadline its message was offered and blocked, and its last step took
-/// back the one that blocked under its ticket.
+/// it back.
 pub fn send_through<T: Drop, A: Allocator + Copy, R: Wait>(
     rt: &R,
     gate: &mut Lent<T, A>,
@@ -193,6 +193,7 @@ pub fn send_through<T: Drop, A: Allocator + Copy, R: Wait>(
     ensures taken_back { (back : T) → result ≡ Err (Timeout back)
         → IsTakenBack A message back gate.old.locked gate.new.locked }
 {
+    gate.locked.facts();
     send_over(rt, gate, message)
 }
 

@@ -4,6 +4,7 @@ ghost use Rattle.flume_model.specs.Log.{opens};
 ghost use Rattle.flume_state.specs.Sends.{NoDueSend};
 ghost use Rattle.flume_state.specs.Receivers.{NoDueReceiver};
 ghost use Rattle.flume_state.specs.State.{State, opened};
+ghost use Rattle.flume_core.specs.StandsFor.{IsLedTo};
 ghost use Rattle.flume_core.specs.StateFacts.{ChannelFacts};
 ghost use Rattle.flume_calls.specs.AtRest.{IsAtRest, IsCall};
 
@@ -57,6 +58,7 @@ impl<T: Drop, S: Drop, A: Allocator + Copy> Locked<T, S, A> {
 
     /// What holds of the channel whenever its lock is free. Does nothing.
     pub fn facts(&self)
+        ensures led { IsLedTo A self.now }
         ensures facts { ChannelFacts self.now }
         ensures no_send_is_due { NoDueSend self.now.sends }
         ensures no_receiver_is_due { NoDueReceiver self.now.entries }

@@ -13,4 +13,4 @@ pub returns-clause-sent : goal.returns-clause-sent
 returns-clause-sent g c = sent g.row.A.Denot locked_of c.send_over.ensures.run
 
 pub returns-clause-taken_back : goal.returns-clause-taken_back
-returns-clause-taken_back g c = taken_back g.row.A.Denot locked_of c.send_over.ensures.run
+returns-clause-taken_back g c = taken_back g.row.A.Denot locked_of c.facts.ensures.led c.send_over.ensures.run

@@ -5,6 +5,7 @@ pub returns : goal.returns
 returns g c =
     let rest = c.self.invariant in
     rw (sym c.self.view_is) (record {
+      led = rest.led;
       facts = c.facts.ensures.facts rest.led;
       no_send_is_due = rest.sends;
       no_receiver_is_due = rest.receivers;
