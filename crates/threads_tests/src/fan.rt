@@ -1,10 +1,10 @@
 //! Threads that receive from one channel and send into another.
 use crate::fixtures::is;
+use crate::works::{SendHundred, Work, send_hundred, started};
 use flume::{Receiver, Sender, Waits, bounded, unbounded};
 use flume_core::error::RecvError;
 use std::process::Abort;
 use std::test::Fail;
-use std::thread;
 use std::thread::{JoinHandle, Threads};
 
 // How many threads forward.
@@ -26,6 +26,23 @@ fn forward<R: Waits>(rt: &R, rx: &Receiver<u64, R>, tx: &Sender<u64, R>) -> Endi
     unreachable!()
 }
 
+// Forwards from the one channel into the other.
+#[derive(Drop)]
+struct ForwardUntilClosed<R: Waits> {
+    rt: R,
+    rx: Receiver<u64, R>,
+    tx: Sender<u64, R>,
+}
+
+impl<R: Waits> Work for ForwardUntilClosed<R> {
+    type Answer = Ending;
+
+    fn work(self) -> Ending {
+        let ForwardUntilClosed { rt, rx, tx } = self;
+        forward(&rt, &rx, &tx)
+    }
+}
+
 // Starts eight threads that forward from the one channel into the other.
 fn start_fan<R>(rt: R, rx: Receiver<u64, R>, tx: Sender<u64, R>) -> Result<Forwarders, Fail>
 where
@@ -34,7 +51,7 @@ where
     let mut forwarders = Vec::new(rt.alloc());
     for _ in 0..FORWARDERS {
         let (rx, tx) = (rx.clone()?, tx.clone()?);
-        forwarders.push(thread::spawn(&rt, move || forward(&rt, &rx, &tx))?)?;
+        forwarders.push(started(&rt, ForwardUntilClosed { rt, rx, tx })?)?;
     }
     Ok(forwarders)
 }
@@ -48,7 +65,7 @@ where
     let mut forwarders = Vec::new(rt.alloc());
     for _ in 0..FORWARDERS {
         let (tx, next) = bounded::<u64, _, _>(rt, rt.alloc(), 1, 4)?;
-        forwarders.push(thread::spawn(&rt, move || forward(&rt, &rx, &tx))?)?;
+        forwarders.push(started(&rt, ForwardUntilClosed { rt, rx, tx })?)?;
         rx = next;
     }
     Ok((forwarders, rx))
@@ -58,13 +75,6 @@ where
 fn join_all<R: Threads + Abort>(rt: &R, forwarders: Forwarders) {
     for forwarder in forwarders {
         is(rt, forwarder.join(rt), Err(RecvError::Disconnected));
-    }
-}
-
-// Sends 0 to 99.
-fn send_hundred<R: Waits>(tx: &Sender<u64, R>) {
-    for message in 0..100 {
-        let _ = tx.send(message);
     }
 }
 
@@ -99,7 +109,7 @@ fn eight_threads_forward_from_one_channel_into_another(rt: HostRuntime) -> Resul
 fn a_chain_of_eight_keeps_the_order(rt: HostRuntime) -> Result<(), Fail> {
     let (tx, first) = bounded::<u64, _, _>(rt, rt.alloc(), 1, 4)?;
     let (forwarders, last) = start_chain(rt, first)?;
-    let sender = thread::spawn(&rt, move || send_hundred(&tx))?;
+    let sender = started(&rt, SendHundred { tx })?;
     for message in 0..100 {
         is(&rt, last.recv(), Ok(message));
     }

@@ -1,5 +1,6 @@
 //! Ends that threads take with them, or share by reference.
 use crate::fixtures::is;
+use crate::works::{ReceiveThree, SendOne, Work, started};
 use flume::{Receiver, Sender, Waits, WeakSender, bounded, unbounded};
 use flume_core::error::RecvError;
 use std::sync::atomic::{AtomicU64, Ordering};
@@ -52,18 +53,48 @@ fn send_by_weak<R: Waits>(weak: &WeakSender<u64, R>, message: u64) -> bool {
     }
 }
 
+// Sends a number by way of a weak sender.
+#[derive(Drop)]
+struct SendByWeak<R: Waits> {
+    weak: WeakSender<u64, R>,
+    message: u64,
+}
+
+impl<R: Waits> Work for SendByWeak<R> {
+    type Answer = bool;
+
+    fn work(self) -> bool {
+        let SendByWeak { weak, message } = self;
+        send_by_weak(&weak, message)
+    }
+}
+
 #[test]
 fn each_end_goes_with_its_thread(rt: HostRuntime) -> Result<(), Fail> {
     let (tx, rx) = unbounded::<u64, _, _>(rt, rt.alloc(), 1)?;
     let weak = tx.downgrade()?;
-    let upgrading = thread::spawn(&rt, move || send_by_weak(&weak, 1))?;
+    let upgrading = started(&rt, SendByWeak { weak, message: 1 })?;
     assert!(rt; upgrading.join(&rt));
-    let sending = thread::spawn(&rt, move || tx.send(2).is_ok())?;
-    let receiving = thread::spawn(&rt, move || [rx.recv(), rx.recv(), rx.recv()])?;
-    assert!(rt; sending.join(&rt));
+    let send = SendOne {
+        begins: None,
+        tx,
+        message: 2,
+    };
+    let sending = started(&rt, send)?;
+    let receiving = started(&rt, ReceiveThree { rx })?;
+    is(&rt, sending.join(&rt), Ok(()));
     let received = receiving.join(&rt);
     is(&rt, received, [Ok(1), Ok(2), Err(RecvError::Disconnected)]);
     Ok(())
+}
+
+// The first message of each thread that sends.
+const FIRST: &[u64] = &[1, 100];
+
+// Sends a number, and ten times as much by way of a weak sender.
+fn send_two<R: Waits>(tx: &Sender<u64, R>, weak: &WeakSender<u64, R>, message: u64) {
+    let _ = tx.send(message);
+    send_by_weak(weak, message.saturating_mul(10));
 }
 
 // Receives two messages, and adds them to the sum.
@@ -82,14 +113,13 @@ fn two_threads_use_each_end_by_reference(rt: HostRuntime) -> Result<(), Fail> {
     let sum = AtomicU64::new(0);
     let (tx, rx, weak, total) = (&tx, &rx, &weak, &sum);
     let started = thread::scope(thread::scope_env(), &rt, |scope| {
-        scope
-            .spawn(move || tx.send(1).is_ok() && send_by_weak(weak, 10))
-            .is_ok()
-            && scope
-                .spawn(move || tx.send(100).is_ok() && send_by_weak(weak, 1000))
-                .is_ok()
-            && scope.spawn(move || add_two(rx, total)).is_ok()
-            && scope.spawn(move || add_two(rx, total)).is_ok()
+        for &first in FIRST {
+            let sending = scope.spawn(move || send_two(tx, weak, first));
+            if sending.is_err() || scope.spawn(move || add_two(rx, total)).is_err() {
+                return false;
+            }
+        }
+        true
     });
     assert!(rt; started);
     is(&rt, sum.into_inner(), 1111);

@@ -64,6 +64,43 @@ impl<R: Waits> Work for ReceiveOne<R> {
     }
 }
 
+/// Receives three numbers.
+#[derive(Drop)]
+pub(crate) struct ReceiveThree<R: Waits> {
+    pub(crate) rx: Receiver<u64, R>,
+}
+
+impl<R: Waits> Work for ReceiveThree<R> {
+    type Answer = [Result<u64, RecvError>; 3];
+
+    fn work(self) -> [Result<u64, RecvError>; 3] {
+        let ReceiveThree { rx } = self;
+        [rx.recv(), rx.recv(), rx.recv()]
+    }
+}
+
+/// Sends 0 to 99.
+#[derive(Drop)]
+pub(crate) struct SendHundred<R: Waits> {
+    pub(crate) tx: Sender<u64, R>,
+}
+
+impl<R: Waits> Work for SendHundred<R> {
+    type Answer = ();
+
+    fn work(self) {
+        let SendHundred { tx } = self;
+        send_hundred(&tx);
+    }
+}
+
+/// Sends 0 to 99.
+pub(crate) fn send_hundred<R: Waits>(tx: &Sender<u64, R>) {
+    for message in 0..100 {
+        let _ = tx.send(message);
+    }
+}
+
 // Says that the thread begins, where anybody is to know.
 fn say_so<R: Waits>(begins: Option<Sender<(), R>>) {
     if let Some(begins) = begins {
