@@ -33,7 +33,7 @@ module _ {T A S : Type 0} where
       ((step, call.turn.reply) ∷ [], λ o log s. call.stands o _ (call.turn.stepped o log s))
 
   -- some steps, and then others
-  chain : {old mid new : State T S} (a b : Log T A) → Leads old a mid → Leads mid b new → Leads old (b ++ a) new
+  pub chain : {old mid new : State T S} (a b : Log T A) → Leads old a mid → Leads mid b new → Leads old (b ++ a) new
   chain a b first next o log s = rw (append_assoc b a log) (next o (a ++ log) (first o log s))
 
 module _ {T A : Type 0} where

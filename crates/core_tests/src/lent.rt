@@ -1,18 +1,20 @@
-//! A gate over a channel of one owner, whose relations say which step each turn made; and a caller
-//! that concludes from them what became of its message.
+//! A gate over a channel of one owner, whose relations say which step each turn made; and callers
+//! that conclude from them what became of a message, or where it came from.
 ghost use Rattle.std.specs.Prelude.{◌≡◌, Ok, Err};
 ghost use Rattle.flume_core.specs.declared.error.SendTimeoutError.TheVariants.{Timeout};
+ghost use Rattle.flume_core.specs.declared.error.RecvTimeoutError.TheVariants.{Timeout as Late};
 ghost use Rattle.core_tests.specs.Lent.{Others, IsSent, IsTakenBack};
+ghost use Rattle.core_tests.specs.LentReceive.{IsReceived, IsGivenUp};
 
 use flume_calls::calls::{
     AgainReceive, AgainSend, FirstReceive, FirstSend, ParkReceive, ParkSend, RecvCall, RecvNext,
     SendCall, SendNext,
 };
 use flume_calls::due::Bell;
-use flume_calls::gates::{RecvGate, SendGate, send_over};
+use flume_calls::gates::{RecvGate, SendGate, recv_over, send_over};
 use flume_calls::locked::Locked;
 use flume_calls::single::Single;
-use flume_core::error::SendTimeoutError;
+use flume_core::error::{RecvTimeoutError, SendTimeoutError};
 use flume_core::step::Kind;
 use std::alloc::Allocator;
 use std::sync::Wait;
@@ -197,11 +199,23 @@ pub fn send_through<T: Drop, A: Allocator + Copy, R: Wait>(
     send_over(rt, gate, message)
 }
 
+/// A receive through the gate. Where it ends well its message was handed out to it by its last
+/// step; where it ends at its deadline it was parked, and left by its last step with no message.
+pub fn receive_through<T: Drop, A: Allocator + Copy, R: Wait>(
+    rt: &R,
+    gate: &mut Lent<T, A>,
+) -> Result<T, RecvTimeoutError>
+    ensures received { (message : T) → result ≡ Ok message
+        → IsReceived A message gate.old.locked gate.new.locked }
+    ensures given_up { result ≡ Err Late → IsGivenUp A gate.old.locked gate.new.locked }
+{
+    recv_over(rt, gate)
+}
+
 #[cfg(test)]
 mod tests {
     use crate::answers::is;
-    use crate::lent::{Lent, Other, send_through};
-    use flume_calls::gates::recv_over;
+    use crate::lent::{Lent, Other, receive_through, send_through};
     use flume_core::error::{RecvTimeoutError, SendTimeoutError};
 
     #[test]
@@ -223,7 +237,7 @@ mod tests {
     #[test]
     fn a_receive_ends_as_the_sender_goes_while_it_waits(rt: HostRuntime) {
         let mut gate: Lent<u64, _> = Lent::new(rt.alloc(), None, Some(Other::DropSender));
-        let received = recv_over(&rt, &mut gate);
+        let received = receive_through(&rt, &mut gate);
         is(&rt, received, Err(RecvTimeoutError::Disconnected));
         is(&rt, gate.bell.rings, 1);
     }
