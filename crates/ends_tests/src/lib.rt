@@ -24,3 +24,5 @@ mod messages;
 mod one_thread;
 #[cfg(test)]
 mod parked;
+#[cfg(test)]
+mod room;

@@ -11,15 +11,15 @@ use std::test::Fail;
 use std::time::{Duration, Instant};
 
 // How many bytes the heap of a test has, and how many fill the smallest gap of it.
-const HEAP: usize = 4096;
+pub(crate) const HEAP: usize = 4096;
 
 const GAP: usize = 16;
 
 // What fills a heap.
-type Filling<'h> = Vec<Vec<u8, &'h LocalHeap>>;
+pub(crate) type Filling<'h> = Vec<Vec<u8, &'h LocalHeap>>;
 
 // Takes all that is left of the heap, so that it refuses every request.
-fn filled<'h>(alloc: Global, heap: &'h LocalHeap) -> Result<Filling<'h>, AllocError> {
+pub(crate) fn filled<'h>(alloc: Global, heap: &'h LocalHeap) -> Result<Filling<'h>, AllocError> {
     let mut filling = Vec::new(alloc);
     for _ in 0..HEAP / GAP {
         match Vec::with_capacity(heap, GAP) {
