@@ -1,2 +1,2 @@
-mod CountUp
+mod Refused
 mod CountDown
