@@ -88,8 +88,9 @@ pub fn recv_over<T: Drop, G: RecvGate<T>, R: Wait>(
     }
 }
 
-// A receive whose first turn didn't end it.
-#[inline(always)]
+// A receive whose first turn didn't end it. It stands in code of its own, so that a call
+// that ends at its first turn pays nothing for it.
+#[inline(never)]
 fn waiting_receive<T: Drop, G: RecvGate<T>, R: Wait>(
     rt: &R,
     gate: &mut G,
