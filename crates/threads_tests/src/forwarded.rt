@@ -1,5 +1,6 @@
 //! Threads that read by iterators, and send on.
 use crate::fixtures::{is, opened};
+use crate::works::{SendHundred, Work, send_hundred, started};
 use flume::{Iter, Receiver, Sender, Waits};
 use std::process::Abort;
 use std::sync::Mutex;
@@ -8,7 +9,7 @@ use std::thread;
 use std::thread::{JoinHandle, Threads};
 
 // The capacities of the channels; `None` is unbounded.
-const CAPACITIES: [Option<usize>; 4] = [None, Some(0), Some(1), Some(3)];
+const CAPACITIES: &[Option<usize>] = &[None, Some(0), Some(1), Some(3)];
 
 // How many threads share a channel.
 const THREADS: usize = 8;
@@ -20,26 +21,30 @@ const MESSAGES: usize = 100;
 const ANSWERS: u64 = 1000;
 
 // Answers each request by its double.
-fn answer_requests<R: Waits>(work: &Receiver<u64, R>, answers: &Sender<u64, R>) {
-    for request in work {
-        let _ = answers.send(request.wrapping_mul(2));
-    }
+#[derive(Drop)]
+struct AnswerRequests<R: Waits> {
+    work: Receiver<u64, R>,
+    answers: Sender<u64, R>,
 }
 
-// Sends 0 to 99.
-fn ask_hundred<R: Waits>(requests: &Sender<u64, R>) {
-    for request in 0..100 {
-        let _ = requests.send(request);
+impl<R: Waits> Work for AnswerRequests<R> {
+    type Answer = ();
+
+    fn work(self) {
+        let AnswerRequests { work, answers } = self;
+        for request in &work {
+            let _ = answers.send(request.wrapping_mul(2));
+        }
     }
 }
 
 #[test]
 fn a_worker_answers_on_another_channel(rt: HostRuntime) -> Result<(), Fail> {
-    for capacity in CAPACITIES {
+    for &capacity in CAPACITIES {
         let (requests, work) = opened::<u64, _>(rt, rt.alloc(), capacity)?;
         let (answers, results) = opened::<u64, _>(rt, rt.alloc(), capacity)?;
-        let worker = thread::spawn(&rt, move || answer_requests(&work, &answers))?;
-        let asking = thread::spawn(&rt, move || ask_hundred(&requests))?;
+        let worker = started(&rt, AnswerRequests { work, answers })?;
+        let asking = started(&rt, SendHundred { tx: requests })?;
         for request in 0..100u64 {
             is(&rt, results.recv(), Ok(2 * request));
         }
@@ -61,22 +66,15 @@ fn first_tried<R: Waits>(rt: &R, rx: &Receiver<u64, R>) -> u64 {
     unreachable!()
 }
 
-// Answers each ping with the number after it.
-fn answer_pings<R: Waits>(pings: &Receiver<u64, R>, pongs: &Sender<u64, R>) {
-    for ping in pings {
-        let _ = pongs.send(ping.wrapping_add(1));
-    }
-}
-
 #[test]
 fn tried_iterators_play_ping_pong(rt: HostRuntime) -> Result<(), Fail> {
-    for capacity in CAPACITIES {
-        let (pings, asked) = opened(rt, rt.alloc(), capacity)?;
-        let (pongs, answered) = opened(rt, rt.alloc(), capacity)?;
-        let other = thread::spawn(&rt, move || answer_pings(&asked, &pongs))?;
+    for &capacity in CAPACITIES {
+        let (pings, work) = opened(rt, rt.alloc(), capacity)?;
+        let (answers, answered) = opened(rt, rt.alloc(), capacity)?;
+        let other = started(&rt, AnswerRequests { work, answers })?;
         for ping in 0..ANSWERS {
             assert!(rt; pings.send(ping).is_ok());
-            is(&rt, first_tried(&rt, &answered), ping + 1);
+            is(&rt, first_tried(&rt, &answered), 2 * ping);
         }
         drop(pings);
         other.join(&rt);
@@ -86,9 +84,9 @@ fn tried_iterators_play_ping_pong(rt: HostRuntime) -> Result<(), Fail> {
 }
 
 // Counts each number that comes, until none does.
-fn count_each<R: Waits>(rt: &R, rx: Receiver<usize, R>, counts: &Mutex<[u32; MESSAGES]>) {
+fn count_each<R: Waits>(rt: &R, rx: Receiver<u64, R>, counts: &Mutex<[u32; MESSAGES]>) {
     for message in rx {
-        if let Some(count) = counts.lock(rt).get_mut(message) {
+        if let Some(count) = counts.lock(rt).get_mut(message as usize) {
             *count = count.saturating_add(1);
         }
     }
@@ -97,7 +95,7 @@ fn count_each<R: Waits>(rt: &R, rx: Receiver<usize, R>, counts: &Mutex<[u32; MES
 // Eight threads read by iterators what this one sends. False: a thread or a clone was refused.
 fn read_by_eight<R: Waits + Threads + Send + Sync>(
     rt: R,
-    (tx, rx): (Sender<usize, R>, Receiver<usize, R>),
+    (tx, rx): (Sender<u64, R>, Receiver<u64, R>),
     counts: &Mutex<[u32; MESSAGES]>,
 ) -> bool {
     thread::scope(thread::scope_env(), &rt, |scope| {
@@ -109,23 +107,16 @@ fn read_by_eight<R: Waits + Threads + Send + Sync>(
                 return false;
             }
         }
-        send_each(&tx);
+        send_hundred(&tx);
         drop(tx);
         true
     })
 }
 
-// Sends 0 to 99.
-fn send_each<R: Waits>(tx: &Sender<usize, R>) {
-    for message in 0..MESSAGES {
-        let _ = tx.send(message);
-    }
-}
-
 #[test]
 fn iterators_in_eight_threads_share_the_messages(rt: HostRuntime) -> Result<(), Fail> {
-    for capacity in CAPACITIES {
-        let ends = opened::<usize, _>(rt, rt.alloc(), capacity)?;
+    for &capacity in CAPACITIES {
+        let ends = opened::<u64, _>(rt, rt.alloc(), capacity)?;
         let counts = Mutex::new([0; MESSAGES]);
         assert!(rt; read_by_eight(rt, ends, &counts));
         assert!(rt; counts.into_inner().iter().all(|&count| count == 1));
@@ -134,29 +125,40 @@ fn iterators_in_eight_threads_share_the_messages(rt: HostRuntime) -> Result<(), 
 }
 
 // Sends on what it receives, until nothing comes.
-fn forward<R: Waits>(from: Receiver<usize, R>, to: Sender<usize, R>) {
-    for message in from {
-        let _ = to.send(message);
+#[derive(Drop)]
+struct Forward<R: Waits> {
+    from: Receiver<u64, R>,
+    to: Sender<u64, R>,
+}
+
+impl<R: Waits> Work for Forward<R> {
+    type Answer = ();
+
+    fn work(self) {
+        let Forward { from, to } = self;
+        for message in from {
+            let _ = to.send(message);
+        }
     }
 }
 
 // Starts eight threads that forward from the one channel into the other.
 fn start_forwarders<R: Waits + AllocGlobal + Threads + Send + Sync + 'static>(
     rt: R,
-    from: Receiver<usize, R>,
-    to: Sender<usize, R>,
+    from: Receiver<u64, R>,
+    to: Sender<u64, R>,
 ) -> Result<Vec<JoinHandle<()>>, Fail> {
     let mut forwarders = Vec::new(rt.alloc());
     for _ in 0..THREADS {
         let (from, to) = (from.clone()?, to.clone()?);
-        forwarders.push(thread::spawn(&rt, move || forward(from, to))?)?;
+        forwarders.push(started(&rt, Forward { from, to })?)?;
     }
     Ok(forwarders)
 }
 
 // The sum of the next hundred messages of an iterator.
-fn sum_of_hundred<R: Waits>(messages: &mut Iter<'_, usize, R>) -> usize {
-    let mut sum = 0usize;
+fn sum_of_hundred<R: Waits>(messages: &mut Iter<'_, u64, R>) -> u64 {
+    let mut sum = 0u64;
     for message in messages.by_ref().take(MESSAGES) {
         sum = sum.saturating_add(message);
     }
@@ -168,13 +170,12 @@ fn forward_three_times<R>(rt: R, capacity: Option<usize>) -> Result<(), Fail>
 where
     R: Waits + AllocGlobal + Threads + Abort + Send + Sync + 'static,
 {
-    let (tx, from) = opened::<usize, _>(rt, rt.alloc(), capacity)?;
-    let (to, rx) = opened::<usize, _>(rt, rt.alloc(), capacity)?;
+    let (tx, from) = opened::<u64, _>(rt, rt.alloc(), capacity)?;
+    let (to, rx) = opened::<u64, _>(rt, rt.alloc(), capacity)?;
     let forwarders = start_forwarders(rt, from, to)?;
     let mut forwarded = rx.iter();
     for _ in 0..3 {
-        let other = tx.clone()?;
-        let sending = thread::spawn(&rt, move || send_each(&other))?;
+        let sending = started(&rt, SendHundred { tx: tx.clone()? })?;
         is(&rt, sum_of_hundred(&mut forwarded), 4950);
         sending.join(&rt);
     }
@@ -193,7 +194,7 @@ fn join_all<R: Threads>(rt: &R, forwarders: Vec<JoinHandle<()>>) {
 
 #[test]
 fn eight_forwarders_lead_into_one_channel(rt: HostRuntime) -> Result<(), Fail> {
-    for capacity in CAPACITIES {
+    for &capacity in CAPACITIES {
         forward_three_times(rt, capacity)?;
     }
     Ok(())

@@ -1,13 +1,18 @@
 //! Messages that hold an end of another channel.
 use crate::fixtures::{MOST_YIELDS, is, opened, yield_often};
 use crate::watch::begin_watch;
-use crate::works::{ReceiveOne, started};
+use crate::works::{ReceiveOne, ReceiveThree, Work, started};
 use flume::{Receiver, Sender, Waits, WeakSender};
 use flume_core::error::{NoMemory, RecvError, SendError, TryRecvError, TrySendError};
 use std::process::Abort;
 use std::test::Fail;
-use std::thread;
 use std::thread::Threads;
+
+// The capacities at which two threads meet; `None` is unbounded.
+const MEETING: &[Option<usize>] = &[None, Some(0)];
+
+// The capacities at which a message is left in a channel.
+const QUEUEING: &[Option<usize>] = &[None, Some(1)];
 
 // A question, and the sender for its answer.
 #[derive(Drop)]
@@ -42,11 +47,27 @@ fn ask<R: Waits + AllocGlobal + Abort>(
     Ok(())
 }
 
+// Answers the requests that it receives.
+#[derive(Drop)]
+struct ServeRequests<R: Waits> {
+    rt: R,
+    rx: Receiver<Request<R>, R>,
+}
+
+impl<R: Waits> Work for ServeRequests<R> {
+    type Answer = ();
+
+    fn work(self) {
+        let ServeRequests { rt, rx } = self;
+        serve(&rt, &rx);
+    }
+}
+
 #[test]
 fn a_server_answers_through_the_sender_in_a_request(rt: HostRuntime) -> Result<(), Fail> {
-    for capacity in [None, Some(0)] {
+    for &capacity in MEETING {
         let (requests, rx) = opened(rt, rt.alloc(), capacity)?;
-        let server = thread::spawn(&rt, move || serve(&rt, &rx))?;
+        let server = started(&rt, ServeRequests { rt, rx })?;
         ask(rt, &requests, capacity)?;
         drop(requests);
         server.join(&rt);
@@ -69,18 +90,28 @@ fn opened_both<T: Drop, R: Waits + AllocGlobal>(
 }
 
 // Receives a receiver, and what that one receives.
-fn read_inner<R: Waits>(outer: &Receiver<Receiver<u64, R>, R>) -> [Result<u64, RecvError>; 3] {
-    match outer.recv() {
-        Ok(inner) => [inner.recv(), inner.recv(), inner.recv()],
-        Err(error) => [Err(error); 3],
+#[derive(Drop)]
+struct ReadInner<R: Waits> {
+    outer: Receiver<Receiver<u64, R>, R>,
+}
+
+impl<R: Waits> Work for ReadInner<R> {
+    type Answer = [Result<u64, RecvError>; 3];
+
+    fn work(self) -> [Result<u64, RecvError>; 3] {
+        let ReadInner { outer } = self;
+        match outer.recv() {
+            Ok(rx) => ReceiveThree { rx }.work(),
+            Err(error) => [Err(error); 3],
+        }
     }
 }
 
 #[test]
 fn a_receiver_is_received_and_read(rt: HostRuntime) -> Result<(), Fail> {
-    for capacity in [None, Some(0)] {
+    for &capacity in MEETING {
         let ((outer, outer_rx), (tx, rx)) = opened_both(rt, capacity)?;
-        let reader = thread::spawn(&rt, move || read_inner(&outer_rx))?;
+        let reader = started(&rt, ReadInner { outer: outer_rx })?;
         assert!(rt; outer.send(rx).is_ok());
         assert!(rt; tx.send(1).is_ok() && tx.send(2).is_ok());
         drop(tx);
@@ -92,7 +123,7 @@ fn a_receiver_is_received_and_read(rt: HostRuntime) -> Result<(), Fail> {
 
 #[test]
 fn a_sender_left_in_a_channel_goes_with_it(rt: HostRuntime) -> Result<(), Fail> {
-    for capacity in [None, Some(1)] {
+    for &capacity in QUEUEING {
         let ((outer, outer_rx), (tx, rx)) = opened_both(rt, capacity)?;
         assert!(rt; outer.send(tx).is_ok());
         drop(outer);
@@ -139,7 +170,7 @@ fn a_receive_ends_as_its_sender_goes_with_a_channel(rt: HostRuntime) -> Result<(
 
 #[test]
 fn a_receiver_left_in_a_channel_goes_with_it(rt: HostRuntime) -> Result<(), Fail> {
-    for capacity in [None, Some(1)] {
+    for &capacity in QUEUEING {
         let ((outer, outer_rx), (tx, rx)) = opened_both(rt, capacity)?;
         assert!(rt; outer.send(rx).is_ok());
         drop(outer_rx);
@@ -151,10 +182,26 @@ fn a_receiver_left_in_a_channel_goes_with_it(rt: HostRuntime) -> Result<(), Fail
     Ok(())
 }
 
+// Whether a sender can be sent.
+#[derive(Drop)]
+struct SendSender<R: Waits> {
+    outer: Sender<Sender<u64, R>, R>,
+    tx: Sender<u64, R>,
+}
+
+impl<R: Waits> Work for SendSender<R> {
+    type Answer = bool;
+
+    fn work(self) -> bool {
+        let SendSender { outer, tx } = self;
+        outer.send(tx).is_ok()
+    }
+}
+
 #[test]
 fn a_blocked_sender_goes_with_its_send(rt: HostRuntime) -> Result<(), Fail> {
     let ((outer, outer_rx), (tx, rx)) = opened_both(rt, Some(0))?;
-    let sending = thread::spawn(&rt, move || outer.send(tx).is_ok())?;
+    let sending = started(&rt, SendSender { outer, tx })?;
     drop(outer_rx);
     is(&rt, rx.recv(), Err(RecvError::Disconnected));
     assert!(rt; !sending.join(&rt));
@@ -163,7 +210,7 @@ fn a_blocked_sender_goes_with_its_send(rt: HostRuntime) -> Result<(), Fail> {
 
 #[test]
 fn a_weak_sender_left_in_a_channel_closes_nothing(rt: HostRuntime) -> Result<(), Fail> {
-    for capacity in [None, Some(1)] {
+    for &capacity in QUEUEING {
         let ((outer, outer_rx), (tx, rx)) = opened_both(rt, capacity)?;
         assert!(rt; outer.send(tx.downgrade()?).is_ok());
         drop(outer);
@@ -177,24 +224,36 @@ fn a_weak_sender_left_in_a_channel_closes_nothing(rt: HostRuntime) -> Result<(),
 }
 
 // Receives a weak sender, and sends through it. None is there once its channel has no sender.
-fn send_through<R: Waits>(outer: &Receiver<WeakSender<u64, R>, R>) -> [bool; 2] {
-    let mut sent = [false; 2];
-    for answer in &mut sent {
-        if let Ok(weak) = outer.recv()
-            && let Ok(Some(tx)) = weak.upgrade()
-        {
-            *answer = tx.send(7).is_ok();
-        }
+fn send_through<R: Waits>(outer: &Receiver<WeakSender<u64, R>, R>) -> bool {
+    if let Ok(weak) = outer.recv()
+        && let Ok(Some(tx)) = weak.upgrade()
+    {
+        return tx.send(7).is_ok();
     }
-    sent
+    false
+}
+
+// Whether each of two weak senders that are received can be sent through.
+#[derive(Drop)]
+struct SendThrough<R: Waits> {
+    outer: Receiver<WeakSender<u64, R>, R>,
+}
+
+impl<R: Waits> Work for SendThrough<R> {
+    type Answer = [bool; 2];
+
+    fn work(self) -> [bool; 2] {
+        let SendThrough { outer } = self;
+        [send_through(&outer), send_through(&outer)]
+    }
 }
 
 #[test]
 fn a_received_weak_sender_upgrades_while_a_sender_lives(rt: HostRuntime) -> Result<(), Fail> {
-    for capacity in [None, Some(0)] {
+    for &capacity in MEETING {
         let ((outer, outer_rx), (tx, rx)) = opened_both(rt, capacity)?;
         let weak = tx.downgrade()?;
-        let sending = thread::spawn(&rt, move || send_through(&outer_rx))?;
+        let sending = started(&rt, SendThrough { outer: outer_rx })?;
         assert!(rt; outer.send(weak.clone()?).is_ok());
         is(&rt, rx.recv(), Ok(7));
         drop(tx);
