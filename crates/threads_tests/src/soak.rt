@@ -1,10 +1,10 @@
 //! Many messages through one channel, by calls of every kind, with ends that come and go.
 use crate::fixtures::opened;
+use crate::works::{Work, started};
 use flume::{Receiver, Sender, Waits};
 use flume_core::error::RecvError;
 use std::process::Abort;
 use std::test::Fail;
-use std::thread;
 use std::thread::{JoinHandle, Threads};
 use std::time::{Duration, Instant};
 
@@ -149,6 +149,39 @@ fn count_each(received: &[Message], counts: &mut [u32]) {
     }
 }
 
+// Sends all messages of one sender.
+#[derive(Drop)]
+struct SendAll<R: Waits> {
+    rt: R,
+    tx: Sender<Message, R>,
+    sender: usize,
+}
+
+impl<R: Waits> Work for SendAll<R> {
+    type Answer = bool;
+
+    fn work(self) -> bool {
+        let SendAll { rt, tx, sender } = self;
+        send_all(&rt, tx, sender)
+    }
+}
+
+// Receives until all senders are gone.
+#[derive(Drop)]
+struct ReceiveAll<R: Waits + AllocGlobal> {
+    rt: R,
+    rx: Receiver<Message, R>,
+}
+
+impl<R: Waits + AllocGlobal> Work for ReceiveAll<R> {
+    type Answer = Received;
+
+    fn work(self) -> Received {
+        let ReceiveAll { rt, rx } = self;
+        receive_all(&rt, rx)
+    }
+}
+
 // Starts the threads, each with an end of its own.
 fn start_all<R>(rt: R, tx: Sender<Message, R>, rx: Receiver<Message, R>) -> Result<Started, Fail>
 where
@@ -157,8 +190,8 @@ where
     let (mut senders, mut receivers) = (Vec::new(rt.alloc()), Vec::new(rt.alloc()));
     for sender in 0..THREADS {
         let (tx, rx) = (tx.clone()?, rx.clone()?);
-        senders.push(thread::spawn(&rt, move || send_all(&rt, tx, sender))?)?;
-        receivers.push(thread::spawn(&rt, move || receive_all(&rt, rx))?)?;
+        senders.push(started(&rt, SendAll { rt, tx, sender })?)?;
+        receivers.push(started(&rt, ReceiveAll { rt, rx })?)?;
     }
     Ok(Started { senders, receivers })
 }
