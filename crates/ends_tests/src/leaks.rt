@@ -1,16 +1,14 @@
 //! Nothing is leaked: each message is dropped once, and with its ends a channel gives back all the
 //! memory that it took.
+use crate::counting::Counting;
 use crate::fixtures::{is, long};
 use flume::error::{RecvTimeoutError, SendError, SendTimeoutError, TrySendError};
 use flume::{Receiver, Sender, Waits, bounded, unbounded};
-use linked_list_allocator::LocalHeap;
+use std::alloc::Global;
 use std::process::Abort;
 use std::sync::atomic::{AtomicU64, Ordering};
 use std::test::Fail;
 use std::time::Instant;
-
-// How many bytes the heap of a test has.
-const HEAP: usize = 4096;
 
 // A message that counts its drops.
 struct Counted<'a> {
@@ -32,7 +30,7 @@ fn dropped<R: Abort>(rt: &R, drops: &AtomicU64, wanted: u64) {
 // Queues so many messages.
 fn queue<'a, R: Waits + Abort>(
     rt: &R,
-    tx: &Sender<Counted<'a>, R, &LocalHeap>,
+    tx: &Sender<Counted<'a>, R, &Counting<Global>>,
     drops: &'a AtomicU64,
     count: u64,
 ) {
@@ -44,7 +42,7 @@ fn queue<'a, R: Waits + Abort>(
 // Four sends into a full channel, each of which is refused and hands its message back.
 fn full_sends<'a, R: Waits + Abort>(
     rt: &R,
-    tx: &Sender<Counted<'a>, R, &LocalHeap>,
+    tx: &Sender<Counted<'a>, R, &Counting<Global>>,
     drops: &'a AtomicU64,
 ) -> Result<(), Fail> {
     let now = Instant::now(rt)?;
@@ -63,7 +61,7 @@ fn full_sends<'a, R: Waits + Abort>(
 // Three sends into a closed channel.
 fn closed_sends<'a, R: Waits + Abort>(
     rt: &R,
-    tx: &Sender<Counted<'a>, R, &LocalHeap>,
+    tx: &Sender<Counted<'a>, R, &Counting<Global>>,
     drops: &'a AtomicU64,
 ) {
     let tried = tx.try_send(Counted { drops });
@@ -85,7 +83,7 @@ fn closed_sends<'a, R: Waits + Abort>(
 #[test]
 fn a_message_that_is_handed_back_is_dropped_once(rt: HostRuntime) -> Result<(), Fail> {
     let drops = AtomicU64::new(0);
-    let heap = LocalHeap::new(rt.alloc(), HEAP)?;
+    let heap = Counting::new(rt.alloc());
     let (tx, rx) = bounded::<Counted, _, _>(rt, &heap, 1, 2)?;
     queue(&rt, &tx, &drops, 2);
     full_sends(&rt, &tx, &drops)?;
@@ -95,14 +93,14 @@ fn a_message_that_is_handed_back_is_dropped_once(rt: HostRuntime) -> Result<(), 
     // The two that were queued go with the last end.
     drop(tx);
     dropped(&rt, &drops, 7);
-    is(&rt, heap.used(), 0);
+    is(&rt, heap.live(), 0);
     Ok(())
 }
 
 // Receives a message by each call, and drops it.
 fn receive_four<'a, R: Waits + Abort>(
     rt: &R,
-    rx: &Receiver<Counted<'a>, R, &LocalHeap>,
+    rx: &Receiver<Counted<'a>, R, &Counting<Global>>,
 ) -> Result<(), Fail> {
     is(rt, rx.try_recv().is_ok(), true);
     is(rt, rx.recv().is_ok(), true);
@@ -114,7 +112,7 @@ fn receive_four<'a, R: Waits + Abort>(
 #[test]
 fn a_received_message_is_dropped_once(rt: HostRuntime) -> Result<(), Fail> {
     let drops = AtomicU64::new(0);
-    let heap = LocalHeap::new(rt.alloc(), HEAP)?;
+    let heap = Counting::new(rt.alloc());
     let (tx, rx) = unbounded::<Counted, _, _>(rt, &heap, 1)?;
     queue(&rt, &tx, &drops, 9);
     receive_four(&rt, &rx)?;
@@ -129,14 +127,14 @@ fn a_received_message_is_dropped_once(rt: HostRuntime) -> Result<(), Fail> {
     // The two that are left go with the last end.
     drop(messages);
     dropped(&rt, &drops, 9);
-    is(&rt, heap.used(), 0);
+    is(&rt, heap.live(), 0);
     Ok(())
 }
 
 #[test]
 fn a_drained_message_is_dropped_once(rt: HostRuntime) -> Result<(), Fail> {
     let drops = AtomicU64::new(0);
-    let heap = LocalHeap::new(rt.alloc(), HEAP)?;
+    let heap = Counting::new(rt.alloc());
     let (tx, rx) = unbounded::<Counted, _, _>(rt, &heap, 1)?;
     queue(&rt, &tx, &drops, 3);
     let mut drain = rx.drain()?;
@@ -149,14 +147,14 @@ fn a_drained_message_is_dropped_once(rt: HostRuntime) -> Result<(), Fail> {
     drop(tx);
     drop(rx);
     dropped(&rt, &drops, 4);
-    is(&rt, heap.used(), 0);
+    is(&rt, heap.live(), 0);
     Ok(())
 }
 
 #[test]
 fn calls_that_time_out_give_back_what_they_took(rt: HostRuntime) -> Result<(), Fail> {
     let drops = AtomicU64::new(0);
-    let heap = LocalHeap::new(rt.alloc(), HEAP)?;
+    let heap = Counting::new(rt.alloc());
     let (tx, rx) = bounded::<Counted, _, _>(rt, &heap, 1, 1)?;
     let now = Instant::now(&rt)?;
     for _ in 0..100 {
@@ -174,8 +172,8 @@ fn calls_that_time_out_give_back_what_they_took(rt: HostRuntime) -> Result<(), F
     drop((tx, rx, other, another));
     dropped(&rt, &drops, 101);
     // What the ends share goes with the last of them, one that doesn't count too.
-    is(&rt, heap.used() == 0, false);
+    is(&rt, heap.live() == 0, false);
     drop(weak);
-    is(&rt, heap.used(), 0);
+    is(&rt, heap.live(), 0);
     Ok(())
 }

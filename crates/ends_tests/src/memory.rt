@@ -1,336 +1,282 @@
-//! Want of memory: what a channel over a heap that is full answers, and that it goes on after.
-use crate::fixtures::{Parcel, is, long};
-use flume::error::{
-    NoMemory, RecvError, RecvTimeoutError, SendError, SendTimeoutError, TryRecvError, TrySendError,
-};
+//! Want of memory: what a channel answers whose allocator refuses, and that it goes on after.
+use crate::calls::{Heap, How, Received, Sent, receives, sends, tried_receive, tried_send};
+use crate::counting::Counting;
+use crate::fixtures::is;
+use flume::error::NoMemory;
 use flume::{Receiver, Sender, Waits, bounded, unbounded};
-use linked_list_allocator::LocalHeap;
-use std::alloc::{AllocError, Global};
 use std::process::Abort;
 use std::test::Fail;
-use std::time::{Duration, Instant};
 
-// How many bytes the heap of a test has, and how many fill the smallest gap of it.
-pub(crate) const HEAP: usize = 4096;
+// A queue that holds one message has room for fewer than this.
+const MOST: u64 = 1000;
 
-const GAP: usize = 16;
+// Receives that have to wait, and one that only tries.
+const REFUSED_RECEIVES: &[(How, Received)] = &[
+    (How::Waits, Received::NoMemory),
+    (How::Hour, Received::NoMemory),
+    (How::Longest, Received::NoMemory),
+    (How::Tries, Received::Empty),
+];
 
-// What fills a heap.
-pub(crate) type Filling<'h> = Vec<Vec<u8, &'h LocalHeap>>;
+// Sends into a full channel: three that have to wait, and one that only tries.
+const REFUSED_SENDS: &[(How, u64, Sent)] = &[
+    (How::Waits, 2, Sent::NoMemory(2)),
+    (How::Hour, 3, Sent::NoMemory(3)),
+    (How::Longest, 4, Sent::NoMemory(4)),
+    (How::Tries, 5, Sent::Full(5)),
+];
 
-// Takes all that is left of the heap, so that it refuses every request.
-pub(crate) fn filled<'h>(alloc: Global, heap: &'h LocalHeap) -> Result<Filling<'h>, AllocError> {
-    let mut filling = Vec::new(alloc);
-    for _ in 0..HEAP / GAP {
-        match Vec::with_capacity(heap, GAP) {
-            Ok(gap) => filling.push(gap)?,
-            Err(_) => break,
-        }
-    }
-    Ok(filling)
-}
+// Sends into a queue that has to grow.
+const REFUSED_GROWTHS: &[(How, u64, Sent)] = &[
+    (How::Tries, 1, Sent::NoMemory(1)),
+    (How::Waits, 2, Sent::NoMemory(2)),
+    (How::Hour, 3, Sent::NoMemory(3)),
+    (How::Now, 4, Sent::NoMemory(4)),
+];
+
+// Sends into an empty channel of capacity 2, and then the receives of what they sent.
+const FILLING_SENDS: &[(How, u64, Sent)] = &[
+    (How::Tries, 1, Sent::Done),
+    (How::Waits, 2, Sent::Done),
+    (How::Tries, 3, Sent::Full(3)),
+];
+
+const EMPTYING_RECEIVES: &[(How, Received)] = &[
+    (How::Tries, Received::Message(1)),
+    (How::Waits, Received::Message(2)),
+    (How::Tries, Received::Empty),
+];
+
+const TIMED_SENDS: &[(How, u64, Sent)] = &[(How::Hour, 4, Sent::Done), (How::Now, 5, Sent::Done)];
+
+const TIMED_RECEIVES: &[(How, Received)] = &[
+    (How::Hour, Received::Message(4)),
+    (How::Now, Received::Message(5)),
+];
+
+// Calls of a channel of which the other side is gone.
+const CLOSED_SENDS: &[(How, u64, Sent)] = &[
+    (How::Tries, 1, Sent::Closed(1)),
+    (How::Waits, 2, Sent::Closed(2)),
+    (How::Hour, 3, Sent::Closed(3)),
+];
+
+const CLOSED_RECEIVES: &[(How, Received)] = &[
+    (How::Tries, Received::Closed),
+    (How::Waits, Received::Closed),
+    (How::Hour, Received::Closed),
+];
 
 // The channel holds so many messages, both ends are there, and it is open.
 fn holds<R: Waits + Abort>(
     rt: &R,
-    tx: &Sender<Parcel, R, &LocalHeap>,
-    rx: &Receiver<Parcel, R, &LocalHeap>,
+    tx: &Sender<u64, R, Heap<'_>>,
+    rx: &Receiver<u64, R, Heap<'_>>,
     len: usize,
 ) {
     is(rt, (tx.len(), rx.len()), (len, len));
     is(rt, (tx.sender_count(), tx.receiver_count()), (1, 1));
     is(rt, (rx.sender_count(), rx.receiver_count()), (1, 1));
-    is(
-        rt,
-        (tx.is_disconnected(), rx.is_disconnected()),
-        (false, false),
-    );
+    is(rt, (tx.is_disconnected() || rx.is_disconnected()), false);
 }
 
 #[test]
 fn receives_that_find_no_memory_say_so_and_the_channel_goes_on(
     rt: HostRuntime,
 ) -> Result<(), Fail> {
-    let heap = LocalHeap::new(rt.alloc(), HEAP)?;
-    let (tx, rx) = bounded::<Parcel, _, _>(rt, &heap, 1, 1)?;
-    is(&rt, tx.try_send(Parcel(1)), Ok(()));
-    is(&rt, rx.try_recv(), Ok(Parcel(1)));
-    let filling = filled(rt.alloc(), &heap)?;
-    is(&rt, heap.free(), 0);
-    is(&rt, rx.recv(), Err(RecvError::NoMemory));
-    is(
-        &rt,
-        rx.recv_timeout(long()),
-        Err(RecvTimeoutError::NoMemory),
-    );
-    is(
-        &rt,
-        rx.recv_timeout(Duration::MAX),
-        Err(RecvTimeoutError::NoMemory),
-    );
-    is(&rt, rx.try_recv(), Err(TryRecvError::Empty));
+    let heap = Counting::new(rt.alloc());
+    let (tx, rx) = bounded::<u64, _, _>(rt, &heap, 1, 1)?;
+    sends(&rt, &tx, &[(How::Tries, 1, Sent::Done)])?;
+    receives(&rt, &rx, &[(How::Tries, Received::Message(1))])?;
+    let live = heap.live();
+    heap.refuse(true);
+    receives(&rt, &rx, REFUSED_RECEIVES)?;
     holds(&rt, &tx, &rx, 0);
-    is(&rt, tx.send(Parcel(2)), Ok(()));
-    is(&rt, rx.recv(), Ok(Parcel(2)));
-    drop(filling);
-    let now = Instant::now(&rt)?;
-    is(&rt, rx.recv_deadline(now), Err(RecvTimeoutError::Timeout));
-    is(&rt, tx.send(Parcel(3)), Ok(()));
-    is(&rt, rx.recv(), Ok(Parcel(3)));
-    Ok(())
+    sends(&rt, &tx, &[(How::Waits, 2, Sent::Done)])?;
+    receives(&rt, &rx, &[(How::Waits, Received::Message(2))])?;
+    is(&rt, heap.live(), live);
+    heap.refuse(false);
+    receives(&rt, &rx, &[(How::Now, Received::Late)])?;
+    sends(&rt, &tx, &[(How::Waits, 3, Sent::Done)])?;
+    receives(&rt, &rx, &[(How::Waits, Received::Message(3))])
 }
 
 #[test]
 fn sends_without_room_that_find_no_memory_say_so_and_the_channel_goes_on(
     rt: HostRuntime,
 ) -> Result<(), Fail> {
-    let heap = LocalHeap::new(rt.alloc(), HEAP)?;
-    let (tx, rx) = bounded::<Parcel, _, _>(rt, &heap, 1, 1)?;
-    is(&rt, tx.try_send(Parcel(1)), Ok(()));
-    let filling = filled(rt.alloc(), &heap)?;
-    is(&rt, heap.free(), 0);
-    is(&rt, tx.send(Parcel(2)), Err(SendError::NoMemory(Parcel(2))));
-    let timed = tx.send_timeout(Parcel(3), long());
-    is(&rt, timed, Err(SendTimeoutError::NoMemory(Parcel(3))));
-    let timed = tx.send_timeout(Parcel(4), Duration::MAX);
-    is(&rt, timed, Err(SendTimeoutError::NoMemory(Parcel(4))));
-    is(
-        &rt,
-        tx.try_send(Parcel(5)),
-        Err(TrySendError::Full(Parcel(5))),
-    );
+    let heap = Counting::new(rt.alloc());
+    let (tx, rx) = bounded::<u64, _, _>(rt, &heap, 1, 1)?;
+    sends(&rt, &tx, &[(How::Tries, 1, Sent::Done)])?;
+    let live = heap.live();
+    heap.refuse(true);
+    sends(&rt, &tx, REFUSED_SENDS)?;
     holds(&rt, &tx, &rx, 1);
-    is(&rt, rx.recv(), Ok(Parcel(1)));
-    is(&rt, tx.send(Parcel(6)), Ok(()));
-    drop(filling);
-    let timed = tx.send_deadline(Parcel(7), Instant::now(&rt)?);
-    is(&rt, timed, Err(SendTimeoutError::Timeout(Parcel(7))));
-    is(&rt, rx.recv(), Ok(Parcel(6)));
-    is(&rt, rx.try_recv(), Err(TryRecvError::Empty));
-    Ok(())
-}
-
-// Sends by each call of a channel that has to grow: all are refused, and each hands its message
-// back.
-fn sends_are_refused<R: Waits + Abort>(
-    rt: R,
-    tx: &Sender<Parcel, R, &LocalHeap>,
-) -> Result<(), Fail> {
-    is(
-        &rt,
-        tx.try_send(Parcel(1)),
-        Err(TrySendError::NoMemory(Parcel(1))),
-    );
-    is(&rt, tx.send(Parcel(2)), Err(SendError::NoMemory(Parcel(2))));
-    let timed = tx.send_timeout(Parcel(3), long());
-    is(&rt, timed, Err(SendTimeoutError::NoMemory(Parcel(3))));
-    let timed = tx.send_deadline(Parcel(4), Instant::now(&rt)?);
-    is(&rt, timed, Err(SendTimeoutError::NoMemory(Parcel(4))));
-    Ok(())
+    receives(&rt, &rx, &[(How::Waits, Received::Message(1))])?;
+    sends(&rt, &tx, &[(How::Waits, 6, Sent::Done)])?;
+    is(&rt, heap.live(), live);
+    heap.refuse(false);
+    sends(&rt, &tx, &[(How::Now, 7, Sent::Late(7))])?;
+    let left = &[
+        (How::Waits, Received::Message(6)),
+        (How::Tries, Received::Empty),
+    ];
+    receives(&rt, &rx, left)
 }
 
 #[test]
 fn a_queue_that_cannot_grow_hands_the_message_back(rt: HostRuntime) -> Result<(), Fail> {
-    let heap = LocalHeap::new(rt.alloc(), HEAP)?;
-    let (tx, rx) = unbounded::<Parcel, _, _>(rt, &heap, 1)?;
-    let filling = filled(rt.alloc(), &heap)?;
-    is(&rt, heap.free(), 0);
-    sends_are_refused(rt, &tx)?;
+    let heap = Counting::new(rt.alloc());
+    let (tx, rx) = unbounded::<u64, _, _>(rt, &heap, 1)?;
+    let live = heap.live();
+    heap.refuse(true);
+    sends(&rt, &tx, REFUSED_GROWTHS)?;
     holds(&rt, &tx, &rx, 0);
-    is(&rt, rx.try_recv(), Err(TryRecvError::Empty));
-    drop(filling);
-    is(&rt, tx.send(Parcel(5)), Ok(()));
-    is(&rt, rx.recv(), Ok(Parcel(5)));
-    Ok(())
+    receives(&rt, &rx, &[(How::Tries, Received::Empty)])?;
+    is(&rt, heap.live(), live);
+    heap.refuse(false);
+    sends(&rt, &tx, &[(How::Waits, 5, Sent::Done)])?;
+    receives(&rt, &rx, &[(How::Waits, Received::Message(5))])
 }
 
-// Sends 0, 1 and so on, and says which one was refused for memory.
-fn sent_until_refused<R: Waits>(tx: &Sender<Parcel, R, &LocalHeap>) -> Option<u64> {
-    for number in 0..HEAP as u64 {
-        match tx.try_send(Parcel(number)) {
-            Ok(()) => {}
-            Err(TrySendError::NoMemory(Parcel(back))) => return Some(back),
-            Err(_) => return None,
+// Sends 1, 2 and so on, and says which one was refused for memory.
+fn sent_until_refused<R: Waits>(tx: &Sender<u64, R, Heap<'_>>) -> Option<u64> {
+    for message in 1..MOST {
+        match tried_send(tx.try_send(message)) {
+            Sent::Done => {}
+            Sent::NoMemory(back) => return Some(back),
+            _ => return None,
         }
     }
     None
 }
 
+// The messages below this one are received in order.
+fn receives_below<R: Waits + Abort>(rt: &R, rx: &Receiver<u64, R, Heap<'_>>, end: u64) {
+    for message in 0..end {
+        is(rt, tried_receive(rx.try_recv()), Received::Message(message));
+    }
+}
+
 #[test]
 fn a_refused_growth_leaves_what_is_queued(rt: HostRuntime) -> Result<(), Fail> {
-    let heap = LocalHeap::new(rt.alloc(), HEAP)?;
-    let (tx, rx) = unbounded::<Parcel, _, _>(rt, &heap, 1)?;
-    let refused = sent_until_refused(&tx).expect(&rt, "memory runs out");
+    let heap = Counting::new(rt.alloc());
+    let (tx, rx) = unbounded::<u64, _, _>(rt, &heap, 1)?;
+    sends(&rt, &tx, &[(How::Tries, 0, Sent::Done)])?;
+    heap.refuse(true);
+    let refused = sent_until_refused(&tx).expect(&rt, "the queue's room is used up");
     is(&rt, rx.len() as u64, refused);
-    for number in 0..refused {
-        is(&rt, rx.try_recv(), Ok(Parcel(number)));
-    }
+    receives_below(&rt, &rx, refused);
     holds(&rt, &tx, &rx, 0);
     Ok(())
 }
 
 #[test]
 fn a_drain_that_finds_no_memory_takes_nothing(rt: HostRuntime) -> Result<(), Fail> {
-    let heap = LocalHeap::new(rt.alloc(), HEAP)?;
-    let (tx, rx) = unbounded::<Parcel, _, _>(rt, &heap, 1)?;
-    is(&rt, tx.send(Parcel(1)), Ok(()));
-    is(&rt, tx.send(Parcel(2)), Ok(()));
-    let filling = filled(rt.alloc(), &heap)?;
-    is(&rt, heap.free(), 0);
-    is(&rt, rx.drain().err(), Some(NoMemory));
+    let heap = Counting::new(rt.alloc());
+    let (tx, rx) = unbounded::<u64, _, _>(rt, &heap, 1)?;
+    let queued = &[(How::Tries, 1, Sent::Done), (How::Waits, 2, Sent::Done)];
+    sends(&rt, &tx, queued)?;
+    let live = heap.live();
+    heap.refuse(true);
+    is(&rt, rx.drain().is_err(), true);
     holds(&rt, &tx, &rx, 2);
-    is(&rt, rx.recv(), Ok(Parcel(1)));
-    drop(filling);
+    receives(&rt, &rx, &[(How::Waits, Received::Message(1))])?;
+    is(&rt, heap.live(), live);
+    heap.refuse(false);
     let mut drain = rx.drain()?;
-    is(&rt, drain.next(), Some(Parcel(2)));
-    is(&rt, drain.next(), None);
+    is(&rt, (drain.next(), drain.next()), (Some(2), None));
     Ok(())
 }
 
 #[test]
 fn no_channel_is_opened_where_there_is_no_memory(rt: HostRuntime) -> Result<(), Fail> {
-    let heap = LocalHeap::new(rt.alloc(), HEAP)?;
-    let filling = filled(rt.alloc(), &heap)?;
-    is(&rt, heap.free(), 0);
-    is(
-        &rt,
-        unbounded::<Parcel, _, _>(rt, &heap, 1).err(),
-        Some(NoMemory),
-    );
-    is(
-        &rt,
-        bounded::<Parcel, _, _>(rt, &heap, 1, 1).err(),
-        Some(NoMemory),
-    );
-    drop(filling);
-    is(&rt, heap.used(), 0);
+    let heap = Counting::new(rt.alloc());
+    heap.refuse(true);
+    let refused = unbounded::<u64, _, _>(rt, &heap, 1).err();
+    is(&rt, refused, Some(NoMemory));
+    let refused = bounded::<u64, _, _>(rt, &heap, 1, 1).err();
+    is(&rt, refused, Some(NoMemory));
+    is(&rt, heap.live(), 0);
     Ok(())
+}
+
+// What the two lent iterators give while memory is refused, of a channel of capacity 1 that holds
+// 1. It holds nothing then.
+fn lent_iterators_go_on<R: Waits + Abort>(
+    rt: &R,
+    tx: &Sender<u64, R, Heap<'_>>,
+    rx: &Receiver<u64, R, Heap<'_>>,
+) {
+    let mut messages = rx.iter();
+    is(rt, (messages.next(), messages.fault()), (Some(1), false));
+    is(rt, (messages.next(), messages.fault()), (None, true));
+    is(rt, tried_send(tx.try_send(2)), Sent::Done);
+    is(rt, (messages.next(), messages.fault()), (Some(2), false));
+    let mut tried = rx.try_iter();
+    is(rt, (tried.next(), tried.fault()), (None, false));
 }
 
 #[test]
 fn an_iterator_tells_want_of_memory_from_the_end(rt: HostRuntime) -> Result<(), Fail> {
-    let heap = LocalHeap::new(rt.alloc(), HEAP)?;
-    let (tx, rx) = bounded::<Parcel, _, _>(rt, &heap, 1, 1)?;
-    is(&rt, tx.send(Parcel(1)), Ok(()));
-    let filling = filled(rt.alloc(), &heap)?;
-    is(&rt, heap.free(), 0);
-    let mut messages = rx.iter();
-    is(
-        &rt,
-        (messages.next(), messages.fault()),
-        (Some(Parcel(1)), false),
-    );
-    is(&rt, (messages.next(), messages.fault()), (None, true));
-    is(&rt, tx.send(Parcel(2)), Ok(()));
-    is(
-        &rt,
-        (messages.next(), messages.fault()),
-        (Some(Parcel(2)), false),
-    );
-    let mut tried = rx.try_iter();
-    is(&rt, (tried.next(), tried.fault()), (None, false));
+    let heap = Counting::new(rt.alloc());
+    let (tx, rx) = bounded::<u64, _, _>(rt, &heap, 1, 1)?;
+    sends(&rt, &tx, &[(How::Tries, 1, Sent::Done)])?;
+    heap.refuse(true);
+    lent_iterators_go_on(&rt, &tx, &rx);
     let mut messages = rx.into_iter();
     is(&rt, (messages.next(), messages.fault()), (None, true));
-    is(&rt, tx.send(Parcel(3)), Ok(()));
+    sends(&rt, &tx, &[(How::Tries, 3, Sent::Done)])?;
     drop(tx);
-    is(
-        &rt,
-        (messages.next(), messages.fault()),
-        (Some(Parcel(3)), false),
-    );
+    is(&rt, (messages.next(), messages.fault()), (Some(3), false));
     is(&rt, (messages.next(), messages.fault()), (None, false));
-    drop(filling);
     Ok(())
 }
 
-// What a channel of capacity 2 that holds nothing answers without memory, and what it holds then.
+// What an empty channel of capacity 2 answers while memory is refused. It holds nothing then.
 fn messages_pass<R: Waits + Abort>(
-    rt: R,
-    tx: &Sender<Parcel, R, &LocalHeap>,
-    rx: &Receiver<Parcel, R, &LocalHeap>,
+    rt: &R,
+    tx: &Sender<u64, R, Heap<'_>>,
+    rx: &Receiver<u64, R, Heap<'_>>,
 ) -> Result<(), Fail> {
-    let now = Instant::now(&rt)?;
-    is(&rt, rx.try_recv(), Err(TryRecvError::Empty));
-    is(&rt, rx.drain()?.len(), 0);
-    is(&rt, tx.try_send(Parcel(1)), Ok(()));
-    is(&rt, tx.send(Parcel(2)), Ok(()));
-    is(
-        &rt,
-        tx.try_send(Parcel(3)),
-        Err(TrySendError::Full(Parcel(3))),
-    );
-    is(&rt, rx.try_recv(), Ok(Parcel(1)));
-    is(&rt, rx.recv(), Ok(Parcel(2)));
-    is(&rt, tx.send_timeout(Parcel(4), long()), Ok(()));
-    is(&rt, tx.send_deadline(Parcel(5), now), Ok(()));
-    is(&rt, rx.recv_timeout(long()), Ok(Parcel(4)));
-    is(&rt, rx.recv_deadline(now), Ok(Parcel(5)));
-    Ok(())
-}
-
-// What is answered without memory once the receivers are gone.
-fn closed_sends_are_told<R: Waits + Abort>(rt: R, tx: &Sender<Parcel, R, &LocalHeap>) {
-    is(
-        &rt,
-        tx.try_send(Parcel(1)),
-        Err(TrySendError::Disconnected(Parcel(1))),
-    );
-    is(
-        &rt,
-        tx.send(Parcel(2)),
-        Err(SendError::Disconnected(Parcel(2))),
-    );
-    let timed = tx.send_timeout(Parcel(3), long());
-    is(&rt, timed, Err(SendTimeoutError::Disconnected(Parcel(3))));
-}
-
-// What is answered without memory once the senders are gone.
-fn closed_receives_are_told<R: Waits + Abort>(rt: R, rx: &Receiver<Parcel, R, &LocalHeap>) {
-    is(&rt, rx.try_recv(), Err(TryRecvError::Disconnected));
-    is(&rt, rx.recv(), Err(RecvError::Disconnected));
-    is(
-        &rt,
-        rx.recv_timeout(long()),
-        Err(RecvTimeoutError::Disconnected),
-    );
+    is(rt, rx.drain()?.len(), 0);
+    sends(rt, tx, FILLING_SENDS)?;
+    receives(rt, rx, EMPTYING_RECEIVES)?;
+    sends(rt, tx, TIMED_SENDS)?;
+    receives(rt, rx, TIMED_RECEIVES)
 }
 
 #[test]
 fn a_call_that_need_not_wait_or_grow_needs_no_memory(rt: HostRuntime) -> Result<(), Fail> {
-    let heap = LocalHeap::new(rt.alloc(), HEAP)?;
-    let (tx, rx) = bounded::<Parcel, _, _>(rt, &heap, 1, 2)?;
-    is(&rt, tx.send(Parcel(1)), Ok(()));
-    is(&rt, tx.send(Parcel(2)), Ok(()));
-    is(&rt, rx.recv(), Ok(Parcel(1)));
-    is(&rt, rx.recv(), Ok(Parcel(2)));
-    let filling = filled(rt.alloc(), &heap)?;
-    is(&rt, heap.free(), 0);
-    messages_pass(rt, &tx, &rx)?;
+    let heap = Counting::new(rt.alloc());
+    let (tx, rx) = bounded::<u64, _, _>(rt, &heap, 1, 2)?;
+    messages_pass(&rt, &tx, &rx)?;
+    let live = heap.live();
+    heap.refuse(true);
+    messages_pass(&rt, &tx, &rx)?;
     holds(&rt, &tx, &rx, 0);
     let weak = tx.downgrade()?.clone()?;
     let upgraded = weak.upgrade()?;
-    is(&rt, (upgraded.is_some(), tx.sender_count()), (true, 2));
+    is(&rt, upgraded.is_some(), true);
     let (other, another) = (tx.clone()?, rx.clone()?);
     is(&rt, (tx.sender_count(), rx.receiver_count()), (3, 2));
-    drop(rx);
-    drop(another);
-    closed_sends_are_told(rt, &tx);
+    drop((rx, another));
+    sends(&rt, &tx, CLOSED_SENDS)?;
     drop((tx, other, upgraded));
     is(&rt, weak.upgrade()?.is_none(), true);
-    is(&rt, heap.free(), 0);
-    drop(filling);
+    is(&rt, heap.live(), live);
     Ok(())
 }
 
 #[test]
 fn a_receive_of_a_closed_channel_needs_no_memory(rt: HostRuntime) -> Result<(), Fail> {
-    let heap = LocalHeap::new(rt.alloc(), HEAP)?;
-    let (tx, rx) = unbounded::<Parcel, _, _>(rt, &heap, 1)?;
-    let filling = filled(rt.alloc(), &heap)?;
-    is(&rt, heap.free(), 0);
+    let heap = Counting::new(rt.alloc());
+    let (tx, rx) = unbounded::<u64, _, _>(rt, &heap, 1)?;
+    let live = heap.live();
+    heap.refuse(true);
     drop(tx);
-    closed_receives_are_told(rt, &rx);
+    receives(&rt, &rx, CLOSED_RECEIVES)?;
     is(&rt, rx.drain()?.len(), 0);
-    drop(filling);
+    is(&rt, heap.live(), live);
     Ok(())
 }

@@ -1,13 +1,13 @@
-//! Sends that block and receivers that park where there is room, and no memory is left.
+//! Sends that block and receivers that park where there is room, while memory is refused.
+use crate::calls::Heap;
+use crate::counting::Counting;
 use crate::fixtures::{Parcel, is};
-use crate::memory::{HEAP, filled};
 use flume_core::chan::Chan;
 use flume_core::step::{Kind, Reply};
-use linked_list_allocator::LocalHeap;
 use std::test::Fail;
 
 // The ticket that the step was given.
-fn ticket_of(reply: Reply<Parcel, &LocalHeap>) -> Option<u64> {
+fn ticket_of(reply: Reply<Parcel, Heap<'_>>) -> Option<u64> {
     match reply {
         Reply::Pending(ticket) | Reply::Parked(ticket) => Some(ticket),
         _ => None,
@@ -15,7 +15,7 @@ fn ticket_of(reply: Reply<Parcel, &LocalHeap>) -> Option<u64> {
 }
 
 // The message that comes back.
-fn message_of(reply: Reply<Parcel, &LocalHeap>) -> Option<Parcel> {
+fn message_of(reply: Reply<Parcel, Heap<'_>>) -> Option<Parcel> {
     match reply {
         Reply::NoMemory(back) => back,
         Reply::Returned { message, .. } => Some(message),
@@ -25,40 +25,34 @@ fn message_of(reply: Reply<Parcel, &LocalHeap>) -> Option<Parcel> {
 
 #[test]
 fn a_send_that_blocks_where_there_is_room_needs_no_memory(rt: HostRuntime) -> Result<(), Fail> {
-    let heap = LocalHeap::new(rt.alloc(), HEAP)?;
-    let mut chan: Chan<Parcel, u32, &LocalHeap> = Chan::new(&heap, Some(0));
+    let heap = Counting::new(rt.alloc());
+    let mut chan: Chan<Parcel, u32, Heap<'_>> = Chan::new(&heap, Some(0));
     is(&rt, ticket_of(chan.send(Parcel(1), 10)), Some(1));
     is(&rt, ticket_of(chan.send(Parcel(2), 20)), Some(2));
     is(&rt, message_of(chan.withdraw_send(2)), Some(Parcel(2)));
-    let filling = filled(rt.alloc(), &heap)?;
-    is(&rt, heap.free(), 0);
+    heap.refuse(true);
     is(&rt, ticket_of(chan.send(Parcel(3), 30)), Some(3));
     is(&rt, message_of(chan.withdraw_send(3)), Some(Parcel(3)));
-    drop(filling);
     Ok(())
 }
 
 #[test]
 fn a_receiver_that_parks_where_there_is_room_needs_no_memory(rt: HostRuntime) -> Result<(), Fail> {
-    let heap = LocalHeap::new(rt.alloc(), HEAP)?;
-    let mut chan: Chan<Parcel, u32, &LocalHeap> = Chan::new(&heap, Some(0));
+    let heap = Counting::new(rt.alloc());
+    let mut chan: Chan<Parcel, u32, Heap<'_>> = Chan::new(&heap, Some(0));
     is(&rt, ticket_of(chan.recv(Kind::Block, 10)), Some(1));
     assert!(rt; matches!(chan.withdraw(1), Reply::Gone { .. }));
-    let filling = filled(rt.alloc(), &heap)?;
-    is(&rt, heap.free(), 0);
+    heap.refuse(true);
     is(&rt, ticket_of(chan.recv(Kind::Block, 20)), Some(2));
-    drop(filling);
     Ok(())
 }
 
 #[test]
 fn a_step_that_has_no_room_and_no_memory_gives_back(rt: HostRuntime) -> Result<(), Fail> {
-    let heap = LocalHeap::new(rt.alloc(), HEAP)?;
-    let mut chan: Chan<Parcel, u32, &LocalHeap> = Chan::new(&heap, Some(0));
-    let filling = filled(rt.alloc(), &heap)?;
-    is(&rt, heap.free(), 0);
+    let heap = Counting::new(rt.alloc());
+    let mut chan: Chan<Parcel, u32, Heap<'_>> = Chan::new(&heap, Some(0));
+    heap.refuse(true);
     is(&rt, message_of(chan.send(Parcel(1), 10)), Some(Parcel(1)));
     assert!(rt; matches!(chan.recv(Kind::Block, 20), Reply::NoMemory(None)));
-    drop(filling);
     Ok(())
 }
