@@ -86,13 +86,13 @@ impl<T: Drop, R: Waits, A: Allocator + Copy> SendGate<T> for Gate<'_, T, R, A> {
 
     #[inline(always)]
     fn park(&mut self, message: T, signal: Signal<A>) -> SendNext<T> {
-        self.shared.make(ParkSend { message, signal })
+        self.shared.make_seldom(ParkSend { message, signal })
     }
 
     #[inline(always)]
     fn again(&mut self, call: SendCall, late: bool) -> SendNext<T> {
         let signal = None;
-        self.shared.make(AgainSend { call, late, signal })
+        self.shared.make_seldom(AgainSend { call, late, signal })
     }
 
     #[inline(always)]
@@ -130,13 +130,13 @@ impl<T: Drop, R: Waits, A: Allocator + Copy> RecvGate<T> for Gate<'_, T, R, A> {
     #[inline(always)]
     fn park(&mut self, signal: Signal<A>) -> RecvNext<T> {
         let kind = Kind::Block;
-        self.shared.make(ParkReceive { kind, signal })
+        self.shared.make_seldom(ParkReceive { kind, signal })
     }
 
     #[inline(always)]
     fn again(&mut self, call: RecvCall, late: bool) -> RecvNext<T> {
         let signal = None;
-        self.shared.make(AgainReceive { call, late, signal })
+        self.shared.make_seldom(AgainReceive { call, late, signal })
     }
 
     #[inline(always)]

@@ -153,4 +153,13 @@ impl<T: Drop, R: Waits, A: Allocator + Copy> Shared<T, R, A> {
     {
         self.lock().make(turn, &mut Firing { rt: self.rt })
     }
+
+    /// Makes the turn under the lock, in code of its own: so a turn that is seldom made costs the
+    /// other turns of its caller nothing.
+    #[inline(never)]
+    pub(crate) fn make_seldom<C: Turn<T, Signal<A>, A>>(&self, turn: C) -> C::Answer
+        ensures answers { C.answers turn result }
+    {
+        self.make(turn)
+    }
 }

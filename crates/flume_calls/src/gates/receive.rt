@@ -88,9 +88,8 @@ pub fn recv_over<T: Drop, G: RecvGate<T>, R: Wait>(
     }
 }
 
-// A receive whose first turn didn't end it. It stands in code of its own, so that a call
-// that ends at its first turn pays nothing for it.
-#[inline(never)]
+// A receive whose first turn didn't end it.
+#[inline(always)]
 fn waiting_receive<T: Drop, G: RecvGate<T>, R: Wait>(
     rt: &R,
     gate: &mut G,

@@ -87,9 +87,8 @@ pub fn send_over<T, G: SendGate<T>, R: Wait>(
     }
 }
 
-// A send whose first turn didn't end it. It stands in code of its own, so that a call
-// that ends at its first turn pays nothing for it.
-#[inline(never)]
+// A send whose first turn didn't end it.
+#[inline(always)]
 fn waiting_send<T, G: SendGate<T>, R: Wait>(
     rt: &R,
     gate: &mut G,
