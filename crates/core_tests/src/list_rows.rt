@@ -5,8 +5,8 @@ use flume_core::step::Step::{
 };
 use flume_core::step::{Kind, Step};
 
-/// A sentence on what a channel of this capacity shows, whose first ticket is this one, and lists of
-/// steps, each with the text of its replies.
+/// A sentence on what a channel of this capacity shows, whose first ticket is this one, and lists
+/// of steps, each with the text of its replies.
 pub(crate) struct Row {
     pub(crate) title: &'static str,
     pub(crate) capacity: Option<usize>,

@@ -38,8 +38,8 @@ pub trait SendGate<T> {
         ensures does { firsts self.old message self.new result }
         ensures answers { IsFirst message result };
 
-    /// Makes what the call waits on, and the signal that it leaves as it parks. `None`: there was no
-    /// memory for them.
+    /// Makes what the call waits on, and the signal that it leaves as it parks. `None`: there was
+    /// no memory for them.
     fn arm(&mut self) -> Option<(Self::Waiter, Self::Signal)>
         ensures does { arms self.old self.new (is_some result) };
 
