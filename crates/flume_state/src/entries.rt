@@ -3,7 +3,7 @@ ghost use Rattle.std.specs.Prelude.{◌≡◌, length, ◌∷◌, [], ◌++◌, 
 ghost use Rattle.std.specs.Prelude.{Some, None, OnOk, OnErr, slice_get, slice_set};
 ghost use Rattle.std.specs.Option.{option_map, option_copied, ForSome};
 ghost use Rattle.std.specs.List.{position, remove};
-ghost use Rattle.flume_model.specs.Entries.{is_woken, some_wait, waiting_count, entry_of, held_by};
+ghost use Rattle.flume_model.specs.Entries.{is_woken, some_wait, waiting_count, entry_of, held_by, held_in};
 ghost use Rattle.flume_model.specs.Entries.{without, again};
 ghost use Rattle.flume_model.specs.declared.entry.Mark.TheVariants.{Waiting, Woken, Filled};
 ghost use Rattle.flume_state.specs.Receivers.{begins, waits_on, noticed_receiver};
@@ -60,6 +60,16 @@ impl Standing {
                 _ => Standing::Woken,
             },
         }
+    }
+}
+
+// The message that a receiver with this mark holds.
+fn message_in<T: Drop>(mark: Mark<T>) -> Option<T>
+    ensures held { result ≡ held_in mark }
+{
+    match mark {
+        Mark::Filled(message) => Some(message),
+        Mark::Waiting | Mark::Woken => None,
     }
 }
 
@@ -170,14 +180,10 @@ impl<T: Drop, S: Drop, A: Allocator + Copy> Entries<T, S, A> {
     {
         let place = self.place_of(ticket)?;
         let Entry { mark, .. } = self.entries.remove(place)?;
-        match mark {
-            Mark::Filled(message) => Some(message),
-            Mark::Woken => None,
-            Mark::Waiting => {
-                self.waiting -= 1;
-                None
-            }
+        if let Mark::Waiting = mark {
+            self.waiting -= 1;
         }
+        message_in(mark)
     }
 
     /// The receiver with this ticket waits on, or again behind all others where it was woken, and
