@@ -1,8 +1,9 @@
 //! Times flume 0.12.0 in one shape, and prints nanoseconds a message. It is called as
 //! `crates/channel_bench` is, so that `bench/compare` can let the two take turns.
 
-use flume::{Receiver, Sender};
+use flume::{Receiver, RecvError, SendError, Sender};
 use std::env;
+use std::fmt;
 use std::process::ExitCode;
 use std::thread;
 use std::time::{Duration, Instant};
@@ -22,7 +23,9 @@ oneshot    a channel made, one message sent and received, both ends dropped; not
 inout      one message sent and received, again and again, by one thread; not at 0
 try_pair   the same by try_send and try_recv; not at 0
 try_empty  try_recv of an empty channel
-try_full   try_send into a full channel; only at a number";
+try_full   try_send into a full channel; only at a number
+plain      a user's loop: one half sent and received in turn, the other sent and taken by an
+           iterator, with `?` and an error of its own; not at a number";
 
 /// How many threads send, and how many receive, where several do.
 const SEVERAL: usize = 4;
@@ -66,7 +69,7 @@ impl Asked {
     /// Whether the shape can be had at this capacity; `None` where there is no such shape.
     fn can_be_timed(&self) -> Option<bool> {
         match self.shape.as_str() {
-            "seq" => Some(!matches!(self.capacity, Capacity::Of(_))),
+            "seq" | "plain" => Some(!matches!(self.capacity, Capacity::Of(_))),
             "try_full" => Some(matches!(self.capacity, Capacity::Of(_))),
             "oneshot" | "inout" | "try_pair" => Some(self.capacity != Capacity::Of(0)),
             "spsc" | "mpsc" | "mpmc" | "try_empty" => Some(true),
@@ -93,6 +96,7 @@ impl Asked {
             "inout" => self.inout(),
             "try_pair" => self.try_pair(),
             "try_empty" => self.try_empty(),
+            "plain" => self.plain(),
             _ => self.try_full(),
         };
         let each = (0..self.messages / senders).fold(0, usize::wrapping_add);
@@ -111,6 +115,16 @@ impl Asked {
         send_each(&sender, self.messages);
         let sum = receive_each(&receiver, self.messages);
         (start.elapsed(), sum, 1)
+    }
+
+    /// Half of them sent and received in turn, and then the others sent, and taken by an iterator.
+    fn plain(&self) -> (Duration, usize, usize) {
+        let start = Instant::now();
+        let (sender, receiver) = self.open();
+        let sum = in_turn(&sender, &receiver, self.messages / 2)
+            .and_then(|one| Ok(one.wrapping_add(at_once(&sender, &receiver, self.messages / 2)?)))
+            .expect("a channel of which both ends are there");
+        (start.elapsed(), sum, 2)
     }
 
     /// One thread sends, and this one receives. Making the channel and the thread is in the time,
@@ -274,4 +288,58 @@ fn main() -> ExitCode {
     let hundredths = least.as_nanos() * 100 / asked.messages.max(1) as u128;
     println!("{}.{:02}", hundredths / 100, hundredths % 100);
     ExitCode::SUCCESS
+}
+
+/// What may go wrong in a user's loop.
+#[derive(Debug)]
+enum Problem {
+    NotSent,
+    NotReceived,
+}
+
+impl fmt::Display for Problem {
+    fn fmt(&self, f: &mut fmt::Formatter<'_>) -> fmt::Result {
+        f.write_str(match self {
+            Problem::NotSent => "a message wasn't sent",
+            Problem::NotReceived => "no message came",
+        })
+    }
+}
+
+impl From<SendError<usize>> for Problem {
+    fn from(_: SendError<usize>) -> Problem {
+        Problem::NotSent
+    }
+}
+
+impl From<RecvError> for Problem {
+    fn from(_: RecvError) -> Problem {
+        Problem::NotReceived
+    }
+}
+
+/// Each message sent, and received before the next.
+fn in_turn(
+    sender: &Sender<usize>,
+    receiver: &Receiver<usize>,
+    messages: usize,
+) -> Result<usize, Problem> {
+    let mut sum = 0usize;
+    for message in 0..messages {
+        sender.send(message)?;
+        sum = sum.wrapping_add(receiver.recv()?);
+    }
+    Ok(sum)
+}
+
+/// All sent, and then all taken that are there.
+fn at_once(
+    sender: &Sender<usize>,
+    receiver: &Receiver<usize>,
+    messages: usize,
+) -> Result<usize, Problem> {
+    for message in 0..messages {
+        sender.send(message)?;
+    }
+    Ok(receiver.try_iter().fold(0, usize::wrapping_add))
 }
