@@ -13,6 +13,7 @@
 #![tactic(auto)]
 
 mod answers;
+mod builder;
 mod deadline;
 mod drain;
 mod gate;
@@ -21,11 +22,13 @@ mod iterators;
 mod opening;
 mod progress;
 mod receiver;
+mod runtime;
 mod sender;
 mod shared;
 pub mod signal;
 mod weak;
 
+pub use builder::{Builder, on};
 pub use drain::Drain;
 pub use flume_calls::{calls, due, gates};
 pub use flume_core::error::{
@@ -37,6 +40,7 @@ pub use into_iter::IntoIter;
 pub use iterators::{Iter, TryIter};
 pub use opening::{bounded, unbounded};
 pub use receiver::Receiver;
+pub use runtime::Runtime;
 pub use sender::Sender;
 pub use shared::Waits;
 pub use weak::WeakSender;

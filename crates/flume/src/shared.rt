@@ -11,6 +11,7 @@ use std::sync::{Arc, Mutex, MutexGuard, Wait};
 use std::time::Clock;
 
 /// What an end's runtime value gives: it waits, and reads a clock. The host's runtime is one.
+/// `Runtime` asks for more, and has the signatures that users write.
 pub trait Waits: Wait + Clock + Copy {}
 
 impl<R: Wait + Clock + Copy> Waits for R {}

@@ -1,3 +1,4 @@
 pub mod Messages
 pub mod Texts
 pub mod Equality
+pub mod Kinds

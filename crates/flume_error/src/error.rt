@@ -2,10 +2,11 @@
 //!
 //! A send that fails gives its message back, in the error. `NoMemory`, a type and a case of each
 //! error, says that memory was wanted and there was none.
-ghost use Rattle.std.specs.Prelude.{Some};
+ghost use Rattle.std.specs.Prelude.{◌≡◌, Some};
 ghost use Rattle.std.specs.Fmt.{styled_text};
 ghost use Rattle.flume_error.specs.Texts.{no_memory_text, select_text};
 
+mod conversions;
 pub mod receive;
 pub mod send;
 
@@ -21,6 +22,15 @@ use std::fmt;
 #[derive(Clone, Copy, Debug, PartialEq, Eq)]
 pub struct NoMemory;
 
+impl NoMemory {
+    // What `{}` writes of it.
+    pub(crate) fn text() -> &'static str
+        ensures text { result.now ≡ no_memory_text }
+    {
+        "out of memory"
+    }
+}
+
 /// `out of memory`, padded and cut as text is.
 impl fmt::Display for NoMemory {
     ghost output = { λ _. Some no_memory_text };
@@ -28,7 +38,7 @@ impl fmt::Display for NoMemory {
     ghost styled_output = { λ _ spec. Some (styled_text spec no_memory_text) };
 
     fn fmt<W: fmt::Write>(&self, f: &mut fmt::Formatter<W>) -> fmt::Result {
-        f.pad("out of memory")
+        f.pad(NoMemory::text())
     }
 }
 
@@ -49,6 +59,18 @@ pub enum SelectError {
     NoMemory,
 }
 
+impl SelectError {
+    // What `{}` writes of it.
+    pub(crate) fn text(&self) -> &'static str
+        ensures text { result.now ≡ select_text self.now }
+    {
+        match self {
+            SelectError::Timeout => "timeout occurred",
+            SelectError::NoMemory => "out of memory",
+        }
+    }
+}
+
 /// One text for each case, padded and cut as text is.
 impl fmt::Display for SelectError {
     ghost output = { λ e. Some (select_text e) };
@@ -56,10 +78,7 @@ impl fmt::Display for SelectError {
     ghost styled_output = { λ e spec. Some (styled_text spec (select_text e)) };
 
     fn fmt<W: fmt::Write>(&self, f: &mut fmt::Formatter<W>) -> fmt::Result {
-        f.pad(match self {
-            SelectError::Timeout => "timeout occurred",
-            SelectError::NoMemory => "out of memory",
-        })
+        f.pad(self.text())
     }
 }
 

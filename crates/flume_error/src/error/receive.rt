@@ -62,6 +62,18 @@ impl From<RecvError> for RecvTimeoutError {
     }
 }
 
+impl RecvError {
+    // What `{}` writes of it.
+    pub(crate) fn text(&self) -> &'static str
+        ensures text { result.now ≡ receive_text self.now }
+    {
+        match self {
+            RecvError::Disconnected => "receiving on a closed channel",
+            RecvError::NoMemory => "out of memory",
+        }
+    }
+}
+
 /// One text for each case, padded and cut as text is.
 impl fmt::Display for RecvError {
     ghost output = { λ e. Some (receive_text e) };
@@ -69,10 +81,20 @@ impl fmt::Display for RecvError {
     ghost styled_output = { λ e spec. Some (styled_text spec (receive_text e)) };
 
     fn fmt<W: fmt::Write>(&self, f: &mut fmt::Formatter<W>) -> fmt::Result {
-        f.pad(match self {
-            RecvError::Disconnected => "receiving on a closed channel",
-            RecvError::NoMemory => "out of memory",
-        })
+        f.pad(self.text())
+    }
+}
+
+impl TryRecvError {
+    // What `{}` writes of it.
+    pub(crate) fn text(&self) -> &'static str
+        ensures text { result.now ≡ try_receive_text self.now }
+    {
+        match self {
+            TryRecvError::Empty => "receiving on an empty channel",
+            TryRecvError::Disconnected => "channel is empty and closed",
+            TryRecvError::NoMemory => "out of memory",
+        }
     }
 }
 
@@ -83,11 +105,20 @@ impl fmt::Display for TryRecvError {
     ghost styled_output = { λ e spec. Some (styled_text spec (try_receive_text e)) };
 
     fn fmt<W: fmt::Write>(&self, f: &mut fmt::Formatter<W>) -> fmt::Result {
-        f.pad(match self {
-            TryRecvError::Empty => "receiving on an empty channel",
-            TryRecvError::Disconnected => "channel is empty and closed",
-            TryRecvError::NoMemory => "out of memory",
-        })
+        f.pad(self.text())
+    }
+}
+
+impl RecvTimeoutError {
+    // What `{}` writes of it.
+    pub(crate) fn text(&self) -> &'static str
+        ensures text { result.now ≡ receive_timeout_text self.now }
+    {
+        match self {
+            RecvTimeoutError::Timeout => "timed out waiting on a channel",
+            RecvTimeoutError::Disconnected => "channel is empty and closed",
+            RecvTimeoutError::NoMemory => "out of memory",
+        }
     }
 }
 
@@ -98,11 +129,7 @@ impl fmt::Display for RecvTimeoutError {
     ghost styled_output = { λ e spec. Some (styled_text spec (receive_timeout_text e)) };
 
     fn fmt<W: fmt::Write>(&self, f: &mut fmt::Formatter<W>) -> fmt::Result {
-        f.pad(match self {
-            RecvTimeoutError::Timeout => "timed out waiting on a channel",
-            RecvTimeoutError::Disconnected => "channel is empty and closed",
-            RecvTimeoutError::NoMemory => "out of memory",
-        })
+        f.pad(self.text())
     }
 }
 

@@ -55,6 +55,16 @@ impl<T> SendError<T> {
             SendError::NoMemory(message) => message,
         }
     }
+
+    // What `{}` writes of it.
+    pub(crate) fn text(&self) -> &'static str
+        ensures text { result.now ≡ send_text self.now }
+    {
+        match self {
+            SendError::Disconnected(_) => "sending on a closed channel",
+            SendError::NoMemory(_) => "out of memory",
+        }
+    }
 }
 
 impl<T> TrySendError<T> {
@@ -72,6 +82,17 @@ impl<T> TrySendError<T> {
             TrySendError::NoMemory(message) => message,
         }
     }
+
+    // What `{}` writes of it.
+    pub(crate) fn text(&self) -> &'static str
+        ensures text { result.now ≡ try_send_text self.now }
+    {
+        match self {
+            TrySendError::Full(_) => "sending on a full channel",
+            TrySendError::Disconnected(_) => "sending on a closed channel",
+            TrySendError::NoMemory(_) => "out of memory",
+        }
+    }
 }
 
 impl<T> SendTimeoutError<T> {
@@ -87,6 +108,17 @@ impl<T> SendTimeoutError<T> {
             SendTimeoutError::Timeout(message) => message,
             SendTimeoutError::Disconnected(message) => message,
             SendTimeoutError::NoMemory(message) => message,
+        }
+    }
+
+    // What `{}` writes of it.
+    pub(crate) fn text(&self) -> &'static str
+        ensures text { result.now ≡ send_timeout_text self.now }
+    {
+        match self {
+            SendTimeoutError::Timeout(_) => "timed out sending on a full channel",
+            SendTimeoutError::Disconnected(_) => "sending on a closed channel",
+            SendTimeoutError::NoMemory(_) => "out of memory",
         }
     }
 }
@@ -122,10 +154,7 @@ impl<T> fmt::Display for SendError<T> {
     ghost styled_output = { λ e spec. Some (styled_text spec (send_text e)) };
 
     fn fmt<W: fmt::Write>(&self, f: &mut fmt::Formatter<W>) -> fmt::Result {
-        f.pad(match self {
-            SendError::Disconnected(_) => "sending on a closed channel",
-            SendError::NoMemory(_) => "out of memory",
-        })
+        f.pad(self.text())
     }
 }
 
@@ -136,11 +165,7 @@ impl<T> fmt::Display for TrySendError<T> {
     ghost styled_output = { λ e spec. Some (styled_text spec (try_send_text e)) };
 
     fn fmt<W: fmt::Write>(&self, f: &mut fmt::Formatter<W>) -> fmt::Result {
-        f.pad(match self {
-            TrySendError::Full(_) => "sending on a full channel",
-            TrySendError::Disconnected(_) => "sending on a closed channel",
-            TrySendError::NoMemory(_) => "out of memory",
-        })
+        f.pad(self.text())
     }
 }
 
@@ -151,11 +176,7 @@ impl<T> fmt::Display for SendTimeoutError<T> {
     ghost styled_output = { λ e spec. Some (styled_text spec (send_timeout_text e)) };
 
     fn fmt<W: fmt::Write>(&self, f: &mut fmt::Formatter<W>) -> fmt::Result {
-        f.pad(match self {
-            SendTimeoutError::Timeout(_) => "timed out sending on a full channel",
-            SendTimeoutError::Disconnected(_) => "sending on a closed channel",
-            SendTimeoutError::NoMemory(_) => "out of memory",
-        })
+        f.pad(self.text())
     }
 }
 

@@ -1,0 +1,154 @@
+//! Opening a channel by saying only what isn't usual.
+ghost use Rattle.std.specs.Prelude.{◌≡◌, IfOk, ⊤};
+ghost use Rattle.flume.specs.Openings.{Plan};
+
+use crate::opening;
+use crate::receiver::Receiver;
+use crate::sender::Sender;
+use crate::shared::Waits;
+use flume_core::error::NoMemory;
+use std::alloc::{Alloc, AllocError, Allocator};
+use std::fmt;
+use std::marker::Model;
+
+/// How a channel is to be opened: the runtime value, the allocator and the number. `on` makes one,
+/// `number` and `allocator` change one thing each, and `unbounded` and `bounded` open the channel.
+///
+/// It can be copied, and opens any number of channels. They all have its number.
+#[derive(Copy)]
+pub struct Builder<R: Waits, A: Allocator + Copy> {
+    rt: R,
+    alloc: A,
+    id: u64,
+}
+
+impl<R: Waits, A: Allocator + Copy> Model for Builder<R, A> {
+    ghost use Rattle.flume.specs.Openings.{Plan};
+
+    ghost Value = { Plan R A };
+
+    ghost view = { λ builder. record {
+      runtime = builder.rt;
+      allocator = builder.alloc;
+      number = builder.id;
+    } };
+
+    ghost inverse = { λ plan. record {
+      rt = plan.runtime;
+      alloc = plan.allocator;
+      id = plan.number;
+    } };
+}
+
+/// A channel on this runtime, with the allocator that the runtime gives, which is the global one of
+/// the host's runtime, and with the number 0. Nothing is opened yet, and no memory is taken.
+///
+/// ```
+/// let (tx, rx) = flume::on(rt).unbounded::<u64>()?;
+/// tx.send(42)?;
+/// rx.recv();                             // Ok(42)
+/// ```
+///
+/// A runtime value that gives no allocator stands in a pair with one: `flume::on((rt, alloc))`.
+pub fn on<R: Waits + Alloc>(rt: R) -> Builder<R, R::A>
+where
+    R::A: Copy,
+    ensures runtime { result.runtime ≡ rt }
+    ensures number { result.number ≡ 0 }
+{
+    Builder {
+        rt,
+        alloc: rt.alloc(),
+        id: 0,
+    }
+}
+
+impl<R: Waits, A: Allocator + Copy> Builder<R, A> {
+    /// The same with this number, for those who compare channels: `same_channel` of two ends
+    /// compares the numbers of their channels and nothing else. So two channels that are opened
+    /// with equal numbers, as with the 0 of those that were given none, count as the same.
+    ///
+    /// ```
+    /// let (first, _) = flume::on(rt).number(1).unbounded::<u64>()?;
+    /// let (second, _) = flume::on(rt).number(2).unbounded::<u64>()?;
+    /// first.same_channel(&second);           // false
+    /// ```
+    pub fn number(self, number: u64) -> Self
+        ensures number { result.number ≡ number }
+        ensures runtime { result.runtime ≡ self.runtime }
+        ensures allocator { result.allocator ≡ self.allocator }
+    {
+        Builder { id: number, ..self }
+    }
+
+    /// The same with this allocator, from which the channel takes all its memory.
+    ///
+    /// ```
+    /// let (tx, rx) = flume::on(rt).allocator(rt.alloc()).bounded::<u64>(16)?;
+    /// ```
+    pub fn allocator<B: Allocator + Copy>(self, alloc: B) -> Builder<R, B>
+        ensures allocator { result.allocator ≡ alloc }
+        ensures runtime { result.runtime ≡ self.runtime }
+        ensures number { result.number ≡ self.number }
+    {
+        Builder {
+            rt: self.rt,
+            alloc,
+            id: self.id,
+        }
+    }
+
+    /// Opens a channel that holds any number of messages. `NoMemory`: there was no room for what
+    /// its ends share.
+    ///
+    /// ```
+    /// let (tx, rx) = flume::on(rt).unbounded::<u64>()?;
+    /// tx.send(42);                           // Ok(())
+    /// rx.recv();                             // Ok(42)
+    /// ```
+    pub fn unbounded<T: Drop>(self) -> Result<(Sender<T, R, A>, Receiver<T, R, A>), NoMemory>
+        ensures sender { IfOk result (λ ends. ends.0 ≡ self.number) }
+        ensures receiver { IfOk result (λ ends. ends.1 ≡ self.number) }
+    {
+        opening::unbounded(self.rt, self.alloc, self.id)
+    }
+
+    /// Opens a channel that holds at most `capacity` messages, but for those that were sent to
+    /// receivers that wait. At 0, the rendezvous channel, a send waits for a receiver. `NoMemory`:
+    /// there was no room for what its ends share.
+    ///
+    /// ```
+    /// let (tx, rx) = flume::on(rt).bounded::<u64>(2)?;
+    /// tx.try_send(1);                        // Ok(())
+    /// tx.try_send(2);                        // Ok(())
+    /// tx.try_send(3);                        // Err(Full(3))
+    /// ```
+    pub fn bounded<T: Drop>(
+        self,
+        capacity: usize,
+    ) -> Result<(Sender<T, R, A>, Receiver<T, R, A>), NoMemory>
+        ensures sender { IfOk result (λ ends. ends.0 ≡ self.number) }
+        ensures receiver { IfOk result (λ ends. ends.1 ≡ self.number) }
+    {
+        opening::bounded(self.rt, self.alloc, self.id, capacity)
+    }
+}
+
+impl<R: Waits, A: Allocator + Copy> Clone for Builder<R, A> {
+    ghost is_clone = { λ builder copy. copy ≡ builder };
+
+    ghost is_infallible = { λ _. ⊤ };
+
+    fn clone(&self) -> Result<Self, AllocError> {
+        Ok(*self)
+    }
+}
+
+/// `Builder { number: 0, .. }`, with its number.
+impl<R: Waits, A: Allocator + Copy> fmt::Debug for Builder<R, A> {
+    fn fmt<W: fmt::Write>(&self, f: &mut fmt::Formatter<W>) -> fmt::Result {
+        f.debug_struct("Builder")
+            .field("number", &self.id)
+            .finish_non_exhaustive()
+    }
+}

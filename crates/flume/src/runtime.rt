@@ -1,0 +1,43 @@
+//! One bound for a runtime value that can do all that a user of channels needs.
+use crate::shared::Waits;
+use std::alloc::{Alloc, Global};
+use std::thread::Threads;
+
+/// What a program that passes ends between its threads asks of its runtime value: all of `Waits`,
+/// and that it starts threads, gives the global allocator and borrows nothing. So a function with
+/// this bound alone may open channels, and hand their ends to threads that it starts. The host's
+/// runtime is one. Where nothing opens a channel and nothing starts a thread, `Waits` is enough, as
+/// in the first three of these, which are what users mostly write:
+///
+/// ```
+/// // A function that takes an end.
+/// fn send_all<R: Waits>(tx: &Sender<u64, R>, most: u64) -> io::Result<()> {
+///     for number in 0..most {
+///         tx.send(number)?;
+///     }
+///     Ok(())
+/// }
+///
+/// // A message that carries an end: a number, and the sender of its reply.
+/// #[derive(Drop)]
+/// struct Request<R: Waits> {
+///     number: u64,
+///     reply: Sender<u64, R>,
+/// }
+///
+/// // A struct that holds an end, here of such messages.
+/// #[derive(Drop)]
+/// struct Doubler<R: Waits> {
+///     requests: Receiver<Request<R>, R>,
+/// }
+///
+/// // A function that opens a channel, and hands its receiver to a thread.
+/// fn start<R: Runtime>(rt: R) -> io::Result<(Sender<Request<R>, R>, JoinHandle<io::Result<()>>)> {
+///     let (tx, requests) = flume::on(rt).unbounded()?;
+///     let doubler = Doubler { requests };
+///     Ok((tx, thread::spawn(&rt, move || doubler.serve())?))
+/// }
+/// ```
+pub trait Runtime: Waits + Threads + Alloc<A = Global> + Send + Sync + 'static {}
+
+impl<R: Waits + Threads + Alloc<A = Global> + Send + Sync + 'static> Runtime for R {}

@@ -1,0 +1,136 @@
+//! Conversions to the errors of std, which `?` makes: so a `main` that answers `io::Result<()>` can
+//! use `?` on each call of a channel, and one that answers `Result<(), AllocError>` on each that
+//! fails by memory alone. The io error has the text of the error that it was made of. A message that
+//! wasn't sent is dropped.
+ghost use Rattle.std.specs.Prelude.{◌≡◌};
+ghost use Rattle.std.specs.Allocator.{alloc_error};
+ghost use Rattle.std.specs.IoError.{error_kind};
+ghost use Rattle.std.specs.declared.io.ErrorKind.TheVariants.{OutOfMemory};
+ghost use Rattle.flume_error.specs.Kinds.{send_kind, try_send_kind, send_timeout_kind};
+ghost use Rattle.flume_error.specs.Kinds.{receive_kind, try_receive_kind, receive_timeout_kind};
+ghost use Rattle.flume_error.specs.Kinds.{select_kind};
+
+use crate::error::receive::{RecvError, RecvTimeoutError, TryRecvError};
+use crate::error::send::{SendError, SendTimeoutError, TrySendError};
+use crate::error::{NoMemory, SelectError};
+use std::alloc::AllocError;
+use std::io;
+use std::io::ErrorKind;
+
+/// The one `AllocError`.
+impl From<NoMemory> for AllocError {
+    ghost from_gives = { λ _ error. error ≡ alloc_error };
+
+    fn from(_refused: NoMemory) -> AllocError {
+        AllocError
+    }
+}
+
+/// Of the kind `OutOfMemory`.
+impl From<NoMemory> for io::Error {
+    ghost from_gives = { λ _ error. error_kind error ≡ OutOfMemory };
+
+    fn from(_refused: NoMemory) -> io::Error {
+        io::Error::new(ErrorKind::OutOfMemory, NoMemory::text())
+    }
+}
+
+/// Of the kind `BrokenPipe` where the channel is closed, and `OutOfMemory` where there was none.
+impl<T: Drop> From<SendError<T>> for io::Error {
+    ghost from_gives = { λ e error. error_kind error ≡ send_kind e };
+
+    fn from(e: SendError<T>) -> io::Error {
+        let kind = match &e {
+            SendError::Disconnected(_) => ErrorKind::BrokenPipe,
+            SendError::NoMemory(_) => ErrorKind::OutOfMemory,
+        };
+        io::Error::new(kind, e.text())
+    }
+}
+
+/// Of the kind `WouldBlock` where the channel is full, `BrokenPipe` where it is closed, and
+/// `OutOfMemory` where there was none.
+impl<T: Drop> From<TrySendError<T>> for io::Error {
+    ghost from_gives = { λ e error. error_kind error ≡ try_send_kind e };
+
+    fn from(e: TrySendError<T>) -> io::Error {
+        let kind = match &e {
+            TrySendError::Full(_) => ErrorKind::WouldBlock,
+            TrySendError::Disconnected(_) => ErrorKind::BrokenPipe,
+            TrySendError::NoMemory(_) => ErrorKind::OutOfMemory,
+        };
+        io::Error::new(kind, e.text())
+    }
+}
+
+/// Of the kind `TimedOut` where the deadline was reached, `BrokenPipe` where the channel is closed,
+/// and `OutOfMemory` where there was none.
+impl<T: Drop> From<SendTimeoutError<T>> for io::Error {
+    ghost from_gives = { λ e error. error_kind error ≡ send_timeout_kind e };
+
+    fn from(e: SendTimeoutError<T>) -> io::Error {
+        let kind = match &e {
+            SendTimeoutError::Timeout(_) => ErrorKind::TimedOut,
+            SendTimeoutError::Disconnected(_) => ErrorKind::BrokenPipe,
+            SendTimeoutError::NoMemory(_) => ErrorKind::OutOfMemory,
+        };
+        io::Error::new(kind, e.text())
+    }
+}
+
+/// Of the kind `UnexpectedEof` where the channel is closed and empty, and `OutOfMemory` where there
+/// was none.
+impl From<RecvError> for io::Error {
+    ghost from_gives = { λ e error. error_kind error ≡ receive_kind e };
+
+    fn from(e: RecvError) -> io::Error {
+        let kind = match e {
+            RecvError::Disconnected => ErrorKind::UnexpectedEof,
+            RecvError::NoMemory => ErrorKind::OutOfMemory,
+        };
+        io::Error::new(kind, e.text())
+    }
+}
+
+/// Of the kind `WouldBlock` where the channel is empty, `UnexpectedEof` where it is closed too, and
+/// `OutOfMemory` where there was none.
+impl From<TryRecvError> for io::Error {
+    ghost from_gives = { λ e error. error_kind error ≡ try_receive_kind e };
+
+    fn from(e: TryRecvError) -> io::Error {
+        let kind = match e {
+            TryRecvError::Empty => ErrorKind::WouldBlock,
+            TryRecvError::Disconnected => ErrorKind::UnexpectedEof,
+            TryRecvError::NoMemory => ErrorKind::OutOfMemory,
+        };
+        io::Error::new(kind, e.text())
+    }
+}
+
+/// Of the kind `TimedOut` where the deadline was reached, `UnexpectedEof` where the channel is
+/// closed and empty, and `OutOfMemory` where there was none.
+impl From<RecvTimeoutError> for io::Error {
+    ghost from_gives = { λ e error. error_kind error ≡ receive_timeout_kind e };
+
+    fn from(e: RecvTimeoutError) -> io::Error {
+        let kind = match e {
+            RecvTimeoutError::Timeout => ErrorKind::TimedOut,
+            RecvTimeoutError::Disconnected => ErrorKind::UnexpectedEof,
+            RecvTimeoutError::NoMemory => ErrorKind::OutOfMemory,
+        };
+        io::Error::new(kind, e.text())
+    }
+}
+
+/// Of the kind `TimedOut` where the deadline was reached, and `OutOfMemory` where there was none.
+impl From<SelectError> for io::Error {
+    ghost from_gives = { λ e error. error_kind error ≡ select_kind e };
+
+    fn from(e: SelectError) -> io::Error {
+        let kind = match e {
+            SelectError::Timeout => ErrorKind::TimedOut,
+            SelectError::NoMemory => ErrorKind::OutOfMemory,
+        };
+        io::Error::new(kind, e.text())
+    }
+}
