@@ -2,7 +2,7 @@
 #![tactic(auto)]
 
 use flume::error::NoMemory;
-use flume::{Receiver, Sender, Waits};
+use flume::{Receiver, Runtime, Sender, Waits};
 use std::{io, thread};
 
 /// What the owner of the account is asked to do. It sends its answer into `reply`.
@@ -21,7 +21,7 @@ struct Account<R: Waits> {
     requests: Sender<Request<R>, R>,
 }
 
-impl<R: Waits + AllocGlobal> Account<R> {
+impl<R: Runtime> Account<R> {
     /// Adds so much, and answers the balance.
     fn pay_in(&self, amount: u64) -> io::Result<u64> {
         let (reply, answer) = flume::on(self.rt).bounded(1)?;
@@ -55,7 +55,7 @@ fn main(rt: HostRuntime) -> io::Result<()> {
 }
 
 /// Pays in ten times 1.
-fn save<R: Waits + AllocGlobal>(account: &Account<R>) -> io::Result<()> {
+fn save<R: Runtime>(account: &Account<R>) -> io::Result<()> {
     for _ in 0..10 {
         account.pay_in(1)?;
     }

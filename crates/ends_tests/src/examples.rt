@@ -163,7 +163,17 @@ fn a_weak_sender_answers_as_in_its_example(rt: HostRuntime) -> Result<(), Fail> 
 }
 
 #[test]
-fn numbers_tell_channels_apart_as_in_their_example(rt: HostRuntime) -> Result<(), Fail> {
+fn a_builder_opens_channels_as_in_its_examples(rt: HostRuntime) -> Result<(), Fail> {
+    let (tx, rx) = flume::on(rt).unbounded()?;
+    tx.send(42)?;
+    assert_eq!(rt; rx.recv(), Ok(42));
+    let (tx, rx) = flume::on(rt).bounded(1)?;
+    assert_eq!(rt; tx.try_send(1), Ok(()));
+    assert_eq!(rt; tx.try_send(2), Err(TrySendError::Full(2)));
+    assert_eq!(rt; rx.recv(), Ok(1));
+    let (tx, rx) = flume::on(rt).allocator(rt.alloc()).bounded(16)?;
+    tx.send(42)?;
+    assert_eq!(rt; rx.recv(), Ok(42));
     let (first, _) = flume::on(rt).number(1).unbounded::<u64>()?;
     let (second, _) = flume::on(rt).number(2).unbounded()?;
     assert!(rt; !first.same_channel(&second));
