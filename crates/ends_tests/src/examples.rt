@@ -1,4 +1,5 @@
-//! The examples of the library's documentation, line by line.
+//! The examples of the library's documentation, line by line, with `is` for what they assert.
+use crate::fixtures::is;
 use flume::error::{SendTimeoutError, TryRecvError, TrySendError};
 use flume::{RecvError, RecvTimeoutError, SendError, bounded, unbounded};
 use std::test::Fail;
@@ -8,41 +9,41 @@ use std::time::{Duration, Instant};
 fn a_new_channel_is_as_in_its_example(rt: HostRuntime) -> Result<(), Fail> {
     let (tx, rx) = unbounded(rt, rt.alloc(), 1)?;
     tx.send(42)?;
-    assert_eq!(rt; rx.recv(), Ok(42));
+    is(&rt, rx.recv(), Ok(42));
     let (tx, rx) = bounded(rt, rt.alloc(), 2, 1)?;
-    assert_eq!(rt; tx.try_send(1), Ok(()));
-    assert_eq!(rt; tx.try_send(2), Err(TrySendError::Full(2)));
-    assert_eq!(rt; rx.recv(), Ok(1));
+    is(&rt, tx.try_send(1), Ok(()));
+    is(&rt, tx.try_send(2), Err(TrySendError::Full(2)));
+    is(&rt, rx.recv(), Ok(1));
     Ok(())
 }
 
 #[test]
 fn a_call_that_never_waits_answers_as_in_its_example(rt: HostRuntime) -> Result<(), Fail> {
     let (tx, rx) = flume::on(rt).bounded(1)?;
-    assert_eq!(rt; tx.try_send(1), Ok(()));
-    assert_eq!(rt; tx.try_send(2), Err(TrySendError::Full(2)));
+    is(&rt, tx.try_send(1), Ok(()));
+    is(&rt, tx.try_send(2), Err(TrySendError::Full(2)));
     drop(rx);
-    assert_eq!(rt; tx.try_send(3), Err(TrySendError::Disconnected(3)));
+    is(&rt, tx.try_send(3), Err(TrySendError::Disconnected(3)));
     let (tx, rx) = flume::on(rt).unbounded()?;
-    assert_eq!(rt; rx.try_recv(), Err(TryRecvError::Empty));
+    is(&rt, rx.try_recv(), Err(TryRecvError::Empty));
     tx.send(42)?;
-    assert_eq!(rt; rx.try_recv(), Ok(42));
+    is(&rt, rx.try_recv(), Ok(42));
     drop(tx);
-    assert_eq!(rt; rx.try_recv(), Err(TryRecvError::Disconnected));
+    is(&rt, rx.try_recv(), Err(TryRecvError::Disconnected));
     Ok(())
 }
 
 #[test]
 fn a_call_that_may_wait_answers_as_in_its_example(rt: HostRuntime) -> Result<(), Fail> {
     let (tx, rx) = flume::on(rt).unbounded()?;
-    assert_eq!(rt; tx.send(42), Ok(()));
+    is(&rt, tx.send(42), Ok(()));
     drop(rx);
-    assert_eq!(rt; tx.send(43), Err(SendError::Disconnected(43)));
+    is(&rt, tx.send(43), Err(SendError::Disconnected(43)));
     let (tx, rx) = flume::on(rt).unbounded()?;
     tx.send(42)?;
-    assert_eq!(rt; rx.recv(), Ok(42));
+    is(&rt, rx.recv(), Ok(42));
     drop(tx);
-    assert_eq!(rt; rx.recv(), Err(RecvError::Disconnected));
+    is(&rt, rx.recv(), Err(RecvError::Disconnected));
     Ok(())
 }
 
@@ -50,11 +51,12 @@ fn a_call_that_may_wait_answers_as_in_its_example(rt: HostRuntime) -> Result<(),
 fn a_send_with_a_deadline_answers_as_in_its_example(rt: HostRuntime) -> Result<(), Fail> {
     let (tx, _rx) = flume::on(rt).bounded(1)?;
     let now = Instant::now(&rt)?;
-    assert_eq!(rt; tx.send_deadline(1, now), Ok(()));
-    assert_eq!(rt; tx.send_deadline(2, now), Err(SendTimeoutError::Timeout(2)));
+    is(&rt, tx.send_deadline(1, now), Ok(()));
+    let late = tx.send_deadline(2, now);
+    is(&rt, late, Err(SendTimeoutError::Timeout(2)));
     let (tx, rx) = flume::on(rt).bounded(1)?;
     tx.send_timeout(1, Duration::from_millis(350))?;
-    assert_eq!(rt; rx.recv(), Ok(1));
+    is(&rt, rx.recv(), Ok(1));
     Ok(())
 }
 
@@ -62,10 +64,10 @@ fn a_send_with_a_deadline_answers_as_in_its_example(rt: HostRuntime) -> Result<(
 fn a_receive_with_a_deadline_answers_as_in_its_example(rt: HostRuntime) -> Result<(), Fail> {
     let (_tx, rx) = flume::on(rt).unbounded::<u64>()?;
     let now = Instant::now(&rt)?;
-    assert_eq!(rt; rx.recv_deadline(now), Err(RecvTimeoutError::Timeout));
+    is(&rt, rx.recv_deadline(now), Err(RecvTimeoutError::Timeout));
     let (tx, rx) = flume::on(rt).unbounded()?;
     tx.send(42)?;
-    assert_eq!(rt; rx.recv_timeout(Duration::from_millis(100)), Ok(42));
+    is(&rt, rx.recv_timeout(Duration::from_millis(100)), Ok(42));
     Ok(())
 }
 
@@ -75,16 +77,16 @@ fn what_is_there_is_given_as_in_its_example(rt: HostRuntime) -> Result<(), Fail>
     tx.send(1)?;
     tx.send(2)?;
     let mut messages = rx.try_iter();
-    assert_eq!(rt; messages.next(), Some(1));
-    assert_eq!(rt; messages.next(), Some(2));
-    assert_eq!(rt; messages.next(), None);
+    is(&rt, messages.next(), Some(1));
+    is(&rt, messages.next(), Some(2));
+    is(&rt, messages.next(), None);
     let (tx, rx) = flume::on(rt).unbounded()?;
     tx.send(1)?;
     tx.send(2)?;
     let mut messages = rx.drain()?;
-    assert_eq!(rt; messages.len(), 2);
-    assert_eq!(rt; messages.next(), Some(1));
-    assert_eq!(rt; rx.len(), 0);
+    is(&rt, messages.len(), 2);
+    is(&rt, messages.next(), Some(1));
+    is(&rt, rx.len(), 0);
     Ok(())
 }
 
@@ -97,7 +99,7 @@ fn a_loop_over_a_lent_receiver_runs_as_in_its_example(rt: HostRuntime) -> Result
     for message in rx.iter() {
         last = message;
     }
-    assert_eq!(rt; last, 42);
+    is(&rt, last, 42);
     let (tx, rx) = flume::on(rt).unbounded()?;
     tx.send(42)?;
     drop(tx);
@@ -105,7 +107,7 @@ fn a_loop_over_a_lent_receiver_runs_as_in_its_example(rt: HostRuntime) -> Result
     for message in &rx {
         last = message;
     }
-    assert_eq!(rt; last, 42);
+    is(&rt, last, 42);
     Ok(())
 }
 
@@ -120,14 +122,14 @@ fn a_loop_over_a_receiver_or_what_it_has_runs_as_in_its_example(
     for message in rx {
         last = message;
     }
-    assert_eq!(rt; last, 42);
+    is(&rt, last, 42);
     let (tx, rx) = flume::on(rt).unbounded()?;
     tx.send(42)?;
     let mut last = 0;
     for message in rx.try_iter() {
         last = message;
     }
-    assert_eq!(rt; last, 42);
+    is(&rt, last, 42);
     Ok(())
 }
 
@@ -136,13 +138,13 @@ fn an_iterator_tells_the_end_as_in_its_example(rt: HostRuntime) -> Result<(), Fa
     let (tx, rx) = flume::on(rt).unbounded::<u64>()?;
     drop(tx);
     let mut messages = rx.iter();
-    assert_eq!(rt; messages.next(), None);
-    assert!(rt; !messages.fault());
+    is(&rt, messages.next(), None);
+    is(&rt, !messages.fault(), true);
     let (tx, rx) = flume::on(rt).unbounded::<u64>()?;
     drop(tx);
     let mut messages = rx.into_iter();
-    assert_eq!(rt; messages.next(), None);
-    assert!(rt; !messages.fault());
+    is(&rt, messages.next(), None);
+    is(&rt, !messages.fault(), true);
     Ok(())
 }
 
@@ -150,15 +152,15 @@ fn an_iterator_tells_the_end_as_in_its_example(rt: HostRuntime) -> Result<(), Fa
 fn a_weak_sender_answers_as_in_its_example(rt: HostRuntime) -> Result<(), Fail> {
     let (tx, _rx) = flume::on(rt).unbounded::<u64>()?;
     let weak = tx.downgrade()?;
-    assert!(rt; weak.upgrade()?.is_some());
+    is(&rt, weak.upgrade()?.is_some(), true);
     drop(tx);
-    assert!(rt; weak.upgrade()?.is_none());
+    is(&rt, weak.upgrade()?.is_none(), true);
     let (tx, rx) = flume::on(rt).unbounded()?;
     let weak = tx.downgrade()?;
     if let Some(tx) = weak.upgrade()? {
         tx.send(7)?;
     }
-    assert_eq!(rt; rx.recv(), Ok(7));
+    is(&rt, rx.recv(), Ok(7));
     Ok(())
 }
 
@@ -166,16 +168,16 @@ fn a_weak_sender_answers_as_in_its_example(rt: HostRuntime) -> Result<(), Fail> 
 fn a_builder_opens_channels_as_in_its_examples(rt: HostRuntime) -> Result<(), Fail> {
     let (tx, rx) = flume::on(rt).unbounded()?;
     tx.send(42)?;
-    assert_eq!(rt; rx.recv(), Ok(42));
+    is(&rt, rx.recv(), Ok(42));
     let (tx, rx) = flume::on(rt).bounded(1)?;
-    assert_eq!(rt; tx.try_send(1), Ok(()));
-    assert_eq!(rt; tx.try_send(2), Err(TrySendError::Full(2)));
-    assert_eq!(rt; rx.recv(), Ok(1));
+    is(&rt, tx.try_send(1), Ok(()));
+    is(&rt, tx.try_send(2), Err(TrySendError::Full(2)));
+    is(&rt, rx.recv(), Ok(1));
     let (tx, rx) = flume::on(rt).allocator(rt.alloc()).bounded(16)?;
     tx.send(42)?;
-    assert_eq!(rt; rx.recv(), Ok(42));
+    is(&rt, rx.recv(), Ok(42));
     let (first, _) = flume::on(rt).number(1).unbounded::<u64>()?;
     let (second, _) = flume::on(rt).number(2).unbounded()?;
-    assert!(rt; !first.same_channel(&second));
+    is(&rt, !first.same_channel(&second), true);
     Ok(())
 }

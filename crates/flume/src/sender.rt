@@ -86,7 +86,8 @@ impl<T: Drop, R: Waits, A: Allocator + Copy> Sender<T, R, A> {
     /// let (tx, _rx) = flume::on(rt).bounded(1)?;
     /// let now = Instant::now(&rt)?;
     /// assert_eq!(rt; tx.send_deadline(1, now), Ok(()));
-    /// assert_eq!(rt; tx.send_deadline(2, now), Err(SendTimeoutError::Timeout(2)));
+    /// let late = tx.send_deadline(2, now);
+    /// assert_eq!(rt; late, Err(SendTimeoutError::Timeout(2)));
     /// ```
     pub fn send_deadline(&self, message: T, deadline: Instant) -> Result<(), SendTimeoutError<T>>
         ensures no_memory { (back : T) → result ≡ Err (SendTimeoutError.NoMemory back)
