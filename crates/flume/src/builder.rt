@@ -44,9 +44,9 @@ impl<R: Waits, A: Allocator + Copy> Model for Builder<R, A> {
 /// the host's runtime, and with the number 0. Nothing is opened yet, and no memory is taken.
 ///
 /// ```
-/// let (tx, rx) = flume::on(rt).unbounded::<u64>()?;
+/// let (tx, rx) = flume::on(rt).unbounded()?;
 /// tx.send(42)?;
-/// rx.recv();                             // Ok(42)
+/// assert_eq!(rt; rx.recv(), Ok(42));
 /// ```
 ///
 /// A runtime value that gives no allocator stands in a pair with one: `flume::on((rt, alloc))`.
@@ -70,8 +70,8 @@ impl<R: Waits, A: Allocator + Copy> Builder<R, A> {
     ///
     /// ```
     /// let (first, _) = flume::on(rt).number(1).unbounded::<u64>()?;
-    /// let (second, _) = flume::on(rt).number(2).unbounded::<u64>()?;
-    /// first.same_channel(&second);           // false
+    /// let (second, _) = flume::on(rt).number(2).unbounded()?;
+    /// assert!(rt; !first.same_channel(&second));
     /// ```
     pub fn number(self, number: u64) -> Self
         ensures number { result.number ≡ number }
@@ -84,7 +84,9 @@ impl<R: Waits, A: Allocator + Copy> Builder<R, A> {
     /// The same with this allocator, from which the channel takes all its memory.
     ///
     /// ```
-    /// let (tx, rx) = flume::on(rt).allocator(rt.alloc()).bounded::<u64>(16)?;
+    /// let (tx, rx) = flume::on(rt).allocator(rt.alloc()).bounded(16)?;
+    /// tx.send(42)?;
+    /// assert_eq!(rt; rx.recv(), Ok(42));
     /// ```
     pub fn allocator<B: Allocator + Copy>(self, alloc: B) -> Builder<R, B>
         ensures allocator { result.allocator ≡ alloc }
@@ -102,9 +104,9 @@ impl<R: Waits, A: Allocator + Copy> Builder<R, A> {
     /// its ends share.
     ///
     /// ```
-    /// let (tx, rx) = flume::on(rt).unbounded::<u64>()?;
-    /// tx.send(42);                           // Ok(())
-    /// rx.recv();                             // Ok(42)
+    /// let (tx, rx) = flume::on(rt).unbounded()?;
+    /// tx.send(42)?;
+    /// assert_eq!(rt; rx.recv(), Ok(42));
     /// ```
     pub fn unbounded<T: Drop>(self) -> Result<(Sender<T, R, A>, Receiver<T, R, A>), NoMemory>
         ensures sender { IfOk result (λ ends. ends.0 ≡ self.number) }
@@ -118,10 +120,10 @@ impl<R: Waits, A: Allocator + Copy> Builder<R, A> {
     /// there was no room for what its ends share.
     ///
     /// ```
-    /// let (tx, rx) = flume::on(rt).bounded::<u64>(2)?;
-    /// tx.try_send(1);                        // Ok(())
-    /// tx.try_send(2);                        // Ok(())
-    /// tx.try_send(3);                        // Err(Full(3))
+    /// let (tx, rx) = flume::on(rt).bounded(1)?;
+    /// assert_eq!(rt; tx.try_send(1), Ok(()));
+    /// assert_eq!(rt; tx.try_send(2), Err(TrySendError::Full(2)));
+    /// assert_eq!(rt; rx.recv(), Ok(1));
     /// ```
     pub fn bounded<T: Drop>(
         self,

@@ -15,9 +15,13 @@ use std::marker::{Model, PhantomData};
 /// The messages that `Receiver::drain` took, in order. What is left of them is dropped with it.
 ///
 /// ```
-/// let mut messages = rx.drain()?;        // of a channel that holds 1, 2 and 3
-/// messages.next();                       // Some(1)
-/// messages.len();                        // 2
+/// let (tx, rx) = flume::on(rt).unbounded()?;
+/// tx.send(1)?;
+/// tx.send(2)?;
+/// let mut messages = rx.drain()?;
+/// assert_eq!(rt; messages.len(), 2);
+/// assert_eq!(rt; messages.next(), Some(1));
+/// assert_eq!(rt; rx.len(), 0);
 /// ```
 #[derive(Drop)]
 pub struct Drain<'a, T, A: Allocator = Global> {

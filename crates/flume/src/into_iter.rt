@@ -14,9 +14,14 @@ use std::marker::Model;
 /// The iterator over received messages that has its receiver in it, which goes with it.
 ///
 /// ```
+/// let (tx, rx) = flume::on(rt).unbounded()?;
+/// tx.send(42)?;
+/// drop(tx);
+/// let mut last = 0;
 /// for message in rx {
-///     // each message, until none is there and all senders are gone
+///     last = message;
 /// }
+/// assert_eq!(rt; last, 42);
 /// ```
 #[derive(Drop)]
 pub struct IntoIter<T, R: Waits, A: Allocator + Copy = Global> {
@@ -37,12 +42,15 @@ impl<T, R: Waits, A: Allocator + Copy> Model for IntoIter<T, R, A> {
 }
 
 impl<T: Drop, R: Waits, A: Allocator + Copy> IntoIter<T, R, A> {
-    /// Whether the last `next` ended for want of memory. `next` can be called on after it.
+    /// Whether the last `next` ended for want of memory, and not since all senders were gone. More
+    /// calls of `next` may follow.
     ///
     /// ```
+    /// let (tx, rx) = flume::on(rt).unbounded::<u64>()?;
+    /// drop(tx);
     /// let mut messages = rx.into_iter();
-    /// messages.next();                   // None
-    /// messages.fault();                  // true: try again; false: all senders are gone
+    /// assert_eq!(rt; messages.next(), None);
+    /// assert!(rt; !messages.fault());
     /// ```
     pub fn fault(&self) -> bool
         ensures fault { result ≡ self.now.fault }

@@ -15,9 +15,14 @@ use std::marker::Model;
 /// After a `None` there may be more.
 ///
 /// ```
-/// for message in rx.iter() {
-///     // each message, until none is there and all senders are gone
+/// let (tx, rx) = flume::on(rt).unbounded()?;
+/// tx.send(42)?;
+/// drop(tx);
+/// let mut last = 0;
+/// for message in &rx {
+///     last = message;
 /// }
+/// assert_eq!(rt; last, 42);
 /// ```
 #[derive(Drop)]
 pub struct Iter<'a, T, R: Waits, A: Allocator + Copy = Global> {
@@ -48,12 +53,15 @@ impl<'a, T: Drop, R: Waits, A: Allocator + Copy> Iter<'a, T, R, A> {
         }
     }
 
-    /// Whether the last `next` ended for want of memory. The receiver can be used on after it.
+    /// Whether the last `next` ended for want of memory, and not since all senders were gone. The
+    /// receiver can be used on after it.
     ///
     /// ```
+    /// let (tx, rx) = flume::on(rt).unbounded::<u64>()?;
+    /// drop(tx);
     /// let mut messages = rx.iter();
-    /// messages.next();                   // None
-    /// messages.fault();                  // true: try again; false: all senders are gone
+    /// assert_eq!(rt; messages.next(), None);
+    /// assert!(rt; !messages.fault());
     /// ```
     pub fn fault(&self) -> bool
         ensures fault { result ≡ self.now.fault }
@@ -96,9 +104,13 @@ impl<'a, T: Drop, R: Waits, A: Allocator + Copy> IntoIterator for &'a Receiver<T
 /// a `None` there may be more.
 ///
 /// ```
+/// let (tx, rx) = flume::on(rt).unbounded()?;
+/// tx.send(42)?;
+/// let mut last = 0;
 /// for message in rx.try_iter() {
-///     // each message that is there
+///     last = message;
 /// }
+/// assert_eq!(rt; last, 42);
 /// ```
 #[derive(Drop)]
 pub struct TryIter<'a, T, R: Waits, A: Allocator + Copy = Global> {

@@ -6,9 +6,9 @@
 //! `flume_script`, are given again here.
 //!
 //! ```
-//! let (tx, rx) = unbounded::<u64, _, _>(rt, rt.alloc(), 1)?;
+//! let (tx, rx) = flume::on(rt).unbounded()?;
 //! tx.send(42)?;
-//! rx.recv()                          // Ok(42)
+//! assert_eq!(rt; rx.recv(), Ok(42));
 //! ```
 #![tactic(auto)]
 

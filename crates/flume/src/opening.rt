@@ -12,9 +12,9 @@ use std::sync::Arc;
 /// number count as ends of the same. `NoMemory`: there was no room for what the ends share.
 ///
 /// ```
-/// let (tx, rx) = unbounded::<u64, _, _>(rt, rt.alloc(), 1)?;
-/// tx.send(42);                           // Ok(())
-/// rx.recv();                             // Ok(42)
+/// let (tx, rx) = unbounded(rt, rt.alloc(), 1)?;
+/// tx.send(42)?;
+/// assert_eq!(rt; rx.recv(), Ok(42));
 /// ```
 pub fn unbounded<T: Drop, R: Waits, A: Allocator + Copy>(
     rt: R,
@@ -31,9 +31,10 @@ pub fn unbounded<T: Drop, R: Waits, A: Allocator + Copy>(
 /// wait. At 0 a send waits for a receiver. `id` and `NoMemory` as of `unbounded`.
 ///
 /// ```
-/// let (tx, rx) = bounded::<u64, _, _>(rt, rt.alloc(), 2, 1)?;
-/// tx.try_send(1);                        // Ok(())
-/// tx.try_send(2);                        // Err(Full(2))
+/// let (tx, rx) = bounded(rt, rt.alloc(), 2, 1)?;
+/// assert_eq!(rt; tx.try_send(1), Ok(()));
+/// assert_eq!(rt; tx.try_send(2), Err(TrySendError::Full(2)));
+/// assert_eq!(rt; rx.recv(), Ok(1));
 /// ```
 pub fn bounded<T: Drop, R: Waits, A: Allocator + Copy>(
     rt: R,

@@ -44,12 +44,12 @@ impl<T: Drop, R: Waits, A: Allocator + Copy> Receiver<T, R, A> {
     /// there. `Disconnected`: none is, and all senders are gone. Never `NoMemory`.
     ///
     /// ```
-    /// let (tx, rx) = unbounded::<u64, _, _>(rt, rt.alloc(), 1)?;
-    /// rx.try_recv();                     // Err(Empty)
-    /// tx.send(42);                       // Ok(())
-    /// rx.try_recv();                     // Ok(42)
+    /// let (tx, rx) = flume::on(rt).unbounded()?;
+    /// assert_eq!(rt; rx.try_recv(), Err(TryRecvError::Empty));
+    /// tx.send(42)?;
+    /// assert_eq!(rt; rx.try_recv(), Ok(42));
     /// drop(tx);
-    /// rx.try_recv();                     // Err(Disconnected)
+    /// assert_eq!(rt; rx.try_recv(), Err(TryRecvError::Disconnected));
     /// ```
     pub fn try_recv(&self) -> Result<T, TryRecvError>
         ensures never_no_memory { result ≢ Err TryRecvError.NoMemory }
@@ -61,10 +61,11 @@ impl<T: Drop, R: Waits, A: Allocator + Copy> Receiver<T, R, A> {
     /// all senders are gone. `NoMemory`: there was no room for what a call waits on.
     ///
     /// ```
-    /// tx.send(42);                       // Ok(())
-    /// rx.recv();                         // Ok(42)
+    /// let (tx, rx) = flume::on(rt).unbounded()?;
+    /// tx.send(42)?;
+    /// assert_eq!(rt; rx.recv(), Ok(42));
     /// drop(tx);
-    /// rx.recv();                         // Err(Disconnected)
+    /// assert_eq!(rt; rx.recv(), Err(RecvError::Disconnected));
     /// ```
     pub fn recv(&self) -> Result<T, RecvError> {
         let mut gate = Gate::new(&self.shared, Deadline::Never);
@@ -76,8 +77,9 @@ impl<T: Drop, R: Waits, A: Allocator + Copy> Receiver<T, R, A> {
     /// `Disconnected`. A clock that can't be read counts as past each deadline.
     ///
     /// ```
+    /// let (_tx, rx) = flume::on(rt).unbounded::<u64>()?;
     /// let now = Instant::now(&rt)?;
-    /// rx.recv_deadline(now);             // Err(Timeout), where no message is there
+    /// assert_eq!(rt; rx.recv_deadline(now), Err(RecvTimeoutError::Timeout));
     /// ```
     pub fn recv_deadline(&self, deadline: Instant) -> Result<T, RecvTimeoutError> {
         let mut gate = Gate::new(&self.shared, Deadline::At(deadline));
@@ -88,7 +90,9 @@ impl<T: Drop, R: Waits, A: Allocator + Copy> Receiver<T, R, A> {
     /// are those of `recv_deadline`. Where no time is that late it waits as `recv` does.
     ///
     /// ```
-    /// rx.recv_timeout(Duration::from_millis(100));
+    /// let (tx, rx) = flume::on(rt).unbounded()?;
+    /// tx.send(42)?;
+    /// assert_eq!(rt; rx.recv_timeout(Duration::from_millis(100)), Ok(42));
     /// ```
     pub fn recv_timeout(&self, timeout: Duration) -> Result<T, RecvTimeoutError> {
         let deadline = Deadline::after(&self.shared.rt, timeout);
@@ -99,9 +103,14 @@ impl<T: Drop, R: Waits, A: Allocator + Copy> Receiver<T, R, A> {
     /// The messages, one after the other. It waits for each, and ends where `recv` is refused.
     ///
     /// ```
+    /// let (tx, rx) = flume::on(rt).unbounded()?;
+    /// tx.send(42)?;
+    /// drop(tx);
+    /// let mut last = 0;
     /// for message in rx.iter() {
-    ///     // each message, until the channel is empty and all senders are gone
+    ///     last = message;
     /// }
+    /// assert_eq!(rt; last, 42);
     /// ```
     pub fn iter(&self) -> Iter<'_, T, R, A>
         ensures new { result ≡ receiving_from self.now }
@@ -112,12 +121,13 @@ impl<T: Drop, R: Waits, A: Allocator + Copy> Receiver<T, R, A> {
     /// The messages that are there, one after the other. It doesn't wait for a sender.
     ///
     /// ```
-    /// tx.send(1);
-    /// tx.send(2);
+    /// let (tx, rx) = flume::on(rt).unbounded()?;
+    /// tx.send(1)?;
+    /// tx.send(2)?;
     /// let mut messages = rx.try_iter();
-    /// messages.next();                   // Some(1)
-    /// messages.next();                   // Some(2)
-    /// messages.next();                   // None
+    /// assert_eq!(rt; messages.next(), Some(1));
+    /// assert_eq!(rt; messages.next(), Some(2));
+    /// assert_eq!(rt; messages.next(), None);
     /// ```
     pub fn try_iter(&self) -> TryIter<'_, T, R, A>
         ensures new { result ≡ receiving_from self.now }
@@ -130,12 +140,13 @@ impl<T: Drop, R: Waits, A: Allocator + Copy> Receiver<T, R, A> {
     /// none was taken.
     ///
     /// ```
-    /// tx.send(1);
-    /// tx.send(2);
+    /// let (tx, rx) = flume::on(rt).unbounded()?;
+    /// tx.send(1)?;
+    /// tx.send(2)?;
     /// let mut messages = rx.drain()?;
-    /// messages.len();                    // 2
-    /// messages.next();                   // Some(1)
-    /// rx.len();                          // 0
+    /// assert_eq!(rt; messages.len(), 2);
+    /// assert_eq!(rt; messages.next(), Some(1));
+    /// assert_eq!(rt; rx.len(), 0);
     /// ```
     pub fn drain(&self) -> Result<Drain<'_, T, A>, NoMemory> {
         Drain::answer(self.shared.make(Single::Drain))

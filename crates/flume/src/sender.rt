@@ -45,11 +45,11 @@ impl<T: Drop, R: Waits, A: Allocator + Copy> Sender<T, R, A> {
     /// wanted and there was none. Doesn't wait for a receiver.
     ///
     /// ```
-    /// let (tx, rx) = bounded::<u64, _, _>(rt, rt.alloc(), 1, 1)?;
-    /// tx.try_send(1);                    // Ok(())
-    /// tx.try_send(2);                    // Err(Full(2))
+    /// let (tx, rx) = flume::on(rt).bounded(1)?;
+    /// assert_eq!(rt; tx.try_send(1), Ok(()));
+    /// assert_eq!(rt; tx.try_send(2), Err(TrySendError::Full(2)));
     /// drop(rx);
-    /// tx.try_send(3);                    // Err(Disconnected(3))
+    /// assert_eq!(rt; tx.try_send(3), Err(TrySendError::Disconnected(3)));
     /// ```
     pub fn try_send(&self, message: T) -> Result<(), TrySendError<T>>
         ensures full { (back : T) → result ≡ Err (TrySendError.Full back) → back ≡ message }
@@ -66,9 +66,10 @@ impl<T: Drop, R: Waits, A: Allocator + Copy> Sender<T, R, A> {
     /// call waits on. Both give the message back.
     ///
     /// ```
-    /// tx.send(42);                       // Ok(())
+    /// let (tx, rx) = flume::on(rt).unbounded()?;
+    /// assert_eq!(rt; tx.send(42), Ok(()));
     /// drop(rx);
-    /// tx.send(43);                       // Err(Disconnected(43))
+    /// assert_eq!(rt; tx.send(43), Err(SendError::Disconnected(43)));
     /// ```
     pub fn send(&self, message: T) -> Result<(), SendError<T>>
         ensures no_memory { (back : T) → result ≡ Err (SendError.NoMemory back) → back ≡ message }
@@ -82,10 +83,11 @@ impl<T: Drop, R: Waits, A: Allocator + Copy> Sender<T, R, A> {
     /// `Disconnected`. A clock that can't be read counts as past each deadline.
     ///
     /// ```
-    /// let (tx, rx) = bounded::<u64, _, _>(rt, rt.alloc(), 1, 1)?;
+    /// let (tx, _rx) = flume::on(rt).bounded(1)?;
     /// let now = Instant::now(&rt)?;
-    /// tx.send_deadline(1, now);          // Ok(())
-    /// tx.send_deadline(2, now);          // Err(Timeout(2))
+    /// assert_eq!(rt; tx.send_deadline(1, now), Ok(()));
+    /// let late = tx.send_deadline(2, now);
+    /// assert_eq!(rt; late, Err(SendTimeoutError::Timeout(2)));
     /// ```
     pub fn send_deadline(&self, message: T, deadline: Instant) -> Result<(), SendTimeoutError<T>>
         ensures no_memory { (back : T) → result ≡ Err (SendTimeoutError.NoMemory back)
@@ -99,7 +101,9 @@ impl<T: Drop, R: Waits, A: Allocator + Copy> Sender<T, R, A> {
     /// those of `send_deadline`. Where no time is that late it waits as `send` does.
     ///
     /// ```
-    /// tx.send_timeout(1, Duration::from_millis(350));
+    /// let (tx, rx) = flume::on(rt).bounded(1)?;
+    /// tx.send_timeout(1, Duration::from_millis(350))?;
+    /// assert_eq!(rt; rx.recv(), Ok(1));
     /// ```
     pub fn send_timeout(&self, message: T, timeout: Duration) -> Result<(), SendTimeoutError<T>>
         ensures no_memory { (back : T) → result ≡ Err (SendTimeoutError.NoMemory back)
@@ -149,10 +153,11 @@ impl<T: Drop, R: Waits, A: Allocator + Copy> Sender<T, R, A> {
     /// as many ends as can be counted.
     ///
     /// ```
+    /// let (tx, _rx) = flume::on(rt).unbounded::<u64>()?;
     /// let weak = tx.downgrade()?;
-    /// weak.upgrade();                    // Ok(Some(..))
+    /// assert!(rt; weak.upgrade()?.is_some());
     /// drop(tx);
-    /// weak.upgrade();                    // Ok(None)
+    /// assert!(rt; weak.upgrade()?.is_none());
     /// ```
     pub fn downgrade(&self) -> Result<WeakSender<T, R, A>, NoMemory>
         ensures same { IfOk result (λ weak. weak ≡ self.now) }

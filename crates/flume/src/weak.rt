@@ -36,9 +36,12 @@ impl<T: Drop, R: Waits, A: Allocator + Copy> WeakSender<T, R, A> {
     /// `NoMemory`: there are as many as can be counted.
     ///
     /// ```
+    /// let (tx, rx) = flume::on(rt).unbounded()?;
+    /// let weak = tx.downgrade()?;
     /// if let Some(tx) = weak.upgrade()? {
-    ///     tx.send(7);
+    ///     tx.send(7)?;
     /// }
+    /// assert_eq!(rt; rx.recv(), Ok(7));
     /// ```
     pub fn upgrade(&self) -> Result<Option<Sender<T, R, A>>, NoMemory>
         ensures same { IfOk result (λ sender. IfSome sender (λ s. s ≡ self.now)) }

@@ -1,0 +1,93 @@
+//! One thread owns an account and answers requests. Each request carries the sender of its reply.
+#![tactic(auto)]
+
+use flume::error::NoMemory;
+use flume::{Receiver, Runtime, Sender, Waits};
+use std::{io, thread};
+
+/// What the owner of the account is asked to do. It sends its answer into `reply`.
+#[derive(Drop)]
+enum Request<R: Waits> {
+    /// Adds so much. The answer is the balance.
+    PayIn { amount: u64, reply: Sender<u64, R> },
+    /// Takes so much away, if there is so much. The answer says whether there was.
+    PayOut { amount: u64, reply: Sender<bool, R> },
+}
+
+/// An account as others see it: each call is a request to the thread that owns it.
+#[derive(Drop)]
+struct Account<R: Waits> {
+    rt: R,
+    requests: Sender<Request<R>, R>,
+}
+
+impl<R: Runtime> Account<R> {
+    /// Adds so much, and answers the balance.
+    fn pay_in(&self, amount: u64) -> io::Result<u64> {
+        let (reply, answer) = flume::on(self.rt).bounded(1)?;
+        self.requests.send(Request::PayIn { amount, reply })?;
+        Ok(answer.recv()?)
+    }
+
+    /// Takes so much away, and answers whether there was so much. If not, all stays as it was.
+    fn pay_out(&self, amount: u64) -> io::Result<bool> {
+        let (reply, answer) = flume::on(self.rt).bounded(1)?;
+        self.requests.send(Request::PayOut { amount, reply })?;
+        Ok(answer.recv()?)
+    }
+}
+
+fn main(rt: HostRuntime) -> io::Result<()> {
+    let (requests, received) = flume::on(rt).bounded(4)?;
+    let owner = thread::spawn(&rt, move || own(&received))?;
+    let account = Account { rt, requests };
+    println!(rt; "100 in: now {}", account.pay_in(100)?)?;
+    println!(rt; "70 out: {}", account.pay_out(70)?)?;
+    println!(rt; "50 out: {}", account.pay_out(50)?)?;
+    let requests = account.requests.clone()?;
+    let saver = Account { rt, requests };
+    let saving = thread::spawn(&rt, move || save(&saver))?;
+    save(&account)?;
+    saving.join(&rt)?;
+    // The last sender of requests goes, so the owner ends.
+    drop(account);
+    println!(rt; "two saved 10 each: {} left", owner.join(&rt)?)
+}
+
+/// Pays in ten times 1.
+fn save<R: Runtime>(account: &Account<R>) -> io::Result<()> {
+    for _ in 0..10 {
+        account.pay_in(1)?;
+    }
+    Ok(())
+}
+
+/// Owns the account, and answers requests until nobody can send one. Then it says what is left.
+fn own<R: Waits>(received: &Receiver<Request<R>, R>) -> io::Result<u64> {
+    let mut balance = 0;
+    let mut requests = received.iter();
+    for request in requests.by_ref() {
+        balance = answer(balance, request);
+    }
+    if requests.fault() {
+        return Err(NoMemory.into());
+    }
+    Ok(balance)
+}
+
+/// Answers a request, and gives the balance after it.
+fn answer<R: Waits>(balance: u64, request: Request<R>) -> u64 {
+    match request {
+        Request::PayIn { amount, reply } => {
+            let balance = balance.saturating_add(amount);
+            // Whoever asked may be gone. The account stays what it is, so the error is let go.
+            let _ = reply.send(balance);
+            balance
+        }
+        Request::PayOut { amount, reply } => {
+            let left = balance.checked_sub(amount);
+            let _ = reply.send(left.is_some());
+            left.unwrap_or(balance)
+        }
+    }
+}

@@ -1,0 +1,29 @@
+//! One thread sends the numbers from 1 to 9, another one sums them up.
+#![tactic(auto)]
+
+use flume::error::NoMemory;
+use flume::{Sender, Waits};
+use std::{io, thread};
+
+fn main(rt: HostRuntime) -> io::Result<()> {
+    let (tx, rx) = flume::on(rt).bounded(4)?;
+    let sender = thread::spawn(&rt, move || send_all(tx))?;
+    let mut sum = 0u64;
+    let mut numbers = rx.iter();
+    for number in numbers.by_ref() {
+        sum = sum.saturating_add(number);
+    }
+    if numbers.fault() {
+        return Err(NoMemory.into());
+    }
+    sender.join(&rt)?;
+    println!(rt; "the sum is {sum}")
+}
+
+/// The channel closes as its last sender goes: here, at the end.
+fn send_all<R: Waits>(tx: Sender<u64, R>) -> io::Result<()> {
+    for number in 1..10 {
+        tx.send(number)?;
+    }
+    Ok(())
+}

@@ -1,0 +1,74 @@
+//! Three threads in a row: one sends squares, one what they come to so far, one the means of these.
+//!
+//! Each channel holds two messages, so a thread that is ahead waits for the next one.
+#![tactic(auto)]
+
+ghost use Rattle.std.specs.Prelude.{◌≤◌};
+
+use flume::error::NoMemory;
+use flume::{Receiver, Sender, Waits};
+use std::{io, thread};
+
+/// The sum of some numbers, and how many they are: at least one.
+#[derive(Drop)]
+struct Total {
+    sum: u64,
+    count: u64,
+    ghost some: { 1 ≤ count },
+}
+
+fn main(rt: HostRuntime) -> io::Result<()> {
+    let (to_add, squares) = flume::on(rt).bounded(2)?;
+    let (to_divide, totals) = flume::on(rt).bounded(2)?;
+    let (to_print, means) = flume::on(rt).bounded(2)?;
+    let counting = thread::spawn(&rt, move || count(&to_add))?;
+    let adding = thread::spawn(&rt, move || add(&squares, &to_divide))?;
+    let dividing = thread::spawn(&rt, move || divide(&totals, &to_print))?;
+    let mut means = means.iter();
+    for mean in means.by_ref() {
+        println!(rt; "{mean}")?;
+    }
+    if means.fault() {
+        return Err(NoMemory.into());
+    }
+    // If a stage failed, its error says why. Those before it only say that nobody received.
+    dividing.join(&rt)?;
+    adding.join(&rt)?;
+    counting.join(&rt)
+}
+
+/// Sends the squares of the numbers from 1 to 10. Then the sender goes, and the next stage ends.
+fn count<R: Waits>(squares: &Sender<u64, R>) -> io::Result<()> {
+    for number in 1..=10u64 {
+        squares.send(number.saturating_mul(number))?;
+    }
+    Ok(())
+}
+
+/// Sends, for each number that it receives, the total of all so far.
+fn add<R: Waits>(numbers: &Receiver<u64, R>, totals: &Sender<Total, R>) -> io::Result<()> {
+    let (mut sum, mut count) = (0u64, 0u64);
+    let mut numbers = numbers.iter();
+    for number in numbers.by_ref() {
+        sum = sum.saturating_add(number);
+        count = count.saturating_add(1);
+        totals.send(Total { sum, count })?;
+    }
+    if numbers.fault() {
+        return Err(NoMemory.into());
+    }
+    Ok(())
+}
+
+/// Sends the mean of each total that it receives, rounded down. No total is of no number: that came
+/// through the channel with the type, so the division is proved.
+fn divide<R: Waits>(totals: &Receiver<Total, R>, means: &Sender<u64, R>) -> io::Result<()> {
+    let mut totals = totals.iter();
+    for total in totals.by_ref() {
+        means.send(total.sum / total.count)?;
+    }
+    if totals.fault() {
+        return Err(NoMemory.into());
+    }
+    Ok(())
+}
