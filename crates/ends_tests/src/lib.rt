@@ -28,3 +28,5 @@ mod one_thread;
 mod parked;
 #[cfg(test)]
 mod room;
+#[cfg(test)]
+mod works;
