@@ -1,8 +1,16 @@
 //! What the program is asked to time.
+ghost use Rattle.channel_bench.specs.Arguments.{CanBeTimed, IsCall, IsCapacityWord, IsNoCall};
+ghost use Rattle.channel_bench.specs.Arguments.{IsNoCapacityWord, IsNoShapeWord, IsShapeWord};
+ghost use Rattle.channel_bench.specs.declared.arguments.Capacity.TheVariants.{Unbounded, Big, Of};
+ghost use Rattle.std.specs.Duration.{as_nanos};
+ghost use Rattle.std.specs.Prelude.{◌≡◌, ◌*◌, ◌/◌, ◌↔◌, ℕ, IsTrue, MatchOption, None, Some};
+ghost use Rattle.std.specs.Prelude.{map, max};
+ghost use Rattle.std.specs.String.{string_bytes};
+
 use std::time::Duration;
 
 /// What one run does.
-#[derive(Clone, Copy, PartialEq, Eq, Debug)]
+#[derive(Clone, Copy)]
 pub enum Shape {
     Seq,
     Spsc,
@@ -16,7 +24,9 @@ pub enum Shape {
 }
 
 impl Shape {
-    fn read(word: &str) -> Option<Shape> {
+    fn read(word: &str) -> Option<Shape>
+        ensures value { MatchOption result (IsNoShapeWord word.now) (IsShapeWord word.now) }
+    {
         match word {
             "seq" => Some(Shape::Seq),
             "spsc" => Some(Shape::Spsc),
@@ -33,7 +43,7 @@ impl Shape {
 }
 
 /// The capacity of the channel.
-#[derive(Clone, Copy, PartialEq, Eq, Debug)]
+#[derive(Clone, Copy)]
 pub enum Capacity {
     Unbounded,
     /// As many as there are messages.
@@ -42,7 +52,10 @@ pub enum Capacity {
 }
 
 impl Capacity {
-    fn read(word: &str) -> Option<Capacity> {
+    fn read(word: &str) -> Option<Capacity>
+        ensures value { MatchOption result (IsNoCapacityWord word.now)
+            (IsCapacityWord word.now) }
+    {
         match word {
             "unbounded" => Some(Capacity::Unbounded),
             "big" => Some(Capacity::Big),
@@ -51,7 +64,11 @@ impl Capacity {
     }
 
     /// The number, `None` of an unbounded channel.
-    pub fn of_messages(self, messages: usize) -> Option<usize> {
+    pub fn of_messages(self, messages: usize) -> Option<usize>
+        ensures unbounded { self ≡ Unbounded → result ≡ None }
+        ensures big { self ≡ Big → result ≡ Some messages }
+        ensures of { (capacity : ℕ) → self ≡ Of capacity → result ≡ Some capacity }
+    {
         match self {
             Capacity::Unbounded => None,
             Capacity::Big => Some(messages),
@@ -61,7 +78,7 @@ impl Capacity {
 }
 
 /// What the program is asked to time.
-#[derive(Clone, Copy, PartialEq, Eq, Debug)]
+#[derive(Clone, Copy)]
 pub struct Arguments {
     pub shape: Shape,
     pub capacity: Capacity,
@@ -71,7 +88,10 @@ pub struct Arguments {
 
 impl Arguments {
     /// Reads `SHAPE CAPACITY MESSAGES [ROUNDS]`. `None` where the words are no such thing.
-    pub fn read(words: &[String]) -> Option<Arguments> {
+    pub fn read(words: &[String]) -> Option<Arguments>
+        ensures value { MatchOption result (IsNoCall (map string_bytes words.now))
+            (IsCall (map string_bytes words.now)) }
+    {
         let (shape, capacity, messages, rounds) = match words {
             [shape, capacity, messages] => (shape, capacity, messages, None),
             [shape, capacity, messages, rounds] => (shape, capacity, messages, Some(rounds)),
@@ -89,20 +109,24 @@ impl Arguments {
     }
 
     /// Whether the shape can be had at this capacity, without waiting for ever.
-    pub fn can_be_timed(&self) -> bool {
+    pub fn can_be_timed(&self) -> bool
+        ensures value { IsTrue result ↔ CanBeTimed self.now.shape self.now.capacity }
+    {
         match self.shape {
             Shape::Seq => !matches!(self.capacity, Capacity::Of(_)),
             Shape::TryFull => matches!(self.capacity, Capacity::Of(_)),
-            Shape::Oneshot | Shape::Inout | Shape::TryPair => self.capacity != Capacity::Of(0),
+            Shape::Oneshot | Shape::Inout | Shape::TryPair => !matches!(
+                self.capacity,
+                Capacity::Of(0)
+            ),
             Shape::Spsc | Shape::Mpsc | Shape::Mpmc | Shape::TryEmpty => true,
         }
     }
 
     /// The time that one message takes, where all take this time, in hundredths of a nanosecond.
-    pub fn hundredths_a_message(&self, time: Duration) -> u128 {
+    pub fn hundredths_a_message(&self, time: Duration) -> u128
+        ensures value { result ≡ as_nanos time * 100 / max 1 self.now.messages }
+    {
         time.as_nanos().saturating_mul(100) / (self.messages.max(1) as u128)
     }
 }
-
-#[cfg(test)]
-mod tests;

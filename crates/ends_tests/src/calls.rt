@@ -1,13 +1,12 @@
 //! The calls of the ends over an allocator that can refuse, with answers that compare in one place.
 use crate::counting::Counting;
-use crate::fixtures::{is, long};
+use crate::fixtures::{is, long, present};
 use flume::error::{
     RecvError, RecvTimeoutError, SendError, SendTimeoutError, TryRecvError, TrySendError,
 };
 use flume::{Receiver, Sender, Waits};
-use std::alloc::Global;
+use std::alloc::{Allocator, Global};
 use std::process::Abort;
-use std::test::Fail;
 use std::time::{Duration, Instant};
 
 /// The allocator of a test's channel.
@@ -98,7 +97,12 @@ fn timed_receive(answer: Result<u64, RecvTimeoutError>) -> Received {
     }
 }
 
-fn send<R: Waits>(tx: &Sender<u64, R, Heap<'_>>, how: How, message: u64, now: Instant) -> Sent {
+fn send<R: Waits, A: Allocator + Copy>(
+    tx: &Sender<u64, R, A>,
+    how: How,
+    message: u64,
+    now: Instant,
+) -> Sent {
     match how {
         How::Tries => tried_send(tx.try_send(message)),
         How::Waits => waiting_send(tx.send(message)),
@@ -108,7 +112,11 @@ fn send<R: Waits>(tx: &Sender<u64, R, Heap<'_>>, how: How, message: u64, now: In
     }
 }
 
-fn receive<R: Waits>(rx: &Receiver<u64, R, Heap<'_>>, how: How, now: Instant) -> Received {
+fn receive<R: Waits, A: Allocator + Copy>(
+    rx: &Receiver<u64, R, A>,
+    how: How,
+    now: Instant,
+) -> Received {
     match how {
         How::Tries => tried_receive(rx.try_recv()),
         How::Waits => waiting_receive(rx.recv()),
@@ -118,28 +126,42 @@ fn receive<R: Waits>(rx: &Receiver<u64, R, Heap<'_>>, how: How, now: Instant) ->
     }
 }
 
-/// Sends by these calls, one after the other, answer so.
-pub(crate) fn sends<R: Waits + Abort>(
+/// A send by this call answers so.
+pub(crate) fn sends_one<R: Waits + Abort, A: Allocator + Copy>(
     rt: &R,
-    tx: &Sender<u64, R, Heap<'_>>,
+    tx: &Sender<u64, R, A>,
+    (how, message, wanted): (How, u64, Sent),
+) {
+    is(rt, send(tx, how, message, present(rt)), wanted);
+}
+
+/// A receive by this call answers so.
+pub(crate) fn receives_one<R: Waits + Abort, A: Allocator + Copy>(
+    rt: &R,
+    rx: &Receiver<u64, R, A>,
+    (how, wanted): (How, Received),
+) {
+    is(rt, receive(rx, how, present(rt)), wanted);
+}
+
+/// Sends by these calls, one after the other, answer so.
+pub(crate) fn sends<R: Waits + Abort, A: Allocator + Copy>(
+    rt: &R,
+    tx: &Sender<u64, R, A>,
     rows: &[(How, u64, Sent)],
-) -> Result<(), Fail> {
-    let now = Instant::now(rt)?;
-    for (how, message, wanted) in rows {
-        is(rt, send(tx, *how, *message, now), *wanted);
+) {
+    for row in rows {
+        sends_one(rt, tx, *row);
     }
-    Ok(())
 }
 
 /// Receives by these calls, one after the other, answer so.
-pub(crate) fn receives<R: Waits + Abort>(
+pub(crate) fn receives<R: Waits + Abort, A: Allocator + Copy>(
     rt: &R,
-    rx: &Receiver<u64, R, Heap<'_>>,
+    rx: &Receiver<u64, R, A>,
     rows: &[(How, Received)],
-) -> Result<(), Fail> {
-    let now = Instant::now(rt)?;
-    for (how, wanted) in rows {
-        is(rt, receive(rx, *how, now), *wanted);
+) {
+    for row in rows {
+        receives_one(rt, rx, *row);
     }
-    Ok(())
 }

@@ -1,11 +1,11 @@
 //! The plain calls and the queries, at each capacity.
 use crate::fixtures::{is, opened};
+use crate::works::{SendOne, started};
 use flume::error::{RecvTimeoutError, TryRecvError, TrySendError};
 use flume::{Receiver, Sender, Waits};
 use std::alloc::AllocError;
 use std::process::Abort;
 use std::test::Fail;
-use std::thread;
 use std::thread::Threads;
 use std::time::Duration;
 
@@ -25,8 +25,8 @@ fn serves_a_send<R: Waits + Threads + Send + Sync + 'static>(
     rt: R,
     (tx, rx): (&Sender<u64, R>, &Receiver<u64, R>),
 ) -> Result<bool, Fail> {
-    let other = tx.clone()?;
-    let sender = thread::spawn(&rt, move || other.send(8).is_ok())?;
+    let tx = tx.clone()?;
+    let sender = started(&rt, SendOne { tx, message: 8 })?;
     let received = rx.recv();
     Ok(sender.join(&rt) && received == Ok(8))
 }
@@ -90,15 +90,24 @@ fn an_unbounded_channel_is_empty_or_not_but_never_full(rt: HostRuntime) -> Resul
     Ok(())
 }
 
+// A send of 1 in another thread meets a receive.
+fn meets_a_send<R: Waits + Abort + Threads + Send + Sync + 'static>(
+    rt: R,
+    (tx, rx): (&Sender<u64, R>, &Receiver<u64, R>),
+) -> Result<(), Fail> {
+    let tx = tx.clone()?;
+    let sender = started(&rt, SendOne { tx, message: 1 })?;
+    is(&rt, rx.recv(), Ok(1));
+    is(&rt, sender.join(&rt), true);
+    Ok(())
+}
+
 #[test]
 fn a_channel_of_capacity_0_is_empty_and_full_at_once(rt: HostRuntime) -> Result<(), Fail> {
     let (tx, rx) = opened::<u64, _>(rt, rt.alloc(), Some(0))?;
     both_hold(rt, (&tx, &rx), 0, Some(0));
     both_are(rt, (&tx, &rx), true, true);
-    let other = tx.clone()?;
-    let sender = thread::spawn(&rt, move || other.send(1).is_ok())?;
-    is(&rt, rx.recv(), Ok(1));
-    assert!(rt; sender.join(&rt));
+    meets_a_send(rt, (&tx, &rx))?;
     both_hold(rt, (&tx, &rx), 0, Some(0));
     both_are(rt, (&tx, &rx), true, true);
     Ok(())

@@ -1,6 +1,7 @@
 //! Clocks of the tests' own: one that can't be read, and one that counts how often it is. And a
 //! timeout so long that no clock comes to its end.
 use crate::fixtures::{Parcel, is, long};
+use crate::works::{Work, started};
 use flume::error::{RecvTimeoutError, SendTimeoutError, TryRecvError, TrySendError};
 use flume::{Receiver, Sender, Waits, bounded};
 use std::io::ErrorKind;
@@ -157,6 +158,22 @@ fn wait_longest<R: Waits>(rx: &Receiver<Parcel, R>, tx: &Sender<Parcel, R>) -> A
     )
 }
 
+// Makes the four calls.
+#[derive(Drop)]
+struct WaitLongest<R: Waits> {
+    rx: Receiver<Parcel, R>,
+    tx: Sender<Parcel, R>,
+}
+
+impl<R: Waits> Work for WaitLongest<R> {
+    type Answer = Answers;
+
+    fn work(self) -> Answers {
+        let WaitLongest { rx, tx } = self;
+        wait_longest(&rx, &tx)
+    }
+}
+
 // Tries to send 1 until a receive that waits takes it. False: the receiver went before.
 fn try_until_taken<R: Waits>(rt: &R, tx: &Sender<Parcel, R>) -> bool {
     for _ in rt.forever() {
@@ -184,7 +201,11 @@ fn try_until_given<R: Waits>(rt: &R, rx: &Receiver<Parcel, R>) -> Result<Parcel,
 fn the_longest_timeout_waits_until_it_is_served_or_closed(rt: HostRuntime) -> Result<(), Fail> {
     let (tx, there) = bounded::<Parcel, _, _>(rt, rt.alloc(), 1, 0)?;
     let (back, rx) = bounded::<Parcel, _, _>(rt, rt.alloc(), 2, 0)?;
-    let waiting = thread::spawn(&rt, move || wait_longest(&there, &back))?;
+    let wait = WaitLongest {
+        rx: there,
+        tx: back,
+    };
+    let waiting = started(&rt, wait)?;
     is(&rt, try_until_taken(&rt, &tx), true);
     is(&rt, try_until_given(&rt, &rx), Ok(Parcel(2)));
     drop(tx);

@@ -1,10 +1,12 @@
 //! Drains at the ends.
 use crate::fixtures::is;
+use crate::works::{SendOne, started};
 use flume::{Drain, Sender, Waits, bounded, unbounded};
 use flume_core::error::{SendTimeoutError, TryRecvError, TrySendError};
 use std::process::Abort;
 use std::test::Fail;
 use std::thread;
+use std::thread::Threads;
 use std::time::Duration;
 
 #[test]
@@ -70,20 +72,28 @@ fn a_channel_goes_on_after_a_drain(rt: HostRuntime) -> Result<(), Fail> {
     Ok(())
 }
 
+// The sum of what a drain gives to another thread, while this one sends 7.
+fn sum_in_a_thread<R: Waits + Abort + Threads>(
+    rt: &R,
+    tx: &Sender<u64, R>,
+    drain: Drain<'_, u64>,
+) -> u64 {
+    thread::scope(thread::scope_env(), rt, |scope| {
+        let Ok(summing) = scope.spawn(move || sum_of(drain)) else {
+            return 0;
+        };
+        // Not one of the drain's.
+        is(rt, tx.send(7).is_ok(), true);
+        summing.join(rt)
+    })
+}
+
 #[test]
 fn a_thread_takes_a_drain_with_it(rt: HostRuntime) -> Result<(), Fail> {
     let (tx, rx) = unbounded::<u64, _, _>(rt, rt.alloc(), 1)?;
     send_hundred(rt, &tx);
     let drain = rx.drain()?;
-    let sum = thread::scope(thread::scope_env(), &rt, |scope| {
-        let Ok(summing) = scope.spawn(move || sum_of(drain)) else {
-            return 0;
-        };
-        // Not one of the drain's.
-        assert!(rt; tx.send(7).is_ok());
-        summing.join(&rt)
-    });
-    is(&rt, sum, 4950);
+    is(&rt, sum_in_a_thread(&rt, &tx, drain), 4950);
     is(&rt, rx.recv(), Ok(7));
     Ok(())
 }
@@ -122,8 +132,11 @@ fn a_drain_shows_what_is_left_of_it(rt: HostRuntime) -> Result<(), Fail> {
 fn no_send_passes_one_that_a_drain_let_in(rt: HostRuntime) -> Result<(), Fail> {
     let (tx, rx) = bounded::<u64, _, _>(rt, rt.alloc(), 1, 1)?;
     assert!(rt; tx.send(1).is_ok());
-    let other = tx.clone()?;
-    let sender = thread::spawn(&rt, move || other.send(2).is_ok())?;
+    let send = SendOne {
+        tx: tx.clone()?,
+        message: 2,
+    };
+    let sender = started(&rt, send)?;
     let mut drain = rx.drain()?;
     is(&rt, (drain.next(), drain.next()), (Some(1), None));
     // Whether it was blocked as the drain came or sent after it, the thread's message moves in.

@@ -5,7 +5,7 @@ use flume::{Receiver, Sender, Waits, bounded, unbounded};
 use std::alloc::Global;
 use std::fmt::Debug;
 use std::process::Abort;
-use std::time::Duration;
+use std::time::{Clock, Duration, Instant};
 
 /// The answer is the wanted one.
 pub(crate) fn is<T: Debug + PartialEq + Drop>(rt: &impl Abort, answer: T, wanted: T) {
@@ -26,6 +26,11 @@ pub(crate) fn opened<T: Drop, R: Waits>(
         Some(capacity) => bounded(rt, alloc, 1, capacity),
         None => unbounded(rt, alloc, 1),
     }
+}
+
+/// The present, by a clock that can be read.
+pub(crate) fn present<R: Clock + Abort>(rt: &R) -> Instant {
+    Instant::now(rt).expect(rt, "the clock can be read")
 }
 
 /// So long that no test waits for its end.

@@ -1,9 +1,9 @@
 //! Iterators over received messages, in one thread and in two.
 use crate::fixtures::is;
-use flume::{IntoIter, Receiver, Waits, bounded, unbounded};
+use crate::works::{Work, started};
+use flume::{IntoIter, Receiver, Sender, Waits, bounded, unbounded};
 use flume_core::error::TrySendError;
 use std::test::Fail;
-use std::thread;
 
 #[test]
 fn a_tried_iterator_gives_all_that_a_full_channel_holds(rt: HostRuntime) -> Result<(), Fail> {
@@ -76,15 +76,28 @@ fn sum_by_loop<R: Waits>(rx: &Receiver<u64, R>) -> u64 {
     sum
 }
 
+// Sends 0 to 9.
+#[derive(Drop)]
+struct SendTen<R: Waits> {
+    tx: Sender<u64, R>,
+}
+
+impl<R: Waits> Work for SendTen<R> {
+    type Answer = ();
+
+    fn work(self) {
+        let SendTen { tx } = self;
+        for message in 0..10 {
+            let _ = tx.send(message);
+        }
+    }
+}
+
 #[test]
 fn an_iterator_gives_what_another_thread_sends(rt: HostRuntime) -> Result<(), Fail> {
     for by_next in [true, false] {
         let (tx, rx) = unbounded::<u64, _, _>(rt, rt.alloc(), 1)?;
-        let sender = thread::spawn(&rt, move || {
-            for message in 0..10 {
-                let _ = tx.send(message);
-            }
-        })?;
+        let sender = started(&rt, SendTen { tx })?;
         let sum = if by_next {
             sum_by_next(&rx)
         } else {
@@ -105,13 +118,28 @@ fn sum_of<R: Waits>(messages: IntoIter<u64, R>) -> u64 {
     sum
 }
 
+// Sums up what an iterator gives that has its receiver.
+#[derive(Drop)]
+struct SumOf<R: Waits> {
+    messages: IntoIter<u64, R>,
+}
+
+impl<R: Waits> Work for SumOf<R> {
+    type Answer = u64;
+
+    fn work(self) -> u64 {
+        let SumOf { messages } = self;
+        sum_of(messages)
+    }
+}
+
 #[test]
 fn a_thread_takes_an_iterator_with_it(rt: HostRuntime) -> Result<(), Fail> {
     let (tx, rx) = unbounded::<u64, _, _>(rt, rt.alloc(), 1)?;
     let mut messages = rx.into_iter();
     assert!(rt; tx.send(1).is_ok());
     is(&rt, messages.next(), Some(1));
-    let summing = thread::spawn(&rt, move || sum_of(messages))?;
+    let summing = started(&rt, SumOf { messages })?;
     for message in 0..100 {
         assert!(rt; tx.send(message).is_ok());
     }

@@ -1,14 +1,16 @@
 //! Nothing is leaked: each message is dropped once, and with its ends a channel gives back all the
 //! memory that it took.
 use crate::counting::Counting;
-use crate::fixtures::{is, long};
+use crate::fixtures::{is, long, present};
 use flume::error::{RecvTimeoutError, SendError, SendTimeoutError, TrySendError};
 use flume::{Receiver, Sender, Waits, bounded, unbounded};
-use std::alloc::Global;
+use std::alloc::Allocator;
 use std::process::Abort;
 use std::sync::atomic::{AtomicU64, Ordering};
 use std::test::Fail;
-use std::time::Instant;
+
+// What is wrong where a call is refused for memory.
+const MEMORY: &str = "there is memory";
 
 // A message that counts its drops.
 struct Counted<'a> {
@@ -28,9 +30,9 @@ fn dropped<R: Abort>(rt: &R, drops: &AtomicU64, wanted: u64) {
 }
 
 // Queues so many messages.
-fn queue<'a, R: Waits + Abort>(
+fn queue<'a, R: Waits + Abort, A: Allocator + Copy>(
     rt: &R,
-    tx: &Sender<Counted<'a>, R, &Counting<Global>>,
+    tx: &Sender<Counted<'a>, R, A>,
     drops: &'a AtomicU64,
     count: u64,
 ) {
@@ -39,45 +41,56 @@ fn queue<'a, R: Waits + Abort>(
     }
 }
 
+// Which error an answer has.
+fn tried_is_full<T>(answer: &Result<(), TrySendError<T>>) -> bool {
+    matches!(answer, Err(TrySendError::Full(_)))
+}
+
+fn tried_is_closed<T>(answer: &Result<(), TrySendError<T>>) -> bool {
+    matches!(answer, Err(TrySendError::Disconnected(_)))
+}
+
+fn sent_is_closed<T>(answer: &Result<(), SendError<T>>) -> bool {
+    matches!(answer, Err(SendError::Disconnected(_)))
+}
+
+fn timed_is_late<T>(answer: &Result<(), SendTimeoutError<T>>) -> bool {
+    matches!(answer, Err(SendTimeoutError::Timeout(_)))
+}
+
+fn timed_is_closed<T>(answer: &Result<(), SendTimeoutError<T>>) -> bool {
+    matches!(answer, Err(SendTimeoutError::Disconnected(_)))
+}
+
 // Four sends into a full channel, each of which is refused and hands its message back.
-fn full_sends<'a, R: Waits + Abort>(
+fn full_sends<'a, R: Waits + Abort, A: Allocator + Copy>(
     rt: &R,
-    tx: &Sender<Counted<'a>, R, &Counting<Global>>,
+    tx: &Sender<Counted<'a>, R, A>,
     drops: &'a AtomicU64,
-) -> Result<(), Fail> {
-    let now = Instant::now(rt)?;
+) {
     let full = tx.try_send(Counted { drops });
-    is(rt, matches!(full, Err(TrySendError::Full(_))), true);
-    let late = tx.send_deadline(Counted { drops }, now);
-    is(rt, matches!(late, Err(SendTimeoutError::Timeout(_))), true);
+    is(rt, tried_is_full(&full), true);
+    let late = tx.send_deadline(Counted { drops }, present(rt));
+    is(rt, timed_is_late(&late), true);
     // Both hold their message still.
     dropped(rt, drops, 0);
     drop(full);
     drop(late);
     dropped(rt, drops, 2);
-    Ok(())
 }
 
 // Three sends into a closed channel.
-fn closed_sends<'a, R: Waits + Abort>(
+fn closed_sends<'a, R: Waits + Abort, A: Allocator + Copy>(
     rt: &R,
-    tx: &Sender<Counted<'a>, R, &Counting<Global>>,
+    tx: &Sender<Counted<'a>, R, A>,
     drops: &'a AtomicU64,
 ) {
     let tried = tx.try_send(Counted { drops });
-    is(
-        rt,
-        matches!(tried, Err(TrySendError::Disconnected(_))),
-        true,
-    );
+    is(rt, tried_is_closed(&tried), true);
     let sent = tx.send(Counted { drops });
-    is(rt, matches!(sent, Err(SendError::Disconnected(_))), true);
+    is(rt, sent_is_closed(&sent), true);
     let timed = tx.send_timeout(Counted { drops }, long());
-    is(
-        rt,
-        matches!(timed, Err(SendTimeoutError::Disconnected(_))),
-        true,
-    );
+    is(rt, timed_is_closed(&timed), true);
 }
 
 #[test]
@@ -86,7 +99,7 @@ fn a_message_that_is_handed_back_is_dropped_once(rt: HostRuntime) -> Result<(), 
     let heap = Counting::new(rt.alloc());
     let (tx, rx) = bounded::<Counted, _, _>(rt, &heap, 1, 2)?;
     queue(&rt, &tx, &drops, 2);
-    full_sends(&rt, &tx, &drops)?;
+    full_sends(&rt, &tx, &drops);
     drop(rx);
     closed_sends(&rt, &tx, &drops);
     dropped(&rt, &drops, 5);
@@ -98,15 +111,14 @@ fn a_message_that_is_handed_back_is_dropped_once(rt: HostRuntime) -> Result<(), 
 }
 
 // Receives a message by each call, and drops it.
-fn receive_four<'a, R: Waits + Abort>(
+fn receive_four<'a, R: Waits + Abort, A: Allocator + Copy>(
     rt: &R,
-    rx: &Receiver<Counted<'a>, R, &Counting<Global>>,
-) -> Result<(), Fail> {
+    rx: &Receiver<Counted<'a>, R, A>,
+) {
     is(rt, rx.try_recv().is_ok(), true);
     is(rt, rx.recv().is_ok(), true);
     is(rt, rx.recv_timeout(long()).is_ok(), true);
-    is(rt, rx.recv_deadline(Instant::now(rt)?).is_ok(), true);
-    Ok(())
+    is(rt, rx.recv_deadline(present(rt)).is_ok(), true);
 }
 
 #[test]
@@ -115,7 +127,7 @@ fn a_received_message_is_dropped_once(rt: HostRuntime) -> Result<(), Fail> {
     let heap = Counting::new(rt.alloc());
     let (tx, rx) = unbounded::<Counted, _, _>(rt, &heap, 1)?;
     queue(&rt, &tx, &drops, 9);
-    receive_four(&rt, &rx)?;
+    receive_four(&rt, &rx);
     dropped(&rt, &drops, 4);
     is(&rt, rx.iter().next().is_some(), true);
     is(&rt, rx.try_iter().next().is_some(), true);
@@ -137,7 +149,7 @@ fn a_drained_message_is_dropped_once(rt: HostRuntime) -> Result<(), Fail> {
     let heap = Counting::new(rt.alloc());
     let (tx, rx) = unbounded::<Counted, _, _>(rt, &heap, 1)?;
     queue(&rt, &tx, &drops, 3);
-    let mut drain = rx.drain()?;
+    let mut drain = rx.drain().expect(&rt, MEMORY);
     is(&rt, drain.next().is_some(), true);
     dropped(&rt, &drops, 1);
     // A message that comes after isn't of the drain.
@@ -156,7 +168,7 @@ fn calls_that_time_out_give_back_what_they_took(rt: HostRuntime) -> Result<(), F
     let drops = AtomicU64::new(0);
     let heap = Counting::new(rt.alloc());
     let (tx, rx) = bounded::<Counted, _, _>(rt, &heap, 1, 1)?;
-    let now = Instant::now(&rt)?;
+    let now = present(&rt);
     for _ in 0..100 {
         let late = rx.recv_deadline(now).err();
         is(&rt, late, Some(RecvTimeoutError::Timeout));
@@ -164,11 +176,12 @@ fn calls_that_time_out_give_back_what_they_took(rt: HostRuntime) -> Result<(), F
     queue(&rt, &tx, &drops, 1);
     for _ in 0..100 {
         let late = tx.send_deadline(Counted { drops: &drops }, now);
-        is(&rt, matches!(late, Err(SendTimeoutError::Timeout(_))), true);
+        is(&rt, timed_is_late(&late), true);
     }
     dropped(&rt, &drops, 100);
-    let weak = tx.downgrade()?;
-    let (other, another) = (tx.clone()?, rx.clone()?);
+    let weak = tx.downgrade().expect(&rt, MEMORY);
+    let other = tx.clone().expect(&rt, MEMORY);
+    let another = rx.clone().expect(&rt, MEMORY);
     drop((tx, rx, other, another));
     dropped(&rt, &drops, 101);
     // What the ends share goes with the last of them, one that doesn't count too.

@@ -34,3 +34,5 @@ mod parked;
 mod room;
 #[cfg(test)]
 mod signatures;
+#[cfg(test)]
+mod works;

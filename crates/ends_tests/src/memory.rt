@@ -1,9 +1,12 @@
 //! Want of memory: what a channel answers whose allocator refuses, and that it goes on after.
-use crate::calls::{Heap, How, Received, Sent, receives, sends, tried_receive, tried_send};
+use crate::calls::{
+    How, Received, Sent, receives, receives_one, sends, sends_one, tried_receive, tried_send,
+};
 use crate::counting::Counting;
 use crate::fixtures::is;
 use flume::error::NoMemory;
-use flume::{Receiver, Sender, Waits, bounded, unbounded};
+use flume::{Receiver, Sender, Waits, WeakSender, bounded, unbounded};
+use std::alloc::Allocator;
 use std::process::Abort;
 use std::test::Fail;
 
@@ -68,10 +71,10 @@ const CLOSED_RECEIVES: &[(How, Received)] = &[
 ];
 
 // The channel holds so many messages, both ends are there, and it is open.
-fn holds<R: Waits + Abort>(
+fn holds<R: Waits + Abort, A: Allocator + Copy>(
     rt: &R,
-    tx: &Sender<u64, R, Heap<'_>>,
-    rx: &Receiver<u64, R, Heap<'_>>,
+    tx: &Sender<u64, R, A>,
+    rx: &Receiver<u64, R, A>,
     len: usize,
 ) {
     is(rt, (tx.len(), rx.len()), (len, len));
@@ -86,19 +89,20 @@ fn receives_that_find_no_memory_say_so_and_the_channel_goes_on(
 ) -> Result<(), Fail> {
     let heap = Counting::new(rt.alloc());
     let (tx, rx) = bounded::<u64, _, _>(rt, &heap, 1, 1)?;
-    sends(&rt, &tx, &[(How::Tries, 1, Sent::Done)])?;
-    receives(&rt, &rx, &[(How::Tries, Received::Message(1))])?;
+    sends_one(&rt, &tx, (How::Tries, 1, Sent::Done));
+    receives_one(&rt, &rx, (How::Tries, Received::Message(1)));
     let live = heap.live();
     heap.refuse(true);
-    receives(&rt, &rx, REFUSED_RECEIVES)?;
+    receives(&rt, &rx, REFUSED_RECEIVES);
     holds(&rt, &tx, &rx, 0);
-    sends(&rt, &tx, &[(How::Waits, 2, Sent::Done)])?;
-    receives(&rt, &rx, &[(How::Waits, Received::Message(2))])?;
+    sends_one(&rt, &tx, (How::Waits, 2, Sent::Done));
+    receives_one(&rt, &rx, (How::Waits, Received::Message(2)));
     is(&rt, heap.live(), live);
     heap.refuse(false);
-    receives(&rt, &rx, &[(How::Now, Received::Late)])?;
-    sends(&rt, &tx, &[(How::Waits, 3, Sent::Done)])?;
-    receives(&rt, &rx, &[(How::Waits, Received::Message(3))])
+    receives_one(&rt, &rx, (How::Now, Received::Late));
+    sends_one(&rt, &tx, (How::Waits, 3, Sent::Done));
+    receives_one(&rt, &rx, (How::Waits, Received::Message(3)));
+    Ok(())
 }
 
 #[test]
@@ -107,21 +111,19 @@ fn sends_without_room_that_find_no_memory_say_so_and_the_channel_goes_on(
 ) -> Result<(), Fail> {
     let heap = Counting::new(rt.alloc());
     let (tx, rx) = bounded::<u64, _, _>(rt, &heap, 1, 1)?;
-    sends(&rt, &tx, &[(How::Tries, 1, Sent::Done)])?;
+    sends_one(&rt, &tx, (How::Tries, 1, Sent::Done));
     let live = heap.live();
     heap.refuse(true);
-    sends(&rt, &tx, REFUSED_SENDS)?;
+    sends(&rt, &tx, REFUSED_SENDS);
     holds(&rt, &tx, &rx, 1);
-    receives(&rt, &rx, &[(How::Waits, Received::Message(1))])?;
-    sends(&rt, &tx, &[(How::Waits, 6, Sent::Done)])?;
+    receives_one(&rt, &rx, (How::Waits, Received::Message(1)));
+    sends_one(&rt, &tx, (How::Waits, 6, Sent::Done));
     is(&rt, heap.live(), live);
     heap.refuse(false);
-    sends(&rt, &tx, &[(How::Now, 7, Sent::Late(7))])?;
-    let left = &[
-        (How::Waits, Received::Message(6)),
-        (How::Tries, Received::Empty),
-    ];
-    receives(&rt, &rx, left)
+    sends_one(&rt, &tx, (How::Now, 7, Sent::Late(7)));
+    receives_one(&rt, &rx, (How::Waits, Received::Message(6)));
+    receives_one(&rt, &rx, (How::Tries, Received::Empty));
+    Ok(())
 }
 
 #[test]
@@ -130,17 +132,18 @@ fn a_queue_that_cannot_grow_hands_the_message_back(rt: HostRuntime) -> Result<()
     let (tx, rx) = unbounded::<u64, _, _>(rt, &heap, 1)?;
     let live = heap.live();
     heap.refuse(true);
-    sends(&rt, &tx, REFUSED_GROWTHS)?;
+    sends(&rt, &tx, REFUSED_GROWTHS);
     holds(&rt, &tx, &rx, 0);
-    receives(&rt, &rx, &[(How::Tries, Received::Empty)])?;
+    receives_one(&rt, &rx, (How::Tries, Received::Empty));
     is(&rt, heap.live(), live);
     heap.refuse(false);
-    sends(&rt, &tx, &[(How::Waits, 5, Sent::Done)])?;
-    receives(&rt, &rx, &[(How::Waits, Received::Message(5))])
+    sends_one(&rt, &tx, (How::Waits, 5, Sent::Done));
+    receives_one(&rt, &rx, (How::Waits, Received::Message(5)));
+    Ok(())
 }
 
 // Sends 1, 2 and so on, and says which one was refused for memory.
-fn sent_until_refused<R: Waits>(tx: &Sender<u64, R, Heap<'_>>) -> Option<u64> {
+fn sent_until_refused<R: Waits, A: Allocator + Copy>(tx: &Sender<u64, R, A>) -> Option<u64> {
     for message in 1..MOST {
         match tried_send(tx.try_send(message)) {
             Sent::Done => {}
@@ -152,7 +155,11 @@ fn sent_until_refused<R: Waits>(tx: &Sender<u64, R, Heap<'_>>) -> Option<u64> {
 }
 
 // The messages below this one are received in order.
-fn receives_below<R: Waits + Abort>(rt: &R, rx: &Receiver<u64, R, Heap<'_>>, end: u64) {
+fn receives_below<R: Waits + Abort, A: Allocator + Copy>(
+    rt: &R,
+    rx: &Receiver<u64, R, A>,
+    end: u64,
+) {
     for message in 0..end {
         is(rt, tried_receive(rx.try_recv()), Received::Message(message));
     }
@@ -162,7 +169,7 @@ fn receives_below<R: Waits + Abort>(rt: &R, rx: &Receiver<u64, R, Heap<'_>>, end
 fn a_refused_growth_leaves_what_is_queued(rt: HostRuntime) -> Result<(), Fail> {
     let heap = Counting::new(rt.alloc());
     let (tx, rx) = unbounded::<u64, _, _>(rt, &heap, 1)?;
-    sends(&rt, &tx, &[(How::Tries, 0, Sent::Done)])?;
+    sends_one(&rt, &tx, (How::Tries, 0, Sent::Done));
     heap.refuse(true);
     let refused = sent_until_refused(&tx).expect(&rt, "the queue's room is used up");
     is(&rt, rx.len() as u64, refused);
@@ -175,16 +182,16 @@ fn a_refused_growth_leaves_what_is_queued(rt: HostRuntime) -> Result<(), Fail> {
 fn a_drain_that_finds_no_memory_takes_nothing(rt: HostRuntime) -> Result<(), Fail> {
     let heap = Counting::new(rt.alloc());
     let (tx, rx) = unbounded::<u64, _, _>(rt, &heap, 1)?;
-    let queued = &[(How::Tries, 1, Sent::Done), (How::Waits, 2, Sent::Done)];
-    sends(&rt, &tx, queued)?;
+    sends_one(&rt, &tx, (How::Tries, 1, Sent::Done));
+    sends_one(&rt, &tx, (How::Waits, 2, Sent::Done));
     let live = heap.live();
     heap.refuse(true);
     is(&rt, rx.drain().is_err(), true);
     holds(&rt, &tx, &rx, 2);
-    receives(&rt, &rx, &[(How::Waits, Received::Message(1))])?;
+    receives_one(&rt, &rx, (How::Waits, Received::Message(1)));
     is(&rt, heap.live(), live);
     heap.refuse(false);
-    let mut drain = rx.drain()?;
+    let mut drain = rx.drain().expect(&rt, "there is memory");
     is(&rt, (drain.next(), drain.next()), (Some(2), None));
     Ok(())
 }
@@ -203,10 +210,10 @@ fn no_channel_is_opened_where_there_is_no_memory(rt: HostRuntime) -> Result<(), 
 
 // What the two lent iterators give while memory is refused, of a channel of capacity 1 that holds
 // 1. It holds nothing then.
-fn lent_iterators_go_on<R: Waits + Abort>(
+fn lent_iterators_go_on<R: Waits + Abort, A: Allocator + Copy>(
     rt: &R,
-    tx: &Sender<u64, R, Heap<'_>>,
-    rx: &Receiver<u64, R, Heap<'_>>,
+    tx: &Sender<u64, R, A>,
+    rx: &Receiver<u64, R, A>,
 ) {
     let mut messages = rx.iter();
     is(rt, (messages.next(), messages.fault()), (Some(1), false));
@@ -221,49 +228,67 @@ fn lent_iterators_go_on<R: Waits + Abort>(
 fn an_iterator_tells_want_of_memory_from_the_end(rt: HostRuntime) -> Result<(), Fail> {
     let heap = Counting::new(rt.alloc());
     let (tx, rx) = bounded::<u64, _, _>(rt, &heap, 1, 1)?;
-    sends(&rt, &tx, &[(How::Tries, 1, Sent::Done)])?;
+    sends_one(&rt, &tx, (How::Tries, 1, Sent::Done));
     heap.refuse(true);
     lent_iterators_go_on(&rt, &tx, &rx);
     let mut messages = rx.into_iter();
     is(&rt, (messages.next(), messages.fault()), (None, true));
-    sends(&rt, &tx, &[(How::Tries, 3, Sent::Done)])?;
+    sends_one(&rt, &tx, (How::Tries, 3, Sent::Done));
     drop(tx);
     is(&rt, (messages.next(), messages.fault()), (Some(3), false));
     is(&rt, (messages.next(), messages.fault()), (None, false));
     Ok(())
 }
 
-// What an empty channel of capacity 2 answers while memory is refused. It holds nothing then.
-fn messages_pass<R: Waits + Abort>(
+// What is wrong where a call is refused for memory.
+const NEEDS_NONE: &str = "the call needs no memory";
+
+// How many messages a drain takes.
+fn drained<R: Waits + Abort, A: Allocator + Copy>(rt: &R, rx: &Receiver<u64, R, A>) -> usize {
+    rx.drain().expect(rt, NEEDS_NONE).len()
+}
+
+// A clone of a weak sender.
+fn weakened<R: Waits + Abort, A: Allocator + Copy>(
     rt: &R,
-    tx: &Sender<u64, R, Heap<'_>>,
-    rx: &Receiver<u64, R, Heap<'_>>,
-) -> Result<(), Fail> {
-    is(rt, rx.drain()?.len(), 0);
-    sends(rt, tx, FILLING_SENDS)?;
-    receives(rt, rx, EMPTYING_RECEIVES)?;
-    sends(rt, tx, TIMED_SENDS)?;
-    receives(rt, rx, TIMED_RECEIVES)
+    tx: &Sender<u64, R, A>,
+) -> WeakSender<u64, R, A> {
+    let weak = tx.downgrade().expect(rt, NEEDS_NONE);
+    weak.clone().expect(rt, NEEDS_NONE)
+}
+
+// What an empty channel of capacity 2 answers while memory is refused. It holds nothing then.
+fn messages_pass<R: Waits + Abort, A: Allocator + Copy>(
+    rt: &R,
+    tx: &Sender<u64, R, A>,
+    rx: &Receiver<u64, R, A>,
+) {
+    is(rt, drained(rt, rx), 0);
+    sends(rt, tx, FILLING_SENDS);
+    receives(rt, rx, EMPTYING_RECEIVES);
+    sends(rt, tx, TIMED_SENDS);
+    receives(rt, rx, TIMED_RECEIVES);
 }
 
 #[test]
 fn a_call_that_need_not_wait_or_grow_needs_no_memory(rt: HostRuntime) -> Result<(), Fail> {
     let heap = Counting::new(rt.alloc());
     let (tx, rx) = bounded::<u64, _, _>(rt, &heap, 1, 2)?;
-    messages_pass(&rt, &tx, &rx)?;
+    messages_pass(&rt, &tx, &rx);
     let live = heap.live();
     heap.refuse(true);
-    messages_pass(&rt, &tx, &rx)?;
+    messages_pass(&rt, &tx, &rx);
     holds(&rt, &tx, &rx, 0);
-    let weak = tx.downgrade()?.clone()?;
-    let upgraded = weak.upgrade()?;
+    let weak = weakened(&rt, &tx);
+    let upgraded = weak.upgrade().expect(&rt, NEEDS_NONE);
     is(&rt, upgraded.is_some(), true);
-    let (other, another) = (tx.clone()?, rx.clone()?);
+    let other = tx.clone().expect(&rt, NEEDS_NONE);
+    let another = rx.clone().expect(&rt, NEEDS_NONE);
     is(&rt, (tx.sender_count(), rx.receiver_count()), (3, 2));
     drop((rx, another));
-    sends(&rt, &tx, CLOSED_SENDS)?;
+    sends(&rt, &tx, CLOSED_SENDS);
     drop((tx, other, upgraded));
-    is(&rt, weak.upgrade()?.is_none(), true);
+    is(&rt, weak.upgrade().expect(&rt, NEEDS_NONE).is_none(), true);
     is(&rt, heap.live(), live);
     Ok(())
 }
@@ -275,8 +300,8 @@ fn a_receive_of_a_closed_channel_needs_no_memory(rt: HostRuntime) -> Result<(), 
     let live = heap.live();
     heap.refuse(true);
     drop(tx);
-    receives(&rt, &rx, CLOSED_RECEIVES)?;
-    is(&rt, rx.drain()?.len(), 0);
+    receives(&rt, &rx, CLOSED_RECEIVES);
+    is(&rt, drained(&rt, &rx), 0);
     is(&rt, heap.live(), live);
     Ok(())
 }

@@ -1,5 +1,6 @@
 //! What becomes of a message as one side goes: it comes back, or it is still received.
 use crate::fixtures::{Parcel, is, long, opened};
+use crate::works::{Work, started};
 use flume::error::{
     RecvError, RecvTimeoutError, SendError, SendTimeoutError, TryRecvError, TrySendError,
 };
@@ -81,10 +82,25 @@ fn tried_until_one_comes<R: Waits>(rt: &R, rx: &Receiver<Parcel, R>) -> Parcel {
     unreachable!()
 }
 
+// Sends a message, and answers whether it was taken.
+#[derive(Drop)]
+struct SendParcel<R: Waits> {
+    tx: Sender<Parcel, R>,
+}
+
+impl<R: Waits> Work for SendParcel<R> {
+    type Answer = bool;
+
+    fn work(self) -> bool {
+        let SendParcel { tx } = self;
+        tx.send(Parcel(1)).is_ok()
+    }
+}
+
 #[test]
 fn a_tried_receive_takes_a_blocked_send(rt: HostRuntime) -> Result<(), Fail> {
     let (tx, rx) = opened(rt, rt.alloc(), Some(0))?;
-    let sender = thread::spawn(&rt, move || tx.send(Parcel(1)).is_ok())?;
+    let sender = started(&rt, SendParcel { tx })?;
     is(&rt, tried_until_one_comes(&rt, &rx), Parcel(1));
     assert!(rt; sender.join(&rt));
     is(&rt, rx.try_recv(), Err(TryRecvError::Disconnected));

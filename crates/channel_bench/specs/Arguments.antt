@@ -1,0 +1,74 @@
+-- What the words of a call ask for.
+use Rattle.std.specs.Prelude.{◌≡◌, ℕ, ◌^◌, ◌<◌, ⊤, List, [], ◌∷◌, codes}
+use Rattle.std.specs.Str.Parse.{IsNumeral, digits_value, without_leading_plus}
+use Rattle.channel_bench.specs.declared.arguments.Arguments.{Arguments}
+use Rattle.channel_bench.specs.declared.arguments.Capacity.{Capacity}
+use Rattle.channel_bench.specs.declared.arguments.Capacity.TheVariants.{Unbounded, Big, Of}
+use Rattle.channel_bench.specs.declared.arguments.Shape.{Shape}
+use Rattle.channel_bench.specs.declared.arguments.Shape.TheVariants.{Seq, Spsc, Mpsc, Mpmc, Oneshot}
+use Rattle.channel_bench.specs.declared.arguments.Shape.TheVariants.{Inout, TryPair, TryEmpty, TryFull}
+
+-- the word of a shape
+abbrev pub shape_word : Shape → List ℕ
+shape_word Seq = codes "seq"
+shape_word Spsc = codes "spsc"
+shape_word Mpsc = codes "mpsc"
+shape_word Mpmc = codes "mpmc"
+shape_word Oneshot = codes "oneshot"
+shape_word Inout = codes "inout"
+shape_word TryPair = codes "try_pair"
+shape_word TryEmpty = codes "try_empty"
+shape_word TryFull = codes "try_full"
+
+-- the word names this shape
+abbrev pub IsShapeWord : List ℕ → Shape → Type 0
+IsShapeWord word shape = word ≡ shape_word shape
+
+-- the word is the digits of this number, which is below 2 ^ 64; a plus may stand first
+pub record IsNumber (word : List ℕ) (number : ℕ) : Type 0 where
+  pub numeral : IsNumeral 10 (without_leading_plus word)
+  pub value : digits_value 10 (without_leading_plus word) ≡ number
+  pub fits : number < 2 ^ 64
+
+-- the word is this capacity
+abbrev pub IsCapacityWord : List ℕ → Capacity → Type 0
+IsCapacityWord word Unbounded = word ≡ codes "unbounded"
+IsCapacityWord word Big = word ≡ codes "big"
+IsCapacityWord word (Of number) = IsNumber word number
+
+-- the words ask for this number of rounds: 1 where there is none
+abbrev pub IsRounds : List (List ℕ) → ℕ → Type 0
+IsRounds [] rounds = rounds ≡ 1
+IsRounds (word ∷ []) rounds = IsNumber word rounds
+IsRounds _ _ = ⊥
+
+-- the words ask for this: a shape, a capacity, how many messages, and how many rounds
+abbrev pub IsCall : List (List ℕ) → Arguments → Type 0
+IsCall (shape ∷ capacity ∷ messages ∷ rounds) call =
+    IsShapeWord shape call.shape × IsCapacityWord capacity call.capacity
+    × IsNumber messages call.messages × IsRounds rounds call.rounds
+IsCall _ _ = ⊥
+
+-- the word names no shape
+abbrev pub IsNoShapeWord : List ℕ → Type 0
+IsNoShapeWord word = (shape : Shape) → ¬ IsShapeWord word shape
+
+-- the word is no capacity
+abbrev pub IsNoCapacityWord : List ℕ → Type 0
+IsNoCapacityWord word = (capacity : Capacity) → ¬ IsCapacityWord word capacity
+
+-- the words ask for nothing that can be read
+abbrev pub IsNoCall : List (List ℕ) → Type 0
+IsNoCall words = (call : Arguments) → ¬ IsCall words call
+
+-- the shape can be timed at this capacity: one thread that sends all, and then receives all, would
+-- wait for ever at a number of messages, one that sends a message and then receives it at 0, and
+-- a channel of no number is never full
+abbrev pub CanBeTimed : Shape → Capacity → Type 0
+CanBeTimed Seq (Of _) = ⊥
+CanBeTimed Oneshot (Of capacity) = 0 < capacity
+CanBeTimed Inout (Of capacity) = 0 < capacity
+CanBeTimed TryPair (Of capacity) = 0 < capacity
+CanBeTimed TryFull Unbounded = ⊥
+CanBeTimed TryFull Big = ⊥
+CanBeTimed _ _ = ⊤

@@ -1,0 +1,41 @@
+//! What a thread does, as a value: a closure costs the prover several times as much in each test.
+use flume::{Sender, Waits};
+use std::test::Fail;
+use std::thread;
+use std::thread::{JoinHandle, Threads};
+
+/// What a thread does.
+pub(crate) trait Work {
+    /// What it answers as it ends.
+    type Answer;
+
+    /// Does it.
+    fn work(self) -> Self::Answer;
+}
+
+/// Starts a thread that does this.
+pub(crate) fn started<R: Threads, W: Work + Send + Drop + 'static>(
+    rt: &R,
+    work: W,
+) -> Result<JoinHandle<W::Answer>, Fail>
+where
+    W::Answer: Send + Drop + 'static,
+{
+    Ok(thread::spawn(rt, move || work.work())?)
+}
+
+/// Sends a number, and answers whether it was taken.
+#[derive(Drop)]
+pub(crate) struct SendOne<R: Waits> {
+    pub(crate) tx: Sender<u64, R>,
+    pub(crate) message: u64,
+}
+
+impl<R: Waits> Work for SendOne<R> {
+    type Answer = bool;
+
+    fn work(self) -> bool {
+        let SendOne { tx, message } = self;
+        tx.send(message).is_ok()
+    }
+}
