@@ -56,50 +56,57 @@ impl Altered {
         alloc: Global,
         steps: &[Step<u64>],
     ) -> Result<Vec<Reply<u64>>, Fail> {
-        let replies = run(alloc, &mut self.chan, steps.to_vec(alloc)?);
-        let mut replies = replies.ok().ok_or("out of memory")?;
-        for (step, reply) in steps.iter().zip(replies.iter_mut()) {
-            self.alter(step, reply);
-        }
+        let mut replies = self.right_replies(alloc, steps)?;
+        self.alter_each(steps, replies.as_mut_slice());
         Ok(replies)
     }
 
+    // The replies to the steps as they should be.
+    fn right_replies(
+        &mut self,
+        alloc: Global,
+        steps: &[Step<u64>],
+    ) -> Result<Vec<Reply<u64>>, Fail> {
+        let steps = steps.to_vec(alloc)?;
+        match run(alloc, &mut self.chan, steps) {
+            Ok(replies) => Ok(replies),
+            Err(_) => Err("out of memory".into()),
+        }
+    }
+
+    fn alter_each(&mut self, steps: &[Step<u64>], replies: &mut [Reply<u64>]) {
+        for (step, reply) in steps.iter().zip(replies.iter_mut()) {
+            self.alter(step, reply);
+        }
+    }
+
     fn alter(&mut self, step: &Step<u64>, reply: &mut Reply<u64>) {
-        let is_altered = match reply {
-            Reply::Drained(list) => self.wrong == Wrong::ChangesOrder && is_changed(list),
-            reply => match self.instead(step, reply) {
-                None => false,
-                Some(other) => {
-                    *reply = other;
-                    true
-                }
-            },
-        };
-        if is_altered {
+        if self.is_altered(step, reply) {
             self.altered = self.altered.saturating_add(1);
+        }
+    }
+
+    // True where the reply has another in its place from now on.
+    fn is_altered(&mut self, step: &Step<u64>, reply: &mut Reply<u64>) -> bool {
+        if let Reply::Drained(list) = reply {
+            return self.wrong == Wrong::ChangesOrder && is_changed(list);
+        }
+        match self.instead(step, reply) {
+            None => false,
+            Some(other) => {
+                *reply = other;
+                true
+            }
         }
     }
 
     // The reply that is given in place of this one, if another is.
     fn instead(&mut self, step: &Step<u64>, reply: &Reply<u64>) -> Option<Reply<u64>> {
-        match (step, reply) {
-            (_, Reply::Sent { filled }) => self.sent(*filled),
-            (Step::Poll(ticket), Reply::Got(message)) => {
-                self.got(*ticket, *message, Reply::Ended)
-            }
-            (Step::Withdraw(ticket), Reply::Got(message)) => {
-                let (closed, filled) = (false, None);
-                self.got(*ticket, *message, Reply::Gone { closed, filled })
-            }
-            (Step::Poll(ticket), Reply::NoTicket) => self.asked_again(*ticket),
-            (Step::Withdraw(ticket), Reply::NoTicket) => self.asked_again(*ticket),
-            (_, Reply::Got(message)) => {
-                self.received = Some(*message);
-                None
-            }
-            (Step::TryRecv, Reply::Empty) if self.wrong == Wrong::GivesTwice => {
-                self.received.take().map(|message| Reply::Got(message))
-            }
+        match reply {
+            Reply::Sent { filled } => self.sent(*filled),
+            Reply::Got(message) => self.got(step, *message),
+            Reply::NoTicket => self.asked_again(step),
+            Reply::Empty => self.found_nothing(step),
             _ => None,
         }
     }
@@ -117,21 +124,53 @@ impl Altered {
         }
     }
 
-    // A parked receiver got its message. `lost` is the reply where it gets none.
-    fn got(&mut self, ticket: u64, message: u64, lost: Reply<u64>) -> Option<Reply<u64>> {
+    // A message was received, by a parked receiver or without a ticket.
+    fn got(&mut self, step: &Step<u64>, message: u64) -> Option<Reply<u64>> {
+        match step {
+            Step::Poll(ticket) if self.loses(*ticket, message) => Some(Reply::Ended),
+            Step::Poll(_) => None,
+            Step::Withdraw(ticket) if self.loses(*ticket, message) => {
+                let (closed, filled) = (false, None);
+                Some(Reply::Gone { closed, filled })
+            }
+            Step::Withdraw(_) => None,
+            _ => {
+                self.received = Some(message);
+                None
+            }
+        }
+    }
+
+    // A parked receiver got its message. True where it is to get none.
+    fn loses(&mut self, ticket: u64, message: u64) -> bool {
         if self.filled != Some(ticket) {
-            return None;
+            return false;
         }
         self.filled = None;
         self.collected = Some((ticket, message));
-        (self.wrong == Wrong::LosesFills).then_some(lost)
+        self.wrong == Wrong::LosesFills
     }
 
-    fn asked_again(&mut self, ticket: u64) -> Option<Reply<u64>> {
+    fn asked_again(&mut self, step: &Step<u64>) -> Option<Reply<u64>> {
+        let ticket = match step {
+            Step::Poll(ticket) | Step::Withdraw(ticket) => *ticket,
+            _ => return None,
+        };
         match self.collected {
-            Some((collected, message)) if collected == ticket => {
-                (self.wrong == Wrong::GivesFillsTwice).then_some(Reply::Got(message))
+            Some((collected, message))
+                if collected == ticket && self.wrong == Wrong::GivesFillsTwice => {
+                Some(Reply::Got(message))
             }
+            _ => None,
+        }
+    }
+
+    fn found_nothing(&mut self, step: &Step<u64>) -> Option<Reply<u64>> {
+        match step {
+            Step::TryRecv if self.wrong == Wrong::GivesTwice => match self.received.take() {
+                Some(message) => Some(Reply::Got(message)),
+                None => None,
+            },
             _ => None,
         }
     }

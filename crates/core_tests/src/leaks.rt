@@ -84,23 +84,42 @@ impl<'a> Stage<'a> {
 
     // Makes the step with a message and a signal of its own.
     fn reply(&mut self, step: &Step<u64>) -> Reply<Counted<'a>> {
-        let renewed = self.renewed();
-        let chan = &mut self.chan;
         match *step {
-            Step::TrySend(_) => chan.try_send(self.messages.make()),
-            Step::Send(_) => chan.send(self.messages.make(), self.signals.make()),
-            Step::PollSend(ticket) => chan.poll_send(ticket, renewed),
-            Step::WithdrawSend(ticket) => chan.withdraw_send(ticket),
-            Step::TryRecv => chan.try_recv(),
-            Step::Recv(kind) => chan.recv(kind, self.signals.make()),
-            Step::Poll(ticket) => chan.poll(ticket, renewed),
-            Step::Withdraw(ticket) => chan.withdraw(ticket),
-            Step::Drain => chan.drain(),
-            Step::CloneSender => chan.clone_sender(),
-            Step::CloneReceiver => chan.clone_receiver(),
-            Step::DropSender => chan.drop_sender(),
-            Step::DropReceiver => chan.drop_receiver(),
-            _ => chan.len(),
+            Step::TrySend(_) => self.chan.try_send(self.messages.make()),
+            Step::Send(_) => self.send(),
+            Step::PollSend(ticket) => self.poll_send(ticket),
+            Step::WithdrawSend(ticket) => self.chan.withdraw_send(ticket),
+            Step::TryRecv => self.chan.try_recv(),
+            Step::Recv(kind) => self.chan.recv(kind, self.signals.make()),
+            Step::Poll(ticket) => self.poll(ticket),
+            Step::Withdraw(ticket) => self.chan.withdraw(ticket),
+            Step::Drain => self.chan.drain(),
+            _ => self.count(step),
+        }
+    }
+
+    fn send(&mut self) -> Reply<Counted<'a>> {
+        self.chan.send(self.messages.make(), self.signals.make())
+    }
+
+    fn poll_send(&mut self, ticket: u64) -> Reply<Counted<'a>> {
+        let renewed = self.renewed();
+        self.chan.poll_send(ticket, renewed)
+    }
+
+    fn poll(&mut self, ticket: u64) -> Reply<Counted<'a>> {
+        let renewed = self.renewed();
+        self.chan.poll(ticket, renewed)
+    }
+
+    // Makes a step of the ends, or counts the queue.
+    fn count(&mut self, step: &Step<u64>) -> Reply<Counted<'a>> {
+        match *step {
+            Step::CloneSender => self.chan.clone_sender(),
+            Step::CloneReceiver => self.chan.clone_receiver(),
+            Step::DropSender => self.chan.drop_sender(),
+            Step::DropReceiver => self.chan.drop_receiver(),
+            _ => self.chan.len(),
         }
     }
 

@@ -1,6 +1,6 @@
 //! Lists of steps, with their replies: at numbers, at texts, and at messages that can't be copied.
 use crate::answers::{is, replies_are};
-use crate::list_rows::ROWS;
+use crate::list_rows::{ROWS, Row};
 use flume_core::chan::Chan;
 use flume_core::run::run;
 use flume_core::step::Step::{
@@ -8,6 +8,7 @@ use flume_core::step::Step::{
 };
 use flume_core::step::{Reply, Step};
 use std::alloc::Global;
+use std::process::Abort;
 use std::test::Fail;
 
 // The replies to the steps on this channel.
@@ -20,14 +21,30 @@ fn replies_to<T: Drop>(
     Ok(replies.ok().ok_or("out of memory")?)
 }
 
+// The replies to one list, at numbers.
+fn replies_at_numbers(
+    alloc: Global,
+    chan: &mut Chan<u64, ()>,
+    steps: &[Step<u64>],
+) -> Result<Vec<Reply<u64>>, Fail> {
+    let steps = steps.to_vec(alloc)?;
+    replies_to(alloc, chan, steps)
+}
+
+// Each list of the row is answered as it says, at numbers.
+fn holds_at_numbers<R: Abort>(rt: &R, alloc: Global, row: &Row) -> Result<(), Fail> {
+    let mut chan: Chan<u64, ()> = Chan::starting_at(alloc, row.capacity, row.ticket);
+    for &(steps, wanted) in row.lists {
+        let replies = replies_at_numbers(alloc, &mut chan, steps)?;
+        replies_are(rt, alloc, row.title, replies.as_slice(), wanted)?;
+    }
+    Ok(())
+}
+
 #[test]
 fn each_list_is_answered_as_its_row_says(rt: HostRuntime) -> Result<(), Fail> {
     for row in ROWS {
-        let mut chan: Chan<u64, ()> = Chan::starting_at(rt.alloc(), row.capacity, row.ticket);
-        for (steps, wanted) in row.lists {
-            let replies = replies_to(rt.alloc(), &mut chan, steps.to_vec(rt.alloc())?)?;
-            replies_are(&rt, rt.alloc(), row.title, &replies, wanted)?;
-        }
+        holds_at_numbers(&rt, rt.alloc(), row)?;
     }
     Ok(())
 }
@@ -109,22 +126,49 @@ fn bare(alloc: Global, reply: &Reply<String>) -> Reply<u64> {
     }
 }
 
+// The steps, with texts for their messages.
+fn with_texts(alloc: Global, steps: &[Step<u64>]) -> Result<Vec<Step<String>>, Fail> {
+    let mut texts = Vec::new(alloc);
+    for step in steps {
+        texts.push(with_text(alloc, step)?)?;
+    }
+    Ok(texts)
+}
+
+// The replies, with numbers for their texts.
+fn with_numbers(alloc: Global, replies: &[Reply<String>]) -> Result<Vec<Reply<u64>>, Fail> {
+    let mut numbers = Vec::new(alloc);
+    for reply in replies {
+        numbers.push(with_number(alloc, reply))?;
+    }
+    Ok(numbers)
+}
+
+// The replies to one list, at texts.
+fn replies_at_texts(
+    alloc: Global,
+    chan: &mut Chan<String, ()>,
+    steps: &[Step<u64>],
+) -> Result<Vec<Reply<u64>>, Fail> {
+    let steps = with_texts(alloc, steps)?;
+    let replies = replies_to(alloc, chan, steps)?;
+    with_numbers(alloc, replies.as_slice())
+}
+
+// Each list of the row is answered as it says, at texts.
+fn holds_at_texts<R: Abort>(rt: &R, alloc: Global, row: &Row) -> Result<(), Fail> {
+    let mut chan: Chan<String, ()> = Chan::starting_at(alloc, row.capacity, row.ticket);
+    for &(steps, wanted) in row.lists {
+        let replies = replies_at_texts(alloc, &mut chan, steps)?;
+        replies_are(rt, alloc, row.title, replies.as_slice(), wanted)?;
+    }
+    Ok(())
+}
+
 #[test]
 fn each_list_is_answered_so_where_messages_are_texts(rt: HostRuntime) -> Result<(), Fail> {
-    let a = rt.alloc();
     for row in ROWS {
-        let mut chan: Chan<String, ()> = Chan::starting_at(a, row.capacity, row.ticket);
-        for (steps, wanted) in row.lists {
-            let mut texts = Vec::new(a);
-            for step in *steps {
-                texts.push(with_text(a, step)?)?;
-            }
-            let mut replies = Vec::new(a);
-            for reply in &replies_to(a, &mut chan, texts)? {
-                replies.push(with_number(a, reply))?;
-            }
-            replies_are(&rt, a, row.title, &replies, wanted)?;
-        }
+        holds_at_texts(&rt, rt.alloc(), row)?;
     }
     Ok(())
 }
@@ -189,25 +233,51 @@ fn blocked_messages_need_not_be_copied(rt: HostRuntime) -> Result<(), Fail> {
     Ok(())
 }
 
+// Two texts.
+fn two_texts(alloc: Global) -> Result<(String, String), Fail> {
+    let first = "one".to_string(alloc)?;
+    Ok((first, "two".to_string(alloc)?))
+}
+
+// These two steps, with the drop of a receiver between them.
+fn around_a_drop(
+    alloc: Global,
+    first: Step<String>,
+    last: Step<String>,
+) -> Result<Vec<Step<String>>, Fail> {
+    Ok(vec![in alloc; first, DropReceiver, last]?)
+}
+
+// The replies are these, with `Done` between them.
+fn texts_are<R: Abort>(
+    rt: &R,
+    alloc: Global,
+    replies: Vec<Reply<String>>,
+    first: Reply<String>,
+    last: Reply<String>,
+) -> Result<(), Fail> {
+    let wanted = vec![in alloc; first, Reply::Done, last]?;
+    is(rt, replies, wanted);
+    Ok(())
+}
+
 #[test]
 fn a_refused_text_comes_back(rt: HostRuntime) -> Result<(), Fail> {
     let a = rt.alloc();
-    let (first, second) = ("one".to_string(a)?, "two".to_string(a)?);
-    let steps = vec![in a; TrySend(first), DropReceiver, TrySend(second)]?;
-    let (first, second) = ("one".to_string(a)?, "two".to_string(a)?);
-    let wanted = vec![in a; Reply::Full(first), Reply::Done, Reply::Closed(second)]?;
-    is(&rt, replies_of(a, Some(0), 1, steps)?, wanted);
-    Ok(())
+    let (first, second) = two_texts(a)?;
+    let steps = around_a_drop(a, TrySend(first), TrySend(second))?;
+    let replies = replies_of(a, Some(0), 1, steps)?;
+    let (first, second) = two_texts(a)?;
+    texts_are(&rt, a, replies, Reply::Full(first), Reply::Closed(second))
 }
 
 #[test]
 fn a_text_comes_back_where_no_ticket_is_left(rt: HostRuntime) -> Result<(), Fail> {
     let a = rt.alloc();
-    let (first, second) = ("one".to_string(a)?, "two".to_string(a)?);
-    let steps = vec![in a; Send(first), DropReceiver, Send(second)]?;
-    let (first, second) = ("one".to_string(a)?, "two".to_string(a)?);
+    let (first, second) = two_texts(a)?;
+    let steps = around_a_drop(a, Send(first), Send(second))?;
+    let replies = replies_of(a, Some(0), u64::MAX, steps)?;
+    let (first, second) = two_texts(a)?;
     let spent = Reply::Spent(Some(first));
-    let wanted = vec![in a; spent, Reply::Done, Reply::Closed(second)]?;
-    is(&rt, replies_of(a, Some(0), u64::MAX, steps)?, wanted);
-    Ok(())
+    texts_are(&rt, a, replies, spent, Reply::Closed(second))
 }

@@ -4,7 +4,7 @@ use crate::altered::{Altered, Wrong};
 use crate::answers::is_so;
 use crate::draws::Draws;
 use crate::judge::Told;
-use flume_core::step::Step;
+use flume_core::step::{Reply, Step};
 use std::alloc::Global;
 use std::process::Abort;
 use std::test::Fail;
@@ -31,6 +31,11 @@ fn run_list(
     told: &mut Told,
 ) -> Result<(), Fail> {
     let replies = chan.run(alloc, steps)?;
+    keep(told, steps, replies.as_slice())
+}
+
+// Keeps what the replies to these steps tell.
+fn keep(told: &mut Told, steps: &[Step<u64>], replies: &[Reply<u64>]) -> Result<(), Fail> {
     for (step, reply) in steps.iter().zip(replies.iter()) {
         told.add(step, reply)?;
     }
@@ -67,6 +72,37 @@ fn run_one(alloc: Global, draws: &mut Draws, chan: &mut Altered) -> Result<Told,
     Ok(told)
 }
 
+// What the judge says of one script, how many receivers were filled, and how many replies altered.
+#[derive(Clone, Copy, Drop)]
+struct Verdict {
+    is_right: bool,
+    fills: u64,
+    altered: u64,
+}
+
+// One script, judged.
+fn judge_one(alloc: Global, draws: &mut Draws, wrong: Wrong) -> Result<Verdict, Fail> {
+    let mut chan = Altered::new(alloc, draws.capacity(), wrong);
+    let told = run_one(alloc, draws, &mut chan)?;
+    Ok(Verdict {
+        is_right: told.is_right(alloc)?,
+        fills: told.fills,
+        altered: chan.altered,
+    })
+}
+
+// The judge finds a fault in this script where a reply was altered, and else none.
+fn is_found<R: Abort>(
+    rt: &R,
+    alloc: Global,
+    (wrong, script): (Wrong, u64),
+    verdict: Verdict,
+) -> Result<(), Fail> {
+    let title = format!(in alloc; "{wrong:?}, script {script}")?;
+    is_so(rt, title.as_str(), verdict.is_right, verdict.altered == 0);
+    Ok(())
+}
+
 // Over so many scripts, the judge finds a fault where a reply was altered, and nowhere else. How
 // many receivers were filled, and in how many scripts a reply was altered.
 fn judged<R: Abort>(rt: &R, alloc: Global, wrong: Wrong, scripts: u64) -> Result<(u64, u64), Fail> {
@@ -77,12 +113,10 @@ fn judged<R: Abort>(rt: &R, alloc: Global, wrong: Wrong, scripts: u64) -> Result
     };
     let (mut fills, mut altered) = (0u64, 0u64);
     for script in 0..scripts {
-        let mut chan = Altered::new(alloc, draws.capacity(), wrong);
-        let told = run_one(alloc, &mut draws, &mut chan)?;
-        let title = format!(in alloc; "{wrong:?}, script {script}")?;
-        is_so(rt, &title, told.is_right(alloc)?, chan.altered == 0);
-        fills = fills.saturating_add(told.fills);
-        altered = altered.saturating_add(chan.altered.min(1));
+        let verdict = judge_one(alloc, &mut draws, wrong)?;
+        is_found(rt, alloc, (wrong, script), verdict)?;
+        fills = fills.saturating_add(verdict.fills);
+        altered = altered.saturating_add(verdict.altered.min(1));
     }
     Ok((fills, altered))
 }

@@ -1,5 +1,5 @@
 //! Scripts and texts of replies, on concrete bytes.
-use crate::answers::{is, replies_are, text_is};
+use crate::answers::{is, is_so, replies_are, text_is};
 use flume_core::step::{Kind, Reply, Step};
 use flume_script::reading::{Reading, read_script};
 use flume_script::writing::write_wrong;
@@ -95,14 +95,20 @@ fn read(
     }
 }
 
+// The number of the first wrong line or 0, and how many steps.
+fn read_counts(alloc: Global, input: &[u8]) -> Result<(usize, usize), Fail> {
+    Ok(match read(alloc, input)? {
+        Ok((_capacity, steps)) => (0, steps.len()),
+        Err(line) => (line, 0),
+    })
+}
+
 #[test]
 fn reads(rt: HostRuntime) -> Result<(), Fail> {
     for (input, wrong, count) in READINGS {
-        let (line, len) = match read(rt.alloc(), input)? {
-            Ok((_capacity, steps)) => (0, steps.len()),
-            Err(line) => (line, 0),
-        };
-        assert_eq!(rt; (line, len), (*wrong, *count), "of {input:?}");
+        let title = format!(in rt.alloc(); "of {input:?}")?;
+        let read = read_counts(rt.alloc(), input)?;
+        is_so(&rt, title.as_str(), read, (*wrong, *count));
     }
     Ok(())
 }

@@ -4,43 +4,93 @@ use flume_core::step::Kind;
 use flume_state::entries::{Entries, Standing};
 use flume_state::line::Line;
 use flume_state::sends::Sends;
+use std::alloc::{AllocError, Global};
+use std::process::Abort;
 use std::test::Fail;
+
+// Parked receivers, of messages of one byte and signals of four.
+type Receivers = Entries<u8, u32, Global>;
+
+// The queue that they are filled from.
+type Messages = Line<u8, Global>;
+
+// Parks a receiver of each kind.
+fn park_each(receivers: &mut Receivers) -> Result<(), AllocError> {
+    receivers.park(1, Kind::Stream, 10)?;
+    receivers.park(2, Kind::Block, 20)?;
+    receivers.park(3, Kind::Plain, 30)?;
+    receivers.park(4, Kind::Arm, 40)
+}
+
+// The ticket that is due next is this one.
+fn due_is<R: Abort>(rt: &R, receivers: &mut Receivers, wanted: Option<u64>) {
+    is(rt, receivers.next_due(), wanted);
+}
+
+// Queues a message. The wake round after it fills this receiver, and none where nothing is queued.
+fn wakes<R: Abort>(
+    rt: &R,
+    receivers: &mut Receivers,
+    messages: &mut Messages,
+    queued: Option<u8>,
+    filled: Option<u64>,
+) {
+    if let Some(message) = queued {
+        assert!(rt; messages.push_queued(message).is_ok());
+    }
+    is(rt, receivers.wake(messages), filled);
+}
+
+// The first round wakes a stream, and fills the receiver that blocks.
+fn first_round<R: Abort>(rt: &R, receivers: &mut Receivers, messages: &mut Messages) {
+    is(rt, receivers.waiting(), 4);
+    wakes(rt, receivers, messages, None, None);
+    due_is(rt, receivers, None);
+    wakes(rt, receivers, messages, Some(7), Some(2));
+    is(rt, messages.queued_len(), 0);
+    is(rt, receivers.waiting(), 2);
+    due_is(rt, receivers, Some(1));
+    due_is(rt, receivers, Some(2));
+    due_is(rt, receivers, None);
+}
+
+// The one that was filled is removed with its message.
+fn removal<R: Abort>(rt: &R, receivers: &mut Receivers) {
+    assert!(rt; matches!(receivers.standing(2), Some(Standing::Filled)));
+    is(rt, receivers.remove(2), Some(7));
+    is(rt, receivers.remove(2), None);
+}
+
+// The one that was woken waits again, under a new signal.
+fn waiting_again<R: Abort>(rt: &R, receivers: &mut Receivers) {
+    assert!(rt; matches!(receivers.standing(1), Some(Standing::Woken)));
+    receivers.wait_on(1, Some(11));
+    receivers.wait_on(9, None);
+    assert!(rt; matches!(receivers.standing(1), Some(Standing::Waiting)));
+    is(rt, receivers.signal(1).copied(), Some(11));
+}
+
+// The second round wakes a plain one, and then all are woken.
+fn second_round<R: Abort>(rt: &R, receivers: &mut Receivers, messages: &mut Messages) {
+    wakes(rt, receivers, messages, Some(8), None);
+    due_is(rt, receivers, Some(3));
+    receivers.wake_all();
+    assert!(rt; !receivers.some_wait());
+    due_is(rt, receivers, Some(4));
+    due_is(rt, receivers, Some(1));
+}
 
 #[test]
 fn follows_four_receivers_of_each_kind(rt: HostRuntime) -> Result<(), Fail> {
-    let mut entries = Entries::new(rt.alloc());
-    let mut line = Line::new(rt.alloc());
-    entries.park(1, Kind::Stream, 10u32)?;
-    entries.park(2, Kind::Block, 20)?;
-    entries.park(3, Kind::Plain, 30)?;
-    entries.park(4, Kind::Arm, 40)?;
-    is(&rt, entries.waiting(), 4);
-    is(&rt, entries.wake(&mut line), None);
-    is(&rt, entries.next_due(), None);
-    assert!(rt; line.push_queued(7u8).is_ok());
-    is(&rt, entries.wake(&mut line), Some(2));
-    is(&rt, line.queued_len(), 0);
-    is(&rt, entries.waiting(), 2);
-    is(&rt, entries.next_due(), Some(1));
-    is(&rt, entries.next_due(), Some(2));
-    is(&rt, entries.next_due(), None);
-    assert!(rt; matches!(entries.standing(2), Some(Standing::Filled)));
-    is(&rt, entries.remove(2), Some(7));
-    is(&rt, entries.remove(2), None);
-    assert!(rt; matches!(entries.standing(1), Some(Standing::Woken)));
-    entries.wait_on(1, Some(11));
-    entries.wait_on(9, None);
-    assert!(rt; matches!(entries.standing(1), Some(Standing::Waiting)));
-    is(&rt, entries.signal(1).copied(), Some(11));
-    assert!(rt; line.push_queued(8).is_ok());
-    is(&rt, entries.wake(&mut line), None);
-    is(&rt, entries.next_due(), Some(3));
-    entries.wake_all();
-    assert!(rt; !entries.some_wait());
-    is(&rt, entries.next_due(), Some(4));
-    is(&rt, entries.next_due(), Some(1));
-    entries.clear();
-    assert!(rt; entries.standing(1).is_none());
+    let mut receivers = Entries::new(rt.alloc());
+    park_each(&mut receivers)?;
+    let mut messages = Line::new(rt.alloc());
+    first_round(&rt, &mut receivers, &mut messages);
+    removal(&rt, &mut receivers);
+    waiting_again(&rt, &mut receivers);
+    second_round(&rt, &mut receivers, &mut messages);
+    receivers.clear();
+    assert!(rt; receivers.standing(1).is_none());
     Ok(())
 }
 
