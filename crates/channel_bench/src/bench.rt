@@ -2,7 +2,7 @@
 use crate::arguments::{Arguments, Shape};
 use flume::{Receiver, Sender, Waits, bounded, unbounded};
 use flume_core::error::NoMemory;
-use std::alloc::Global;
+use std::alloc::{AllocError, Global};
 use std::thread::Threads;
 use std::time::{Duration, Instant};
 use std::{fmt, io};
@@ -30,6 +30,12 @@ impl fmt::Display for Fault {
 
 impl From<NoMemory> for Fault {
     fn from(_: NoMemory) -> Fault {
+        Fault::NoMemory
+    }
+}
+
+impl From<AllocError> for Fault {
+    fn from(_: AllocError) -> Fault {
         Fault::NoMemory
     }
 }

@@ -31,7 +31,7 @@ impl<R: Waits + Threads + Send + Sync> Bench<R> {
         let (tx, rx) = self.open()?;
         let sum = thread::scope(thread::scope_env(), &self.rt, |scope| {
             for _ in 0..SEVERAL {
-                let tx = tx.clone().map_err(|_| Fault::NoMemory)?;
+                let tx = tx.clone()?;
                 if scope.spawn(move || send_each(&tx, each)).is_err() {
                     return Err(Fault::NoThread);
                 }
@@ -51,8 +51,8 @@ impl<R: Waits + Threads + Send + Sync> Bench<R> {
         let (all, rt) = (&sum, self.rt);
         thread::scope(thread::scope_env(), &self.rt, |scope| {
             for _ in 0..SEVERAL {
-                let tx = tx.clone().map_err(|_| Fault::NoMemory)?;
-                let rx = rx.clone().map_err(|_| Fault::NoMemory)?;
+                let tx = tx.clone()?;
+                let rx = rx.clone()?;
                 if scope.spawn(move || send_each(&tx, each)).is_err()
                     || scope.spawn(move || add_each(&rt, &rx, each, all)).is_err()
                 {

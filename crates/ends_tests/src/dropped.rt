@@ -71,17 +71,32 @@ fn what_an_iterator_did_not_give_goes_with_the_channel(rt: HostRuntime) -> Resul
     Ok(())
 }
 
+// The message was sent, and filled no receiver.
+fn is_queued<T>(reply: &Reply<T>) -> bool {
+    matches!(reply, Reply::Sent { filled: None })
+}
+
+// The message blocks under the first ticket.
+fn is_blocked<T>(reply: &Reply<T>) -> bool {
+    matches!(reply, Reply::Pending(1))
+}
+
+// The step is done.
+fn is_done<T>(reply: &Reply<T>) -> bool {
+    matches!(reply, Reply::Done)
+}
+
 #[test]
 fn a_blocked_message_goes_with_the_last_end(rt: HostRuntime) {
     let drops = AtomicU64::new(0);
     let mut chan: Chan<Counted, ()> = Chan::new(rt.alloc(), Some(1));
     // The first is queued, and the second blocks.
     let queued = chan.send(Counted { drops: &drops }, ());
-    assert!(rt; matches!(queued, Reply::Sent { filled: None }));
+    is(&rt, is_queued(&queued), true);
     let blocked = chan.send(Counted { drops: &drops }, ());
-    assert!(rt; matches!(blocked, Reply::Pending(1)));
-    assert!(rt; matches!(chan.drop_receiver(), Reply::Done));
+    is(&rt, is_blocked(&blocked), true);
+    is(&rt, is_done(&chan.drop_receiver()), true);
     is(&rt, drops.load(Ordering::SeqCst), 0);
-    assert!(rt; matches!(chan.drop_sender(), Reply::Done));
+    is(&rt, is_done(&chan.drop_sender()), true);
     is(&rt, drops.load(Ordering::SeqCst), 2);
 }

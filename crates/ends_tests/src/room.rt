@@ -4,10 +4,11 @@ use crate::counting::Counting;
 use crate::fixtures::{Parcel, is};
 use flume_core::chan::Chan;
 use flume_core::step::{Kind, Reply};
+use std::alloc::Allocator;
 use std::test::Fail;
 
 // The ticket that the step was given.
-fn ticket_of(reply: Reply<Parcel, Heap<'_>>) -> Option<u64> {
+fn ticket_of<T: Drop, A: Allocator>(reply: Reply<T, A>) -> Option<u64> {
     match reply {
         Reply::Pending(ticket) | Reply::Parked(ticket) => Some(ticket),
         _ => None,
@@ -15,7 +16,7 @@ fn ticket_of(reply: Reply<Parcel, Heap<'_>>) -> Option<u64> {
 }
 
 // The message that comes back.
-fn message_of(reply: Reply<Parcel, Heap<'_>>) -> Option<Parcel> {
+fn message_of<T: Drop, A: Allocator>(reply: Reply<T, A>) -> Option<T> {
     match reply {
         Reply::NoMemory(back) => back,
         Reply::Returned { message, .. } => Some(message),
