@@ -2,6 +2,8 @@
 #![tactic(auto)]
 
 #[cfg(test)]
+mod builder;
+#[cfg(test)]
 mod calls;
 #[cfg(test)]
 mod capacities;
@@ -30,3 +32,5 @@ mod one_thread;
 mod parked;
 #[cfg(test)]
 mod room;
+#[cfg(test)]
+mod signatures;

@@ -6,7 +6,7 @@ ghost use Rattle.std.specs.Prelude.{◌≡◌, Some};
 ghost use Rattle.std.specs.Fmt.{styled_text};
 ghost use Rattle.flume_error.specs.Texts.{no_memory_text, select_text};
 
-mod conversions;
+pub mod conversions;
 pub mod receive;
 pub mod send;
 
