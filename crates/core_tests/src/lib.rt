@@ -18,6 +18,8 @@ mod errors;
 #[cfg(test)]
 mod gates;
 #[cfg(test)]
+mod io_errors;
+#[cfg(test)]
 mod judge;
 #[cfg(test)]
 mod leak_rows;
