@@ -8,8 +8,8 @@ use Rattle.flume_calls.specs.declared.calls.send.SendNext.{SendNext}
 use Rattle.flume_calls.specs.declared.calls.send.SendNext.TheVariants.{Done as SendDone}
 use Rattle.flume_calls.specs.declared.calls.receive.RecvNext.{RecvNext}
 use Rattle.flume_calls.specs.declared.calls.receive.RecvNext.TheVariants.{Done as RecvDone}
-use Rattle.flume.specs.declared.deadline.Deadline.{Deadline}
-use Rattle.flume.specs.declared.deadline.Deadline.TheVariants.{Never}
+use Rattle.flume_deadline.specs.declared.Deadline.{Deadline}
+use Rattle.flume_deadline.specs.declared.Deadline.TheVariants.{Never}
 use Rattle.flume_calls.specs.SendTurns as send_turn
 use Rattle.flume_calls.specs.SendGates as send
 use Rattle.flume_calls.specs.ReceiveTurns as receive_turn

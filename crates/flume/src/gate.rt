@@ -1,11 +1,10 @@
 //! The gate of the ends: each turn of a call is made under the channel's lock, and the call waits
 //! on a parker of its own.
 ghost use Rattle.std.specs.Prelude.{◌≡◌, ◌≢◌, Bool, true, false};
-ghost use Rattle.flume.specs.declared.deadline.Deadline.TheVariants.{Never};
+ghost use Rattle.flume_deadline.specs.declared.Deadline.TheVariants.{Never};
 ghost use Rattle.flume_calls.specs.SendTurns as send;
 ghost use Rattle.flume_calls.specs.ReceiveTurns as receive;
 
-use crate::deadline::Deadline;
 use crate::shared::{Shared, Waits};
 use crate::signal::{Parker, Signal};
 use flume_calls::calls::{
@@ -14,6 +13,7 @@ use flume_calls::calls::{
 };
 use flume_calls::gates::{RecvGate, SendGate};
 use flume_core::step::Kind;
+use flume_deadline::Deadline;
 use std::alloc::Allocator;
 use std::marker::Model;
 use std::sync::Arc;
@@ -26,7 +26,7 @@ pub(crate) struct Gate<'a, T, R: Waits, A: Allocator + Copy> {
 }
 
 impl<'a, T, R: Waits, A: Allocator + Copy> Model for Gate<'a, T, R, A> {
-    ghost use Rattle.flume.specs.declared.deadline.Deadline.{Deadline};
+    ghost use Rattle.flume_deadline.specs.declared.Deadline.{Deadline};
 
     ghost Value = { Deadline };
 

@@ -14,7 +14,6 @@
 
 mod answers;
 mod builder;
-mod deadline;
 mod drain;
 mod gate;
 mod into_iter;

@@ -3,7 +3,6 @@ ghost use Rattle.std.specs.Prelude.{◌≡◌, ◌≢◌, ℕ, ◌==◌, Err};
 ghost use Rattle.flume.specs.Iterators.{receiving_from};
 
 use crate::answers::{tried_receive, waited_receive};
-use crate::deadline::Deadline;
 use crate::drain::Drain;
 use crate::gate::Gate;
 use crate::iterators::{Iter, TryIter};
@@ -13,6 +12,7 @@ use flume_calls::gates::recv_over;
 use flume_calls::single::{AskCapacity, AskNumber, AskTruth, Single};
 use flume_core::error::{NoMemory, RecvError, RecvTimeoutError, TryRecvError};
 use flume_core::step::Reply;
+use flume_deadline::Deadline;
 use std::alloc::{AllocError, Allocator, Global};
 use std::fmt;
 use std::marker::Model;

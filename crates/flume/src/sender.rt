@@ -2,7 +2,6 @@
 ghost use Rattle.std.specs.Prelude.{◌≡◌, ◌≢◌, ℕ, ◌==◌, IfOk, Err};
 
 use crate::answers::{tried_send, waited_send};
-use crate::deadline::Deadline;
 use crate::gate::Gate;
 use crate::shared::{Shared, Waits};
 use crate::weak::WeakSender;
@@ -11,6 +10,7 @@ use flume_calls::gates::send_over;
 use flume_calls::single::{AskCapacity, AskNumber, AskTruth, Single};
 use flume_core::error::{NoMemory, SendError, SendTimeoutError, TrySendError};
 use flume_core::step::Reply;
+use flume_deadline::Deadline;
 use std::alloc::{AllocError, Allocator, Global};
 use std::fmt;
 use std::marker::Model;

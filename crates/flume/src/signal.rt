@@ -1,5 +1,5 @@
 //! What a parked call leaves with the channel, and what wakes it.
-use crate::deadline::left_until;
+use flume_deadline::left_until;
 use std::alloc::{Allocator, Global};
 use std::hint::spin_loop;
 use std::sync::atomic::{AtomicU64, Ordering};

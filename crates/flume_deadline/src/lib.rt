@@ -1,16 +1,17 @@
 //! Up to when a call waits. What a clock reads is a value here, and each table is one of values.
+#![tactic(auto)]
+
 ghost use Rattle.std.specs.Prelude.{◌≡◌, ◌≢◌, ◌+◌, ◌≤◌, ◌↔◌, true, IsErr, IsNone, IfSome, Ok};
 ghost use Rattle.std.specs.Duration.{as_nanos};
 ghost use Rattle.std.specs.Time.{instant_nanos, FitsClock};
-ghost use Rattle.flume.specs.Endings.{IsAt};
+ghost use Rattle.flume_deadline.specs.Deadlines.{IsAt};
 
-use crate::shared::Waits;
 use std::io;
 use std::time::{Clock, Duration, Instant};
 
 /// Up to when a call waits.
 #[derive(Clone, Copy, Drop)]
-pub(crate) enum Deadline {
+pub enum Deadline {
     /// As long as it takes.
     Never,
     /// Up to this time.
@@ -20,8 +21,14 @@ pub(crate) enum Deadline {
 }
 
 impl Deadline {
-    /// So long from now.
-    pub(crate) fn after<R: Waits>(rt: &R, timeout: Duration) -> Deadline {
+    /// So long from now: `Never` where no time of the clock is that late, `Reached` where the clock
+    /// can't be read.
+    ///
+    /// ```
+    /// let deadline = Deadline::after(&rt, Duration::from_secs(1));
+    /// deadline.is_reached(&rt);              // false, within this second
+    /// ```
+    pub fn after<R: Clock>(rt: &R, timeout: Duration) -> Deadline {
         Deadline::past(Instant::now(rt), timeout)
     }
 
@@ -46,7 +53,7 @@ impl Deadline {
     }
 
     /// Whether it is reached, by the clock. A clock that can't be read counts as past it.
-    pub(crate) fn is_reached<R: Waits>(self, rt: &R) -> bool
+    pub fn is_reached<R: Clock>(self, rt: &R) -> bool
         ensures never { result ≡ true → self ≢ Deadline.Never }
         ensures reached { self ≡ Deadline.Reached → result ≡ true }
     {
@@ -59,7 +66,7 @@ impl Deadline {
 }
 
 /// How long it is to the deadline: `None` once it is reached, or where the clock can't be read.
-pub(crate) fn left_until<R: Clock>(rt: &R, deadline: Instant) -> Option<Duration> {
+pub fn left_until<R: Clock>(rt: &R, deadline: Instant) -> Option<Duration> {
     left_from(Instant::now(rt), deadline)
 }
 
