@@ -182,16 +182,32 @@ impl<R: Waits + AllocGlobal> Work for ReceiveAll<R> {
     }
 }
 
-// Starts the threads, each with an end of its own.
+// Starts a thread that sends and one that receives, each with an end of its own.
+fn start_two<R>(
+    rt: R,
+    tx: &Sender<Message, R>,
+    rx: &Receiver<Message, R>,
+    sender: usize,
+) -> Result<(JoinHandle<bool>, JoinHandle<Received>), Fail>
+where
+    R: Waits + AllocGlobal + Threads + Send + Sync + 'static,
+{
+    let tx = tx.clone()?;
+    let rx = rx.clone()?;
+    let sending = started(&rt, SendAll { rt, tx, sender })?;
+    Ok((sending, started(&rt, ReceiveAll { rt, rx })?))
+}
+
+// Starts the threads.
 fn start_all<R>(rt: R, tx: Sender<Message, R>, rx: Receiver<Message, R>) -> Result<Started, Fail>
 where
     R: Waits + AllocGlobal + Threads + Send + Sync + 'static,
 {
     let (mut senders, mut receivers) = (Vec::new(rt.alloc()), Vec::new(rt.alloc()));
     for sender in 0..THREADS {
-        let (tx, rx) = (tx.clone()?, rx.clone()?);
-        senders.push(started(&rt, SendAll { rt, tx, sender })?)?;
-        receivers.push(started(&rt, ReceiveAll { rt, rx })?)?;
+        let (sending, receiving) = start_two(rt, &tx, &rx, sender)?;
+        senders.push(sending)?;
+        receivers.push(receiving)?;
     }
     Ok(Started { senders, receivers })
 }
@@ -200,6 +216,20 @@ where
 fn join_senders<R: Threads + Abort>(rt: &R, senders: Vec<JoinHandle<bool>>) {
     for sender in senders {
         assert!(rt; sender.join(rt));
+    }
+}
+
+// Joins the threads that receive, of which each got the messages of one sender in order, and counts
+// each message.
+fn join_receivers<R: Threads + Abort>(
+    rt: &R,
+    receivers: Vec<JoinHandle<Received>>,
+    counts: &mut [u32],
+) {
+    for receiver in receivers {
+        let received = receiver.join(rt).expect(rt, "there is memory");
+        assert!(rt; is_in_order(&received));
+        count_each(&received, counts);
     }
 }
 
@@ -212,11 +242,7 @@ where
     let Started { senders, receivers } = start_all(rt, tx, rx)?;
     join_senders(&rt, senders);
     let mut counts = vec![in rt.alloc(); 0u32; THREADS * EACH]?;
-    for receiver in receivers {
-        let received = receiver.join(&rt).expect(&rt, "there is memory");
-        assert!(rt; is_in_order(&received));
-        count_each(&received, &mut counts);
-    }
+    join_receivers(&rt, receivers, counts.as_mut_slice());
     assert!(rt; counts.iter().all(|&count| count == 1));
     Ok(())
 }
