@@ -9,7 +9,7 @@ use std::process::Abort;
 use std::sync::Mutex;
 use std::test::Fail;
 use std::thread;
-use std::thread::Threads;
+use std::thread::{Scope, Threads};
 
 // How many messages each thread sends or receives, where there are several.
 const EACH: usize = 250;
@@ -102,6 +102,27 @@ impl<R: Waits> Work for ReceiveUntilClosed<'_, R> {
     }
 }
 
+// Starts a thread of this scope for each of the two. False: there can be none.
+fn two_start<'s, E, W>(scope: &Scope<'s, E>, first: W, second: W) -> bool
+where
+    W: Work + Send + Drop + 's,
+    W::Answer: Send + Drop + 's,
+{
+    starts_in(scope, first) && starts_in(scope, second)
+}
+
+// Starts two threads of this scope, of which each receives from one of the two.
+fn two_receive<'s, E, R: Waits + Send + Sync + 's>(
+    scope: &Scope<'s, E>,
+    rt: R,
+    (rx, other): (&'s Receiver<usize, R>, &'s Receiver<usize, R>),
+    counts: &'s Mutex<[u32; EACH]>,
+) -> bool {
+    let first = ReceiveEach { rt, rx, counts };
+    let rx = other;
+    two_start(scope, first, ReceiveEach { rt, rx, counts })
+}
+
 // Four threads send to four: two on each side share an end, and two have one of their own.
 fn four_to_four<R: Waits + Threads + Send + Sync + 'static>(
     rt: R,
@@ -113,28 +134,10 @@ fn four_to_four<R: Waits + Threads + Send + Sync + 'static>(
     let (rx2, rx3) = (rx.clone()?, rx.clone()?);
     let (tx2, tx3, rx2, rx3) = (&tx2, &tx3, &rx2, &rx3);
     let started = thread::scope(thread::scope_env(), &rt, move |scope| {
-        starts_in(scope, SendEach { tx })
-            && starts_in(scope, SendEach { tx })
-            && starts_in(scope, SendEach { tx: tx2 })
-            && starts_in(scope, SendEach { tx: tx3 })
-            && starts_in(scope, ReceiveEach { rt, rx, counts })
-            && starts_in(scope, ReceiveEach { rt, rx, counts })
-            && starts_in(
-                scope,
-                ReceiveEach {
-                    rt,
-                    rx: rx2,
-                    counts,
-                },
-            )
-            && starts_in(
-                scope,
-                ReceiveEach {
-                    rt,
-                    rx: rx3,
-                    counts,
-                },
-            )
+        two_start(scope, SendEach { tx }, SendEach { tx })
+            && two_start(scope, SendEach { tx: tx2 }, SendEach { tx: tx3 })
+            && two_receive(scope, rt, (rx, rx), counts)
+            && two_receive(scope, rt, (rx2, rx3), counts)
     });
     Ok(started)
 }

@@ -182,20 +182,23 @@ impl<R: Waits + AllocGlobal> Work for ReceiveAll<R> {
     }
 }
 
-// Starts a thread that sends and one that receives, each with an end of its own.
-fn start_two<R>(
+// Starts a thread that sends, with a sender of its own.
+fn start_sender<R: Waits + Threads + Send + Sync + 'static>(
     rt: R,
     tx: &Sender<Message, R>,
-    rx: &Receiver<Message, R>,
     sender: usize,
-) -> Result<(JoinHandle<bool>, JoinHandle<Received>), Fail>
+) -> Result<JoinHandle<bool>, Fail> {
+    let tx = tx.clone()?;
+    started(&rt, SendAll { rt, tx, sender })
+}
+
+// Starts a thread that receives, with a receiver of its own.
+fn start_receiver<R>(rt: R, rx: &Receiver<Message, R>) -> Result<JoinHandle<Received>, Fail>
 where
     R: Waits + AllocGlobal + Threads + Send + Sync + 'static,
 {
-    let tx = tx.clone()?;
     let rx = rx.clone()?;
-    let sending = started(&rt, SendAll { rt, tx, sender })?;
-    Ok((sending, started(&rt, ReceiveAll { rt, rx })?))
+    started(&rt, ReceiveAll { rt, rx })
 }
 
 // Starts the threads.
@@ -205,9 +208,8 @@ where
 {
     let (mut senders, mut receivers) = (Vec::new(rt.alloc()), Vec::new(rt.alloc()));
     for sender in 0..THREADS {
-        let (sending, receiving) = start_two(rt, &tx, &rx, sender)?;
-        senders.push(sending)?;
-        receivers.push(receiving)?;
+        senders.push(start_sender(rt, &tx, sender)?)?;
+        receivers.push(start_receiver(rt, &rx)?)?;
     }
     Ok(Started { senders, receivers })
 }
