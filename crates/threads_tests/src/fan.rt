@@ -43,6 +43,20 @@ impl<R: Waits> Work for ForwardUntilClosed<R> {
     }
 }
 
+// Starts a thread that forwards from the one channel into the other.
+fn start_forwarder<R>(
+    rt: R,
+    rx: &Receiver<u64, R>,
+    tx: &Sender<u64, R>,
+) -> Result<JoinHandle<Ending>, Fail>
+where
+    R: Waits + Threads + Send + Sync + 'static,
+{
+    let rx = rx.clone()?;
+    let tx = tx.clone()?;
+    started(&rt, ForwardUntilClosed { rt, rx, tx })
+}
+
 // Starts eight threads that forward from the one channel into the other.
 fn start_fan<R>(rt: R, rx: Receiver<u64, R>, tx: Sender<u64, R>) -> Result<Forwarders, Fail>
 where
@@ -50,10 +64,21 @@ where
 {
     let mut forwarders = Vec::new(rt.alloc());
     for _ in 0..FORWARDERS {
-        let (rx, tx) = (rx.clone()?, tx.clone()?);
-        forwarders.push(started(&rt, ForwardUntilClosed { rt, rx, tx })?)?;
+        forwarders.push(start_forwarder(rt, &rx, &tx)?)?;
     }
     Ok(forwarders)
+}
+
+// Starts a thread that forwards into a new channel.
+fn start_link<R>(
+    rt: R,
+    rx: Receiver<u64, R>,
+) -> Result<(JoinHandle<Ending>, Receiver<u64, R>), Fail>
+where
+    R: Waits + AllocGlobal + Threads + Send + Sync + 'static,
+{
+    let (tx, next) = bounded::<u64, _, _>(rt, rt.alloc(), 1, 4)?;
+    Ok((started(&rt, ForwardUntilClosed { rt, rx, tx })?, next))
 }
 
 // Starts eight threads, of which each receives what the one before it sends. Answers the receiver
@@ -64,9 +89,9 @@ where
 {
     let mut forwarders = Vec::new(rt.alloc());
     for _ in 0..FORWARDERS {
-        let (tx, next) = bounded::<u64, _, _>(rt, rt.alloc(), 1, 4)?;
-        forwarders.push(started(&rt, ForwardUntilClosed { rt, rx, tx })?)?;
+        let (forwarder, next) = start_link(rt, rx)?;
         rx = next;
+        forwarders.push(forwarder)?;
     }
     Ok((forwarders, rx))
 }

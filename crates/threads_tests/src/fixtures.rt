@@ -13,6 +13,9 @@ pub(crate) fn is<T: Debug + PartialEq + Drop>(rt: &impl Abort, answer: T, wanted
     assert_eq!(rt; answer, wanted);
 }
 
+/// The capacities at which several threads meet; `None` is unbounded.
+pub(crate) const CAPACITIES: &[Option<usize>] = &[None, Some(0), Some(1), Some(3)];
+
 /// A message that can't be copied.
 #[derive(Debug, PartialEq, Eq, Drop)]
 pub(crate) struct Parcel(pub(crate) u64);

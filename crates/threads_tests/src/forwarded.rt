@@ -1,15 +1,12 @@
 //! Threads that read by iterators, and send on.
-use crate::fixtures::{is, opened};
-use crate::works::{SendHundred, Work, send_hundred, started};
+use crate::fixtures::{CAPACITIES, is, opened};
+use crate::works::{SendHundred, Work, send_hundred, started, starts_in};
 use flume::{Iter, Receiver, Sender, Waits};
 use std::process::Abort;
 use std::sync::Mutex;
 use std::test::Fail;
 use std::thread;
 use std::thread::{JoinHandle, Threads};
-
-// The capacities of the channels; `None` is unbounded.
-const CAPACITIES: &[Option<usize>] = &[None, Some(0), Some(1), Some(3)];
 
 // How many threads share a channel.
 const THREADS: usize = 8;
@@ -38,19 +35,28 @@ impl<R: Waits> Work for AnswerRequests<R> {
     }
 }
 
+// A worker answers a hundred requests on another channel.
+fn ask_a_worker<R>(rt: R, capacity: Option<usize>) -> Result<(), Fail>
+where
+    R: Waits + AllocGlobal + Threads + Abort + Send + Sync + 'static,
+{
+    let (requests, work) = opened::<u64, _>(rt, rt.alloc(), capacity)?;
+    let (answers, results) = opened::<u64, _>(rt, rt.alloc(), capacity)?;
+    let worker = started(&rt, AnswerRequests { work, answers })?;
+    let asking = started(&rt, SendHundred { tx: requests })?;
+    for request in 0..100u64 {
+        is(&rt, results.recv(), Ok(2 * request));
+    }
+    is(&rt, results.iter().next(), None);
+    asking.join(&rt);
+    worker.join(&rt);
+    Ok(())
+}
+
 #[test]
 fn a_worker_answers_on_another_channel(rt: HostRuntime) -> Result<(), Fail> {
     for &capacity in CAPACITIES {
-        let (requests, work) = opened::<u64, _>(rt, rt.alloc(), capacity)?;
-        let (answers, results) = opened::<u64, _>(rt, rt.alloc(), capacity)?;
-        let worker = started(&rt, AnswerRequests { work, answers })?;
-        let asking = started(&rt, SendHundred { tx: requests })?;
-        for request in 0..100u64 {
-            is(&rt, results.recv(), Ok(2 * request));
-        }
-        is(&rt, results.iter().next(), None);
-        asking.join(&rt);
-        worker.join(&rt);
+        ask_a_worker(rt, capacity)?;
     }
     Ok(())
 }
@@ -66,19 +72,28 @@ fn first_tried<R: Waits>(rt: &R, rx: &Receiver<u64, R>) -> u64 {
     unreachable!()
 }
 
+// Two threads play ping-pong over two channels.
+fn play_ping_pong<R>(rt: R, capacity: Option<usize>) -> Result<(), Fail>
+where
+    R: Waits + AllocGlobal + Threads + Abort + Send + Sync + 'static,
+{
+    let (pings, work) = opened(rt, rt.alloc(), capacity)?;
+    let (answers, answered) = opened(rt, rt.alloc(), capacity)?;
+    let other = started(&rt, AnswerRequests { work, answers })?;
+    for ping in 0..ANSWERS {
+        assert!(rt; pings.send(ping).is_ok());
+        is(&rt, first_tried(&rt, &answered), 2 * ping);
+    }
+    drop(pings);
+    other.join(&rt);
+    is(&rt, answered.try_iter().next(), None);
+    Ok(())
+}
+
 #[test]
 fn tried_iterators_play_ping_pong(rt: HostRuntime) -> Result<(), Fail> {
     for &capacity in CAPACITIES {
-        let (pings, work) = opened(rt, rt.alloc(), capacity)?;
-        let (answers, answered) = opened(rt, rt.alloc(), capacity)?;
-        let other = started(&rt, AnswerRequests { work, answers })?;
-        for ping in 0..ANSWERS {
-            assert!(rt; pings.send(ping).is_ok());
-            is(&rt, first_tried(&rt, &answered), 2 * ping);
-        }
-        drop(pings);
-        other.join(&rt);
-        is(&rt, answered.try_iter().next(), None);
+        play_ping_pong(rt, capacity)?;
     }
     Ok(())
 }
@@ -92,6 +107,23 @@ fn count_each<R: Waits>(rt: &R, rx: Receiver<u64, R>, counts: &Mutex<[u32; MESSA
     }
 }
 
+// Counts each number that comes, until none does.
+#[derive(Drop)]
+struct CountEach<'a, R: Waits> {
+    rt: R,
+    rx: Receiver<u64, R>,
+    counts: &'a Mutex<[u32; MESSAGES]>,
+}
+
+impl<R: Waits> Work for CountEach<'_, R> {
+    type Answer = ();
+
+    fn work(self) {
+        let CountEach { rt, rx, counts } = self;
+        count_each(&rt, rx, counts);
+    }
+}
+
 // Eight threads read by iterators what this one sends. False: a thread or a clone was refused.
 fn read_by_eight<R: Waits + Threads + Send + Sync>(
     rt: R,
@@ -100,10 +132,10 @@ fn read_by_eight<R: Waits + Threads + Send + Sync>(
 ) -> bool {
     thread::scope(thread::scope_env(), &rt, |scope| {
         for _ in 0..THREADS {
-            let Ok(copy) = rx.clone() else {
+            let Ok(rx) = rx.clone() else {
                 return false;
             };
-            if scope.spawn(move || count_each(&rt, copy, counts)).is_err() {
+            if !starts_in(scope, CountEach { rt, rx, counts }) {
                 return false;
             }
         }
@@ -113,13 +145,22 @@ fn read_by_eight<R: Waits + Threads + Send + Sync>(
     })
 }
 
+// Eight threads share a hundred messages.
+fn share_among_eight<R>(rt: R, capacity: Option<usize>) -> Result<(), Fail>
+where
+    R: Waits + AllocGlobal + Threads + Abort + Send + Sync + 'static,
+{
+    let ends = opened::<u64, _>(rt, rt.alloc(), capacity)?;
+    let counts = Mutex::new([0; MESSAGES]);
+    assert!(rt; read_by_eight(rt, ends, &counts));
+    assert!(rt; counts.into_inner().iter().all(|&count| count == 1));
+    Ok(())
+}
+
 #[test]
 fn iterators_in_eight_threads_share_the_messages(rt: HostRuntime) -> Result<(), Fail> {
     for &capacity in CAPACITIES {
-        let ends = opened::<u64, _>(rt, rt.alloc(), capacity)?;
-        let counts = Mutex::new([0; MESSAGES]);
-        assert!(rt; read_by_eight(rt, ends, &counts));
-        assert!(rt; counts.into_inner().iter().all(|&count| count == 1));
+        share_among_eight(rt, capacity)?;
     }
     Ok(())
 }
@@ -142,6 +183,17 @@ impl<R: Waits> Work for Forward<R> {
     }
 }
 
+// Starts a thread that forwards from the one channel into the other.
+fn start_forwarder<R: Waits + Threads + Send + Sync + 'static>(
+    rt: R,
+    from: &Receiver<u64, R>,
+    to: &Sender<u64, R>,
+) -> Result<JoinHandle<()>, Fail> {
+    let from = from.clone()?;
+    let to = to.clone()?;
+    started(&rt, Forward { from, to })
+}
+
 // Starts eight threads that forward from the one channel into the other.
 fn start_forwarders<R: Waits + AllocGlobal + Threads + Send + Sync + 'static>(
     rt: R,
@@ -150,8 +202,7 @@ fn start_forwarders<R: Waits + AllocGlobal + Threads + Send + Sync + 'static>(
 ) -> Result<Vec<JoinHandle<()>>, Fail> {
     let mut forwarders = Vec::new(rt.alloc());
     for _ in 0..THREADS {
-        let (from, to) = (from.clone()?, to.clone()?);
-        forwarders.push(started(&rt, Forward { from, to })?)?;
+        forwarders.push(start_forwarder(rt, &from, &to)?)?;
     }
     Ok(forwarders)
 }

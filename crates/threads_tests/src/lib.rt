@@ -8,6 +8,8 @@ mod fixtures;
 #[cfg(test)]
 mod forwarded;
 #[cfg(test)]
+mod many;
+#[cfg(test)]
 mod nested;
 #[cfg(test)]
 mod queries;

@@ -1,7 +1,7 @@
 //! Messages that hold an end of another channel.
 use crate::fixtures::{MOST_YIELDS, is, opened, yield_often};
 use crate::watch::begin_watch;
-use crate::works::{ReceiveOne, ReceiveThree, Work, started};
+use crate::works::{ReceiveOne, ReceiveThree, Three, Work, started};
 use flume::{Receiver, Sender, Waits, WeakSender};
 use flume_core::error::{NoMemory, RecvError, SendError, TryRecvError, TrySendError};
 use std::process::Abort;
@@ -63,14 +63,23 @@ impl<R: Waits> Work for ServeRequests<R> {
     }
 }
 
+// A server in a thread is asked over a channel of this capacity.
+fn ask_a_server<R>(rt: R, capacity: Option<usize>) -> Result<(), Fail>
+where
+    R: Waits + AllocGlobal + Threads + Abort + Send + Sync + 'static,
+{
+    let (requests, rx) = opened(rt, rt.alloc(), capacity)?;
+    let server = started(&rt, ServeRequests { rt, rx })?;
+    ask(rt, &requests, capacity)?;
+    drop(requests);
+    server.join(&rt);
+    Ok(())
+}
+
 #[test]
 fn a_server_answers_through_the_sender_in_a_request(rt: HostRuntime) -> Result<(), Fail> {
     for &capacity in MEETING {
-        let (requests, rx) = opened(rt, rt.alloc(), capacity)?;
-        let server = started(&rt, ServeRequests { rt, rx })?;
-        ask(rt, &requests, capacity)?;
-        drop(requests);
-        server.join(&rt);
+        ask_a_server(rt, capacity)?;
     }
     Ok(())
 }
@@ -96,41 +105,59 @@ struct ReadInner<R: Waits> {
 }
 
 impl<R: Waits> Work for ReadInner<R> {
-    type Answer = [Result<u64, RecvError>; 3];
+    type Answer = Three;
 
-    fn work(self) -> [Result<u64, RecvError>; 3] {
+    fn work(self) -> Three {
         let ReadInner { outer } = self;
         match outer.recv() {
             Ok(rx) => ReceiveThree { rx }.work(),
-            Err(error) => [Err(error); 3],
+            Err(error) => (Err(error), Err(error), Err(error)),
         }
     }
+}
+
+// A receiver goes through one channel, and is read in another thread.
+fn read_what_is_received<R>(rt: R, capacity: Option<usize>) -> Result<(), Fail>
+where
+    R: Waits + AllocGlobal + Threads + Abort + Send + Sync + 'static,
+{
+    let ((outer, outer_rx), (tx, rx)) = opened_both(rt, capacity)?;
+    let reader = started(&rt, ReadInner { outer: outer_rx })?;
+    assert!(rt; outer.send(rx).is_ok());
+    assert!(rt; tx.send(1).is_ok() && tx.send(2).is_ok());
+    drop(tx);
+    let read = reader.join(&rt);
+    is(&rt, read, (Ok(1), Ok(2), Err(RecvError::Disconnected)));
+    Ok(())
 }
 
 #[test]
 fn a_receiver_is_received_and_read(rt: HostRuntime) -> Result<(), Fail> {
     for &capacity in MEETING {
-        let ((outer, outer_rx), (tx, rx)) = opened_both(rt, capacity)?;
-        let reader = started(&rt, ReadInner { outer: outer_rx })?;
-        assert!(rt; outer.send(rx).is_ok());
-        assert!(rt; tx.send(1).is_ok() && tx.send(2).is_ok());
-        drop(tx);
-        let read = reader.join(&rt);
-        is(&rt, read, [Ok(1), Ok(2), Err(RecvError::Disconnected)]);
+        read_what_is_received(rt, capacity)?;
     }
+    Ok(())
+}
+
+// A sender is left in a channel, which goes.
+fn leave_a_sender<R>(rt: R, capacity: Option<usize>) -> Result<(), Fail>
+where
+    R: Waits + AllocGlobal + Threads + Abort + Send + Sync + 'static,
+{
+    let ((outer, outer_rx), (tx, rx)) = opened_both(rt, capacity)?;
+    assert!(rt; outer.send(tx).is_ok());
+    drop(outer);
+    is(&rt, rx.try_recv(), Err(TryRecvError::Empty));
+    drop(outer_rx);
+    is(&rt, rx.try_recv(), Err(TryRecvError::Disconnected));
+    is(&rt, rx.recv(), Err(RecvError::Disconnected));
     Ok(())
 }
 
 #[test]
 fn a_sender_left_in_a_channel_goes_with_it(rt: HostRuntime) -> Result<(), Fail> {
     for &capacity in QUEUEING {
-        let ((outer, outer_rx), (tx, rx)) = opened_both(rt, capacity)?;
-        assert!(rt; outer.send(tx).is_ok());
-        drop(outer);
-        is(&rt, rx.try_recv(), Err(TryRecvError::Empty));
-        drop(outer_rx);
-        is(&rt, rx.try_recv(), Err(TryRecvError::Disconnected));
-        is(&rt, rx.recv(), Err(RecvError::Disconnected));
+        leave_a_sender(rt, capacity)?;
     }
     Ok(())
 }
@@ -157,27 +184,45 @@ where
     Ok(())
 }
 
-#[test]
-fn a_receive_ends_as_its_sender_goes_with_a_channel(rt: HostRuntime) -> Result<(), Fail> {
-    let watch = begin_watch(rt, rt.alloc())?;
+// The same at both capacities, after each number of yields in turn.
+fn end_with_channels<R>(rt: R) -> Result<(), Fail>
+where
+    R: Waits + AllocGlobal + Threads + Abort + Send + Sync + 'static,
+{
     for round in 0..128 {
         ends_with_a_channel(rt, None, round % MOST_YIELDS)?;
         ends_with_a_channel(rt, Some(1), round % MOST_YIELDS)?;
     }
+    Ok(())
+}
+
+#[test]
+fn a_receive_ends_as_its_sender_goes_with_a_channel(rt: HostRuntime) -> Result<(), Fail> {
+    let watch = begin_watch(rt, rt.alloc())?;
+    let ended = end_with_channels(rt);
     watch.end(&rt);
+    ended
+}
+
+// A receiver is left in a channel, which goes.
+fn leave_a_receiver<R>(rt: R, capacity: Option<usize>) -> Result<(), Fail>
+where
+    R: Waits + AllocGlobal + Threads + Abort + Send + Sync + 'static,
+{
+    let ((outer, outer_rx), (tx, rx)) = opened_both(rt, capacity)?;
+    assert!(rt; outer.send(rx).is_ok());
+    drop(outer_rx);
+    assert!(rt; tx.try_send(1).is_ok());
+    drop(outer);
+    is(&rt, tx.try_send(2), Err(TrySendError::Disconnected(2)));
+    is(&rt, tx.send(3), Err(SendError::Disconnected(3)));
     Ok(())
 }
 
 #[test]
 fn a_receiver_left_in_a_channel_goes_with_it(rt: HostRuntime) -> Result<(), Fail> {
     for &capacity in QUEUEING {
-        let ((outer, outer_rx), (tx, rx)) = opened_both(rt, capacity)?;
-        assert!(rt; outer.send(rx).is_ok());
-        drop(outer_rx);
-        assert!(rt; tx.try_send(1).is_ok());
-        drop(outer);
-        is(&rt, tx.try_send(2), Err(TrySendError::Disconnected(2)));
-        is(&rt, tx.send(3), Err(SendError::Disconnected(3)));
+        leave_a_receiver(rt, capacity)?;
     }
     Ok(())
 }
@@ -208,17 +253,26 @@ fn a_blocked_sender_goes_with_its_send(rt: HostRuntime) -> Result<(), Fail> {
     Ok(())
 }
 
+// A weak sender is left in a channel, which goes.
+fn leave_a_weak_sender<R>(rt: R, capacity: Option<usize>) -> Result<(), Fail>
+where
+    R: Waits + AllocGlobal + Threads + Abort + Send + Sync + 'static,
+{
+    let ((outer, outer_rx), (tx, rx)) = opened_both(rt, capacity)?;
+    assert!(rt; outer.send(tx.downgrade()?).is_ok());
+    drop(outer);
+    drop(outer_rx);
+    assert!(rt; tx.send(1).is_ok());
+    is(&rt, rx.recv(), Ok(1));
+    drop(tx);
+    is(&rt, rx.recv(), Err(RecvError::Disconnected));
+    Ok(())
+}
+
 #[test]
 fn a_weak_sender_left_in_a_channel_closes_nothing(rt: HostRuntime) -> Result<(), Fail> {
     for &capacity in QUEUEING {
-        let ((outer, outer_rx), (tx, rx)) = opened_both(rt, capacity)?;
-        assert!(rt; outer.send(tx.downgrade()?).is_ok());
-        drop(outer);
-        drop(outer_rx);
-        assert!(rt; tx.send(1).is_ok());
-        is(&rt, rx.recv(), Ok(1));
-        drop(tx);
-        is(&rt, rx.recv(), Err(RecvError::Disconnected));
+        leave_a_weak_sender(rt, capacity)?;
     }
     Ok(())
 }
@@ -240,26 +294,35 @@ struct SendThrough<R: Waits> {
 }
 
 impl<R: Waits> Work for SendThrough<R> {
-    type Answer = [bool; 2];
+    type Answer = (bool, bool);
 
-    fn work(self) -> [bool; 2] {
+    fn work(self) -> (bool, bool) {
         let SendThrough { outer } = self;
-        [send_through(&outer), send_through(&outer)]
+        (send_through(&outer), send_through(&outer))
     }
+}
+
+// A weak sender is received twice: while a sender lives, and once none does.
+fn upgrade_what_is_received<R>(rt: R, capacity: Option<usize>) -> Result<(), Fail>
+where
+    R: Waits + AllocGlobal + Threads + Abort + Send + Sync + 'static,
+{
+    let ((outer, outer_rx), (tx, rx)) = opened_both(rt, capacity)?;
+    let weak = tx.downgrade()?;
+    let sending = started(&rt, SendThrough { outer: outer_rx })?;
+    assert!(rt; outer.send(weak.clone()?).is_ok());
+    is(&rt, rx.recv(), Ok(7));
+    drop(tx);
+    is(&rt, rx.recv(), Err(RecvError::Disconnected));
+    assert!(rt; outer.send(weak).is_ok());
+    is(&rt, sending.join(&rt), (true, false));
+    Ok(())
 }
 
 #[test]
 fn a_received_weak_sender_upgrades_while_a_sender_lives(rt: HostRuntime) -> Result<(), Fail> {
     for &capacity in MEETING {
-        let ((outer, outer_rx), (tx, rx)) = opened_both(rt, capacity)?;
-        let weak = tx.downgrade()?;
-        let sending = started(&rt, SendThrough { outer: outer_rx })?;
-        assert!(rt; outer.send(weak.clone()?).is_ok());
-        is(&rt, rx.recv(), Ok(7));
-        drop(tx);
-        is(&rt, rx.recv(), Err(RecvError::Disconnected));
-        assert!(rt; outer.send(weak).is_ok());
-        is(&rt, sending.join(&rt), [true, false]);
+        upgrade_what_is_received(rt, capacity)?;
     }
     Ok(())
 }

@@ -2,6 +2,8 @@
 use crate::fixtures::{is, long};
 use crate::watch::begin_watch;
 use flume::{Receiver, Sender, Waits, bounded, unbounded};
+use flume_core::error::NoMemory;
+use std::alloc::Global;
 use std::process::Abort;
 use std::sync::Wait;
 use std::test::Fail;
@@ -88,23 +90,42 @@ fn asked_while_it_waits<R: Waits + Threads + Abort + Send + Sync, Q: Waits + Sen
     })
 }
 
-#[test]
-fn asking_leaves_a_blocked_send_blocked(rt: HostRuntime) -> Result<(), Fail> {
-    let watch = begin_watch(rt, rt.alloc())?;
-    let (reads, read) = unbounded::<(), _, _>(rt, rt.alloc(), 1)?;
-    let (release, go_on) = unbounded::<(), _, _>(rt, rt.alloc(), 2)?;
+// The ends of one channel.
+type Ends<R> = (Sender<u64, R>, Receiver<u64, R>);
+
+// A channel of capacity 0, with two senders and two receivers.
+fn two_of_each<R: Waits>(rt: R, alloc: Global) -> Result<(Ends<R>, Ends<R>), NoMemory> {
+    let (tx, rx) = bounded::<u64, _, _>(rt, alloc, 3, 0)?;
+    let others = (tx.clone()?, rx.clone()?);
+    Ok(((tx, rx), others))
+}
+
+// A send waits in a thread that reads a paused clock, while both ends are asked.
+fn ask_while_it_waits<R: Waits + Threads + Abort + Send + Sync + 'static>(
+    rt: R,
+    alloc: Global,
+    deadline: Instant,
+) -> Result<(), Fail> {
+    let (reads, read) = unbounded::<(), _, _>(rt, alloc, 1)?;
+    let (release, go_on) = unbounded::<(), _, _>(rt, alloc, 2)?;
     let paused = Paused {
         rt,
         reads: &reads,
         go_on: &go_on,
     };
-    let deadline = Instant::now(&rt)?.checked_add(long());
-    let deadline = deadline.expect(&rt, "an hour has a sum");
-    let (tx, rx) = bounded::<u64, _, _>(paused, rt.alloc(), 3, 0)?;
-    let (blocked, idle) = (tx.clone()?, rx.clone()?);
+    let ((tx, rx), (blocked, idle)) = two_of_each(paused, alloc)?;
     let (ends, others) = ((&tx, &rx), (&blocked, &idle));
     let sent = asked_while_it_waits(rt, ends, others, (&read, release), deadline);
     assert!(rt; sent);
-    watch.end(&rt);
     Ok(())
+}
+
+#[test]
+fn asking_leaves_a_blocked_send_blocked(rt: HostRuntime) -> Result<(), Fail> {
+    let deadline = Instant::now(&rt)?.checked_add(long());
+    let deadline = deadline.expect(&rt, "an hour has a sum");
+    let watch = begin_watch(rt, rt.alloc())?;
+    let ended = ask_while_it_waits(rt, rt.alloc(), deadline);
+    watch.end(&rt);
+    ended
 }

@@ -1,6 +1,6 @@
 //! Ends that threads take with them, or share by reference.
 use crate::fixtures::is;
-use crate::works::{ReceiveThree, SendOne, Work, started};
+use crate::works::{ReceiveThree, SendOne, Work, started, starts_in};
 use flume::{Receiver, Sender, Waits, WeakSender, bounded, unbounded};
 use flume_core::error::RecvError;
 use std::sync::atomic::{AtomicU64, Ordering};
@@ -20,20 +20,36 @@ fn send_then_take<R: Waits>(tx: &Sender<u64, R>, rx: &Receiver<u64, R>, found: &
     }
 }
 
+// Sends and takes in turn.
+#[derive(Drop)]
+struct SendThenTake<'a, 'b, 'c, R: Waits> {
+    tx: &'a Sender<u64, R>,
+    rx: &'b Receiver<u64, R>,
+    found: &'c AtomicU64,
+}
+
+impl<R: Waits> Work for SendThenTake<'_, '_, '_, R> {
+    type Answer = ();
+
+    fn work(self) {
+        send_then_take(self.tx, self.rx, self.found);
+    }
+}
+
 // How many messages four threads find that send and take in turn.
 fn found_by_four<R: Waits + Threads + Send + Sync>(
     rt: &R,
     tx: &Sender<u64, R>,
     rx: &Receiver<u64, R>,
 ) -> u64 {
-    let found = AtomicU64::new(0);
-    let count = &found;
+    let count = AtomicU64::new(0);
+    let found = &count;
     thread::scope(thread::scope_env(), rt, |scope| {
         for _ in 0..4 {
-            let _ = scope.spawn(move || send_then_take(tx, rx, count));
+            starts_in(scope, SendThenTake { tx, rx, found });
         }
     });
-    found.into_inner()
+    count.into_inner()
 }
 
 #[test]
@@ -84,7 +100,7 @@ fn each_end_goes_with_its_thread(rt: HostRuntime) -> Result<(), Fail> {
     let receiving = started(&rt, ReceiveThree { rx })?;
     is(&rt, sending.join(&rt), Ok(()));
     let received = receiving.join(&rt);
-    is(&rt, received, [Ok(1), Ok(2), Err(RecvError::Disconnected)]);
+    is(&rt, received, (Ok(1), Ok(2), Err(RecvError::Disconnected)));
     Ok(())
 }
 
@@ -106,22 +122,67 @@ fn add_two<R: Waits>(rx: &Receiver<u64, R>, sum: &AtomicU64) {
     }
 }
 
-#[test]
-fn two_threads_use_each_end_by_reference(rt: HostRuntime) -> Result<(), Fail> {
-    let (tx, rx) = bounded::<u64, _, _>(rt, rt.alloc(), 1, 0)?;
-    let weak = tx.downgrade()?;
-    let sum = AtomicU64::new(0);
-    let (tx, rx, weak, total) = (&tx, &rx, &weak, &sum);
-    let started = thread::scope(thread::scope_env(), &rt, |scope| {
-        for &first in FIRST {
-            let sending = scope.spawn(move || send_two(tx, weak, first));
-            if sending.is_err() || scope.spawn(move || add_two(rx, total)).is_err() {
+// Sends a number, and ten times as much by way of a weak sender.
+#[derive(Drop)]
+struct SendTwo<'a, 'b, R: Waits> {
+    tx: &'a Sender<u64, R>,
+    weak: &'b WeakSender<u64, R>,
+    message: u64,
+}
+
+impl<R: Waits> Work for SendTwo<'_, '_, R> {
+    type Answer = ();
+
+    fn work(self) {
+        send_two(self.tx, self.weak, self.message);
+    }
+}
+
+// Receives two messages, and adds them to the sum.
+#[derive(Drop)]
+struct AddTwo<'a, 'b, R: Waits> {
+    rx: &'a Receiver<u64, R>,
+    sum: &'b AtomicU64,
+}
+
+impl<R: Waits> Work for AddTwo<'_, '_, R> {
+    type Answer = ();
+
+    fn work(self) {
+        add_two(self.rx, self.sum);
+    }
+}
+
+// The sum of what two threads receive that two others send. `None`: a thread was refused.
+fn sum_by_reference<R: Waits + Threads + Send + Sync>(
+    rt: &R,
+    tx: &Sender<u64, R>,
+    weak: &WeakSender<u64, R>,
+    rx: &Receiver<u64, R>,
+) -> Option<u64> {
+    let count = AtomicU64::new(0);
+    let sum = &count;
+    let started = thread::scope(thread::scope_env(), rt, |scope| {
+        for &message in FIRST {
+            if !starts_in(scope, SendTwo { tx, weak, message })
+                || !starts_in(scope, AddTwo { rx, sum })
+            {
                 return false;
             }
         }
         true
     });
-    assert!(rt; started);
-    is(&rt, sum.into_inner(), 1111);
+    if started {
+        Some(count.into_inner())
+    } else {
+        None
+    }
+}
+
+#[test]
+fn two_threads_use_each_end_by_reference(rt: HostRuntime) -> Result<(), Fail> {
+    let (tx, rx) = bounded::<u64, _, _>(rt, rt.alloc(), 1, 0)?;
+    let weak = tx.downgrade()?;
+    is(&rt, sum_by_reference(&rt, &tx, &weak, &rx), Some(1111));
     Ok(())
 }

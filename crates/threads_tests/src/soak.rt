@@ -182,16 +182,34 @@ impl<R: Waits + AllocGlobal> Work for ReceiveAll<R> {
     }
 }
 
-// Starts the threads, each with an end of its own.
+// Starts a thread that sends, with a sender of its own.
+fn start_sender<R: Waits + Threads + Send + Sync + 'static>(
+    rt: R,
+    tx: &Sender<Message, R>,
+    sender: usize,
+) -> Result<JoinHandle<bool>, Fail> {
+    let tx = tx.clone()?;
+    started(&rt, SendAll { rt, tx, sender })
+}
+
+// Starts a thread that receives, with a receiver of its own.
+fn start_receiver<R>(rt: R, rx: &Receiver<Message, R>) -> Result<JoinHandle<Received>, Fail>
+where
+    R: Waits + AllocGlobal + Threads + Send + Sync + 'static,
+{
+    let rx = rx.clone()?;
+    started(&rt, ReceiveAll { rt, rx })
+}
+
+// Starts the threads.
 fn start_all<R>(rt: R, tx: Sender<Message, R>, rx: Receiver<Message, R>) -> Result<Started, Fail>
 where
     R: Waits + AllocGlobal + Threads + Send + Sync + 'static,
 {
     let (mut senders, mut receivers) = (Vec::new(rt.alloc()), Vec::new(rt.alloc()));
     for sender in 0..THREADS {
-        let (tx, rx) = (tx.clone()?, rx.clone()?);
-        senders.push(started(&rt, SendAll { rt, tx, sender })?)?;
-        receivers.push(started(&rt, ReceiveAll { rt, rx })?)?;
+        senders.push(start_sender(rt, &tx, sender)?)?;
+        receivers.push(start_receiver(rt, &rx)?)?;
     }
     Ok(Started { senders, receivers })
 }
@@ -200,6 +218,20 @@ where
 fn join_senders<R: Threads + Abort>(rt: &R, senders: Vec<JoinHandle<bool>>) {
     for sender in senders {
         assert!(rt; sender.join(rt));
+    }
+}
+
+// Joins the threads that receive, of which each got the messages of one sender in order, and counts
+// each message.
+fn join_receivers<R: Threads + Abort>(
+    rt: &R,
+    receivers: Vec<JoinHandle<Received>>,
+    counts: &mut [u32],
+) {
+    for receiver in receivers {
+        let received = receiver.join(rt).expect(rt, "there is memory");
+        assert!(rt; is_in_order(&received));
+        count_each(&received, counts);
     }
 }
 
@@ -212,11 +244,7 @@ where
     let Started { senders, receivers } = start_all(rt, tx, rx)?;
     join_senders(&rt, senders);
     let mut counts = vec![in rt.alloc(); 0u32; THREADS * EACH]?;
-    for receiver in receivers {
-        let received = receiver.join(&rt).expect(&rt, "there is memory");
-        assert!(rt; is_in_order(&received));
-        count_each(&received, &mut counts);
-    }
+    join_receivers(&rt, receivers, counts.as_mut_slice());
     assert!(rt; counts.iter().all(|&count| count == 1));
     Ok(())
 }

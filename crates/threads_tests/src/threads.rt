@@ -1,35 +1,29 @@
-//! Ends in several threads, all of which are joined.
-use crate::fixtures::{MOST_YIELDS, is, opened, yield_often};
+//! Two threads that meet, over one channel or over many, and calls that end as the other side goes.
+use crate::fixtures::{CAPACITIES, MOST_YIELDS, is, opened, yield_often};
 use crate::watch::begin_watch;
 use crate::works::{ReceiveOne, SendOne, Work, started};
-use flume::error::{RecvError, SendError, TryRecvError};
+use flume::error::{RecvError, SendError};
 use flume::{Receiver, Sender, Waits, bounded, unbounded};
-use std::alloc::{AllocError, Global};
+use std::alloc::Global;
 use std::process::Abort;
-use std::sync::Mutex;
 use std::test::Fail;
-use std::thread;
 use std::thread::Threads;
-
-// How many messages each thread sends or receives, where there are several.
-const EACH: usize = 250;
 
 // How many messages one thread sends to one other.
 const ALL: u64 = 1000;
 
-// How many threads receive until the channel is closed.
-const RECEIVERS: usize = 8;
-
 // How often a blocked call and the drop of the other side run against each other.
 const ROUNDS: u32 = 256;
 
-// The capacities at which several threads meet; `None` is unbounded.
-const CAPACITIES: [Option<usize>; 4] = [None, Some(0), Some(1), Some(3)];
+// The capacities of the channels that pass one message.
+const SHORT_LIVED: &[Option<usize>] = &[None, Some(0), Some(1)];
 
-#[test]
-fn a_send_without_room_meets_a_receive(rt: HostRuntime) -> Result<(), Fail> {
-    let watch = begin_watch(rt, rt.alloc())?;
-    let (tx, rx) = bounded::<u64, _, _>(rt, rt.alloc(), 1, 0)?;
+// A send in a thread, without room, and a receive.
+fn meet<R: Waits + Threads + Abort + Send + Sync + 'static>(
+    rt: R,
+    alloc: Global,
+) -> Result<(), Fail> {
+    let (tx, rx) = bounded::<u64, _, _>(rt, alloc, 1, 0)?;
     let send = SendOne {
         begins: None,
         tx,
@@ -38,120 +32,15 @@ fn a_send_without_room_meets_a_receive(rt: HostRuntime) -> Result<(), Fail> {
     let sender = started(&rt, send)?;
     is(&rt, rx.recv(), Ok(1));
     is(&rt, sender.join(&rt), Ok(()));
-    watch.end(&rt);
     Ok(())
-}
-
-// Sends 0, 1, 2 and so on.
-fn send_each<R: Waits>(tx: &Sender<usize, R>) {
-    for message in 0..EACH {
-        let _ = tx.send(message);
-    }
-}
-
-// Counts a number that was received.
-fn count_one<R: Waits>(rt: &R, counts: &Mutex<[u32; EACH]>, message: usize) {
-    if let Some(count) = counts.lock(rt).get_mut(message) {
-        *count = count.saturating_add(1);
-    }
-}
-
-// Receives as many numbers as a thread sends.
-fn receive_each<R: Waits>(rt: &R, rx: &Receiver<usize, R>, counts: &Mutex<[u32; EACH]>) {
-    for _ in 0..EACH {
-        if let Ok(message) = rx.recv() {
-            count_one(rt, counts, message);
-        }
-    }
-}
-
-// Receives until the channel is closed and empty.
-fn receive_all<R: Waits>(rt: &R, rx: &Receiver<usize, R>, counts: &Mutex<[u32; EACH]>) {
-    for _ in rt.forever() {
-        let Ok(message) = rx.recv() else {
-            return;
-        };
-        count_one(rt, counts, message);
-    }
-}
-
-// Whether each number was counted so often.
-fn is_each_counted(counts: Mutex<[u32; EACH]>, wanted: u32) -> bool {
-    counts.into_inner().iter().all(|&count| count == wanted)
-}
-
-// Four threads send to four: two on each side share an end, and two have one of their own.
-fn four_to_four<R: Waits + Threads + Send + Sync + 'static>(
-    rt: R,
-    tx: &Sender<usize, R>,
-    rx: &Receiver<usize, R>,
-    counts: &Mutex<[u32; EACH]>,
-) -> Result<bool, AllocError> {
-    let (tx2, tx3) = (tx.clone()?, tx.clone()?);
-    let (rx2, rx3) = (rx.clone()?, rx.clone()?);
-    let (tx2, tx3, rx2, rx3) = (&tx2, &tx3, &rx2, &rx3);
-    let started = thread::scope(thread::scope_env(), &rt, move |scope| {
-        let sends = scope.spawn(move || send_each(tx)).is_ok()
-            && scope.spawn(move || send_each(tx)).is_ok()
-            && scope.spawn(move || send_each(tx2)).is_ok()
-            && scope.spawn(move || send_each(tx3)).is_ok();
-        sends
-            && scope.spawn(move || receive_each(&rt, rx, counts)).is_ok()
-            && scope.spawn(move || receive_each(&rt, rx, counts)).is_ok()
-            && scope.spawn(move || receive_each(&rt, rx2, counts)).is_ok()
-            && scope.spawn(move || receive_each(&rt, rx3, counts)).is_ok()
-    });
-    Ok(started)
 }
 
 #[test]
-fn each_message_arrives_once(rt: HostRuntime) -> Result<(), Fail> {
+fn a_send_without_room_meets_a_receive(rt: HostRuntime) -> Result<(), Fail> {
     let watch = begin_watch(rt, rt.alloc())?;
-    for capacity in CAPACITIES {
-        let (tx, rx) = opened(rt, rt.alloc(), capacity)?;
-        let counts = Mutex::new([0; EACH]);
-        assert!(rt; four_to_four(rt, &tx, &rx, &counts)?);
-        assert!(rt; is_each_counted(counts, 4));
-        is(&rt, rx.try_recv(), Err(TryRecvError::Empty));
-    }
+    let ended = meet(rt, rt.alloc());
     watch.end(&rt);
-    Ok(())
-}
-
-// Eight threads, each with a receiver of its own, share what one sends.
-fn one_to_eight<R: Waits + Threads + Send + Sync + 'static>(
-    rt: R,
-    tx: Sender<usize, R>,
-    rx: &Receiver<usize, R>,
-    counts: &Mutex<[u32; EACH]>,
-) -> bool {
-    thread::scope(thread::scope_env(), &rt, move |scope| {
-        for _ in 0..RECEIVERS {
-            let Ok(own) = rx.clone() else {
-                return false;
-            };
-            if scope.spawn(move || receive_all(&rt, &own, counts)).is_err() {
-                return false;
-            }
-        }
-        send_each(&tx);
-        drop(tx);
-        true
-    })
-}
-
-#[test]
-fn eight_receivers_share_the_messages_until_the_sender_goes(rt: HostRuntime) -> Result<(), Fail> {
-    let watch = begin_watch(rt, rt.alloc())?;
-    for capacity in CAPACITIES {
-        let (tx, rx) = opened(rt, rt.alloc(), capacity)?;
-        let counts = Mutex::new([0; EACH]);
-        assert!(rt; one_to_eight(rt, tx, &rx, &counts));
-        assert!(rt; is_each_counted(counts, 1));
-        is(&rt, rx.try_recv(), Err(TryRecvError::Disconnected));
-    }
-    watch.end(&rt);
-    Ok(())
+    ended
 }
 
 // Whether a channel of this capacity may hold so many messages.
@@ -205,18 +94,27 @@ fn one_to_one<R: Waits + Threads + Abort + Send + Sync + 'static>(
     Ok(())
 }
 
-#[test]
-fn one_thread_receives_in_the_order_of_the_other(rt: HostRuntime) -> Result<(), Fail> {
-    let watch = begin_watch(rt, rt.alloc())?;
-    for capacity in CAPACITIES {
-        one_to_one(rt, rt.alloc(), capacity)?;
+// The same at each capacity.
+fn each_one_to_one<R: Waits + Threads + Abort + Send + Sync + 'static>(
+    rt: R,
+    alloc: Global,
+) -> Result<(), Fail> {
+    for &capacity in CAPACITIES {
+        one_to_one(rt, alloc, capacity)?;
     }
-    watch.end(&rt);
     Ok(())
 }
 
-// Two channels that each pass one message: a new thread sends it, and a new thread receives it.
-fn short_lived<R: Waits + Threads + Abort + Send + Sync + 'static>(
+#[test]
+fn one_thread_receives_in_the_order_of_the_other(rt: HostRuntime) -> Result<(), Fail> {
+    let watch = begin_watch(rt, rt.alloc())?;
+    let ended = each_one_to_one(rt, rt.alloc());
+    watch.end(&rt);
+    ended
+}
+
+// A new channel passes one message, which a new thread sends.
+fn one_is_sent<R: Waits + Threads + Abort + Send + Sync + 'static>(
     rt: R,
     alloc: Global,
     capacity: Option<usize>,
@@ -230,7 +128,15 @@ fn short_lived<R: Waits + Threads + Abort + Send + Sync + 'static>(
     let sender = started(&rt, send)?;
     is(&rt, rx.recv(), Ok(7));
     is(&rt, sender.join(&rt), Ok(()));
+    Ok(())
+}
 
+// A new channel passes one message, which a new thread receives.
+fn one_is_received<R: Waits + Threads + Abort + Send + Sync + 'static>(
+    rt: R,
+    alloc: Global,
+    capacity: Option<usize>,
+) -> Result<(), Fail> {
     let (tx, rx) = opened::<u64, _>(rt, alloc, capacity)?;
     let receiver = started(&rt, ReceiveOne { begins: None, rx })?;
     is(&rt, tx.send(8), Ok(()));
@@ -238,16 +144,26 @@ fn short_lived<R: Waits + Threads + Abort + Send + Sync + 'static>(
     Ok(())
 }
 
+// Two channels of each capacity, a hundred times.
+fn short_lived<R: Waits + Threads + Abort + Send + Sync + 'static>(
+    rt: R,
+    alloc: Global,
+) -> Result<(), Fail> {
+    for _ in 0..100 {
+        for &capacity in SHORT_LIVED {
+            one_is_sent(rt, alloc, capacity)?;
+            one_is_received(rt, alloc, capacity)?;
+        }
+    }
+    Ok(())
+}
+
 #[test]
 fn short_lived_channels_each_pass_their_message(rt: HostRuntime) -> Result<(), Fail> {
     let watch = begin_watch(rt, rt.alloc())?;
-    for _ in 0..100 {
-        short_lived(rt, rt.alloc(), None)?;
-        short_lived(rt, rt.alloc(), Some(0))?;
-        short_lived(rt, rt.alloc(), Some(1))?;
-    }
+    let ended = short_lived(rt, rt.alloc());
     watch.end(&rt);
-    Ok(())
+    ended
 }
 
 // A receive in a thread, against the drop of the last sender. The thread says that it begins, and
@@ -292,22 +208,40 @@ fn send_ends<R: Waits + Threads + Abort + Send + Sync + 'static>(
     Ok(())
 }
 
+// Receives that end, after each number of yields in turn.
+fn receives_end<R: Waits + Threads + Abort + Send + Sync + 'static>(
+    rt: R,
+    alloc: Global,
+) -> Result<(), Fail> {
+    for round in 0..ROUNDS {
+        receive_ends(rt, alloc, round % MOST_YIELDS)?;
+    }
+    Ok(())
+}
+
+// Sends that end, after each number of yields in turn.
+fn sends_end<R: Waits + Threads + Abort + Send + Sync + 'static>(
+    rt: R,
+    alloc: Global,
+) -> Result<(), Fail> {
+    for round in 0..ROUNDS {
+        send_ends(rt, alloc, round % MOST_YIELDS)?;
+    }
+    Ok(())
+}
+
 #[test]
 fn a_receive_ends_as_the_last_sender_goes(rt: HostRuntime) -> Result<(), Fail> {
     let watch = begin_watch(rt, rt.alloc())?;
-    for round in 0..ROUNDS {
-        receive_ends(rt, rt.alloc(), round % MOST_YIELDS)?;
-    }
+    let ended = receives_end(rt, rt.alloc());
     watch.end(&rt);
-    Ok(())
+    ended
 }
 
 #[test]
 fn a_send_ends_as_the_last_receiver_goes(rt: HostRuntime) -> Result<(), Fail> {
     let watch = begin_watch(rt, rt.alloc())?;
-    for round in 0..ROUNDS {
-        send_ends(rt, rt.alloc(), round % MOST_YIELDS)?;
-    }
+    let ended = sends_end(rt, rt.alloc());
     watch.end(&rt);
-    Ok(())
+    ended
 }

@@ -1,10 +1,10 @@
 //! A thread that watches over a test, so that a lost wake fails it.
+use crate::works::{Work, started};
 use flume::Waits;
 use std::alloc::Global;
 use std::process::Abort;
 use std::sync::{Arc, Condvar, Mutex};
 use std::test::Fail;
-use std::thread;
 use std::thread::{JoinHandle, Threads};
 use std::time::{Duration, Instant};
 
@@ -39,6 +39,23 @@ fn watch_over<R: Waits + Abort>(rt: &R, over: &Over, deadline: Instant) {
     unreachable!()
 }
 
+// Watches over a test.
+#[derive(Drop)]
+struct WatchOver<R: Waits + Abort> {
+    rt: R,
+    over: Arc<Over>,
+    deadline: Instant,
+}
+
+impl<R: Waits + Abort> Work for WatchOver<R> {
+    type Answer = ();
+
+    fn work(self) {
+        let WatchOver { rt, over, deadline } = self;
+        watch_over(&rt, &over, deadline);
+    }
+}
+
 /// Begins to watch over a test, which fails where it isn't over after 50 seconds.
 pub(crate) fn begin_watch<R: Waits + Threads + Abort + Send + Sync + 'static>(
     rt: R,
@@ -54,7 +71,12 @@ pub(crate) fn begin_watch<R: Waits + Threads + Abort + Send + Sync + 'static>(
         },
     )?;
     let seen = over.clone()?;
-    let thread = thread::spawn(&rt, move || watch_over(&rt, &seen, deadline))?;
+    let watching = WatchOver {
+        rt,
+        over: seen,
+        deadline,
+    };
+    let thread = started(&rt, watching)?;
     Ok(Watch { over, thread })
 }
 

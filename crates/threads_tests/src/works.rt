@@ -3,7 +3,7 @@ use flume::error::{RecvError, SendError};
 use flume::{Receiver, Sender, Waits};
 use std::test::Fail;
 use std::thread;
-use std::thread::{JoinHandle, Threads};
+use std::thread::{JoinHandle, Scope, Threads};
 
 /// What a thread does.
 pub(crate) trait Work {
@@ -23,6 +23,14 @@ where
     W::Answer: Send + Drop + 'static,
 {
     Ok(thread::spawn(rt, move || work.work())?)
+}
+
+/// Starts a thread of this scope that does this. False: there can be none.
+pub(crate) fn starts_in<'s, E, W: Work + Send + Drop + 's>(scope: &Scope<'s, E>, work: W) -> bool
+where
+    W::Answer: Send + Drop + 's,
+{
+    scope.spawn(move || work.work()).is_ok()
 }
 
 /// Says that it begins, and sends a number.
@@ -64,6 +72,13 @@ impl<R: Waits> Work for ReceiveOne<R> {
     }
 }
 
+/// What three receives answer.
+pub(crate) type Three = (
+    Result<u64, RecvError>,
+    Result<u64, RecvError>,
+    Result<u64, RecvError>,
+);
+
 /// Receives three numbers.
 #[derive(Drop)]
 pub(crate) struct ReceiveThree<R: Waits> {
@@ -71,11 +86,11 @@ pub(crate) struct ReceiveThree<R: Waits> {
 }
 
 impl<R: Waits> Work for ReceiveThree<R> {
-    type Answer = [Result<u64, RecvError>; 3];
+    type Answer = Three;
 
-    fn work(self) -> [Result<u64, RecvError>; 3] {
+    fn work(self) -> Three {
         let ReceiveThree { rx } = self;
-        [rx.recv(), rx.recv(), rx.recv()]
+        (rx.recv(), rx.recv(), rx.recv())
     }
 }
 
