@@ -22,7 +22,7 @@ fn main(rt: HostRuntime) -> io::Result<ExitCode> {
         println!(rt; "{USAGE}")?;
         return Ok(ExitCode::SUCCESS);
     }
-    let Some(messages) = words.get(2).and_then(|word| word.parse::<u64>().ok()) else {
+    let Some(messages) = messages_asked(&words) else {
         eprintln!(rt; "{USAGE}")?;
         return Ok(ExitCode::from(2));
     };
@@ -30,6 +30,17 @@ fn main(rt: HostRuntime) -> io::Result<ExitCode> {
     let sum = plain(rt, messages / 2);
     let time = start.elapsed(&rt)?;
     print_time(&rt, messages, time, sum)
+}
+
+/// How many messages the words `plain unbounded MESSAGES` ask for. `None` of any other words.
+fn messages_asked(words: &[String]) -> Option<u64> {
+    match words {
+        [shape, capacity, messages]
+            if shape.as_str() == "plain" && capacity.as_str() == "unbounded" => {
+            messages.parse::<u64>().ok()
+        }
+        _ => None,
+    }
 }
 
 /// Prints how long a message took, or what went wrong.
