@@ -7,4 +7,7 @@ pub mod ReceiveOutcomes
 pub mod SendGates
 pub mod ReceiveGates
 pub mod Due
+pub mod Polls
+pub mod PolledReceives
+pub mod PolledSends
 pub mod AtRest

@@ -9,6 +9,7 @@ use Rattle.flume_state.specs.Sends.{blocked, noticed_send}
 use Rattle.flume_state.specs.State.{State, accepted_at}
 use Rattle.flume_state.specs.Effects.{Joins, Returns}
 use Rattle.flume_core.specs.StandsFor.{IsLedTo}
+use Rattle.flume_core.specs.Waiting.{FindsNoRoom}
 use Rattle.flume_core.specs.declared.error.SendTimeoutError.TheVariants.{Timeout, Disconnected}
 use Rattle.flume_calls.specs.declared.calls.send.SendNext.{SendNext}
 use Rattle.flume_calls.specs.declared.calls.send.SendNext.TheVariants.{Done, NeedSignal, Park}
@@ -29,6 +30,7 @@ module _ {T S : Type 0} where
       (next : SendNext T) : Type 0 where
     pub closed : (next ≡ Done (Err (Disconnected message))) ↔ IsClosed old.senders old.receivers
     pub sent : next ≡ Done (Ok tt) → (filled : Option ℕ) × Joins old new message filled
+    pub waits : (ticket : ℕ) → next ≡ Park ticket → FindsNoRoom old
     pub parked : next ≡ Park old.next → new ≡ record old {
       blocked = old.blocked ++ record { ticket = old.next; message = message } ∷ [];
       sends = insert old.sends old.next (blocked signal);

@@ -9,5 +9,6 @@ pub mod calls;
 pub mod due;
 pub mod gates;
 pub mod locked;
+pub mod polled;
 pub mod single;
 pub mod turn;

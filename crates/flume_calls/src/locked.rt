@@ -1,5 +1,5 @@
 //! What stands behind a channel's lock.
-ghost use Rattle.std.specs.Prelude.{◌≡◌};
+ghost use Rattle.std.specs.Prelude.{◌≡◌, ◌↔◌, IsTrue, IsSome, None};
 ghost use Rattle.flume_model.specs.Log.{opens};
 ghost use Rattle.flume_state.specs.Sends.{NoDueSend};
 ghost use Rattle.flume_state.specs.Receivers.{NoDueReceiver};
@@ -7,8 +7,10 @@ ghost use Rattle.flume_state.specs.State.{State, opened};
 ghost use Rattle.flume_core.specs.StandsFor.{IsLedTo};
 ghost use Rattle.flume_core.specs.StateFacts.{ChannelFacts};
 ghost use Rattle.flume_calls.specs.AtRest.{IsAtRest, IsCall};
+ghost use Rattle.flume_calls.specs.Polls.{IsPollCall};
 
 use crate::due::{Bell, fire_due};
+use crate::polled::Polled;
 use crate::turn::Turn;
 use flume_core::chan::Chan;
 use flume_core::facts::facts;
@@ -74,6 +76,32 @@ impl<T: Drop, S: Drop, A: Allocator + Copy> Locked<T, S, A> {
         ensures answers { C.answers turn result }
     {
         let answer = turn.make(&mut self.chan);
+        fire_due(&mut self.chan, bell);
+        answer
+    }
+
+    /// Whether a poll of the call would have to wait now. It changes nothing, and is no step.
+    #[inline(always)]
+    pub fn would_wait<P: Polled<T, S, A>>(&self, polled: &P) -> bool
+        ensures waits { IsTrue result ↔ P.waits polled.now self.now }
+    {
+        polled.would_wait(&self.chan)
+    }
+
+    /// Polls the call, and rings once for each ticket that is due then.
+    #[inline(always)]
+    pub fn poll<P: Polled<T, S, A>, B: Bell<S>>(
+        &mut self,
+        polled: &mut P,
+        signal: &mut Option<S>,
+        bell: &mut B,
+    ) -> Option<P::Answer>
+        ensures call { IsPollCall A B.rings
+            (λ between. P.polls polled.old signal.old self.old between polled.new result)
+            self.old bell.old self.new bell.new }
+        ensures pending { result ≡ None → IsSome signal.old }
+    {
+        let answer = polled.poll(&mut self.chan, signal);
         fire_due(&mut self.chan, bell);
         answer
     }

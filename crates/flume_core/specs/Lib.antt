@@ -1,4 +1,5 @@
 pub mod StandsFor
 pub mod Comes
+pub mod Waiting
 pub mod StateFacts
 pub mod Headline

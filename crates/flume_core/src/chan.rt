@@ -12,6 +12,7 @@ mod parked;
 mod queries;
 mod receive;
 mod send;
+mod waiting;
 
 use flume_model::step::{Reply, Step};
 use flume_state::entries::Entries;

@@ -1,5 +1,6 @@
 //! The turns of a send.
-ghost use Rattle.std.specs.Prelude.{◌≡◌};
+ghost use Rattle.std.specs.Prelude.{◌≡◌, ◌↔◌, IsTrue};
+ghost use Rattle.flume_core.specs.Waiting.{IsHeldBack};
 ghost use Rattle.flume_calls.specs.Turns.{Turned};
 ghost use Rattle.flume_calls.specs.SendTurns.{IsFirst, IsParking, IsAgain, step_of_parked_send};
 ghost use Rattle.flume_calls.specs.SendTurns.{after_try_send, after_send, after_parked_send};
@@ -113,6 +114,15 @@ impl SendCall {
     {
         let call = self;
         AgainSend { call, late, signal }.make(chan)
+    }
+
+    /// Whether it is blocked, in an open channel: `again`, not late, answers `Park` then. It
+    /// changes nothing, is no step, and takes no memory.
+    #[inline(always)]
+    pub fn would_wait<T: Drop, S: Drop, A: Allocator + Copy>(&self, chan: &Chan<T, S, A>) -> bool
+        ensures waits { IsTrue result ↔ IsHeldBack self.now chan.now }
+    {
+        chan.parked_send_would_wait(self.ticket)
     }
 }
 

@@ -12,6 +12,7 @@ ghost use Rattle.flume_state.specs.State.{State, accepted_at};
 ghost use Rattle.flume_core.specs.StandsFor.{Extends, IsLedTo, IsRefusal};
 ghost use Rattle.flume_state.specs.Due.{BecomesDue};
 ghost use Rattle.flume_core.specs.Comes.{Comes};
+ghost use Rattle.flume_core.specs.Waiting.{FindsNoRoom};
 
 use super::Chan;
 use flume_model::step::{Reply, Step};
@@ -81,6 +82,7 @@ impl<T: Drop, S: Drop, A: Allocator + Copy> Chan<T, S, A> {
             × IsAtCapacity self.old.capacity (length self.old.queue) × (most ≤ self.old.next) }
         ensures sent { (filled : Option ℕ) → result ≡ Reply.Sent filled
             → Joins self.old self.new message filled }
+        ensures waits { (ticket : ℕ) → result ≡ Reply.Pending ticket → FindsNoRoom self.old }
         ensures pending { result ≡ Reply.Pending self.old.next → self.new ≡ record self.old {
           blocked = self.old.blocked
               ++ record { ticket = self.old.next; message = message } ∷ [];

@@ -6,6 +6,7 @@ pub returns-in-Pending-clause-outcome : goal.returns-in-Pending-clause-outcome
 returns-in-Pending-clause-outcome g c = record {
   closed = search rules;
   sent = search rules;
+  waits = search rules;
   parked = search rules;
   ticket = λ led ticket e.
       let run = (c.in-Pending.ensures.step led.0 led.1 led.2).run.0 in

@@ -1,0 +1,23 @@
+-- Which row a poll is that isn't parked yet.
+use Rattle.std.proofs.Common.{refl, rules}
+use Rattle.flume_calls.specs.Polls.{OneStep}
+use Rattle.flume_calls.specs.PolledReceives.{Tries, Parks}
+use Rattle.flume_calls.proofs.polled.receive.PolledReceive.begin.Goals as goal
+
+pub returns-in_default-clause-row : goal.returns-in_default-clause-row
+returns-in_default-clause-row g c =
+    let first = c.first.ensures in
+    Tries _ refl (search rules) first.turn first.outcome c.settle.ensures.settles
+
+pub returns-in_default-clause-step : goal.returns-in_default-clause-step
+returns-in_default-clause-step g c =
+    let turn = c.first.ensures.turn in OneStep _ turn.reply turn.stepped turn.dues
+
+pub returns-clause-row : goal.returns-clause-row
+returns-clause-row g c =
+    let park = c.park.ensures in
+    Parks _ _ refl (search rules) park.turn park.outcome c.settle-2.ensures.settles
+
+pub returns-clause-step : goal.returns-clause-step
+returns-clause-step g c =
+    let turn = c.park.ensures.turn in OneStep _ turn.reply turn.stepped turn.dues

@@ -1,0 +1,66 @@
+-- A send that is polled: which step each poll makes, and what it answers.
+use Rattle.std.specs.Prelude.{◌≡◌, ℕ, Bool, true, false, Option, Some, None, Result, Ok, Err}
+use Rattle.flume_model.specs.declared.step.Step.TheVariants.{TrySend, Send}
+use Rattle.flume_state.specs.State.{State}
+use Rattle.flume_core.specs.Waiting.{FindsNoRoom, IsHeldBack}
+use Rattle.flume_core.specs.declared.error.SendError.{SendError}
+use Rattle.flume_core.specs.declared.error.SendError.TheVariants.{Disconnected, NoMemory}
+use Rattle.flume_core.specs.declared.error.SendTimeoutError.TheVariants as timed
+use Rattle.flume_calls.specs.declared.calls.send.SendNext.{SendNext}
+use Rattle.flume_calls.specs.declared.calls.send.SendNext.TheVariants.{Done, NeedSignal, Park}
+use Rattle.flume_calls.specs.declared.polled.send.PolledSend.{PolledSend}
+use Rattle.flume_calls.specs.declared.polled.send.PolledSend.TheVariants.{Unsent, Parked, Finished}
+use Rattle.flume_calls.specs.Turns.{Turned}
+use Rattle.flume_calls.specs.SendTurns.{after_try_send, after_send, after_parked_send}
+use Rattle.flume_calls.specs.SendTurns.{step_of_parked_send}
+use Rattle.flume_calls.specs.SendOutcomes.{FirstSendOutcome, ParkSendOutcome, AgainSendOutcome}
+
+module _ {T : Type 0} where
+  -- By what its turn led to: the send then, and the poll's answer. An answer of none says that the
+  -- send waits on. A message that comes back for want of a signal comes back for want of memory.
+  abbrev pub settles_send : SendNext T → PolledSend T
+      → Option (Result (Unit {0}) (SendError T)) → Type 0
+  settles_send (Done (Ok sent)) after answer = (after ≡ Finished) × (answer ≡ Some (Ok tt))
+  settles_send (Done (Err (timed.Disconnected back))) after answer =
+      (after ≡ Finished) × (answer ≡ Some (Err (Disconnected back)))
+  settles_send (Done (Err (timed.NoMemory back))) after answer =
+      (after ≡ Finished) × (answer ≡ Some (Err (NoMemory back)))
+  settles_send (Done (Err (timed.Timeout back))) after answer =
+      (after ≡ Finished) × (answer ≡ Some (Err (NoMemory back)))
+  settles_send (NeedSignal back) after answer =
+      (after ≡ Finished) × (answer ≡ Some (Err (NoMemory back)))
+  settles_send (Park ticket) after answer = (after ≡ Parked ticket) × (answer ≡ None)
+
+module _ {T S : Type 0} where
+  -- where the poll would wait
+  abbrev pub send_waits : PolledSend T → State T S → Type 0
+  send_waits (Unsent message) s = FindsNoRoom s
+  send_waits (Parked ticket) s = IsHeldBack ticket s
+  send_waits Finished s = ⊥
+
+  -- One poll of a send: how it stands before, the signal that is given to it, if one is, the states
+  -- before and after, how it stands after, and its answer.
+  pub data SendPoll (A : Type 0) (send : PolledSend T) (signal : Option S) (old new : State T S)
+      (after : PolledSend T) (answer : Option (Result (Unit {0}) (SendError T))) : Type 0 where
+    -- it has ended: nothing is done
+    Over : send ≡ Finished → new ≡ old → after ≡ Finished → answer ≡ Some (Ok tt)
+        → SendPoll A send signal old new after answer
+    -- it isn't sent, and has no signal to block with: it tries
+    Tries : (message : T) → (next : SendNext T) → send ≡ Unsent message → signal ≡ None
+        → Turned {A = A} (TrySend message) after_try_send old new next
+        → FirstSendOutcome message old new next
+        → settles_send next after answer → SendPoll A send signal old new after answer
+    -- it isn't sent, and blocks with the signal where it finds no room
+    Parks : (message : T) → (next : SendNext T) → (given : S) → send ≡ Unsent message
+        → signal ≡ Some given → Turned {A = A} (Send message) after_send old new next
+        → ParkSendOutcome A message given old new next
+        → settles_send next after answer → SendPoll A send signal old new after answer
+    -- It is parked, and asks again. Where it is held back and has no signal to wait on with, it
+    -- takes its message back.
+    Asks : (late : Bool) → (ticket : ℕ) → (next : SendNext T) → send ≡ Parked ticket
+        → (late ≡ true → (signal ≡ None) × IsHeldBack ticket old)
+        → (late ≡ false → signal ≡ None → ¬ (IsHeldBack ticket old))
+        → Turned {A = A} (step_of_parked_send ticket late) (after_parked_send ticket late)
+        old new next
+        → AgainSendOutcome A ticket late signal old new next
+        → settles_send next after answer → SendPoll A send signal old new after answer

@@ -1,0 +1,29 @@
+-- A poll, of whichever call: what it may do to a channel.
+use Rattle.std.specs.Prelude.{◌≡◌, ℕ}
+use Rattle.flume_model.specs.declared.step.Step.{Step}
+use Rattle.flume_model.specs.declared.step.Reply.{Reply}
+use Rattle.flume_state.specs.State.{State}
+use Rattle.flume_state.specs.Due.{BecomesDue}
+use Rattle.flume_core.specs.StandsFor.{Extends, IsLedTo, Keeps}
+use Rattle.flume_calls.specs.Due.{Rings}
+
+module _ {T S : Type 0} (A : Type 0) where
+  -- the channel made at most one step
+  pub data AtMostOneStep (old new : State T S) : Type 0 where
+    -- it made none, and is as it was
+    NoStep : new ≡ old → AtMostOneStep old new
+    -- it made this one: who is due after it was due before and still is, or became due by it
+    OneStep : (step : Step T) → (reply : Reply T A) → Extends old step reply new
+        → (IsLedTo A old → BecomesDue old step reply new) → AtMostOneStep old new
+
+module _ {T S B : Type 0} (A : Type 0) (rings : B → ℕ → S → B → Type 0) where
+  -- One poll, and then one ring of the bell for each ticket that it made due: from the channel and
+  -- the bell before to both after. The poll leads from the state before to the one between.
+  pub record IsPollCall (polls : State T S → Type 0) (old : State T S) (bell : B)
+      (new : State T S) (rung : B) : Type 0 where
+    pub between : State T S
+    pub polled : polls between
+    pub step : AtMostOneStep A old between
+    pub rang : Rings rings between bell new rung
+    -- the rings are no steps
+    pub stands : Keeps A between new

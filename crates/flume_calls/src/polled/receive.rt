@@ -1,0 +1,153 @@
+//! A receive that is polled.
+ghost use Rattle.std.specs.Prelude.{◌≡◌, ◌≢◌, Some, None, Err, true, IsSome};
+ghost use Rattle.std.specs.Option.{option_map};
+ghost use Rattle.flume_core.specs.Waiting.{FindsNothing};
+ghost use Rattle.flume_calls.specs.Polls.{AtMostOneStep};
+ghost use Rattle.flume_calls.specs.PolledReceives.{ReceivePoll, settles_receive};
+
+use super::Polled;
+use crate::calls::{AgainReceive, RecvCall, RecvNext};
+use flume_core::chan::Chan;
+use flume_core::error::{RecvError, RecvTimeoutError};
+use flume_core::step::Kind;
+use std::alloc::Allocator;
+
+/// A receive that is polled, as a future or a stream is: it is parked under a ticket, or not. It
+/// can be polled again after it ended, and then asks for the next message.
+#[derive(Drop)]
+pub struct PolledReceive {
+    kind: Kind,
+    call: Option<RecvCall>,
+}
+
+impl PolledReceive {
+    /// A receive that isn't parked, and parks as this kind of receiver. Takes no memory.
+    ///
+    /// ```
+    /// let mut chan: Chan<u64, u32> = Chan::new(alloc, None);
+    /// let mut receive = PolledReceive::new(Kind::Plain);
+    /// receive.poll(&mut chan, Some(10)); // None: it waits, with the signal 10
+    /// chan.try_send(5);
+    /// receive.poll(&mut chan, None);     // Some(Ok(5))
+    /// ```
+    pub const fn new(kind: Kind) -> Self
+        ensures new { result ≡ record { kind = kind; call = None } }
+    {
+        PolledReceive { kind, call: None }
+    }
+
+    /// Ends the receive where it is parked: the turn by which it leaves, which its owner is to
+    /// make. `None`: it isn't parked, and nothing is owed.
+    ///
+    /// ```
+    /// if let Some(leaves) = receive.end() {
+    ///     leaves.make(&mut chan);        // it leaves, and passes on a wake that it had
+    /// }
+    /// ```
+    pub fn end<S>(&mut self) -> Option<AgainReceive<S>>
+        ensures leaves { result
+            ≡ option_map (λ call. record { call = call; late = true; signal = None }) self.old.call }
+        ensures ended { self.new ≡ record self.old { call = None } }
+    {
+        let call = self.call.take()?;
+        Some(AgainReceive {
+            call,
+            late: true,
+            signal: None,
+        })
+    }
+
+    // What a poll answers to what its turn led to.
+    #[inline(always)]
+    fn settle<T>(&mut self, next: RecvNext<T>, signalled: bool) -> Option<Result<T, RecvError>>
+        requires in_time { next ≢ RecvNext.Done (Err RecvTimeoutError.Timeout) }
+        ensures settles { settles_receive signalled next self.new.call result }
+        ensures kind { self.new.kind ≡ self.old.kind }
+    {
+        let (call, answer) = match next {
+            RecvNext::Done(Ok(message)) => (None, Some(Ok(message))),
+            RecvNext::Done(Err(RecvTimeoutError::Disconnected)) => {
+                (None, Some(Err(RecvError::Disconnected)))
+            }
+            RecvNext::Done(Err(RecvTimeoutError::NoMemory)) | RecvNext::NeedSignal => {
+                (None, Some(Err(RecvError::NoMemory)))
+            }
+            RecvNext::Park(call) if signalled => (Some(call), None),
+            RecvNext::Park(call) => (Some(call), Some(Err(RecvError::NoMemory))),
+            RecvNext::Refused(call) => (Some(call), Some(Err(RecvError::NoMemory))),
+            RecvNext::Done(Err(RecvTimeoutError::Timeout)) => unreachable!(),
+        };
+        self.call = call;
+        answer
+    }
+}
+
+impl PolledReceive {
+    // A poll of a receive that isn't parked.
+    #[inline(always)]
+    fn begin<T: Drop, S: Drop, A: Allocator + Copy>(
+        &mut self,
+        chan: &mut Chan<T, S, A>,
+        signal: Option<S>,
+    ) -> Option<Result<T, RecvError>>
+        ensures row { ReceivePoll A self.old.kind None signal chan.old chan.new self.new.call
+            result }
+        ensures kind { self.new.kind ≡ self.old.kind }
+        ensures step { AtMostOneStep A chan.old chan.new }
+        ensures pending { result ≡ None → IsSome signal }
+    {
+        let Some(signal) = signal else {
+            return self.settle(RecvCall::first(chan), false);
+        };
+        self.settle(RecvCall::park(self.kind, signal, chan), true)
+    }
+
+    // A poll of a receive that is parked. Where it would wait and there is no signal for that,
+    // nothing is done.
+    #[inline(always)]
+    fn ask<T: Drop, S: Drop, A: Allocator + Copy>(
+        &mut self,
+        call: RecvCall,
+        chan: &mut Chan<T, S, A>,
+        signal: Option<S>,
+    ) -> Option<Result<T, RecvError>>
+        ensures row { ReceivePoll A self.old.kind (Some call) signal chan.old chan.new self.new.call
+            result }
+        ensures kind { self.new.kind ≡ self.old.kind }
+        ensures step { AtMostOneStep A chan.old chan.new }
+        ensures pending { result ≡ None → IsSome signal }
+    {
+        let signalled = signal.is_some();
+        if !signalled && chan.receive_would_wait() {
+            self.call = Some(call);
+            return Some(Err(RecvError::NoMemory));
+        }
+        self.settle(call.again(chan, false, signal), signalled)
+    }
+}
+
+impl<T: Drop, S: Drop, A: Allocator + Copy> Polled<T, S, A> for PolledReceive {
+    type Answer = Result<T, RecvError>;
+
+    ghost waits = { λ _. FindsNothing };
+
+    ghost polls = { λ old signal before after new answer. (new.kind ≡ old.kind)
+        × ReceivePoll A old.kind old.call signal before after new.call answer };
+
+    #[inline(always)]
+    fn would_wait(&self, chan: &Chan<T, S, A>) -> bool {
+        chan.receive_would_wait()
+    }
+
+    #[inline(always)]
+    fn poll(
+        &mut self,
+        chan: &mut Chan<T, S, A>,
+        signal: &mut Option<S>,
+    ) -> Option<Result<T, RecvError>> {
+        match self.call.take() {
+            Some(call) => self.ask(call, chan, signal.take()),
+            None => self.begin(chan, signal.take()),
+        }
+    }
+}

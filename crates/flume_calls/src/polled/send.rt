@@ -1,0 +1,147 @@
+//! A send that is polled.
+ghost use Rattle.std.specs.Prelude.{◌≡◌, ◌≢◌, ℕ, Some, None, true, IsSome};
+ghost use Rattle.flume_calls.specs.Polls.{AtMostOneStep};
+ghost use Rattle.flume_calls.specs.PolledSends.{SendPoll, settles_send, send_waits};
+
+use super::Polled;
+use crate::calls::{AgainSend, SendCall, SendNext};
+use flume_core::chan::Chan;
+use flume_core::error::{SendError, SendTimeoutError};
+use std::alloc::Allocator;
+use std::mem;
+
+/// A send that is polled, as a future or a sink is.
+#[derive(Drop)]
+pub enum PolledSend<T> {
+    /// Its message isn't offered yet.
+    Unsent(T),
+    /// Its message is blocked, or was taken in and it hasn't asked.
+    Parked(SendCall),
+    /// It has ended. A poll answers `Ok`, and does nothing.
+    Finished,
+}
+
+impl<T: Drop> PolledSend<T> {
+    /// Ends the send: one that isn't sent drops its message; of one that is parked, the turn that
+    /// takes its message back, which its owner is to make. `None`: nothing is owed.
+    ///
+    /// ```
+    /// if let Some(takes_back) = send.end() {
+    ///     takes_back.make(&mut chan);    // a message that comes back is dropped
+    /// }
+    /// ```
+    pub fn end<S>(&mut self) -> Option<AgainSend<S>>
+        ensures parked { (call : ℕ) → self.old ≡ PolledSend.Parked call
+            → result ≡ Some (record { call = call; late = true; signal = None }) }
+        ensures not_parked { ((call : ℕ) → self.old ≢ PolledSend.Parked call) → result ≡ None }
+        ensures ended { self.new ≡ PolledSend.Finished }
+    {
+        match mem::replace(self, PolledSend::Finished) {
+            PolledSend::Parked(call) => Some(AgainSend {
+                call,
+                late: true,
+                signal: None,
+            }),
+            PolledSend::Unsent(_message) => None,
+            PolledSend::Finished => None,
+        }
+    }
+
+    // What a poll answers to what its turn led to.
+    #[inline(always)]
+    fn settle(&mut self, next: SendNext<T>) -> Option<Result<(), SendError<T>>>
+        ensures settles { settles_send next self.new result }
+    {
+        let (send, answer) = match next {
+            SendNext::Done(Ok(())) => (PolledSend::Finished, Some(Ok(()))),
+            SendNext::Done(Err(SendTimeoutError::Disconnected(message))) => {
+                (
+                    PolledSend::Finished,
+                    Some(Err(SendError::Disconnected(message))),
+                )
+            }
+            SendNext::Done(
+                Err(SendTimeoutError::NoMemory(message) | SendTimeoutError::Timeout(message)),
+            )
+            | SendNext::NeedSignal(message) => {
+                (
+                    PolledSend::Finished,
+                    Some(Err(SendError::NoMemory(message))),
+                )
+            }
+            SendNext::Park(call) => (PolledSend::Parked(call), None),
+        };
+        *self = send;
+        answer
+    }
+}
+
+impl<T: Drop> PolledSend<T> {
+    // A poll of a send whose message isn't offered yet.
+    #[inline(always)]
+    fn offer<S: Drop, A: Allocator + Copy>(
+        &mut self,
+        message: T,
+        chan: &mut Chan<T, S, A>,
+        signal: Option<S>,
+    ) -> Option<Result<(), SendError<T>>>
+        ensures row { SendPoll A (PolledSend.Unsent message) signal chan.old chan.new self.new
+            result }
+        ensures step { AtMostOneStep A chan.old chan.new }
+        ensures pending { result ≡ None → IsSome signal }
+    {
+        let Some(signal) = signal else {
+            return self.settle(SendCall::first(message, chan));
+        };
+        self.settle(SendCall::park(message, signal, chan))
+    }
+
+    // A poll of a send that is parked. Where it would wait and there is no signal for that, it
+    // takes its message back.
+    #[inline(always)]
+    fn ask<S: Drop, A: Allocator + Copy>(
+        &mut self,
+        call: SendCall,
+        chan: &mut Chan<T, S, A>,
+        signal: Option<S>,
+    ) -> Option<Result<(), SendError<T>>>
+        ensures row { SendPoll A (PolledSend.Parked call) signal chan.old chan.new self.new
+            result }
+        ensures step { AtMostOneStep A chan.old chan.new }
+        ensures pending { result ≡ None → IsSome signal }
+    {
+        let late = signal.is_none() && call.would_wait(chan);
+        self.settle(call.again(chan, late, signal))
+    }
+}
+
+impl<T: Drop, S: Drop, A: Allocator + Copy> Polled<T, S, A> for PolledSend<T> {
+    type Answer = Result<(), SendError<T>>;
+
+    ghost waits = { send_waits };
+
+    ghost polls = { λ old signal before after new answer.
+        SendPoll A old signal before after new answer };
+
+    #[inline(always)]
+    fn would_wait(&self, chan: &Chan<T, S, A>) -> bool {
+        match self {
+            PolledSend::Unsent(_) => chan.send_would_wait(),
+            PolledSend::Parked(call) => call.would_wait(chan),
+            PolledSend::Finished => false,
+        }
+    }
+
+    #[inline(always)]
+    fn poll(
+        &mut self,
+        chan: &mut Chan<T, S, A>,
+        signal: &mut Option<S>,
+    ) -> Option<Result<(), SendError<T>>> {
+        match mem::replace(self, PolledSend::Finished) {
+            PolledSend::Unsent(message) => self.offer(message, chan, signal.take()),
+            PolledSend::Parked(call) => self.ask(call, chan, signal.take()),
+            PolledSend::Finished => Some(Ok(())),
+        }
+    }
+}

@@ -1,0 +1,61 @@
+//! Whether a call would have to wait, were its step made now. Each looks, and is no step.
+ghost use Rattle.std.specs.Prelude.{IsTrue, ◌↔◌};
+ghost use Rattle.flume_core.specs.Waiting.{FindsNothing, FindsNoRoom, IsHeldBack};
+
+use super::Chan;
+use std::alloc::Allocator;
+
+impl<T: Drop, S: Drop, A: Allocator + Copy> Chan<T, S, A> {
+    /// Whether a receive would find nothing: no message is queued or blocked, and the channel is
+    /// open. `try_recv` answers `Empty` then, `recv` parks, and a parked receiver that doesn't
+    /// block waits on. It changes nothing, is no step, and takes no memory.
+    ///
+    /// ```
+    /// let mut chan: Chan<u64, u32> = Chan::new(alloc, None);
+    /// chan.receive_would_wait();         // true
+    /// chan.try_send(42);
+    /// chan.receive_would_wait();         // false
+    /// ```
+    #[inline(always)]
+    pub fn receive_would_wait(&self) -> bool
+        ensures waits { IsTrue result ↔ FindsNothing self.now }
+    {
+        self.is_open() && self.line.queued_len() == 0 && self.line.blocked_len() == 0
+    }
+
+    /// Whether an offer would find no room: the channel is open, no receiver waits, and the queue is
+    /// at its capacity. `try_send` answers `Full` then, and `send` blocks. It changes nothing, is
+    /// no step, and takes no memory.
+    ///
+    /// ```
+    /// let mut chan: Chan<u64, u32> = Chan::new(alloc, Some(1));
+    /// chan.send_would_wait();            // false
+    /// chan.try_send(42);
+    /// chan.send_would_wait();            // true
+    /// ```
+    #[inline(always)]
+    pub fn send_would_wait(&self) -> bool
+        ensures waits { IsTrue result ↔ FindsNoRoom self.now }
+    {
+        self.is_open() && !self.entries.some_wait() && !self.has_room()
+    }
+
+    /// Whether the send with this ticket is blocked, in an open channel: `poll_send` answers
+    /// `Waiting` then. It changes nothing, is no step, and takes no memory.
+    ///
+    /// ```
+    /// let mut chan: Chan<u64, u32> = Chan::new(alloc, Some(0));
+    /// chan.send(7, 10);                  // Pending(1)
+    /// chan.parked_send_would_wait(1);    // true
+    /// chan.try_recv();                   // Got(7)
+    /// chan.parked_send_would_wait(1);    // false
+    /// ```
+    pub fn parked_send_would_wait(&self, ticket: u64) -> bool
+        ensures waits { IsTrue result ↔ IsHeldBack ticket self.now }
+    {
+        match self.sends.accepted(ticket) {
+            Some(false) => self.is_open(),
+            _ => false,
+        }
+    }
+}
