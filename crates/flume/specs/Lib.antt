@@ -1,3 +1,5 @@
 pub mod Endings
+pub mod Ends
 pub mod Iterators
 pub mod Openings
+pub mod Polling

@@ -19,6 +19,7 @@ mod gate;
 mod into_iter;
 mod iterators;
 mod opening;
+pub mod polled;
 mod progress;
 mod receiver;
 mod runtime;

@@ -1,10 +1,14 @@
 //! What all ends of a channel share.
-ghost use Rattle.std.specs.Prelude.{◌≡◌};
+ghost use Rattle.std.specs.Prelude.{◌≡◌, None};
+ghost use Rattle.futures.specs.Task.{Covers, Keeps};
+ghost use Rattle.flume.specs.Polling.{HasPolled};
 
-use crate::signal::{Parker, Signal};
+use crate::signal::{Parker, Signal, Task};
 use flume_calls::due::Bell;
 use flume_calls::locked::Locked;
+use flume_calls::polled::Polled;
 use flume_calls::turn::Turn;
+use futures::task::Context;
 use std::alloc::{Allocator, Global};
 use std::hint::spin_loop;
 use std::sync::{Arc, Mutex, MutexGuard, Wait};
@@ -162,5 +166,28 @@ impl<T: Drop, R: Waits, A: Allocator + Copy> Shared<T, R, A> {
         ensures answers { C.answers turn result }
     {
         self.make(turn)
+    }
+
+    /// Polls the call under the lock, and fires what that made due. Where it has to wait, the
+    /// task's waker is put where the channel finds it, in the step that found nothing. `None`: the
+    /// call waits.
+    #[inline(always)]
+    pub(crate) fn poll<P: Polled<T, Signal<A>, A>>(
+        &self,
+        call: &mut P,
+        task: &mut Task<A>,
+        cx: &mut Context<'_>,
+    ) -> Option<P::Answer>
+        ensures row { HasPolled P.polls call.old call.new result }
+        ensures registered { result ≡ None → Covers cx.new (λ s. s ≡ task.new.source.id) }
+        ensures kept { Keeps cx.old cx.new }
+        ensures source { task.new.source ≡ task.old.source }
+    {
+        let mut locked = self.lock();
+        let mut signal = None;
+        if locked.would_wait(call) {
+            signal = task.signal(&self.rt, self.alloc, cx);
+        }
+        locked.poll(call, &mut signal, &mut Firing { rt: self.rt })
     }
 }

@@ -1,10 +1,14 @@
 //! What a parked call leaves with the channel, and what wakes it.
+mod task;
+
 use flume_deadline::left_until;
 use std::alloc::{Allocator, Global};
 use std::hint::spin_loop;
 use std::sync::atomic::{AtomicU64, Ordering};
 use std::sync::{Arc, Condvar, Mutex, Wait};
 use std::time::{Clock, Instant};
+pub(crate) use task::Task;
+pub use task::TaskSignal;
 
 // What a parker's word says: no wake has come that wasn't taken, one has, or its call sleeps.
 const IDLE: u64 = 0;
@@ -130,6 +134,8 @@ impl Parker {
 pub enum Signal<A: Allocator = Global> {
     /// A blocking call, by the parker that it waits on.
     Parker(Arc<Parker, A>),
+    /// A call that is polled, by the task that polls it.
+    Task(Arc<TaskSignal, A>),
 }
 
 impl<A: Allocator> Signal<A> {
@@ -137,6 +143,7 @@ impl<A: Allocator> Signal<A> {
     pub fn fire<R: Wait>(&self, rt: &R) {
         match self {
             Signal::Parker(parker) => parker.fire(rt),
+            Signal::Task(task) => task.fire(rt),
         }
     }
 }

@@ -13,6 +13,7 @@ use Rattle.flume_calls.specs.declared.calls.receive.RecvNext.TheVariants.{Done, 
 use Rattle.flume_calls.specs.declared.calls.receive.RecvNext.TheVariants.{Refused}
 use Rattle.flume_calls.specs.Turns.{Turned}
 use Rattle.flume_calls.specs.ReceiveTurns.{after_try_recv, after_recv, after_poll}
+use Rattle.flume_calls.specs.ReceiveTurns.{IsFirst, IsParking, IsLater, IsntRefused}
 use Rattle.flume_calls.specs.ReceiveOutcomes.{FirstReceiveOutcome, ParkReceiveOutcome}
 use Rattle.flume_calls.specs.ReceiveOutcomes.{AgainReceiveOutcome}
 
@@ -47,11 +48,12 @@ module _ {T S : Type 0} where
       : Type 0 where
     -- it isn't parked, and has no signal to park with: it tries
     Tries : (next : RecvNext T) → call ≡ None → signal ≡ None
-        → Turned {A = A} TryRecv after_try_recv old new next → FirstReceiveOutcome old new next
+        → Turned {A = A} TryRecv after_try_recv old new next → IsFirst next
+        → FirstReceiveOutcome old new next
         → settles_receive false next after answer → ReceivePoll A kind call signal old new after answer
     -- it isn't parked, and parks with the signal where it finds nothing
     Parks : (next : RecvNext T) → (given : S) → call ≡ None → signal ≡ Some given
-        → Turned {A = A} (Recv kind) after_recv old new next
+        → Turned {A = A} (Recv kind) after_recv old new next → IsParking next
         → ParkReceiveOutcome kind given old new next
         → settles_receive true next after answer → ReceivePoll A kind call signal old new after answer
     -- it is parked, finds nothing, and has no signal to wait on with: nothing is done
@@ -62,5 +64,5 @@ module _ {T S : Type 0} where
     Asks : (next : RecvNext T) → (ticket : ℕ) → call ≡ Some ticket
         → (signal ≡ None → ¬ (FindsNothing old))
         → Turned {A = A} (Poll ticket) (after_poll ticket) old new next
-        → AgainReceiveOutcome ticket false signal old new next
+        → IsLater ticket next → IsntRefused next → AgainReceiveOutcome ticket false signal old new next
         → settles_receive (is_some signal) next after answer → ReceivePoll A kind call signal old new after answer

@@ -12,7 +12,7 @@ use Rattle.flume_calls.specs.declared.polled.send.PolledSend.{PolledSend}
 use Rattle.flume_calls.specs.declared.polled.send.PolledSend.TheVariants.{Unsent, Parked, Finished}
 use Rattle.flume_calls.specs.Turns.{Turned}
 use Rattle.flume_calls.specs.SendTurns.{after_try_send, after_send, after_parked_send}
-use Rattle.flume_calls.specs.SendTurns.{step_of_parked_send}
+use Rattle.flume_calls.specs.SendTurns.{step_of_parked_send, IsFirst, IsParking, IsAgain}
 use Rattle.flume_calls.specs.SendOutcomes.{FirstSendOutcome, ParkSendOutcome, AgainSendOutcome}
 
 module _ {T : Type 0} where
@@ -48,12 +48,12 @@ module _ {T S : Type 0} where
     -- it isn't sent, and has no signal to block with: it tries
     Tries : (message : T) → (next : SendNext T) → send ≡ Unsent message → signal ≡ None
         → Turned {A = A} (TrySend message) after_try_send old new next
-        → FirstSendOutcome message old new next
+        → IsFirst message next → FirstSendOutcome message old new next
         → settles_send next after answer → SendPoll A send signal old new after answer
     -- it isn't sent, and blocks with the signal where it finds no room
     Parks : (message : T) → (next : SendNext T) → (given : S) → send ≡ Unsent message
         → signal ≡ Some given → Turned {A = A} (Send message) after_send old new next
-        → ParkSendOutcome A message given old new next
+        → IsParking message next → ParkSendOutcome A message given old new next
         → settles_send next after answer → SendPoll A send signal old new after answer
     -- It is parked, and asks again. Where it is held back and has no signal to wait on with, it
     -- takes its message back.
@@ -62,5 +62,5 @@ module _ {T S : Type 0} where
         → (late ≡ false → signal ≡ None → ¬ (IsHeldBack ticket old))
         → Turned {A = A} (step_of_parked_send ticket late) (after_parked_send ticket late)
         old new next
-        → AgainSendOutcome A ticket late signal old new next
+        → IsAgain ticket late next → AgainSendOutcome A ticket late signal old new next
         → settles_send next after answer → SendPoll A send signal old new after answer

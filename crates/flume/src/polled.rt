@@ -1,0 +1,19 @@
+//! Futures, sinks and streams over a channel: each poll makes at most one step of the channel, and
+//! one that has to wait has left its task's waker in the very step that found nothing. Tasks and
+//! threads may share a channel.
+//!
+//! A call that is dropped while it waits takes itself back: a send its message, a receive its place
+//! among those that wait, and a wake that it had goes on to another. One that is forgotten, and
+//! never dropped, does neither.
+
+mod owned_or_ref;
+mod receive;
+mod send;
+mod sink;
+mod stream;
+
+pub(crate) use owned_or_ref::OwnedOrRef;
+pub use receive::RecvFut;
+pub use send::SendFut;
+pub use sink::SendSink;
+pub use stream::RecvStream;

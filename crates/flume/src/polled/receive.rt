@@ -1,0 +1,143 @@
+//! A receive as a future.
+ghost use Rattle.std.specs.Prelude.{◌≡◌, ⊤, Result, Ok, Err, None, IsSome};
+ghost use Rattle.futures.specs.Task.{Covers, Keeps};
+ghost use Rattle.futures.specs.Poll.{IfReady, OnPending};
+ghost use Rattle.flume.specs.Ends.{end_of};
+
+use super::OwnedOrRef;
+use crate::receiver::Receiver;
+use crate::shared::Waits;
+use crate::signal::Task;
+use flume_calls::polled::PolledReceive;
+use flume_core::error::RecvError;
+use flume_core::step::Kind;
+use futures::Future;
+use futures::task::{Context, Poll};
+use std::alloc::{Allocator, Global};
+use std::fmt;
+
+/// The next message, as a future: `Receiver::recv_async` and `Receiver::into_recv_async`. Ready
+/// with `Ok`: the message. With `Disconnected`: none is there, and all senders are gone. With
+/// `NoMemory`: none is there, and there was no memory to wait; polled again it tries again.
+///
+/// It can be polled after it was ready, and then asks for one message more. Dropped while it waits
+/// it takes nothing with it: a message that it was woken for is left to another receiver.
+pub struct RecvFut<'a, T, R: Waits, A: Allocator + Copy = Global> {
+    receiver: OwnedOrRef<'a, Receiver<T, R, A>>,
+    call: PolledReceive,
+    task: Task<A>,
+}
+
+impl<'a, T: Drop, R: Waits, A: Allocator + Copy> RecvFut<'a, T, R, A> {
+    /// A receive of this kind, which hasn't been polled. Takes no memory.
+    pub(crate) fn new(receiver: OwnedOrRef<'a, Receiver<T, R, A>>, kind: Kind) -> Self
+        ensures receiver { result.receiver ≡ receiver.entry }
+        ensures call { result.call ≡ record { kind = kind; call = None } }
+    {
+        RecvFut {
+            receiver,
+            call: PolledReceive::new(kind),
+            task: Task::new(),
+        }
+    }
+
+    /// The receiver that it receives from.
+    #[inline(always)]
+    pub(crate) fn receiver(&self) -> &Receiver<T, R, A>
+        ensures receiver { result.now ≡ end_of self.now.receiver }
+    {
+        self.receiver.get()
+    }
+
+    /// The receiver that it receives from, as it has it.
+    pub(crate) fn end(&self) -> &OwnedOrRef<'a, Receiver<T, R, A>>
+        ensures end { result.now ≡ self.now.receiver }
+    {
+        &self.receiver
+    }
+
+    /// Whether all senders, or all receivers, are gone.
+    pub fn is_disconnected(&self) -> bool {
+        self.receiver().is_disconnected()
+    }
+
+    /// Whether no message is queued.
+    pub fn is_empty(&self) -> bool {
+        self.receiver().is_empty()
+    }
+
+    /// Whether the channel is bounded, and as many messages are queued as it holds.
+    pub fn is_full(&self) -> bool {
+        self.receiver().is_full()
+    }
+
+    /// How many messages are queued.
+    pub fn len(&self) -> usize {
+        self.receiver().len()
+    }
+
+    /// How many messages the channel holds; `None` of an unbounded one.
+    pub fn capacity(&self) -> Option<usize> {
+        self.receiver().capacity()
+    }
+
+    /// Whether the channel is disconnected and no message is queued, so that no more will come. It
+    /// doesn't say that this future was ready.
+    pub fn is_terminated(&self) -> bool {
+        self.is_disconnected() && self.is_empty()
+    }
+}
+
+impl<T: Drop, R: Waits, A: Allocator + Copy> Future for RecvFut<'_, T, R, A> {
+    type Output = Result<T, RecvError>;
+
+    // It may be polled in any state, also after it was ready.
+    ghost can_poll = { λ _. ⊤ };
+
+    // Which answer comes isn't known here.
+    ghost gives = { λ _ _. ⊤ };
+
+    // It waits for what its own signal is fired by: the next message for it, or the closing.
+    ghost needs = { λ future source. source ≡ future.task.source.id };
+
+    #[inline(always)]
+    fn poll(&mut self, cx: &mut Context<'_>) -> Poll<Result<T, RecvError>>
+        ensures value { IfReady result (λ _. ⊤) }
+        ensures again { OnPending result ⊤ }
+        ensures same { OnPending result (Result T RecvError → ⊤ → ⊤) }
+        ensures registered { OnPending result
+            (Covers cx.new (λ source. source ≡ self.new.task.source.id)) }
+        ensures kept { Keeps cx.old cx.new }
+        ensures parked { OnPending result (IsSome self.new.call.call) }
+        ensures got { (message : T) → result ≡ Poll.Ready (Ok message)
+            → self.new.call.call ≡ None }
+        ensures disconnected { result ≡ Poll.Ready (Err RecvError.Disconnected)
+            → self.new.call.call ≡ None }
+    {
+        let shared = self.receiver.get().shared();
+        match shared.poll(&mut self.call, &mut self.task, cx) {
+            Some(answer) => Poll::Ready(answer),
+            None => Poll::Pending,
+        }
+    }
+}
+
+impl<T: Drop, R: Waits, A: Allocator + Copy> fmt::Debug for RecvFut<'_, T, R, A> {
+    fn fmt<W: fmt::Write>(&self, f: &mut fmt::Formatter<W>) -> fmt::Result {
+        f.write_str("RecvFut")
+    }
+}
+
+impl<T: Drop, R: Waits, A: Allocator + Copy> Drop for RecvFut<'_, T, R, A> {
+    fn drop(self) {
+        let Self {
+            receiver,
+            mut call,
+            task,
+        } = self;
+        if let Some(leaves) = call.end() {
+            receiver.get().shared().make_seldom(leaves);
+        }
+        drop(task);
+    }
+}

@@ -1,0 +1,156 @@
+//! A send as a future.
+ghost use Rattle.std.specs.Prelude.{◌≡◌, ⊤, Result, Ok, Err};
+ghost use Rattle.futures.specs.Task.{Covers, Keeps};
+ghost use Rattle.futures.specs.Poll.{IfReady, OnPending};
+ghost use Rattle.flume_calls.specs.declared.polled.send.PolledSend.TheVariants.{Finished, Unsent};
+ghost use Rattle.flume.specs.Ends.{end_of};
+
+use super::OwnedOrRef;
+use crate::sender::Sender;
+use crate::shared::Waits;
+use crate::signal::Task;
+use flume_calls::polled::PolledSend;
+use flume_core::error::SendError;
+use futures::Future;
+use futures::task::{Context, Poll};
+use std::alloc::{Allocator, Global};
+use std::fmt;
+
+/// A send, as a future: `Sender::send_async` and `Sender::into_send_async`. Ready with `Ok`: the
+/// message was taken in. With `Disconnected`: all receivers are gone, and it wasn't. With
+/// `NoMemory`: there was no room for it, or no memory to wait. Both errors give the message back.
+///
+/// After it was ready it answers `Ok`, and does nothing. Dropped while it waits it takes its
+/// message back, and drops it.
+pub struct SendFut<'a, T, R: Waits, A: Allocator + Copy = Global> {
+    sender: OwnedOrRef<'a, Sender<T, R, A>>,
+    send: PolledSend<T>,
+    task: Task<A>,
+}
+
+impl<'a, T: Drop, R: Waits, A: Allocator + Copy> SendFut<'a, T, R, A> {
+    /// A send that stands so, and hasn't been polled. Takes no memory.
+    pub(crate) fn new(sender: OwnedOrRef<'a, Sender<T, R, A>>, send: PolledSend<T>) -> Self
+        ensures sender { result.sender ≡ sender.entry }
+        ensures send { result.send ≡ send }
+    {
+        SendFut {
+            sender,
+            send,
+            task: Task::new(),
+        }
+    }
+
+    /// The sender that it sends by.
+    #[inline(always)]
+    pub(crate) fn sender(&self) -> &Sender<T, R, A>
+        ensures sender { result.now ≡ end_of self.now.sender }
+    {
+        self.sender.get()
+    }
+
+    /// The sender that it sends by, as it has it.
+    pub(crate) fn end(&self) -> &OwnedOrRef<'a, Sender<T, R, A>>
+        ensures end { result.now ≡ self.now.sender }
+    {
+        &self.sender
+    }
+
+    /// Sends this message next. One that it holds, or that is blocked, is dropped; one that was
+    /// taken in is sent.
+    pub(crate) fn restart(&mut self, message: T)
+        ensures send { self.new.send ≡ PolledSend.Unsent message }
+        ensures sender { self.new.sender ≡ self.old.sender }
+    {
+        if let Some(takes_back) = self.send.end() {
+            self.sender.get().shared().make_seldom(takes_back);
+        }
+        self.send = PolledSend::Unsent(message);
+    }
+
+    /// Whether all receivers, or all senders, are gone.
+    pub fn is_disconnected(&self) -> bool {
+        self.sender().is_disconnected()
+    }
+
+    /// Whether no message is queued.
+    pub fn is_empty(&self) -> bool {
+        self.sender().is_empty()
+    }
+
+    /// Whether the channel is bounded, and as many messages are queued as it holds.
+    pub fn is_full(&self) -> bool {
+        self.sender().is_full()
+    }
+
+    /// How many messages are queued.
+    pub fn len(&self) -> usize {
+        self.sender().len()
+    }
+
+    /// How many messages the channel holds; `None` of an unbounded one.
+    pub fn capacity(&self) -> Option<usize> {
+        self.sender().capacity()
+    }
+
+    /// Whether the channel is disconnected. It doesn't say that this future was ready.
+    pub fn is_terminated(&self) -> bool {
+        self.is_disconnected()
+    }
+}
+
+impl<T: Drop, R: Waits, A: Allocator + Copy> Future for SendFut<'_, T, R, A> {
+    type Output = Result<(), SendError<T>>;
+
+    // It may be polled in any state.
+    ghost can_poll = { λ _. ⊤ };
+
+    // Once it was ready it gives `Ok`. Before, any answer may come.
+    ghost gives = { λ future answer. future.send ≡ Finished → answer ≡ Ok tt };
+
+    // It waits for what its own signal is fired by: room for its message, or the closing.
+    ghost needs = { λ future source. source ≡ future.task.source.id };
+
+    #[inline(always)]
+    fn poll(&mut self, cx: &mut Context<'_>) -> Poll<Result<(), SendError<T>>>
+        ensures value { IfReady result (λ answer. self.old.send ≡ Finished → answer ≡ Ok tt) }
+        ensures again { OnPending result ⊤ }
+        ensures same { OnPending result ((answer : Result (Unit {0}) (SendError T))
+            → (self.new.send ≡ Finished → answer ≡ Ok tt)
+            → (self.old.send ≡ Finished → answer ≡ Ok tt)) }
+        ensures registered { OnPending result
+            (Covers cx.new (λ source. source ≡ self.new.task.source.id)) }
+        ensures kept { Keeps cx.old cx.new }
+        ensures finished { IfReady result (λ _. self.new.send ≡ Finished) }
+        ensures disconnected { (message back : T) → self.old.send ≡ Unsent message
+            → result ≡ Poll.Ready (Err (SendError.Disconnected back)) → back ≡ message }
+        ensures no_memory { (message back : T) → self.old.send ≡ Unsent message
+            → result ≡ Poll.Ready (Err (SendError.NoMemory back)) → back ≡ message }
+    {
+        let shared = self.sender.get().shared();
+        match shared.poll(&mut self.send, &mut self.task, cx) {
+            Some(answer) => Poll::Ready(answer),
+            None => Poll::Pending,
+        }
+    }
+}
+
+impl<T: Drop, R: Waits, A: Allocator + Copy> fmt::Debug for SendFut<'_, T, R, A> {
+    fn fmt<W: fmt::Write>(&self, f: &mut fmt::Formatter<W>) -> fmt::Result {
+        f.write_str("SendFut")
+    }
+}
+
+impl<T: Drop, R: Waits, A: Allocator + Copy> Drop for SendFut<'_, T, R, A> {
+    fn drop(self) {
+        let Self {
+            sender,
+            mut send,
+            task,
+        } = self;
+        if let Some(takes_back) = send.end() {
+            sender.get().shared().make_seldom(takes_back);
+        }
+        drop(task);
+    }
+}

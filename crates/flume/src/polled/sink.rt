@@ -1,0 +1,116 @@
+//! A sender as a sink.
+ghost use Rattle.std.specs.Prelude.{◌≡◌, ◌==◌};
+ghost use Rattle.flume.specs.Ends.{end_of};
+ghost use Rattle.flume_calls.specs.declared.polled.send.PolledSend.TheVariants.{Finished};
+
+use super::{OwnedOrRef, SendFut};
+use crate::sender::Sender;
+use crate::shared::Waits;
+use flume_calls::polled::PolledSend;
+use flume_core::error::SendError;
+use futures::task::{Context, Poll};
+use futures::{Future, Sink};
+use std::alloc::{AllocError, Allocator, Global};
+use std::fmt;
+
+/// A sender as a sink: `Sender::sink` and `Sender::into_sink`. `start_send` only keeps the message,
+/// and drops one that it kept before and that wasn't sent; each poll, `poll_ready`, `poll_flush` or
+/// `poll_close`, sends it. None of them closes the channel. The errors are those of `SendFut`.
+#[derive(Drop)]
+pub struct SendSink<'a, T, R: Waits, A: Allocator + Copy = Global> {
+    kept: SendFut<'a, T, R, A>,
+}
+
+impl<'a, T: Drop, R: Waits, A: Allocator + Copy> SendSink<'a, T, R, A> {
+    /// A sink that sends by this sender, and keeps no message. Takes no memory.
+    pub(crate) fn new(sender: OwnedOrRef<'a, Sender<T, R, A>>) -> Self
+        ensures sender { result.kept.sender ≡ sender.entry }
+        ensures finished { result.kept.send ≡ Finished }
+    {
+        SendSink {
+            kept: SendFut::new(sender, PolledSend::Finished),
+        }
+    }
+
+    /// The sender that it sends by.
+    pub fn sender(&self) -> &Sender<T, R, A>
+        ensures sender { result.now ≡ end_of self.now.kept.sender }
+    {
+        self.kept.sender()
+    }
+
+    /// Whether all receivers, or all senders, are gone.
+    pub fn is_disconnected(&self) -> bool {
+        self.kept.is_disconnected()
+    }
+
+    /// Whether no message is queued.
+    pub fn is_empty(&self) -> bool {
+        self.kept.is_empty()
+    }
+
+    /// Whether the channel is bounded, and as many messages are queued as it holds.
+    pub fn is_full(&self) -> bool {
+        self.kept.is_full()
+    }
+
+    /// How many messages are queued. One that the sink keeps isn't.
+    pub fn len(&self) -> usize {
+        self.kept.len()
+    }
+
+    /// How many messages the channel holds; `None` of an unbounded one.
+    pub fn capacity(&self) -> Option<usize> {
+        self.kept.capacity()
+    }
+
+    /// Whether both send into channels of the same number.
+    pub fn same_channel(&self, other: &Self) -> bool
+        ensures same { result ≡ (end_of self.now.kept.sender == end_of other.now.kept.sender) }
+    {
+        self.sender().same_channel(other.sender())
+    }
+}
+
+impl<T: Drop, R: Waits, A: Allocator + Copy> Sink<T> for SendSink<'_, T, R, A> {
+    type Error = SendError<T>;
+
+    // Nothing is kept: all that it was given was sent, or came back, or was dropped.
+    ghost is_flushed = { λ sink. sink.kept.send ≡ Finished };
+
+    // A close does no more than a flush.
+    ghost is_closed = { λ sink. sink.kept.send ≡ Finished };
+
+    // It waits for what its own signal is fired by: room for its message, or the closing.
+    ghost needs = { λ sink source. source ≡ sink.kept.task.source.id };
+
+    fn poll_ready(&mut self, cx: &mut Context<'_>) -> Poll<Result<(), SendError<T>>> {
+        self.kept.poll(cx)
+    }
+
+    fn start_send(&mut self, message: T) -> Result<(), SendError<T>> {
+        self.kept.restart(message);
+        Ok(())
+    }
+
+    fn poll_flush(&mut self, cx: &mut Context<'_>) -> Poll<Result<(), SendError<T>>> {
+        self.kept.poll(cx)
+    }
+
+    fn poll_close(&mut self, cx: &mut Context<'_>) -> Poll<Result<(), SendError<T>>> {
+        self.kept.poll(cx)
+    }
+}
+
+impl<T: Drop, R: Waits, A: Allocator + Copy> Clone for SendSink<'_, T, R, A> {
+    // A clone keeps no message.
+    fn clone(&self) -> Result<Self, AllocError> {
+        Ok(SendSink::new(self.kept.end().clone()?))
+    }
+}
+
+impl<T: Drop, R: Waits, A: Allocator + Copy> fmt::Debug for SendSink<'_, T, R, A> {
+    fn fmt<W: fmt::Write>(&self, f: &mut fmt::Formatter<W>) -> fmt::Result {
+        f.write_str("SendSink")
+    }
+}

@@ -1,0 +1,137 @@
+//! The messages of a receiver as a stream.
+ghost use Rattle.std.specs.Prelude.{◌≡◌, ◌==◌, ⊤, true, false, None, IfSome, OnSome};
+ghost use Rattle.futures.specs.Task.{Covers, Keeps};
+ghost use Rattle.futures.specs.Poll.{IfReady, OnPending};
+ghost use Rattle.futures.specs.Runs.{After, Within};
+ghost use Rattle.flume.specs.Ends.{end_of};
+
+use super::{OwnedOrRef, RecvFut};
+use crate::receiver::Receiver;
+use crate::shared::Waits;
+use flume_core::error::RecvError;
+use flume_core::step::Kind;
+use futures::task::{Context, Poll};
+use futures::{Future, Stream};
+use std::alloc::{AllocError, Allocator, Global};
+use std::fmt;
+
+/// The messages of a receiver, one after the other, as a stream: `Receiver::stream` and
+/// `Receiver::into_stream`. `None`: none is there and all senders are gone, or, where `fault` says
+/// so, there was no memory to wait. After a `None` there may be more.
+#[derive(Drop)]
+pub struct RecvStream<'a, T, R: Waits, A: Allocator + Copy = Global> {
+    next: RecvFut<'a, T, R, A>,
+    fault: bool,
+}
+
+impl<'a, T: Drop, R: Waits, A: Allocator + Copy> RecvStream<'a, T, R, A> {
+    /// A stream of this receiver's messages, which hasn't been polled. Takes no memory.
+    pub(crate) fn new(receiver: OwnedOrRef<'a, Receiver<T, R, A>>) -> Self
+        ensures receiver { result.next.receiver ≡ receiver.entry }
+        ensures no_fault { result.fault ≡ false }
+    {
+        RecvStream {
+            next: RecvFut::new(receiver, Kind::Stream),
+            fault: false,
+        }
+    }
+
+    /// Whether the last poll ended the stream for want of memory, and not since all senders were
+    /// gone. The stream can be polled on after it.
+    pub fn fault(&self) -> bool
+        ensures fault { result ≡ self.now.fault }
+    {
+        self.fault
+    }
+
+    /// Whether all senders, or all receivers, are gone.
+    pub fn is_disconnected(&self) -> bool {
+        self.next.is_disconnected()
+    }
+
+    /// Whether no message is queued.
+    pub fn is_empty(&self) -> bool {
+        self.next.is_empty()
+    }
+
+    /// Whether the channel is bounded, and as many messages are queued as it holds.
+    pub fn is_full(&self) -> bool {
+        self.next.is_full()
+    }
+
+    /// How many messages are queued.
+    pub fn len(&self) -> usize {
+        self.next.len()
+    }
+
+    /// How many messages the channel holds; `None` of an unbounded one.
+    pub fn capacity(&self) -> Option<usize> {
+        self.next.capacity()
+    }
+
+    /// Whether the channel is disconnected and no message is queued, so that no more will come.
+    pub fn is_terminated(&self) -> bool {
+        self.next.is_terminated()
+    }
+
+    /// Whether both receive from channels of the same number.
+    pub fn same_channel(&self, other: &Self) -> bool
+        ensures same { result
+            ≡ (end_of self.now.next.receiver == end_of other.now.next.receiver) }
+    {
+        self.next.receiver().same_channel(other.next.receiver())
+    }
+}
+
+impl<T: Drop, R: Waits, A: Allocator + Copy> Stream for RecvStream<'_, T, R, A> {
+    type Item = T;
+
+    // It may be polled in any state, also after it ended.
+    ghost can_poll = { λ _. ⊤ };
+
+    // Which messages come isn't known here.
+    ghost yields = { λ _ _ _. ⊤ };
+
+    // It waits for what its own signal is fired by: the next message for it, or the closing.
+    ghost needs = { λ stream source. source ≡ stream.next.task.source.id };
+
+    #[inline(always)]
+    fn poll_next(&mut self, cx: &mut Context<'_>) -> Poll<Option<T>>
+        ensures value { IfReady result (λ _. ⊤) }
+        ensures rest { IfReady result (λ item. IfSome item
+            (λ message. After (λ _ _. ⊤) message (λ _ _. ⊤))) }
+        ensures goes { IfReady result (λ item. OnSome item ⊤) }
+        ensures again { OnPending result ⊤ }
+        ensures same { OnPending result (Within {A = T} (λ _ _. ⊤) (λ _ _. ⊤)) }
+        ensures registered { OnPending result
+            (Covers cx.new (λ source. source ≡ self.new.next.task.source.id)) }
+        ensures kept { Keeps cx.old cx.new }
+        ensures fault { IfReady result (λ item. self.new.fault ≡ true → item ≡ None) }
+        ensures same_fault { OnPending result (self.new.fault ≡ self.old.fault) }
+    {
+        match self.next.poll(cx) {
+            Poll::Ready(Ok(message)) => {
+                self.fault = false;
+                Poll::Ready(Some(message))
+            }
+            Poll::Ready(Err(error)) => {
+                self.fault = error == RecvError::NoMemory;
+                Poll::Ready(None)
+            }
+            Poll::Pending => Poll::Pending,
+        }
+    }
+}
+
+impl<T: Drop, R: Waits, A: Allocator + Copy> Clone for RecvStream<'_, T, R, A> {
+    // A clone waits under no ticket yet.
+    fn clone(&self) -> Result<Self, AllocError> {
+        Ok(RecvStream::new(self.next.end().clone()?))
+    }
+}
+
+impl<T: Drop, R: Waits, A: Allocator + Copy> fmt::Debug for RecvStream<'_, T, R, A> {
+    fn fmt<W: fmt::Write>(&self, f: &mut fmt::Formatter<W>) -> fmt::Result {
+        f.write_str("RecvStream")
+    }
+}
