@@ -26,6 +26,7 @@ mod runtime;
 mod sender;
 mod shared;
 pub mod signal;
+mod task;
 mod weak;
 
 pub use builder::{Builder, on};

@@ -12,7 +12,6 @@ mod send;
 mod sink;
 mod stream;
 
-pub(crate) use owned_or_ref::OwnedOrRef;
 pub use receive::RecvFut;
 pub use send::SendFut;
 pub use sink::SendSink;

@@ -1,18 +1,17 @@
 //! The receivers of a channel.
-ghost use Rattle.std.specs.Prelude.{◌≡◌, ◌≢◌, ℕ, ◌==◌, Err, None, false};
+ghost use Rattle.std.specs.Prelude.{◌≡◌, ◌≢◌, ℕ, ◌==◌, Err};
 ghost use Rattle.flume.specs.Iterators.{receiving_from};
 
 use crate::answers::{tried_receive, waited_receive};
 use crate::drain::Drain;
 use crate::gate::Gate;
 use crate::iterators::{Iter, TryIter};
-use crate::polled::{OwnedOrRef, RecvFut, RecvStream};
 use crate::shared::{Shared, Waits};
 use flume_calls::calls::FirstReceive;
 use flume_calls::gates::recv_over;
 use flume_calls::single::{AskCapacity, AskNumber, AskTruth, Single};
 use flume_core::error::{NoMemory, RecvError, RecvTimeoutError, TryRecvError};
-use flume_core::step::{Kind, Reply};
+use flume_core::step::Reply;
 use flume_deadline::Deadline;
 use std::alloc::{AllocError, Allocator, Global};
 use std::fmt;
@@ -156,62 +155,6 @@ impl<T: Drop, R: Waits, A: Allocator + Copy> Receiver<T, R, A> {
     /// The runtime value that the ends keep.
     pub(crate) fn runtime(&self) -> &R {
         &self.shared.rt
-    }
-
-    /// The next message as a future, which borrows the receiver. Takes no memory.
-    ///
-    /// ```
-    /// let (tx, rx) = flume::on(rt).unbounded()?;
-    /// tx.send(42)?;
-    /// assert_eq!(rt; block_on(&rt, rx.recv_async())?, Ok(42));
-    /// ```
-    pub fn recv_async(&self) -> RecvFut<'_, T, R, A>
-        ensures not_parked { result.call.call ≡ None }
-    {
-        RecvFut::new(OwnedOrRef::Ref(self), Kind::Plain)
-    }
-
-    /// The next message as a future that owns the receiver. Takes no memory.
-    ///
-    /// ```
-    /// let (tx, rx) = flume::on(rt).unbounded()?;
-    /// tx.send(42)?;
-    /// assert_eq!(rt; block_on(&rt, rx.into_recv_async())?, Ok(42));
-    /// ```
-    pub fn into_recv_async<'a>(self) -> RecvFut<'a, T, R, A>
-        ensures not_parked { result.call.call ≡ None }
-    {
-        RecvFut::new(OwnedOrRef::Owned(self), Kind::Plain)
-    }
-
-    /// The messages as a stream, which borrows the receiver. Takes no memory.
-    ///
-    /// ```
-    /// let (tx, rx) = flume::on(rt).unbounded()?;
-    /// tx.send(42)?;
-    /// drop(tx);
-    /// let messages = block_on(&rt, rx.stream().collect(rt.alloc()))??;
-    /// assert_eq!(rt; messages[0], 42);
-    /// ```
-    pub fn stream(&self) -> RecvStream<'_, T, R, A>
-        ensures no_fault { result.fault ≡ false }
-    {
-        RecvStream::new(OwnedOrRef::Ref(self))
-    }
-
-    /// The messages as a stream that owns the receiver. Takes no memory.
-    ///
-    /// ```
-    /// let (tx, rx) = flume::on(rt).unbounded()?;
-    /// tx.send(42)?;
-    /// drop(tx);
-    /// let messages = block_on(&rt, rx.into_stream().collect(rt.alloc()))??;
-    /// assert_eq!(rt; messages[0], 42);
-    /// ```
-    pub fn into_stream<'a>(self) -> RecvStream<'a, T, R, A>
-        ensures no_fault { result.fault ≡ false }
-    {
-        RecvStream::new(OwnedOrRef::Owned(self))
     }
 
     /// What it shares with the other ends.

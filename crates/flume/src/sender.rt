@@ -3,12 +3,10 @@ ghost use Rattle.std.specs.Prelude.{◌≡◌, ◌≢◌, ℕ, ◌==◌, IfOk, E
 
 use crate::answers::{tried_send, waited_send};
 use crate::gate::Gate;
-use crate::polled::{OwnedOrRef, SendFut, SendSink};
 use crate::shared::{Shared, Waits};
 use crate::weak::WeakSender;
 use flume_calls::calls::FirstSend;
 use flume_calls::gates::send_over;
-use flume_calls::polled::PolledSend;
 use flume_calls::single::{AskCapacity, AskNumber, AskTruth, Single};
 use flume_core::error::{NoMemory, SendError, SendTimeoutError, TrySendError};
 use flume_core::step::Reply;
@@ -114,60 +112,6 @@ impl<T: Drop, R: Waits, A: Allocator + Copy> Sender<T, R, A> {
         let deadline = Deadline::after(&self.shared.rt, timeout);
         let mut gate = Gate::new(&self.shared, deadline);
         send_over(&self.shared.rt, &mut gate, message)
-    }
-
-    /// Sends a message as a future, which borrows the sender. Nothing is sent until it is polled.
-    /// Takes no memory.
-    ///
-    /// ```
-    /// let (tx, rx) = flume::on(rt).unbounded()?;
-    /// assert_eq!(rt; block_on(&rt, tx.send_async(42))?, Ok(()));
-    /// assert_eq!(rt; rx.recv(), Ok(42));
-    /// ```
-    pub fn send_async(&self, message: T) -> SendFut<'_, T, R, A>
-        ensures message { result.send ≡ PolledSend.Unsent message }
-    {
-        SendFut::new(OwnedOrRef::Ref(self), PolledSend::Unsent(message))
-    }
-
-    /// Sends a message as a future that owns the sender. Nothing is sent until it is polled. Takes
-    /// no memory.
-    ///
-    /// ```
-    /// let (tx, rx) = flume::on(rt).unbounded()?;
-    /// assert_eq!(rt; block_on(&rt, tx.into_send_async(42))?, Ok(()));
-    /// assert_eq!(rt; rx.recv(), Ok(42));
-    /// ```
-    pub fn into_send_async<'a>(self, message: T) -> SendFut<'a, T, R, A>
-        ensures message { result.send ≡ PolledSend.Unsent message }
-    {
-        SendFut::new(OwnedOrRef::Owned(self), PolledSend::Unsent(message))
-    }
-
-    /// The sender as a sink, which borrows it. Takes no memory.
-    ///
-    /// ```
-    /// let (tx, rx) = flume::on(rt).unbounded()?;
-    /// let _sink = block_on(&rt, tx.sink().send(42))?;
-    /// assert_eq!(rt; rx.recv(), Ok(42));
-    /// ```
-    pub fn sink(&self) -> SendSink<'_, T, R, A>
-        ensures nothing_kept { result.kept.send ≡ PolledSend.Finished }
-    {
-        SendSink::new(OwnedOrRef::Ref(self))
-    }
-
-    /// The sender as a sink that owns it. Takes no memory.
-    ///
-    /// ```
-    /// let (tx, rx) = flume::on(rt).unbounded()?;
-    /// let _sink = block_on(&rt, tx.into_sink().send(42))?;
-    /// assert_eq!(rt; rx.recv(), Ok(42));
-    /// ```
-    pub fn into_sink<'a>(self) -> SendSink<'a, T, R, A>
-        ensures nothing_kept { result.kept.send ≡ PolledSend.Finished }
-    {
-        SendSink::new(OwnedOrRef::Owned(self))
     }
 
     /// What it shares with the other ends.

@@ -3,7 +3,8 @@ ghost use Rattle.std.specs.Prelude.{◌≡◌, None};
 ghost use Rattle.futures.specs.Task.{Covers, Keeps};
 ghost use Rattle.flume.specs.Polling.{HasPolled};
 
-use crate::signal::{Parker, Signal, Task};
+use crate::signal::{Parker, Signal};
+use crate::task::Task;
 use flume_calls::due::Bell;
 use flume_calls::locked::Locked;
 use flume_calls::polled::Polled;

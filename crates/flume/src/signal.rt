@@ -1,15 +1,11 @@
 //! What a parked call leaves with the channel, and what wakes it.
-mod task;
-
 use flume_deadline::left_until;
+use futures::task::Waker;
 use std::alloc::{Allocator, Global};
 use std::hint::spin_loop;
 use std::sync::atomic::{AtomicU64, Ordering};
 use std::sync::{Arc, Condvar, Mutex, Wait};
 use std::time::{Clock, Instant};
-pub(crate) use task::Task;
-pub use task::TaskSignal;
-
 // What a parker's word says: no wake has come that wasn't taken, one has, or its call sleeps.
 const IDLE: u64 = 0;
 
@@ -126,6 +122,40 @@ impl Parker {
         self.word
             .compare_exchange(from, to, Ordering::SeqCst, Ordering::SeqCst)
             .is_ok()
+    }
+}
+
+/// What a future, a sink or a stream is woken by: the waker of the task that polled it last, in a
+/// place that the call and what it left with the channel share. It is empty from a wake on until
+/// the next poll that waits.
+#[derive(Drop)]
+pub struct TaskSignal {
+    waker: Mutex<Option<Waker>>,
+}
+
+impl TaskSignal {
+    // Holds this waker, if there is one. Takes no memory.
+    pub(crate) fn new(waker: Option<Waker>) -> TaskSignal {
+        TaskSignal {
+            waker: Mutex::new(waker),
+        }
+    }
+
+    /// Wakes the task that polled the call last, if it wasn't woken since.
+    pub fn fire<R: Wait>(&self, rt: &R) {
+        let waker = self.take(rt);
+        // A waker wakes its task as it is dropped, which the place's lock isn't held for.
+        drop(waker);
+    }
+
+    // Takes the waker out.
+    pub(crate) fn take<R: Wait>(&self, rt: &R) -> Option<Waker> {
+        self.waker.lock(rt).take()
+    }
+
+    // Puts a waker in, where there is none.
+    pub(crate) fn put<R: Wait>(&self, rt: &R, waker: Option<Waker>) {
+        *self.waker.lock(rt) = waker;
     }
 }
 

@@ -4,10 +4,10 @@ ghost use Rattle.futures.specs.Task.{Covers, Keeps};
 ghost use Rattle.futures.specs.Poll.{IfReady, OnPending};
 ghost use Rattle.flume.specs.Ends.{end_of};
 
-use super::OwnedOrRef;
+use crate::polled::owned_or_ref::OwnedOrRef;
 use crate::receiver::Receiver;
 use crate::shared::Waits;
-use crate::signal::Task;
+use crate::task::Task;
 use flume_calls::polled::PolledReceive;
 use flume_core::error::RecvError;
 use flume_core::step::Kind;
@@ -26,6 +26,34 @@ pub struct RecvFut<'a, T, R: Waits, A: Allocator + Copy = Global> {
     receiver: OwnedOrRef<'a, Receiver<T, R, A>>,
     call: PolledReceive,
     task: Task<A>,
+}
+
+impl<T: Drop, R: Waits, A: Allocator + Copy> Receiver<T, R, A> {
+    /// The next message as a future, which borrows the receiver. Takes no memory.
+    ///
+    /// ```
+    /// let (tx, rx) = flume::on(rt).unbounded()?;
+    /// tx.send(42)?;
+    /// assert_eq!(rt; block_on(&rt, rx.recv_async())?, Ok(42));
+    /// ```
+    pub fn recv_async(&self) -> RecvFut<'_, T, R, A>
+        ensures not_parked { result.call.call ≡ None }
+    {
+        RecvFut::new(OwnedOrRef::Ref(self), Kind::Plain)
+    }
+
+    /// The next message as a future that owns the receiver. Takes no memory.
+    ///
+    /// ```
+    /// let (tx, rx) = flume::on(rt).unbounded()?;
+    /// tx.send(42)?;
+    /// assert_eq!(rt; block_on(&rt, rx.into_recv_async())?, Ok(42));
+    /// ```
+    pub fn into_recv_async<'a>(self) -> RecvFut<'a, T, R, A>
+        ensures not_parked { result.call.call ≡ None }
+    {
+        RecvFut::new(OwnedOrRef::Owned(self), Kind::Plain)
+    }
 }
 
 impl<'a, T: Drop, R: Waits, A: Allocator + Copy> RecvFut<'a, T, R, A> {

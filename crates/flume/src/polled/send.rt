@@ -5,10 +5,10 @@ ghost use Rattle.futures.specs.Poll.{IfReady, OnPending};
 ghost use Rattle.flume_calls.specs.declared.polled.send.PolledSend.TheVariants.{Finished, Unsent};
 ghost use Rattle.flume.specs.Ends.{end_of};
 
-use super::OwnedOrRef;
+use crate::polled::owned_or_ref::OwnedOrRef;
 use crate::sender::Sender;
 use crate::shared::Waits;
-use crate::signal::Task;
+use crate::task::Task;
 use flume_calls::polled::PolledSend;
 use flume_core::error::SendError;
 use futures::Future;
@@ -26,6 +26,36 @@ pub struct SendFut<'a, T, R: Waits, A: Allocator + Copy = Global> {
     sender: OwnedOrRef<'a, Sender<T, R, A>>,
     send: PolledSend<T>,
     task: Task<A>,
+}
+
+impl<T: Drop, R: Waits, A: Allocator + Copy> Sender<T, R, A> {
+    /// Sends a message as a future, which borrows the sender. Nothing is sent until it is polled.
+    /// Takes no memory.
+    ///
+    /// ```
+    /// let (tx, rx) = flume::on(rt).unbounded()?;
+    /// assert_eq!(rt; block_on(&rt, tx.send_async(42))?, Ok(()));
+    /// assert_eq!(rt; rx.recv(), Ok(42));
+    /// ```
+    pub fn send_async(&self, message: T) -> SendFut<'_, T, R, A>
+        ensures message { result.send ≡ PolledSend.Unsent message }
+    {
+        SendFut::new(OwnedOrRef::Ref(self), PolledSend::Unsent(message))
+    }
+
+    /// Sends a message as a future that owns the sender. Nothing is sent until it is polled. Takes
+    /// no memory.
+    ///
+    /// ```
+    /// let (tx, rx) = flume::on(rt).unbounded()?;
+    /// assert_eq!(rt; block_on(&rt, tx.into_send_async(42))?, Ok(()));
+    /// assert_eq!(rt; rx.recv(), Ok(42));
+    /// ```
+    pub fn into_send_async<'a>(self, message: T) -> SendFut<'a, T, R, A>
+        ensures message { result.send ≡ PolledSend.Unsent message }
+    {
+        SendFut::new(OwnedOrRef::Owned(self), PolledSend::Unsent(message))
+    }
 }
 
 impl<'a, T: Drop, R: Waits, A: Allocator + Copy> SendFut<'a, T, R, A> {

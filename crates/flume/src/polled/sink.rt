@@ -1,9 +1,10 @@
 //! A sender as a sink.
-ghost use Rattle.std.specs.Prelude.{◌≡◌, ◌==◌};
+ghost use Rattle.std.specs.Prelude.{◌≡◌, ◌==◌, ⊤, List, Ok, OnOk};
 ghost use Rattle.flume.specs.Ends.{end_of};
 ghost use Rattle.flume_calls.specs.declared.polled.send.PolledSend.TheVariants.{Finished};
 
-use super::{OwnedOrRef, SendFut};
+use crate::polled::owned_or_ref::OwnedOrRef;
+use crate::polled::send::SendFut;
 use crate::sender::Sender;
 use crate::shared::Waits;
 use flume_calls::polled::PolledSend;
@@ -19,6 +20,34 @@ use std::fmt;
 #[derive(Drop)]
 pub struct SendSink<'a, T, R: Waits, A: Allocator + Copy = Global> {
     kept: SendFut<'a, T, R, A>,
+}
+
+impl<T: Drop, R: Waits, A: Allocator + Copy> Sender<T, R, A> {
+    /// The sender as a sink, which borrows it. Takes no memory.
+    ///
+    /// ```
+    /// let (tx, rx) = flume::on(rt).unbounded()?;
+    /// let _sink = block_on(&rt, tx.sink().send(42))?;
+    /// assert_eq!(rt; rx.recv(), Ok(42));
+    /// ```
+    pub fn sink(&self) -> SendSink<'_, T, R, A>
+        ensures nothing_kept { result.kept.send ≡ PolledSend.Finished }
+    {
+        SendSink::new(OwnedOrRef::Ref(self))
+    }
+
+    /// The sender as a sink that owns it. Takes no memory.
+    ///
+    /// ```
+    /// let (tx, rx) = flume::on(rt).unbounded()?;
+    /// let _sink = block_on(&rt, tx.into_sink().send(42))?;
+    /// assert_eq!(rt; rx.recv(), Ok(42));
+    /// ```
+    pub fn into_sink<'a>(self) -> SendSink<'a, T, R, A>
+        ensures nothing_kept { result.kept.send ≡ PolledSend.Finished }
+    {
+        SendSink::new(OwnedOrRef::Owned(self))
+    }
 }
 
 impl<'a, T: Drop, R: Waits, A: Allocator + Copy> SendSink<'a, T, R, A> {
@@ -88,7 +117,13 @@ impl<T: Drop, R: Waits, A: Allocator + Copy> Sink<T> for SendSink<'_, T, R, A> {
         self.kept.poll(cx)
     }
 
-    fn start_send(&mut self, message: T) -> Result<(), SendError<T>> {
+    fn start_send(&mut self, message: T) -> Result<(), SendError<T>>
+        ensures goes { OnOk result ⊤ }
+        ensures same { T → ⊤ → ⊤ }
+        ensures history { OnOk result ((items : List T) → ⊤ → ⊤) }
+        ensures keeps { self.new.kept.send ≡ PolledSend.Unsent message }
+        ensures ok { result ≡ Ok tt }
+    {
         self.kept.restart(message);
         Ok(())
     }

@@ -1,11 +1,14 @@
 //! The messages of a receiver as a stream.
-ghost use Rattle.std.specs.Prelude.{◌≡◌, ◌==◌, ⊤, true, false, None, IfSome, OnSome};
+ghost use Rattle.std.specs.Prelude.{◌≡◌, ◌==◌, ◌↔◌, ⊤, true, false, Ok, Some, None};
+ghost use Rattle.std.specs.Prelude.{IfSome, OnSome};
+ghost use Rattle.flume.specs.Iterators.{is_refused};
 ghost use Rattle.futures.specs.Task.{Covers, Keeps};
 ghost use Rattle.futures.specs.Poll.{IfReady, OnPending};
 ghost use Rattle.futures.specs.Runs.{After, Within};
 ghost use Rattle.flume.specs.Ends.{end_of};
 
-use super::{OwnedOrRef, RecvFut};
+use crate::polled::owned_or_ref::OwnedOrRef;
+use crate::polled::receive::RecvFut;
 use crate::receiver::Receiver;
 use crate::shared::Waits;
 use flume_core::error::RecvError;
@@ -22,6 +25,38 @@ use std::fmt;
 pub struct RecvStream<'a, T, R: Waits, A: Allocator + Copy = Global> {
     next: RecvFut<'a, T, R, A>,
     fault: bool,
+}
+
+impl<T: Drop, R: Waits, A: Allocator + Copy> Receiver<T, R, A> {
+    /// The messages as a stream, which borrows the receiver. Takes no memory.
+    ///
+    /// ```
+    /// let (tx, rx) = flume::on(rt).unbounded()?;
+    /// tx.send(42)?;
+    /// drop(tx);
+    /// let messages = block_on(&rt, rx.stream().collect(rt.alloc()))??;
+    /// assert_eq!(rt; messages[0], 42);
+    /// ```
+    pub fn stream(&self) -> RecvStream<'_, T, R, A>
+        ensures no_fault { result.fault ≡ false }
+    {
+        RecvStream::new(OwnedOrRef::Ref(self))
+    }
+
+    /// The messages as a stream that owns the receiver. Takes no memory.
+    ///
+    /// ```
+    /// let (tx, rx) = flume::on(rt).unbounded()?;
+    /// tx.send(42)?;
+    /// drop(tx);
+    /// let messages = block_on(&rt, rx.into_stream().collect(rt.alloc()))??;
+    /// assert_eq!(rt; messages[0], 42);
+    /// ```
+    pub fn into_stream<'a>(self) -> RecvStream<'a, T, R, A>
+        ensures no_fault { result.fault ≡ false }
+    {
+        RecvStream::new(OwnedOrRef::Owned(self))
+    }
 }
 
 impl<'a, T: Drop, R: Waits, A: Allocator + Copy> RecvStream<'a, T, R, A> {
@@ -42,6 +77,24 @@ impl<'a, T: Drop, R: Waits, A: Allocator + Copy> RecvStream<'a, T, R, A> {
         ensures fault { result ≡ self.now.fault }
     {
         self.fault
+    }
+
+    // The item that a receive's answer is, with a note of why there is none.
+    #[inline(always)]
+    fn item(&mut self, answer: Result<T, RecvError>) -> Option<T>
+        ensures message { (message : T) → (answer ≡ Ok message) ↔ (result ≡ Some message) }
+        ensures fault { self.new.fault ≡ is_refused answer }
+        ensures ends { self.new.fault ≡ true → result ≡ None }
+        ensures next { self.new.next ≡ self.old.next }
+    {
+        self.fault = false;
+        match answer {
+            Ok(message) => Some(message),
+            Err(error) => {
+                self.fault = error == RecvError::NoMemory;
+                None
+            }
+        }
     }
 
     /// Whether all senders, or all receivers, are gone.
@@ -110,14 +163,7 @@ impl<T: Drop, R: Waits, A: Allocator + Copy> Stream for RecvStream<'_, T, R, A> 
         ensures same_fault { OnPending result (self.new.fault ≡ self.old.fault) }
     {
         match self.next.poll(cx) {
-            Poll::Ready(Ok(message)) => {
-                self.fault = false;
-                Poll::Ready(Some(message))
-            }
-            Poll::Ready(Err(error)) => {
-                self.fault = error == RecvError::NoMemory;
-                Poll::Ready(None)
-            }
+            Poll::Ready(answer) => Poll::Ready(self.item(answer)),
             Poll::Pending => Poll::Pending,
         }
     }

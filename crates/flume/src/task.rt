@@ -1,43 +1,11 @@
-//! What a polled call leaves with the channel, and what wakes its task.
-ghost use Rattle.std.specs.Prelude.{◌≡◌, IsSome};
+//! The task that polls a call.
+ghost use Rattle.std.specs.Prelude.{◌≡◌};
 ghost use Rattle.futures.specs.Task.{IsArmed, Hears, Keeps};
 
-use super::Signal;
+use crate::signal::{Signal, TaskSignal};
 use futures::task::{Context, Poll, Source, Waker};
 use std::alloc::{Allocator, Global};
-use std::sync::{Arc, Mutex, Wait};
-
-/// What a future, a sink or a stream is woken by: the waker of the task that polled it last, in a
-/// place that the call and what it left with the channel share. It is empty from a wake on until
-/// the next poll that waits.
-#[derive(Drop)]
-pub struct TaskSignal {
-    waker: Mutex<Option<Waker>>,
-}
-
-impl TaskSignal {
-    // Holds this waker, if there is one. Takes no memory.
-    fn new(waker: Option<Waker>) -> TaskSignal {
-        TaskSignal {
-            waker: Mutex::new(waker),
-        }
-    }
-
-    /// Wakes the task that polled the call last, if it wasn't woken since.
-    pub fn fire<R: Wait>(&self, rt: &R) {
-        let waker = self.take(rt);
-        // A waker wakes its task as it is dropped, which the place's lock isn't held for.
-        drop(waker);
-    }
-
-    fn take<R: Wait>(&self, rt: &R) -> Option<Waker> {
-        self.waker.lock(rt).take()
-    }
-
-    fn put<R: Wait>(&self, rt: &R, waker: Option<Waker>) {
-        *self.waker.lock(rt) = waker;
-    }
-}
+use std::sync::{Arc, Wait};
 
 /// What a polled call keeps, to be woken by.
 #[derive(Drop)]
