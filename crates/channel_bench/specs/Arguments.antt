@@ -7,6 +7,9 @@ use Rattle.channel_bench.specs.declared.arguments.Capacity.TheVariants.{Unbounde
 use Rattle.channel_bench.specs.declared.arguments.Shape.{Shape}
 use Rattle.channel_bench.specs.declared.arguments.Shape.TheVariants.{Seq, Spsc, Mpsc, Mpmc, Oneshot}
 use Rattle.channel_bench.specs.declared.arguments.Shape.TheVariants.{Inout, TryPair, TryEmpty, TryFull}
+use Rattle.channel_bench.specs.declared.arguments.Shape.TheVariants.{PollPair, PollRecvPark, PollSendPark}
+use Rattle.channel_bench.specs.declared.arguments.Shape.TheVariants.{AsyncPair, AsyncJoin, AsyncPing}
+use Rattle.channel_bench.specs.declared.arguments.Shape.TheVariants.{Pending, PendingDrop}
 
 -- the word of a shape
 abbrev pub shape_word : Shape → List ℕ
@@ -19,6 +22,14 @@ shape_word Inout = codes "inout"
 shape_word TryPair = codes "try_pair"
 shape_word TryEmpty = codes "try_empty"
 shape_word TryFull = codes "try_full"
+shape_word PollPair = codes "poll_pair"
+shape_word PollRecvPark = codes "poll_recv_park"
+shape_word PollSendPark = codes "poll_send_park"
+shape_word AsyncPair = codes "async_pair"
+shape_word AsyncJoin = codes "async_join"
+shape_word AsyncPing = codes "async_ping"
+shape_word Pending = codes "pending"
+shape_word PendingDrop = codes "pending_drop"
 
 -- the word names this shape
 abbrev pub IsShapeWord : List ℕ → Shape → Type 0
@@ -63,7 +74,7 @@ IsNoCall words = (call : Arguments) → ¬ IsCall words call
 
 -- the shape can be timed at this capacity: one thread that sends all, and then receives all, would
 -- wait for ever at a number of messages, one that sends a message and then receives it at 0, and
--- a channel of no number is never full
+-- a channel of no number is never full, nor is one of 0 messages ever made room in by a receive
 abbrev pub CanBeTimed : Shape → Capacity → Type 0
 CanBeTimed Seq (Of _) = ⊥
 CanBeTimed Oneshot (Of capacity) = 0 < capacity
@@ -71,4 +82,9 @@ CanBeTimed Inout (Of capacity) = 0 < capacity
 CanBeTimed TryPair (Of capacity) = 0 < capacity
 CanBeTimed TryFull Unbounded = ⊥
 CanBeTimed TryFull Big = ⊥
+CanBeTimed PollPair (Of capacity) = 0 < capacity
+CanBeTimed PollSendPark Unbounded = ⊥
+CanBeTimed PollSendPark Big = ⊥
+CanBeTimed PollSendPark (Of capacity) = 0 < capacity
+CanBeTimed AsyncPair (Of capacity) = 0 < capacity
 CanBeTimed _ _ = ⊤

@@ -21,6 +21,14 @@ pub enum Shape {
     TryPair,
     TryEmpty,
     TryFull,
+    PollPair,
+    PollRecvPark,
+    PollSendPark,
+    AsyncPair,
+    AsyncJoin,
+    AsyncPing,
+    Pending,
+    PendingDrop,
 }
 
 impl Shape {
@@ -37,6 +45,14 @@ impl Shape {
             "try_pair" => Some(Shape::TryPair),
             "try_empty" => Some(Shape::TryEmpty),
             "try_full" => Some(Shape::TryFull),
+            "poll_pair" => Some(Shape::PollPair),
+            "poll_recv_park" => Some(Shape::PollRecvPark),
+            "poll_send_park" => Some(Shape::PollSendPark),
+            "async_pair" => Some(Shape::AsyncPair),
+            "async_join" => Some(Shape::AsyncJoin),
+            "async_ping" => Some(Shape::AsyncPing),
+            "pending" => Some(Shape::Pending),
+            "pending_drop" => Some(Shape::PendingDrop),
             _ => None,
         }
     }
@@ -115,11 +131,10 @@ impl Arguments {
         match self.shape {
             Shape::Seq => !matches!(self.capacity, Capacity::Of(_)),
             Shape::TryFull => matches!(self.capacity, Capacity::Of(_)),
-            Shape::Oneshot | Shape::Inout | Shape::TryPair => !matches!(
-                self.capacity,
-                Capacity::Of(0)
-            ),
-            Shape::Spsc | Shape::Mpsc | Shape::Mpmc | Shape::TryEmpty => true,
+            Shape::PollSendPark => matches!(self.capacity, Capacity::Of(1..)),
+            Shape::Oneshot | Shape::Inout | Shape::TryPair | Shape::PollPair | Shape::AsyncPair =>
+                !matches!(self.capacity, Capacity::Of(0)),
+            _ => true,
         }
     }
 

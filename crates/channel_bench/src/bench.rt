@@ -2,7 +2,8 @@
 use crate::arguments::{Arguments, Shape};
 use flume::{Receiver, Sender, Waits, bounded, unbounded};
 use flume_core::error::NoMemory;
-use std::alloc::{AllocError, Global};
+use std::alloc::{AllocError, AllocGlobal, Global};
+use std::random::RandomSource;
 use std::thread::Threads;
 use std::time::{Duration, Instant};
 use std::{fmt, io};
@@ -13,6 +14,7 @@ pub enum Fault {
     NoMemory,
     NoThread,
     NoClock,
+    NoExecutor,
     /// What was received isn't what was sent.
     WrongMessages,
 }
@@ -23,6 +25,7 @@ impl fmt::Display for Fault {
             Fault::NoMemory => "out of memory",
             Fault::NoThread => "no thread can be started",
             Fault::NoClock => "the clock can't be read",
+            Fault::NoExecutor => "no executor can be made",
             Fault::WrongMessages => "what was received isn't what was sent",
         })
     }
@@ -50,7 +53,7 @@ impl From<io::Error> for Fault {
 #[derive(Clone, Copy)]
 pub struct Bench<R: Waits> {
     pub rt: R,
-    alloc: Global,
+    pub alloc: Global,
     pub capacity: Option<usize>,
     pub messages: usize,
 }
@@ -92,7 +95,7 @@ impl<R: Waits> Bench<R> {
     }
 }
 
-impl<R: Waits + Threads + Send + Sync> Bench<R> {
+impl<R: Waits + Threads + RandomSource + AllocGlobal + Send + Sync> Bench<R> {
     /// The least time of so many rounds.
     pub fn least(&self, shape: Shape, rounds: usize) -> Result<Duration, Fault> {
         let mut least = self.round(shape)?;
@@ -113,6 +116,14 @@ impl<R: Waits + Threads + Send + Sync> Bench<R> {
             Shape::TryPair => self.try_pair(),
             Shape::TryEmpty => self.try_empty(),
             Shape::TryFull => self.try_full(),
+            Shape::PollPair => self.poll_pair(),
+            Shape::PollRecvPark => self.poll_recv_park(),
+            Shape::PollSendPark => self.poll_send_park(),
+            Shape::AsyncPair => self.async_pair(),
+            Shape::AsyncJoin => self.async_join(),
+            Shape::AsyncPing => self.async_ping(),
+            Shape::Pending => self.pending(),
+            Shape::PendingDrop => self.pending_drop(),
         }
     }
 }

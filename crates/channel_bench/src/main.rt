@@ -3,7 +3,11 @@
 
 mod arguments;
 mod bench;
+mod by_hand;
+mod loops;
 mod one_thread;
+mod pending;
+mod polled;
 mod threads;
 
 use crate::arguments::Arguments;
@@ -19,15 +23,24 @@ Prints how many nanoseconds a message takes, in the least of ROUNDS runs (1 wher
 CAPACITY   unbounded, big (as many as there are messages), or a number
 
 SHAPE
-seq        one thread sends all, and then receives all; not at a number
-spsc       one thread sends, one receives
-mpsc       four threads send, one receives
-mpmc       four threads send, four receive
-oneshot    a channel made, one message sent and received, both ends dropped; not at 0
-inout      one message sent and received, again and again, by one thread; not at 0
-try_pair   the same by try_send and try_recv; not at 0
-try_empty  try_recv of an empty channel
-try_full   try_send into a full channel; only at a number";
+seq             one thread sends all, and then receives all; not at a number
+spsc            one thread sends, one receives
+mpsc            four threads send, one receives
+mpmc            four threads send, four receive
+oneshot         a channel made, one message sent and received, both ends dropped; not at 0
+inout           one message sent and received, again and again, by one thread; not at 0
+try_pair        the same by try_send and try_recv; not at 0
+try_empty       try_recv of an empty channel
+try_full        try_send into a full channel; only at a number
+poll_pair       a send polled by hand, and then a receive, each ready at once; not at 0
+poll_recv_park  a receive polled, which waits, a try_send, and the receive polled again
+poll_send_park  a send polled on a full channel, a try_recv, and the send polled again; only at a
+                number above 0
+async_pair      one message sent and received, again and again, by one task; not at 0
+async_join      a future that sends all, joined in one task with one that receives all
+async_ping      two threads, a task each, send half of the messages to and fro over two channels
+pending         so many receives wait; then a message for each is sent, and it polled again
+pending_drop    so many receives wait, and each is dropped, the newest first";
 
 fn main(rt: HostRuntime) -> io::Result<ExitCode> {
     let mut words = Vec::new(rt.alloc());

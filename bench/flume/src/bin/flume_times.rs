@@ -1,10 +1,17 @@
 //! Times flume 0.12.0 in one shape, and prints nanoseconds a message. It is called as
 //! `crates/channel_bench` is, so that `bench/compare` can let the two take turns.
 
+use flume::r#async::RecvFut;
 use flume::{Receiver, RecvError, SendError, Sender};
+use futures::executor::block_on;
+use futures::future::join;
+use futures::task::noop_waker;
 use std::env;
 use std::fmt;
+use std::future::Future;
+use std::pin::Pin;
 use std::process::ExitCode;
+use std::task::{Context, Poll};
 use std::thread;
 use std::time::{Duration, Instant};
 
@@ -15,17 +22,26 @@ Prints how many nanoseconds a message takes, in the least of ROUNDS runs (1 wher
 CAPACITY   unbounded, big (as many as there are messages), or a number
 
 SHAPE
-seq        one thread sends all, and then receives all; not at a number
-spsc       one thread sends, one receives
-mpsc       four threads send, one receives
-mpmc       four threads send, four receive
-oneshot    a channel made, one message sent and received, both ends dropped; not at 0
-inout      one message sent and received, again and again, by one thread; not at 0
-try_pair   the same by try_send and try_recv; not at 0
-try_empty  try_recv of an empty channel
-try_full   try_send into a full channel; only at a number
-plain      a user's loop: one half sent and received in turn, the other sent and taken by an
-           iterator, with `?` and an error of its own; not at a number";
+seq             one thread sends all, and then receives all; not at a number
+spsc            one thread sends, one receives
+mpsc            four threads send, one receives
+mpmc            four threads send, four receive
+oneshot         a channel made, one message sent and received, both ends dropped; not at 0
+inout           one message sent and received, again and again, by one thread; not at 0
+try_pair        the same by try_send and try_recv; not at 0
+try_empty       try_recv of an empty channel
+try_full        try_send into a full channel; only at a number
+plain           a user's loop: one half sent and received in turn, the other sent and taken by an
+                iterator, with `?` and an error of its own; not at a number
+poll_pair       a send polled by hand, and then a receive, each ready at once; not at 0
+poll_recv_park  a receive polled, which waits, a try_send, and the receive polled again
+poll_send_park  a send polled on a full channel, a try_recv, and the send polled again; only at a
+                number above 0
+async_pair      one message sent and received, again and again, by one task; not at 0
+async_join      a future that sends all, joined in one task with one that receives all
+async_ping      two threads, a task each, send half of the messages to and fro over two channels
+pending         so many receives wait; then a message for each is sent, and it polled again
+pending_drop    so many receives wait, and each is dropped, the newest first";
 
 /// How many threads send, and how many receive, where several do.
 const SEVERAL: usize = 4;
@@ -71,8 +87,12 @@ impl Asked {
         match self.shape.as_str() {
             "seq" | "plain" => Some(!matches!(self.capacity, Capacity::Of(_))),
             "try_full" => Some(matches!(self.capacity, Capacity::Of(_))),
-            "oneshot" | "inout" | "try_pair" => Some(self.capacity != Capacity::Of(0)),
-            "spsc" | "mpsc" | "mpmc" | "try_empty" => Some(true),
+            "poll_send_park" => Some(matches!(self.capacity, Capacity::Of(1..))),
+            "oneshot" | "inout" | "try_pair" | "poll_pair" | "async_pair" => {
+                Some(self.capacity != Capacity::Of(0))
+            }
+            "spsc" | "mpsc" | "mpmc" | "try_empty" | "poll_recv_park" | "async_join"
+            | "async_ping" | "pending" | "pending_drop" => Some(true),
             _ => None,
         }
     }
@@ -97,6 +117,14 @@ impl Asked {
             "try_pair" => self.try_pair(),
             "try_empty" => self.try_empty(),
             "plain" => self.plain(),
+            "poll_pair" => self.poll_pair(),
+            "poll_recv_park" => self.poll_recv_park(),
+            "poll_send_park" => self.poll_send_park(),
+            "async_pair" => self.async_pair(),
+            "async_join" => self.async_join(),
+            "async_ping" => self.async_ping(),
+            "pending" => self.pending(),
+            "pending_drop" => self.pending_drop(),
             _ => self.try_full(),
         };
         let each = (0..self.messages / senders).fold(0, usize::wrapping_add);
@@ -240,6 +268,192 @@ impl Asked {
             }
         }
         (start.elapsed(), sum, 1)
+    }
+}
+
+/// The shapes that are polled.
+impl Asked {
+    /// Each message sent, and received before the next, by polls that are ready at once. Here and
+    /// in the next two no executor is in the time, and the waker does nothing.
+    fn poll_pair(&self) -> (Duration, usize, usize) {
+        let (sender, receiver) = self.open();
+        let waker = noop_waker();
+        let mut context = Context::from_waker(&waker);
+        let start = Instant::now();
+        let mut sum = 0usize;
+        for message in 0..self.messages {
+            let mut send = sender.send_async(message);
+            if Pin::new(&mut send).poll(&mut context).is_pending() {
+                break;
+            }
+            drop(send);
+            let mut receive = receiver.recv_async();
+            if let Poll::Ready(Ok(message)) = Pin::new(&mut receive).poll(&mut context) {
+                sum = sum.wrapping_add(message);
+            }
+        }
+        (start.elapsed(), sum, 1)
+    }
+
+    /// For each message a receive that waits, the message sent, and the receive polled again.
+    fn poll_recv_park(&self) -> (Duration, usize, usize) {
+        let (sender, receiver) = self.open();
+        let waker = noop_waker();
+        let mut context = Context::from_waker(&waker);
+        let start = Instant::now();
+        let mut sum = 0usize;
+        for message in 0..self.messages {
+            let mut receive = receiver.recv_async();
+            let first = Pin::new(&mut receive).poll(&mut context);
+            if first.is_ready() || sender.try_send(message).is_err() {
+                break;
+            }
+            if let Poll::Ready(Ok(message)) = Pin::new(&mut receive).poll(&mut context) {
+                sum = sum.wrapping_add(message);
+            }
+        }
+        (start.elapsed(), sum, 1)
+    }
+
+    /// For each message a send that waits, since the channel is full, a message received, and the
+    /// send polled again.
+    fn poll_send_park(&self) -> (Duration, usize, usize) {
+        let (sender, receiver) = self.open();
+        send_each(&sender, sender.capacity().unwrap_or(0));
+        let waker = noop_waker();
+        let mut context = Context::from_waker(&waker);
+        let start = Instant::now();
+        let mut sum = 0usize;
+        for message in 0..self.messages {
+            let mut send = sender.send_async(message);
+            let first = Pin::new(&mut send).poll(&mut context);
+            if first.is_ready() || receiver.try_recv().is_err() {
+                break;
+            }
+            if let Poll::Ready(Ok(())) = Pin::new(&mut send).poll(&mut context) {
+                sum = sum.wrapping_add(message);
+            }
+        }
+        (start.elapsed(), sum, 1)
+    }
+
+    /// Each message sent, and received before the next, in one task.
+    fn async_pair(&self) -> (Duration, usize, usize) {
+        let (sender, receiver) = self.open();
+        let start = Instant::now();
+        let sum = block_on(to_and_fro(&sender, &receiver, self.messages));
+        (start.elapsed(), sum, 1)
+    }
+
+    /// A future that sends all, and one that receives all, in one task.
+    fn async_join(&self) -> (Duration, usize, usize) {
+        let (sender, receiver) = self.open();
+        let start = Instant::now();
+        let sends = async {
+            for message in 0..self.messages {
+                if sender.send_async(message).await.is_err() {
+                    return;
+                }
+            }
+        };
+        let receives = async {
+            let mut sum = 0usize;
+            for _ in 0..self.messages {
+                sum = sum.wrapping_add(receiver.recv_async().await.unwrap_or(0));
+            }
+            sum
+        };
+        let ((), sum) = block_on(join(sends, receives));
+        (start.elapsed(), sum, 1)
+    }
+
+    /// Half of the messages sent to a second thread, which sends each back over a second channel.
+    /// Each thread runs a task of its own. Making the channels and the thread is in the time.
+    fn async_ping(&self) -> (Duration, usize, usize) {
+        let start = Instant::now();
+        let each = self.messages / 2;
+        let (to, there) = self.open();
+        let (back, here) = self.open();
+        let sum = thread::scope(|scope| {
+            scope.spawn(move || block_on(echo(&back, &there, each)));
+            block_on(to_and_fro(&to, &here, each))
+        });
+        (start.elapsed(), sum.wrapping_mul(2), 2)
+    }
+
+    /// For each receive that waits a message sent, which it takes as it is polled again.
+    fn pending(&self) -> (Duration, usize, usize) {
+        let (sender, receiver) = self.open();
+        let waker = noop_waker();
+        let mut context = Context::from_waker(&waker);
+        let mut receives = self.wait_each(&receiver, &mut context);
+        let start = Instant::now();
+        let mut sum = 0usize;
+        for (message, receive) in receives.iter_mut().enumerate() {
+            if sender.try_send(message).is_err() {
+                break;
+            }
+            if let Poll::Ready(Ok(message)) = Pin::new(receive).poll(&mut context) {
+                sum = sum.wrapping_add(message);
+            }
+        }
+        (start.elapsed(), sum, 1)
+    }
+
+    /// Each receive that waits dropped, the newest first.
+    fn pending_drop(&self) -> (Duration, usize, usize) {
+        let (_sender, receiver) = self.open();
+        let waker = noop_waker();
+        let mut context = Context::from_waker(&waker);
+        let mut receives = self.wait_each(&receiver, &mut context);
+        let start = Instant::now();
+        let mut sum = 0usize;
+        for message in 0..self.messages {
+            if receives.pop().is_some() {
+                sum = sum.wrapping_add(message);
+            }
+        }
+        (start.elapsed(), sum, 1)
+    }
+
+    /// As many receives as there are messages, each of which was polled once and waits.
+    fn wait_each<'a>(
+        &self,
+        receiver: &'a Receiver<usize>,
+        context: &mut Context<'_>,
+    ) -> Vec<RecvFut<'a, usize>> {
+        let mut receives = Vec::new();
+        for _ in 0..self.messages {
+            let mut receive = receiver.recv_async();
+            if Pin::new(&mut receive).poll(context).is_pending() {
+                receives.push(receive);
+            }
+        }
+        receives
+    }
+}
+
+/// The sum of so many messages, each sent, and one awaited before the next.
+async fn to_and_fro(sender: &Sender<usize>, receiver: &Receiver<usize>, messages: usize) -> usize {
+    let mut sum = 0usize;
+    for message in 0..messages {
+        if sender.send_async(message).await.is_err() {
+            break;
+        }
+        sum = sum.wrapping_add(receiver.recv_async().await.unwrap_or(0));
+    }
+    sum
+}
+
+/// Sends so many messages as they come.
+async fn echo(sender: &Sender<usize>, receiver: &Receiver<usize>, messages: usize) {
+    for _ in 0..messages {
+        let Ok(message) = receiver.recv_async().await else {
+            break;
+        };
+        if sender.send_async(message).await.is_err() {
+            break;
+        }
     }
 }
 

@@ -1,0 +1,74 @@
+//! The shapes with many receives that wait on one channel, as many as there are messages.
+use crate::bench::{Bench, Fault};
+use flume::polled::RecvFut;
+use flume::{Receiver, Sender, Waits};
+use futures::Future;
+use futures::task::{Context, Poll};
+use std::alloc::AllocGlobal;
+use std::random::RandomSource;
+use std::time::{Duration, Instant};
+
+impl<R: Waits + RandomSource + AllocGlobal> Bench<R> {
+    /// For each receive that waits a message sent, which it takes as it is polled again.
+    pub fn pending(&self) -> Result<Duration, Fault> {
+        let (tx, rx) = self.open()?;
+        let task = self.task()?;
+        task.enter(|cx| self.fill_each(&tx, &rx, cx))
+    }
+
+    /// Each receive that waits dropped, the newest first.
+    pub fn pending_drop(&self) -> Result<Duration, Fault> {
+        let (_tx, rx) = self.open()?;
+        let task = self.task()?;
+        task.enter(|cx| self.drop_each(&rx, cx))
+    }
+}
+
+impl<R: Waits> Bench<R> {
+    fn fill_each(
+        &self,
+        tx: &Sender<usize, R>,
+        rx: &Receiver<usize, R>,
+        cx: &mut Context<'_>,
+    ) -> Result<Duration, Fault> {
+        let mut receives = self.park_each(rx, cx)?;
+        let start = Instant::now(&self.rt)?;
+        let mut sum = 0usize;
+        for (message, receive) in receives.iter_mut().enumerate() {
+            if tx.try_send(message).is_ok()
+                && let Poll::Ready(Ok(message)) = receive.poll(cx)
+            {
+                sum = sum.wrapping_add(message);
+            }
+        }
+        self.time_since(start, sum, 1)
+    }
+
+    fn drop_each(&self, rx: &Receiver<usize, R>, cx: &mut Context<'_>) -> Result<Duration, Fault> {
+        let mut receives = self.park_each(rx, cx)?;
+        let start = Instant::now(&self.rt)?;
+        let mut sum = 0usize;
+        for message in 0..self.messages {
+            if receives.pop().is_some() {
+                sum = sum.wrapping_add(message);
+            }
+        }
+        self.time_since(start, sum, 1)
+    }
+
+    // As many receives as there are messages, each of which was polled once and waits.
+    fn park_each<'a>(
+        &self,
+        rx: &'a Receiver<usize, R>,
+        cx: &mut Context<'_>,
+    ) -> Result<Vec<RecvFut<'a, usize, R>>, Fault> {
+        let mut receives = Vec::new(self.alloc);
+        for _ in 0..self.messages {
+            let mut receive = rx.recv_async();
+            if receive.poll(cx).is_pending() && receives.push(receive).is_err() {
+                return Err(Fault::NoMemory);
+            }
+        }
+        Ok(receives)
+    }
+}
