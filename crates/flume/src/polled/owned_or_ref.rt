@@ -1,5 +1,5 @@
 //! An end of a channel that is owned or borrowed.
-ghost use Rattle.std.specs.Prelude.{◌≡◌};
+ghost use Rattle.std.specs.Prelude.{◌≡◌, ◌⊎◌};
 ghost use Rattle.flume.specs.Ends.{end_of};
 
 use std::alloc::AllocError;
@@ -28,6 +28,9 @@ impl<E> OwnedOrRef<'_, E> {
 
 impl<E: Clone> Clone for OwnedOrRef<'_, E> {
     // One that is owned is cloned; of one that is borrowed it is the same.
+    ghost is_clone = { λ held copy.
+        (end_of copy ≡ end_of held) ⊎ E.is_clone (end_of held) (end_of copy) };
+
     fn clone(&self) -> Result<Self, AllocError> {
         match self {
             OwnedOrRef::Owned(end) => Ok(OwnedOrRef::Owned(end.clone()?)),

@@ -37,6 +37,7 @@ impl<T: Drop, R: Waits, A: Allocator + Copy> Receiver<T, R, A> {
     /// assert_eq!(rt; block_on(&rt, rx.recv_async())?, Ok(42));
     /// ```
     pub fn recv_async(&self) -> RecvFut<'_, T, R, A>
+        ensures channel { end_of result.receiver ≡ self.now }
         ensures not_parked { result.call.call ≡ None }
     {
         RecvFut::new(OwnedOrRef::Ref(self), Kind::Plain)
@@ -50,6 +51,7 @@ impl<T: Drop, R: Waits, A: Allocator + Copy> Receiver<T, R, A> {
     /// assert_eq!(rt; block_on(&rt, rx.into_recv_async())?, Ok(42));
     /// ```
     pub fn into_recv_async<'a>(self) -> RecvFut<'a, T, R, A>
+        ensures channel { end_of result.receiver ≡ self }
         ensures not_parked { result.call.call ≡ None }
     {
         RecvFut::new(OwnedOrRef::Owned(self), Kind::Plain)

@@ -38,6 +38,7 @@ impl<T: Drop, R: Waits, A: Allocator + Copy> Sender<T, R, A> {
     /// assert_eq!(rt; rx.recv(), Ok(42));
     /// ```
     pub fn send_async(&self, message: T) -> SendFut<'_, T, R, A>
+        ensures channel { end_of result.sender ≡ self.now }
         ensures message { result.send ≡ PolledSend.Unsent message }
     {
         SendFut::new(OwnedOrRef::Ref(self), PolledSend::Unsent(message))
@@ -52,6 +53,7 @@ impl<T: Drop, R: Waits, A: Allocator + Copy> Sender<T, R, A> {
     /// assert_eq!(rt; rx.recv(), Ok(42));
     /// ```
     pub fn into_send_async<'a>(self, message: T) -> SendFut<'a, T, R, A>
+        ensures channel { end_of result.sender ≡ self }
         ensures message { result.send ≡ PolledSend.Unsent message }
     {
         SendFut::new(OwnedOrRef::Owned(self), PolledSend::Unsent(message))

@@ -31,6 +31,7 @@ impl<T: Drop, R: Waits, A: Allocator + Copy> Sender<T, R, A> {
     /// assert_eq!(rt; rx.recv(), Ok(42));
     /// ```
     pub fn sink(&self) -> SendSink<'_, T, R, A>
+        ensures channel { end_of result.kept.sender ≡ self.now }
         ensures nothing_kept { result.kept.send ≡ PolledSend.Finished }
     {
         SendSink::new(OwnedOrRef::Ref(self))
@@ -44,6 +45,7 @@ impl<T: Drop, R: Waits, A: Allocator + Copy> Sender<T, R, A> {
     /// assert_eq!(rt; rx.recv(), Ok(42));
     /// ```
     pub fn into_sink<'a>(self) -> SendSink<'a, T, R, A>
+        ensures channel { end_of result.kept.sender ≡ self }
         ensures nothing_kept { result.kept.send ≡ PolledSend.Finished }
     {
         SendSink::new(OwnedOrRef::Owned(self))
@@ -139,6 +141,9 @@ impl<T: Drop, R: Waits, A: Allocator + Copy> Sink<T> for SendSink<'_, T, R, A> {
 
 impl<T: Drop, R: Waits, A: Allocator + Copy> Clone for SendSink<'_, T, R, A> {
     // A clone keeps no message.
+    ghost is_clone = { λ sink copy. (end_of copy.kept.sender ≡ end_of sink.kept.sender)
+        × (copy.kept.send ≡ Finished) };
+
     fn clone(&self) -> Result<Self, AllocError> {
         Ok(SendSink::new(self.kept.end().clone()?))
     }

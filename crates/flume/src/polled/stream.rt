@@ -38,6 +38,7 @@ impl<T: Drop, R: Waits, A: Allocator + Copy> Receiver<T, R, A> {
     /// assert_eq!(rt; messages[0], 42);
     /// ```
     pub fn stream(&self) -> RecvStream<'_, T, R, A>
+        ensures channel { end_of result.next.receiver ≡ self.now }
         ensures no_fault { result.fault ≡ false }
     {
         RecvStream::new(OwnedOrRef::Ref(self))
@@ -53,6 +54,7 @@ impl<T: Drop, R: Waits, A: Allocator + Copy> Receiver<T, R, A> {
     /// assert_eq!(rt; messages[0], 42);
     /// ```
     pub fn into_stream<'a>(self) -> RecvStream<'a, T, R, A>
+        ensures channel { end_of result.next.receiver ≡ self }
         ensures no_fault { result.fault ≡ false }
     {
         RecvStream::new(OwnedOrRef::Owned(self))
@@ -64,6 +66,7 @@ impl<'a, T: Drop, R: Waits, A: Allocator + Copy> RecvStream<'a, T, R, A> {
     pub(crate) fn new(receiver: OwnedOrRef<'a, Receiver<T, R, A>>) -> Self
         ensures receiver { result.next.receiver ≡ receiver.entry }
         ensures no_fault { result.fault ≡ false }
+        ensures not_parked { result.next.call.call ≡ None }
     {
         RecvStream {
             next: RecvFut::new(receiver, Kind::Stream),
@@ -171,6 +174,10 @@ impl<T: Drop, R: Waits, A: Allocator + Copy> Stream for RecvStream<'_, T, R, A> 
 
 impl<T: Drop, R: Waits, A: Allocator + Copy> Clone for RecvStream<'_, T, R, A> {
     // A clone waits under no ticket yet.
+    ghost is_clone = { λ stream copy.
+        (end_of copy.next.receiver ≡ end_of stream.next.receiver)
+        × (copy.next.call.call ≡ None) × (copy.fault ≡ false) };
+
     fn clone(&self) -> Result<Self, AllocError> {
         Ok(RecvStream::new(self.next.end().clone()?))
     }
