@@ -50,12 +50,14 @@ module _ {T S : Type 0} where
     Tries : (next : RecvNext T) → call ≡ None → signal ≡ None
         → Turned {A = A} TryRecv after_try_recv old new next → IsFirst next
         → FirstReceiveOutcome old new next
-        → settles_receive false next after answer → ReceivePoll A kind call signal old new after answer
+        → settles_receive false next after answer
+        → ReceivePoll A kind call signal old new after answer
     -- it isn't parked, and parks with the signal where it finds nothing
     Parks : (next : RecvNext T) → (given : S) → call ≡ None → signal ≡ Some given
         → Turned {A = A} (Recv kind) after_recv old new next → IsParking next
         → ParkReceiveOutcome kind given old new next
-        → settles_receive true next after answer → ReceivePoll A kind call signal old new after answer
+        → settles_receive true next after answer
+        → ReceivePoll A kind call signal old new after answer
     -- it is parked, finds nothing, and has no signal to wait on with: nothing is done
     Unsignalled : (ticket : ℕ) → call ≡ Some ticket → signal ≡ None → FindsNothing old → new ≡ old
         → after ≡ call → answer ≡ Some (Err NoMemory)
@@ -64,5 +66,7 @@ module _ {T S : Type 0} where
     Asks : (next : RecvNext T) → (ticket : ℕ) → call ≡ Some ticket
         → (signal ≡ None → ¬ (FindsNothing old))
         → Turned {A = A} (Poll ticket) (after_poll ticket) old new next
-        → IsLater ticket next → IsntRefused next → AgainReceiveOutcome ticket false signal old new next
-        → settles_receive (is_some signal) next after answer → ReceivePoll A kind call signal old new after answer
+        → IsLater ticket next → IsntRefused next
+        → AgainReceiveOutcome ticket false signal old new next
+        → settles_receive (is_some signal) next after answer
+        → ReceivePoll A kind call signal old new after answer

@@ -45,8 +45,8 @@ impl PolledReceive {
     /// }
     /// ```
     pub fn end<S>(&mut self) -> Option<AgainReceive<S>>
-        ensures leaves { result
-            ≡ option_map (λ call. record { call = call; late = true; signal = None }) self.old.call }
+        ensures leaves { result ≡ option_map
+            (λ call. record { call = call; late = true; signal = None }) self.old.call }
         ensures ended { self.new ≡ record self.old { call = None } }
     {
         let call = self.call.take()?;

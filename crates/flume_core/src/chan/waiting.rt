@@ -23,8 +23,8 @@ impl<T: Drop, S: Drop, A: Allocator + Copy> Chan<T, S, A> {
         self.is_open() && self.line.queued_len() == 0 && self.line.blocked_len() == 0
     }
 
-    /// Whether an offer would find no room: the channel is open, no receiver waits, and the queue is
-    /// at its capacity. `try_send` answers `Full` then, and `send` blocks. It changes nothing, is
+    /// Whether an offer would find no room: the channel is open, no receiver waits, and the queue
+    /// is at its capacity. `try_send` answers `Full` then, and `send` blocks. It changes nothing, is
     /// no step, and takes no memory.
     ///
     /// ```
