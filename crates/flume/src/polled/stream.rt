@@ -35,7 +35,7 @@ impl<T: Drop, R: Waits, A: Allocator + Copy> Receiver<T, R, A> {
     /// tx.send(42)?;
     /// drop(tx);
     /// let messages = block_on(&rt, rx.stream().collect(rt.alloc()))??;
-    /// assert_eq!(rt; messages[0], 42);
+    /// assert_eq!(rt; messages.first().copied(), Some(42));
     /// ```
     pub fn stream(&self) -> RecvStream<'_, T, R, A>
         ensures channel { end_of result.next.receiver ≡ self.now }
@@ -51,7 +51,7 @@ impl<T: Drop, R: Waits, A: Allocator + Copy> Receiver<T, R, A> {
     /// tx.send(42)?;
     /// drop(tx);
     /// let messages = block_on(&rt, rx.into_stream().collect(rt.alloc()))??;
-    /// assert_eq!(rt; messages[0], 42);
+    /// assert_eq!(rt; messages.first().copied(), Some(42));
     /// ```
     pub fn into_stream<'a>(self) -> RecvStream<'a, T, R, A>
         ensures channel { end_of result.next.receiver ≡ self }

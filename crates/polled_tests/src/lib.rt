@@ -1,0 +1,40 @@
+//! Tests of what is polled: the calls without their lock, and the futures, sinks and streams of the
+//! ends, by hand, by executors, and beside threads that block.
+#![tactic(auto)]
+
+#[cfg(test)]
+mod beside;
+#[cfg(test)]
+mod by_hand;
+#[cfg(test)]
+mod dropped;
+#[cfg(test)]
+mod examples;
+#[cfg(test)]
+mod fixtures;
+#[cfg(test)]
+mod forwarded;
+#[cfg(test)]
+mod many;
+#[cfg(test)]
+mod memory;
+#[cfg(test)]
+mod moved;
+#[cfg(test)]
+mod order;
+#[cfg(test)]
+mod receives;
+#[cfg(test)]
+mod rows;
+#[cfg(test)]
+mod sends;
+#[cfg(test)]
+mod views;
+#[cfg(test)]
+mod waiting;
+#[cfg(test)]
+mod wakes;
+#[cfg(test)]
+mod watch;
+#[cfg(test)]
+mod works;

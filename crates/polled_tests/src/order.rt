@@ -1,0 +1,166 @@
+//! Messages in their order, and each once, through futures, sinks and streams: from a thread, on
+//! one thread, and by many that are polled together.
+ghost use Rattle.futures.specs.Poll.{OnPending};
+ghost use Rattle.futures.specs.Task.{IsArmed, Keeps};
+
+use crate::fixtures::is;
+use crate::watch::begin_watch;
+use crate::works::{Runs, SendUpTo, started};
+use flume::polled::{RecvFut, RecvStream, SendFut};
+use flume::{Sender, Waits, bounded, unbounded};
+use futures::executor::block_on;
+use futures::future::join;
+use futures::task::{Context, Poll};
+use futures::{Future, Stream};
+use std::alloc::Global;
+use std::test::Fail;
+
+// How many numbers one side sends to the other.
+const ALL: u64 = 10_000;
+
+// Where numbers come from.
+#[derive(Drop)]
+enum Numbers<'a, R: Waits> {
+    Futures(RecvFut<'a, u64, R>),
+    Stream(RecvStream<'a, u64, R>),
+}
+
+impl<R: Waits> Numbers<'_, R> {
+    // The next number, or none once all senders are gone.
+    fn poll_number(&mut self, cx: &mut Context<'_>) -> Poll<Option<u64>>
+        ensures armed { OnPending result (IsArmed cx.new) }
+        ensures kept { Keeps cx.old cx.new }
+    {
+        match self {
+            Numbers::Futures(future) => match future.poll(cx) {
+                Poll::Ready(received) => Poll::Ready(received.ok()),
+                Poll::Pending => Poll::Pending,
+            },
+            Numbers::Stream(stream) => stream.poll_next(cx),
+        }
+    }
+}
+
+// Receives until all senders are gone. Its output says how many numbers came, each in its order.
+#[derive(Drop)]
+struct InOrder<'a, R: Waits> {
+    numbers: Numbers<'a, R>,
+    next: u64,
+}
+
+impl<R: Waits> Future for InOrder<'_, R> {
+    type Output = Option<u64>;
+
+    fn poll(&mut self, cx: &mut Context<'_>) -> Poll<Option<u64>> {
+        match self.numbers.poll_number(cx) {
+            Poll::Ready(Some(number)) if number == self.next => {
+                self.next = self.next.saturating_add(1);
+                cx.yield_now()
+            }
+            Poll::Ready(Some(_)) => Poll::Ready(None),
+            Poll::Ready(None) => Poll::Ready(Some(self.next)),
+            Poll::Pending => Poll::Pending,
+        }
+    }
+}
+
+// Numbers of a thread, received by futures or by a stream.
+fn of_a_thread<R: Runs>(rt: R, alloc: Global) -> Result<(), Fail> {
+    for by_stream in [false, true] {
+        let (tx, rx) = unbounded::<u64, _, _>(rt, alloc, 1)?;
+        let sender = started(&rt, SendUpTo { tx, end: ALL })?;
+        let numbers = if by_stream {
+            Numbers::Stream(rx.stream())
+        } else {
+            Numbers::Futures(rx.recv_async())
+        };
+        let received = InOrder { numbers, next: 0 };
+        is(&rt, block_on(&rt, received)?, Some(ALL));
+        sender.join(&rt);
+    }
+    Ok(())
+}
+
+#[test]
+fn futures_and_a_stream_receive_in_the_order_of_a_thread(rt: HostRuntime) -> Result<(), Fail> {
+    let watch = begin_watch(rt, rt.alloc())?;
+    let ended = of_a_thread(rt, rt.alloc());
+    watch.end(&rt);
+    ended
+}
+
+// Sends 0, 1, 2 and so on up to an end, each by a future of its own. Its output says whether each
+// was taken.
+#[derive(Drop)]
+struct InTurn<'a, R: Waits> {
+    tx: &'a Sender<u64, R>,
+    send: SendFut<'a, u64, R>,
+    next: u64,
+    end: u64,
+}
+
+impl<R: Waits> Future for InTurn<'_, R> {
+    type Output = bool;
+
+    fn poll(&mut self, cx: &mut Context<'_>) -> Poll<bool> {
+        match self.send.poll(cx) {
+            Poll::Ready(Ok(())) if self.next < self.end => {
+                self.send = self.tx.send_async(self.next);
+                self.next = self.next.saturating_add(1);
+                cx.yield_now()
+            }
+            Poll::Ready(sent) => Poll::Ready(sent.is_ok()),
+            Poll::Pending => Poll::Pending,
+        }
+    }
+}
+
+// One future sends and the other receives, on one thread. What goes is received with the sender.
+fn on_one_thread<R: Runs>(rt: R, alloc: Global) -> Result<(), Fail> {
+    let (tx, rx) = bounded::<u64, _, _>(rt, alloc, 1, 4)?;
+    let sends = InTurn {
+        tx: &tx,
+        send: tx.send_async(0),
+        next: 1,
+        end: ALL,
+    };
+    let received = UpTo {
+        numbers: Numbers::Futures(rx.into_recv_async()),
+        next: 0,
+    };
+    is(&rt, block_on(&rt, join(sends, received))?, (true, true));
+    Ok(())
+}
+
+// Receives as many numbers as are sent. Its output says whether each came in its order.
+#[derive(Drop)]
+struct UpTo<'a, R: Waits> {
+    numbers: Numbers<'a, R>,
+    next: u64,
+}
+
+impl<R: Waits> Future for UpTo<'_, R> {
+    type Output = bool;
+
+    fn poll(&mut self, cx: &mut Context<'_>) -> Poll<bool> {
+        match self.numbers.poll_number(cx) {
+            Poll::Ready(Some(number)) if number == self.next => {
+                self.next = self.next.saturating_add(1);
+                if self.next == ALL {
+                    return Poll::Ready(true);
+                }
+                cx.yield_now()
+            }
+            Poll::Ready(_) => Poll::Ready(false),
+            Poll::Pending => Poll::Pending,
+        }
+    }
+}
+
+#[test]
+fn two_futures_on_one_thread_pass_numbers_in_order(rt: HostRuntime) -> Result<(), Fail> {
+    let watch = begin_watch(rt, rt.alloc())?;
+    let ended = on_one_thread(rt, rt.alloc());
+    watch.end(&rt);
+    ended
+}

@@ -1,0 +1,109 @@
+//! What a thread does, as a value: a closure costs the prover several times as much in each test.
+use flume::error::{RecvError, SendError};
+use flume::{Receiver, Sender, Waits};
+use std::alloc::AllocGlobal;
+use std::process::Abort;
+use std::random::RandomSource;
+use std::test::Fail;
+use std::thread;
+use std::thread::{JoinHandle, Threads};
+
+/// What a runtime value can do that executors, threads and channels use.
+pub(crate) trait Runs: Waits
+    + RandomSource
+    + AllocGlobal
+    + Threads
+    + Abort
+    + Send
+    + Sync
+    + 'static {}
+
+impl<R: Waits + RandomSource + AllocGlobal + Threads + Abort + Send + Sync + 'static> Runs for R {}
+
+/// What a thread does.
+pub(crate) trait Work {
+    /// What it answers as it ends.
+    type Answer;
+
+    /// Does it.
+    fn work(self) -> Self::Answer;
+}
+
+/// Starts a thread that does this.
+pub(crate) fn started<R: Threads, W: Work + Send + Drop + 'static>(
+    rt: &R,
+    work: W,
+) -> Result<JoinHandle<W::Answer>, Fail>
+where
+    W::Answer: Send + Drop + 'static,
+{
+    Ok(thread::spawn(rt, move || work.work())?)
+}
+
+/// Sends a number by a call that blocks.
+#[derive(Drop)]
+pub(crate) struct SendOne<R: Waits> {
+    pub(crate) tx: Sender<u64, R>,
+    pub(crate) message: u64,
+}
+
+impl<R: Waits> Work for SendOne<R> {
+    type Answer = Result<(), SendError<u64>>;
+
+    fn work(self) -> Result<(), SendError<u64>> {
+        let SendOne { tx, message } = self;
+        tx.send(message)
+    }
+}
+
+/// Receives a number by a call that blocks.
+#[derive(Drop)]
+pub(crate) struct ReceiveOne<R: Waits> {
+    pub(crate) rx: Receiver<u64, R>,
+}
+
+impl<R: Waits> Work for ReceiveOne<R> {
+    type Answer = Result<u64, RecvError>;
+
+    fn work(self) -> Result<u64, RecvError> {
+        let ReceiveOne { rx } = self;
+        rx.recv()
+    }
+}
+
+/// Sends 0, 1, 2 and so on, so many, by calls that block.
+#[derive(Drop)]
+pub(crate) struct SendUpTo<R: Waits> {
+    pub(crate) tx: Sender<u64, R>,
+    pub(crate) end: u64,
+}
+
+impl<R: Waits> Work for SendUpTo<R> {
+    type Answer = ();
+
+    fn work(self) {
+        let SendUpTo { tx, end } = self;
+        for message in 0..end {
+            let _ = tx.send(message);
+        }
+    }
+}
+
+/// Drops what it holds, after so many yields.
+#[derive(Drop)]
+pub(crate) struct DropLater<E> {
+    pub(crate) held: E,
+    pub(crate) yields: u32,
+}
+
+impl<E: Drop> Work for DropLater<E> {
+    type Answer = ();
+
+    fn work(self) {
+        let DropLater { held, yields } = self;
+        for _ in 0..yields {
+            thread::yield_now();
+        }
+        drop(held);
+    }
+}
