@@ -6,6 +6,7 @@ pub mod ReceiveTurns
 pub mod ReceiveOutcomes
 pub mod SendGates
 pub mod ReceiveGates
+pub mod SelectGates
 pub mod Due
 pub mod Polls
 pub mod PolledReceives

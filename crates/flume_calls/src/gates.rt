@@ -2,7 +2,9 @@
 //! between turns. The calls here decide only which turn comes next.
 
 mod receive;
+mod select;
 mod send;
 
 pub use receive::{RecvGate, recv_over};
+pub use select::{ArmNext, SelectGate, select_over};
 pub use send::{SendGate, send_over};

@@ -1,0 +1,35 @@
+-- Which way each round takes a selection whose arms are all started.
+use Rattle.flume_calls.specs.SelectGates.{Ended, AtDeadline, Again}
+use Rattle.flume_calls.proofs.gates.select.started_selection.Goals as goal
+
+pub returns-in_default : goal.returns-in_default
+returns-in_default g c =
+    let known = c.loop.invariant in record {
+      run = known.from_here _ _ (Ended
+          (rw known.kept at c.round-polled.ensures.round)
+          c.in_default.not-AllWait
+          (rw (c.round-polled.ensures.kept, known.kept) at c.ended.ensures.ends));
+      completed = rw (c.round-polled.ensures.kept, known.kept) at c.ended.ensures.completed;
+      kept = cc;
+    }
+
+pub returns-then-wait-clause-run : goal.returns-then-wait-clause-run
+returns-then-wait-clause-run g c =
+    let known = c.loop.invariant in
+    let polled = c.in-AllWait.ensures in
+    known.from_here _ _ (AtDeadline
+    (rw known.kept at polled.round)
+    c.if-wait.ensures.does
+    (rw (c.if-wait.ensures.kept, polled.kept, known.kept) at c.round-last.ensures.round)
+    (rw (c.round-last.ensures.kept, c.if-wait.ensures.kept, polled.kept, known.kept)
+    at c.ended-then-wait.ensures.ends))
+
+pub loop-preserved : goal.loop-preserved
+loop-preserved g c =
+    let known = c.loop.invariant in
+    let polled = c.in-AllWait.ensures in record {
+      from_here = λ new result rest. known.from_here _ _ (Again
+          (rw known.kept at polled.round) c.if-wait.ensures.does rest);
+      kept = cc;
+      on = (tt, tt);
+    }

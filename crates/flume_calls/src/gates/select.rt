@@ -1,0 +1,238 @@
+//! A selection through a gate: the first of several arms that completes.
+ghost use Rattle.std.specs.Prelude.{◌≡◌, ◌≢◌, ◌<◌, ◌↔◌, ℕ, Bool, Some, IfOk, IsTrue};
+ghost use Rattle.std.specs.Prelude.{is_some};
+ghost use Rattle.flume_calls.specs.declared.gates.select.ArmNext.{ArmNext};
+ghost use Rattle.flume_calls.specs.SelectGates.{next_arm, IsRound, IfCompleted, Withdraws, Ends};
+ghost use Rattle.flume_calls.specs.SelectGates.{HasCompleted, StartedSelection, WholeSelection};
+ghost use Rattle.flume_calls.specs.declared.gates.select.RoundEnd.{RoundEnd};
+
+use flume_core::error::SelectError;
+use std::sync::Wait;
+
+/// What a turn of an arm leads to.
+#[derive(Clone, Copy, Drop)]
+pub enum ArmNext {
+    /// The arm has completed.
+    Completed,
+    /// The arm waits.
+    Waits,
+    /// Memory was wanted, and there was none.
+    NoMemory,
+}
+
+/// What a selection goes through: its arms, by their numbers from 0 on, and what it waits on. Each
+/// call says by its relation what it does to the gate, from the gate before to the gate after.
+pub trait SelectGate {
+    /// What the selection waits on.
+    type Waiter: Drop;
+
+    /// What nothing that a selection does changes.
+    type Kept;
+
+    ghost kept: { Self → Self.Kept };
+
+    // How many arms there are.
+    ghost count: { Self.Kept → ℕ };
+
+    // The arm that each round begins with.
+    ghost start: { Self.Kept → ℕ };
+
+    // The gate, and an arm of it that has completed.
+    ghost holds: { Self → ℕ → Type 0 };
+
+    // The gate before, the gate after, and whether there is something to wait on.
+    ghost makes: { Self → Self → Bool → Type 0 };
+
+    // The gate before, the arm, the gate after, and the answer.
+    ghost turns: { Self → ℕ → Self → ArmNext → Type 0 };
+
+    // The gate before, the gate after, and the answer.
+    ghost waits: { Self → Self → Bool → Type 0 };
+
+    // The gate before, the arm, and the gate after.
+    ghost withdraws: { Self → ℕ → Self → Type 0 };
+
+    /// How many arms there are.
+    fn count(&self) -> usize
+        ensures count { result ≡ count (kept self.now) };
+
+    /// The arm that each round begins with.
+    fn start(&self) -> usize
+        ensures start { result ≡ start (kept self.now) }
+        ensures within { result < count (kept self.now) };
+
+    /// Makes what the selection waits on. `None`: there was no memory for it.
+    fn make_waiter(&mut self) -> Option<Self::Waiter>
+        ensures does { makes self.old self.new (is_some result) }
+        ensures kept { kept self.new ≡ kept self.old };
+
+    /// The arm's turn: its start where it isn't started yet, and else a poll.
+    fn turn(&mut self, arm: usize, waiter: &Self::Waiter) -> ArmNext
+        requires within { arm < count (kept self.old) }
+        ensures does { turns self.old arm self.new result }
+        ensures completed { result ≡ ArmNext.Completed → holds self.new arm }
+        ensures kept { kept self.new ≡ kept self.old };
+
+    /// Waits for a wake or for the deadline. True, at once, where the deadline is reached.
+    fn wait(&mut self, waiter: &Self::Waiter) -> bool
+        ensures does { waits self.old self.new result }
+        ensures kept { kept self.new ≡ kept self.old };
+
+    /// Withdraws an arm that was started.
+    fn withdraw(&mut self, arm: usize)
+        requires within { arm < count (kept self.old) }
+        ensures does { withdraws self.old arm self.new }
+        ensures others { (other : ℕ) → other ≢ arm → holds self.old other → holds self.new other }
+        ensures kept { kept self.new ≡ kept self.old };
+}
+
+// How a round ends.
+#[derive(Clone, Copy, Drop)]
+enum RoundEnd {
+    // Each arm had its turn, and waits.
+    AllWait,
+    // After so many arms, which wait, this one completed.
+    Completed { before: usize, arm: usize },
+    // After so many arms, which wait, memory ran out in one.
+    NoMemory { before: usize },
+}
+
+/// The first arm that completes, by its number. The arms are started in cyclic order, from the
+/// start arm on. Where none completes they are all polled in that order, and polled again after each
+/// wait; at the deadline they are polled once more. Then each arm that was started is withdrawn, but
+/// the one that completed. `Timeout`: the deadline is reached, and no arm completed. `NoMemory`:
+/// memory ran out in an arm, or before any was started for what the selection waits on.
+///
+/// ```
+/// // The gate is of two arms, of which arm 0 starts.
+/// select_over(rt, &mut gate);
+/// // arm 0 completes as it is started:             Ok(0), and arm 1 was never started
+/// // both wait, and arm 1 completes after a wake:  Ok(1), and arm 0 was withdrawn
+/// // the deadline is reached before either does:   Err(Timeout), and both were withdrawn
+/// ```
+pub fn select_over<R: Wait, G: SelectGate>(rt: &R, gate: &mut G) -> Result<usize, SelectError>
+    ensures run { WholeSelection G.makes G.turns G.waits G.withdraws (G.count (G.kept gate.old))
+        (G.start (G.kept gate.old)) gate.old gate.new result }
+    ensures completed { IfOk result (HasCompleted G.holds (G.count (G.kept gate.old)) gate.new) }
+    ensures kept { G.kept gate.new ≡ G.kept gate.old }
+{
+    let Some(waiter) = gate.make_waiter() else {
+        return Err(SelectError::NoMemory);
+    };
+    match round(gate, &waiter) {
+        RoundEnd::AllWait => started_selection(rt, gate, &waiter),
+        RoundEnd::Completed { before, arm } => {
+            withdraw(gate, before, Some(arm));
+            Ok(arm)
+        }
+        RoundEnd::NoMemory { before } => {
+            withdraw(gate, before, None);
+            Err(SelectError::NoMemory)
+        }
+    }
+}
+
+// A selection whose arms are all started, to its end.
+fn started_selection<R: Wait, G: SelectGate>(
+    rt: &R,
+    gate: &mut G,
+    waiter: &G::Waiter,
+) -> Result<usize, SelectError>
+    ensures run { StartedSelection G.turns G.waits G.withdraws (G.count (G.kept gate.old))
+        (G.start (G.kept gate.old)) gate.old gate.new result }
+    ensures completed { IfOk result (HasCompleted G.holds (G.count (G.kept gate.old)) gate.new) }
+    ensures kept { G.kept gate.new ≡ G.kept gate.old }
+{
+    for _ in rt.forever() {
+        let polled = round(gate, waiter);
+        match polled {
+            RoundEnd::AllWait => {}
+            _ => return ended(gate, polled),
+        }
+        if gate.wait(waiter) {
+            let last = round(gate, waiter);
+            return ended(gate, last);
+        }
+    }
+    unreachable!()
+}
+
+// Ends a selection whose arms are all started, after this round.
+fn ended<G: SelectGate>(gate: &mut G, round: RoundEnd) -> Result<usize, SelectError>
+    requires completed { IfCompleted (HasCompleted G.holds (G.count (G.kept gate.old)) gate.old)
+        round }
+    ensures ends { Ends G.withdraws (G.count (G.kept gate.old)) (G.start (G.kept gate.old))
+        (G.count (G.kept gate.old)) round gate.old gate.new result }
+    ensures completed { IfOk result (HasCompleted G.holds (G.count (G.kept gate.old)) gate.new) }
+    ensures kept { G.kept gate.new ≡ G.kept gate.old }
+{
+    let all = gate.count();
+    match round {
+        RoundEnd::AllWait => {
+            withdraw(gate, all, None);
+            Err(SelectError::Timeout)
+        }
+        RoundEnd::Completed { arm, .. } => {
+            withdraw(gate, all, Some(arm));
+            Ok(arm)
+        }
+        RoundEnd::NoMemory { .. } => {
+            withdraw(gate, all, None);
+            Err(SelectError::NoMemory)
+        }
+    }
+}
+
+// One turn of each arm, in cyclic order from the start arm on, up to the first that doesn't wait.
+fn round<G: SelectGate>(gate: &mut G, waiter: &G::Waiter) -> RoundEnd
+    ensures round { IsRound G.turns (G.count (G.kept gate.old)) (G.start (G.kept gate.old))
+        gate.old gate.new result }
+    ensures completed { IfCompleted (HasCompleted G.holds (G.count (G.kept gate.old)) gate.new)
+        result }
+    ensures kept { G.kept gate.new ≡ G.kept gate.old }
+{
+    let count = gate.count();
+    let mut arm = gate.start();
+    for before in 0..count {
+        match gate.turn(arm, waiter) {
+            ArmNext::Waits => arm = next_arm(count, arm),
+            ArmNext::Completed => return RoundEnd::Completed { before, arm },
+            ArmNext::NoMemory => return RoundEnd::NoMemory { before },
+        }
+    }
+    RoundEnd::AllWait
+}
+
+// Withdraws so many arms, in cyclic order from the start arm on, but the one spared.
+fn withdraw<G: SelectGate>(gate: &mut G, started: usize, spared: Option<usize>)
+    ensures withdrawn { (next : ℕ) × Withdraws G.withdraws (G.count (G.kept gate.old))
+        (G.start (G.kept gate.old)) spared gate.old started next gate.new }
+    ensures spared { (arm : ℕ) → spared ≡ Some arm → G.holds gate.old arm
+        → G.holds gate.new arm }
+    ensures kept { G.kept gate.new ≡ G.kept gate.old }
+{
+    let count = gate.count();
+    let mut arm = gate.start();
+    for _ in 0..started {
+        if !is_spared(spared, arm) {
+            gate.withdraw(arm);
+        }
+        arm = next_arm(count, arm);
+    }
+}
+
+// Whether this arm is the one spared.
+fn is_spared(spared: Option<usize>, arm: usize) -> bool
+    ensures spared { IsTrue result ↔ (spared ≡ Some arm) }
+{
+    spared == Some(arm)
+}
+
+// The arm after this one, in cyclic order.
+fn next_arm(count: usize, arm: usize) -> usize
+    requires within { arm < count }
+    ensures next { result ≡ next_arm count arm }
+    ensures within { result < count }
+{
+    if arm + 1 == count { 0 } else { arm + 1 }
+}
