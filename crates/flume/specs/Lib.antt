@@ -3,3 +3,4 @@ pub mod Ends
 pub mod Iterators
 pub mod Openings
 pub mod Polling
+pub mod Selecting

@@ -41,22 +41,6 @@ impl<'a, T: Drop, R: Waits, A: Allocator + Copy> Gate<'a, T, R, A> {
     {
         Gate { shared, deadline }
     }
-
-    // Waits for the parker's wake or the deadline. True, at once, where the deadline is reached.
-    #[inline(always)]
-    fn wait_on(&self, parker: &Parker) -> bool
-        ensures late { result ≡ true → self.now ≢ Deadline.Never }
-    {
-        let rt = &self.shared.rt;
-        if self.deadline.is_reached(rt) {
-            return true;
-        }
-        match self.deadline {
-            Deadline::At(deadline) => parker.wait_until(rt, deadline),
-            _ => parker.wait(rt),
-        }
-        false
-    }
 }
 
 impl<T: Drop, R: Waits, A: Allocator + Copy> SendGate<T> for Gate<'_, T, R, A> {
@@ -97,7 +81,7 @@ impl<T: Drop, R: Waits, A: Allocator + Copy> SendGate<T> for Gate<'_, T, R, A> {
 
     #[inline(always)]
     fn wait(&mut self, parker: &Arc<Parker, A>) -> bool {
-        self.wait_on(parker)
+        parker.wait_up_to(&self.shared.rt, self.deadline)
     }
 }
 
@@ -141,6 +125,6 @@ impl<T: Drop, R: Waits, A: Allocator + Copy> RecvGate<T> for Gate<'_, T, R, A> {
 
     #[inline(always)]
     fn wait(&mut self, parker: &Arc<Parker, A>) -> bool {
-        self.wait_on(parker)
+        parker.wait_up_to(&self.shared.rt, self.deadline)
     }
 }

@@ -25,6 +25,7 @@ mod receiver;
 mod runtime;
 mod sender;
 mod shared;
+pub mod select;
 pub mod signal;
 mod task;
 mod weak;
@@ -33,7 +34,8 @@ pub use builder::{Builder, on};
 pub use drain::Drain;
 pub use flume_calls::{calls, due, gates};
 pub use flume_core::error::{
-    RecvError, RecvTimeoutError, SendError, SendTimeoutError, TryRecvError, TrySendError,
+    RecvError, RecvTimeoutError, SelectError, SendError, SendTimeoutError, TryRecvError,
+    TrySendError,
 };
 pub use flume_core::{chan, error, facts, run, step};
 pub use flume_script::{Script, run_script};
@@ -42,6 +44,7 @@ pub use iterators::{Iter, TryIter};
 pub use opening::{bounded, unbounded};
 pub use receiver::Receiver;
 pub use runtime::Runtime;
+pub use select::Selector;
 pub use sender::Sender;
 pub use shared::Waits;
 pub use weak::WeakSender;

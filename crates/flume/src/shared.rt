@@ -128,6 +128,11 @@ impl<T: Drop, R: Waits, A: Allocator + Copy> Shared<T, R, A> {
         Some((parker, Signal::Parker(copy)))
     }
 
+    /// How often a call checks for its wake before it sleeps.
+    pub(crate) fn checks(&self) -> u32 {
+        self.backoff.checks
+    }
+
     /// The channel, locked. Where nobody has the lock it is taken without a call.
     #[inline(always)]
     fn lock(&self) -> MutexGuard<'_, Locked<T, Signal<A>, A>> {

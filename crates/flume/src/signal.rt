@@ -1,11 +1,15 @@
 //! What a parked call leaves with the channel, and what wakes it.
-use flume_deadline::left_until;
+ghost use Rattle.std.specs.Prelude.{◌≡◌, ◌≢◌, true, IfSome};
+ghost use Rattle.flume_deadline.specs.declared.Deadline.{Deadline};
+
+use flume_deadline::{Deadline, left_until};
 use futures::task::Waker;
 use std::alloc::{Allocator, Global};
 use std::hint::spin_loop;
 use std::sync::atomic::{AtomicU64, Ordering};
 use std::sync::{Arc, Condvar, Mutex, Wait};
 use std::time::{Clock, Instant};
+
 // What a parker's word says: no wake has come that wasn't taken, one has, or its call sleeps.
 const IDLE: u64 = 0;
 
@@ -96,6 +100,22 @@ impl Parker {
         unreachable!()
     }
 
+    /// Waits until it is fired, or up to the deadline, if there is one. True, at once, where the
+    /// deadline is reached.
+    #[inline(always)]
+    pub(crate) fn wait_up_to<R: Wait + Clock>(&self, rt: &R, deadline: Deadline) -> bool
+        ensures late { result ≡ true → deadline ≢ Deadline.Never }
+    {
+        if deadline.is_reached(rt) {
+            return true;
+        }
+        match deadline {
+            Deadline::At(deadline) => self.wait_until(rt, deadline),
+            _ => self.wait(rt),
+        }
+        false
+    }
+
     // Checks for a wake for a short while, and takes it.
     fn comes_soon(&self) -> bool {
         for _ in 0..self.checks {
@@ -159,11 +179,39 @@ impl TaskSignal {
     }
 }
 
+/// What an arm of a selector is woken by: the parker that its selector waits on, which all arms
+/// share, and the arm's number.
+#[derive(Drop)]
+pub struct ArmSignal<A: Allocator = Global> {
+    parker: Arc<Parker, A>,
+    /// The arm's number, from 0 in the order in which the arms were added.
+    pub arm: usize,
+}
+
+impl<A: Allocator + Copy> ArmSignal<A> {
+    // The signal of this arm, which shares the parker. `None`: it is shared as often as it can be.
+    pub(crate) fn new(parker: &Arc<Parker, A>, arm: usize) -> Option<Self>
+        ensures arm { IfSome result (λ signal. signal.arm ≡ arm) }
+    {
+        let parker = Arc::try_clone(parker).ok()?;
+        Some(ArmSignal { parker, arm })
+    }
+}
+
+impl<A: Allocator> ArmSignal<A> {
+    /// Wakes the selector.
+    pub fn fire<R: Wait>(&self, rt: &R) {
+        self.parker.fire(rt);
+    }
+}
+
 /// What a parked call leaves with the channel, to be woken by.
 #[derive(Drop)]
 pub enum Signal<A: Allocator = Global> {
     /// A blocking call, by the parker that it waits on.
     Parker(Arc<Parker, A>),
+    /// An arm of a selector, by the parker that the selector waits on.
+    Arm(ArmSignal<A>),
     /// A call that is polled, by the task that polls it.
     Task(Arc<TaskSignal, A>),
 }
@@ -173,6 +221,7 @@ impl<A: Allocator> Signal<A> {
     pub fn fire<R: Wait>(&self, rt: &R) {
         match self {
             Signal::Parker(parker) => parker.fire(rt),
+            Signal::Arm(arm) => arm.fire(rt),
             Signal::Task(task) => task.fire(rt),
         }
     }

@@ -1,0 +1,216 @@
+//! Waiting for the first of several sends and receives, on channels of whatever messages.
+ghost use Rattle.std.specs.Prelude.{◌≡◌, ◌≢◌, ◌<◌, ◌⊎◌, ℕ, IfOk, is_some, Bool, true};
+ghost use Rattle.flume_deadline.specs.declared.Deadline.TheVariants.{Never};
+
+mod arms;
+mod receive;
+mod send;
+
+use crate::receiver::Receiver;
+use crate::sender::Sender;
+use crate::shared::Waits;
+use crate::signal::Parker;
+pub use arms::{Arm, Arms};
+use flume_calls::gates::{ArmNext, SelectGate, select_over};
+use flume_core::error::{NoMemory, RecvError, SendError};
+pub use flume_core::error::SelectError;
+use flume_deadline::Deadline;
+use rand::RngExt;
+use rand_core::Rng;
+pub use receive::RecvArm;
+pub use send::SendArm;
+use std::alloc::{Allocator, Global};
+use std::fmt;
+use std::marker::PhantomData;
+use std::sync::Arc;
+use std::time::{Duration, Instant};
+
+/// Waits for the first of several sends and receives, its arms, and gives what is made of its
+/// result. Arms are added by `send` and `recv`, each with a mapper from the arm's result to a `V`,
+/// which all arms have in common; the type `L` lists the arms.
+///
+/// ```
+/// let (jobs, work) = flume::on(rt).unbounded::<u64>()?;
+/// let (stop, stopped) = flume::on(rt).bounded::<()>(1)?;
+/// jobs.send(7)?;
+/// let job = Selector::new()
+///     .recv(&work, |job| job.ok())
+///     .recv(&stopped, |_| None)
+///     .wait()?;
+/// assert_eq!(rt; job, Some(7));
+/// ```
+#[derive(Drop)]
+pub struct Selector<'a, V, L = (), A: Allocator + Copy = Global> {
+    arms: L,
+    // The number of the arm that each round begins with.
+    start: usize,
+    deadline: Deadline,
+    value: PhantomData<&'a V>,
+    alloc: PhantomData<A>,
+}
+
+impl<'a, V, A: Allocator + Copy> Selector<'a, V, (), A> {
+    /// A selector without arms. Takes no memory.
+    pub fn new() -> Self {
+        Selector {
+            arms: (),
+            start: 0,
+            deadline: Deadline::Never,
+            value: PhantomData,
+            alloc: PhantomData,
+        }
+    }
+}
+
+impl<'a, V, L: Arms<V, A>, A: Allocator + Copy> Selector<'a, V, L, A> {
+    /// With one more arm, which sends the message. Its mapper gets `Ok`: the message was taken in;
+    /// or `Disconnected` with the message: all receivers are gone. Where another arm completes
+    /// first the mapper isn't called, and the message is dropped unless it was taken in by then.
+    pub fn send<T: Drop, F, R: Waits>(
+        self,
+        sender: &'a Sender<T, R, A>,
+        message: T,
+        mapper: F,
+    ) -> Selector<'a, V, (L, SendArm<'a, T, F, R, A>), A>
+    where
+        F: FnOnce(Result<(), SendError<T>>) -> V + Drop,
+    {
+        self.with(SendArm::new(sender, message, mapper))
+    }
+
+    /// With one more arm, which receives a message. Its mapper gets `Ok` with the message; or
+    /// `Disconnected`: none is there, and all senders are gone. Where another arm completes first
+    /// the mapper isn't called, and no message was taken.
+    pub fn recv<T: Drop, F, R: Waits>(
+        self,
+        receiver: &'a Receiver<T, R, A>,
+        mapper: F,
+    ) -> Selector<'a, V, (L, RecvArm<'a, T, F, R, A>), A>
+    where
+        F: FnOnce(Result<T, RecvError>) -> V + Drop,
+    {
+        self.with(RecvArm::new(receiver, mapper))
+    }
+
+    // With one more arm.
+    fn with<C>(self, arm: C) -> Selector<'a, V, (L, C), A> {
+        Selector {
+            arms: (self.arms, arm),
+            start: self.start,
+            deadline: self.deadline,
+            value: PhantomData,
+            alloc: PhantomData,
+        }
+    }
+}
+
+impl<'a, V, L, C, A> Selector<'a, V, (L, C), A>
+where
+    L: Arms<V, A> + Drop,
+    C: Arm<V, A> + Drop,
+    A: Allocator + Copy,
+{
+    /// Begins with an arm that the generator draws, out of those that were added so far, each as
+    /// likely. Without it arm 0 begins.
+    pub fn with_rng<G: Rng>(self, rng: &mut G) -> Self {
+        let start = rng.random_range(0..self.arms.count());
+        Selector { start, ..self }
+    }
+
+    /// Waits until an arm completes, and gives what its mapper makes of its result. The arms are
+    /// tried in the order in which they were added, from the beginning arm on and then from arm 0;
+    /// the first that completes wins, and the others are withdrawn before its mapper is called.
+    /// `NoMemory`: there was no memory to wait, or in an arm; no mapper was called.
+    pub fn wait(self) -> Result<V, NoMemory> {
+        match self.select() {
+            Ok(value) => Ok(value),
+            Err(_) => Err(NoMemory),
+        }
+    }
+
+    /// Waits as `wait` does, up to the deadline. `Timeout`: it is reached, and no arm completes. A
+    /// clock that can't be read counts as past each deadline.
+    pub fn wait_deadline(self, deadline: Instant) -> Result<V, SelectError> {
+        let deadline = Deadline::At(deadline);
+        Selector { deadline, ..self }.select()
+    }
+
+    /// Waits as `wait` does, up to so long from now. Where no time is that late it waits without a
+    /// deadline.
+    pub fn wait_timeout(self, timeout: Duration) -> Result<V, SelectError> {
+        let deadline = Deadline::after(&self.arms.1.runtime(), timeout);
+        Selector { deadline, ..self }.select()
+    }
+
+    // What the mapper of the first arm that completes makes of its result.
+    fn select(mut self) -> Result<V, SelectError> {
+        let rt = self.arms.1.runtime();
+        let arm = select_over(&rt, &mut self)?;
+        Ok(self.arms.value(arm))
+    }
+}
+
+impl<'a, V, L, C, A> SelectGate for Selector<'a, V, (L, C), A>
+where
+    L: Arms<V, A> + Drop,
+    C: Arm<V, A> + Drop,
+    A: Allocator + Copy,
+{
+    type Waiter = Arc<Parker, A>;
+
+    type Kept = (<(L, C) as Arms<V, A>>::Mappers, usize);
+
+    // What isn't changed: the mappers, and where each round begins.
+    ghost kept = { λ selector. (⟦<(L, C) as Arms<V, A>>⟧.mappers selector.arms, selector.start) };
+
+    ghost count = { λ _. ⟦<(L, C) as Arms<V, A>>⟧.count };
+
+    ghost start = { λ kept. kept.1 };
+
+    ghost holds = { λ selector. ⟦<(L, C) as Arms<V, A>>⟧.has_completed selector.arms };
+
+    ghost makes = { λ old new _. new ≡ old };
+
+    ghost turns = { λ _ _ _ _. Unit {0} };
+
+    ghost waits = { λ old new late. (new ≡ old) × (late ≡ true → old.deadline ≢ Never) };
+
+    ghost withdraws = { λ _ _ _. Unit {0} };
+
+    fn count(&self) -> usize {
+        self.arms.count()
+    }
+
+    fn start(&self) -> usize {
+        self.start
+    }
+
+    fn make_waiter(&mut self) -> Option<Arc<Parker, A>> {
+        let parker = Parker::new(self.arms.checks());
+        Arc::new(self.arms.1.alloc(), parker).ok()
+    }
+
+    fn turn(&mut self, arm: usize, parker: &Arc<Parker, A>) -> ArmNext {
+        self.arms.turn(arm, parker)
+    }
+
+    fn wait(&mut self, parker: &Arc<Parker, A>) -> bool {
+        parker.wait_up_to(&self.arms.1.runtime(), self.deadline)
+    }
+
+    fn withdraw(&mut self, arm: usize) {
+        self.arms.withdraw(arm);
+    }
+}
+
+impl<V, A: Allocator + Copy> Default for Selector<'_, V, (), A> {
+    fn default() -> Self {
+        Selector::new()
+    }
+}
+
+impl<V, L, A: Allocator + Copy> fmt::Debug for Selector<'_, V, L, A> {
+    fn fmt<W: fmt::Write>(&self, f: &mut fmt::Formatter<W>) -> fmt::Result {
+        f.write_str("Selector")
+    }
+}

@@ -1,0 +1,191 @@
+//! The arms of a selector: one, and a list of them in a type.
+ghost use Rattle.std.specs.Prelude.{◌≡◌, ◌≢◌, ◌<◌, ℕ};
+ghost use Rattle.flume_calls.specs.declared.gates.select.ArmNext.{ArmNext};
+
+use crate::shared::Waits;
+use crate::signal::Parker;
+use flume_calls::gates::ArmNext;
+use std::alloc::Allocator;
+use std::cmp::max;
+use std::sync::Arc;
+
+/// One thing that a selector waits for, with the mapper of its result to a value: `SendArm` and
+/// `RecvArm`. Its channel takes memory from an `A`.
+pub trait Arm<V, A: Allocator + Copy> {
+    /// The runtime of its channel.
+    type Runtime: Waits;
+
+    /// Its mapper.
+    type Mapper;
+
+    ghost mapper: { Self → Self.Mapper };
+
+    // The mapper may be called on each result of the arm.
+    ghost can_map: { Self.Mapper → Type 0 };
+
+    // The value is what the mapper answers to a result of the arm.
+    ghost maps: { Self.Mapper → V → Type 0 };
+
+    // The arm has completed, and holds its result.
+    ghost has_completed: { Self → Type 0 };
+
+    /// The runtime of its channel.
+    fn runtime(&self) -> Self::Runtime;
+
+    /// Where its channel takes memory from.
+    fn alloc(&self) -> A;
+
+    /// How often a call on its channel checks for its wake before it sleeps.
+    fn checks(&self) -> u32;
+
+    /// Its turn, which is one step of its channel: it is started, or polled where it was started
+    /// before. Where it parks it leaves a copy of the parker, with its number.
+    fn turn(&mut self, number: usize, parker: &Arc<Parker, A>) -> ArmNext
+        ensures completed { result ≡ ArmNext.Completed → has_completed self.new }
+        ensures mapper { mapper self.new ≡ mapper self.old };
+
+    /// Takes it out of its channel, by one step, where it is parked. What it would have sent is
+    /// dropped.
+    fn withdraw(&mut self)
+        ensures completed { has_completed self.old → has_completed self.new }
+        ensures mapper { mapper self.new ≡ mapper self.old };
+
+    /// What its mapper answers to its result.
+    fn value(self) -> V
+        requires completed { has_completed self }
+        requires can_map { can_map (mapper self) }
+        ensures maps { maps (mapper self) result };
+}
+
+/// The arms of a selector, numbered from 0 in the order in which they were added: none, or those
+/// before and one more.
+pub trait Arms<V, A: Allocator + Copy> {
+    /// Their mappers.
+    type Mappers;
+
+    ghost mappers: { Self → Self.Mappers };
+
+    // How many arms there are.
+    ghost count: { ℕ };
+
+    // The mapper of the arm with this number may be called on each result of the arm.
+    ghost can_map: { Self.Mappers → ℕ → Type 0 };
+
+    // The value is what the mapper of the arm with this number answers to a result of the arm.
+    ghost maps: { Self.Mappers → ℕ → V → Type 0 };
+
+    // The arm with this number has completed, and holds its result.
+    ghost has_completed: { Self → ℕ → Type 0 };
+
+    /// How many there are.
+    fn count(&self) -> usize
+        ensures count { result ≡ count };
+
+    /// The greatest of their numbers of checks.
+    fn checks(&self) -> u32;
+
+    /// The turn of the arm with this number.
+    fn turn(&mut self, arm: usize, parker: &Arc<Parker, A>) -> ArmNext
+        requires within { arm < count }
+        ensures completed { result ≡ ArmNext.Completed → has_completed self.new arm }
+        ensures mappers { mappers self.new ≡ mappers self.old };
+
+    /// Withdraws the arm with this number.
+    fn withdraw(&mut self, arm: usize)
+        requires within { arm < count }
+        ensures completed { (other : ℕ) → has_completed self.old other
+            → has_completed self.new other }
+        ensures mappers { mappers self.new ≡ mappers self.old };
+
+    /// What the mapper of the arm with this number answers. No other mapper is called.
+    fn value(self, arm: usize) -> V
+        requires within { arm < count }
+        requires completed { has_completed self arm }
+        requires can_map { can_map (mappers self) arm }
+        ensures maps { maps (mappers self) arm result };
+}
+
+impl<V, A: Allocator + Copy> Arms<V, A> for () {
+    type Mappers = ();
+
+    ghost mappers = { λ _. tt };
+
+    ghost count = { 0 };
+
+    ghost can_map = { λ _ _. ⊥ };
+
+    ghost maps = { λ _ _ _. ⊥ };
+
+    ghost has_completed = { λ _ _. ⊥ };
+
+    fn count(&self) -> usize {
+        0
+    }
+
+    fn checks(&self) -> u32 {
+        0
+    }
+
+    fn turn(&mut self, _arm: usize, _parker: &Arc<Parker, A>) -> ArmNext {
+        unreachable!()
+    }
+
+    fn withdraw(&mut self, _arm: usize) {
+        unreachable!()
+    }
+
+    fn value(self, _arm: usize) -> V {
+        unreachable!()
+    }
+}
+
+impl<V, A: Allocator + Copy, L: Arms<V, A> + Drop, C: Arm<V, A> + Drop> Arms<V, A> for (L, C) {
+    ghost use Rattle.flume.specs.Selecting.{count_one_more, AtLast};
+
+    type Mappers = (L::Mappers, C::Mapper);
+
+    ghost mappers = { λ arms. (L.mappers arms.0, C.mapper arms.1) };
+
+    ghost count = { count_one_more L.count };
+
+    ghost can_map = { λ mappers. AtLast L.count (L.can_map mappers.0) (C.can_map mappers.1) };
+
+    ghost maps = { λ mappers arm value.
+        AtLast L.count (λ n. L.maps mappers.0 n value) (C.maps mappers.1 value) arm };
+
+    ghost has_completed = { λ arms.
+        AtLast L.count (L.has_completed arms.0) (C.has_completed arms.1) };
+
+    fn count(&self) -> usize {
+        self.0.count().saturating_add(1)
+    }
+
+    fn checks(&self) -> u32 {
+        max(self.0.checks(), self.1.checks())
+    }
+
+    fn turn(&mut self, arm: usize, parker: &Arc<Parker, A>) -> ArmNext {
+        if arm == self.0.count() {
+            self.1.turn(arm, parker)
+        } else {
+            self.0.turn(arm, parker)
+        }
+    }
+
+    fn withdraw(&mut self, arm: usize) {
+        if arm == self.0.count() {
+            self.1.withdraw();
+        } else {
+            self.0.withdraw(arm);
+        }
+    }
+
+    fn value(self, arm: usize) -> V {
+        let (before, last) = self;
+        if arm == before.count() {
+            last.value()
+        } else {
+            before.value(arm)
+        }
+    }
+}

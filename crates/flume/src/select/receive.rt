@@ -1,0 +1,142 @@
+//! A receive as an arm of a selector.
+ghost use Rattle.std.specs.Prelude.{◌≡◌};
+ghost use Rattle.flume_calls.specs.declared.gates.select.ArmNext.{ArmNext};
+ghost use Rattle.flume.specs.Selecting.{EndsReceive, IsArmReceive, HoldsReceive, CanMap, Maps};
+
+use crate::receiver::Receiver;
+use crate::select::arms::Arm;
+use crate::shared::Waits;
+use crate::signal::{ArmSignal, Parker, Signal};
+use flume_calls::calls::{AgainReceive, ParkReceive, RecvCall, RecvNext};
+use flume_calls::gates::ArmNext;
+use flume_core::error::RecvError;
+use flume_core::error::RecvTimeoutError::{Disconnected, NoMemory, Timeout};
+use flume_core::step::Kind;
+use std::alloc::{Allocator, Global};
+use std::mem::replace;
+use std::sync::Arc;
+
+// How far a receive arm is.
+#[derive(Drop)]
+enum ReceiveState<T> {
+    // Not started.
+    Unstarted,
+    // Parked.
+    Parked(RecvCall),
+    // Completed, with its result.
+    Completed(Result<T, RecvError>),
+    // Withdrawn, or refused for want of memory.
+    Over,
+}
+
+/// A receive, and what is to be made of its result: `Selector::recv`.
+#[derive(Drop)]
+pub struct RecvArm<'a, T, F, R: Waits, A: Allocator + Copy = Global> {
+    receiver: &'a Receiver<T, R, A>,
+    state: ReceiveState<T>,
+    mapper: F,
+}
+
+impl<'a, T: Drop, F: Drop, R: Waits, A: Allocator + Copy> RecvArm<'a, T, F, R, A> {
+    /// An arm that isn't started. Takes no memory.
+    pub(crate) fn new(receiver: &'a Receiver<T, R, A>, mapper: F) -> Self
+        ensures mapper { result.mapper ≡ mapper }
+    {
+        RecvArm {
+            receiver,
+            state: ReceiveState::Unstarted,
+            mapper,
+        }
+    }
+}
+
+// Where a turn takes the arm.
+fn after<T: Drop>(next: RecvNext<T>) -> (ReceiveState<T>, ArmNext)
+    requires turn { IsArmReceive next }
+    ensures completed { result.1 ≡ ArmNext.Completed → HoldsReceive result.0 }
+{
+    match next {
+        RecvNext::Park(call) => (ReceiveState::Parked(call), ArmNext::Waits),
+        RecvNext::Done(Ok(message)) => (ReceiveState::Completed(Ok(message)), ArmNext::Completed),
+        RecvNext::Done(Err(Disconnected)) => {
+            let result = Err(RecvError::Disconnected);
+            (ReceiveState::Completed(result), ArmNext::Completed)
+        }
+        RecvNext::Refused(call) => (ReceiveState::Parked(call), ArmNext::NoMemory),
+        RecvNext::Done(Err(NoMemory)) => (ReceiveState::Over, ArmNext::NoMemory),
+        RecvNext::Done(Err(Timeout)) | RecvNext::NeedSignal => unreachable!(),
+    }
+}
+
+impl<'a, V, T: Drop, F, R: Waits, A: Allocator + Copy> Arm<V, A> for RecvArm<'a, T, F, R, A>
+where
+    F: FnOnce(Result<T, RecvError>) -> V + Drop,
+{
+    type Runtime = R;
+
+    type Mapper = F;
+
+    ghost mapper = { λ arm. arm.mapper };
+
+    ghost can_map = { CanMap F.pre EndsReceive };
+
+    ghost maps = { Maps F.post EndsReceive };
+
+    ghost has_completed = { λ arm. HoldsReceive arm.state };
+
+    fn runtime(&self) -> R {
+        self.receiver.shared().rt
+    }
+
+    fn alloc(&self) -> A {
+        self.receiver.shared().alloc
+    }
+
+    fn checks(&self) -> u32 {
+        self.receiver.shared().checks()
+    }
+
+    fn turn(&mut self, number: usize, parker: &Arc<Parker, A>) -> ArmNext {
+        let shared = self.receiver.shared();
+        let next = match replace(&mut self.state, ReceiveState::Over) {
+            ReceiveState::Unstarted => match ArmSignal::new(parker, number) {
+                Some(signal) => {
+                    let (kind, signal) = (Kind::Arm, Signal::Arm(signal));
+                    shared.make_seldom(ParkReceive { kind, signal })
+                }
+                None => return ArmNext::NoMemory,
+            },
+            ReceiveState::Parked(call) => {
+                let (late, signal) = (false, None);
+                shared.make_seldom(AgainReceive { call, late, signal })
+            }
+            ReceiveState::Completed(result) => {
+                self.state = ReceiveState::Completed(result);
+                return ArmNext::Completed;
+            }
+            ReceiveState::Over => return ArmNext::NoMemory,
+        };
+        let (state, answer) = after(next);
+        self.state = state;
+        answer
+    }
+
+    fn withdraw(&mut self) {
+        match replace(&mut self.state, ReceiveState::Over) {
+            ReceiveState::Parked(call) => {
+                let (late, signal) = (true, None);
+                let shared = self.receiver.shared();
+                drop(shared.make_seldom(AgainReceive { call, late, signal }));
+            }
+            other => self.state = other,
+        }
+    }
+
+    fn value(self) -> V {
+        let RecvArm { state, mapper, .. } = self;
+        match state {
+            ReceiveState::Completed(result) => mapper(result),
+            _ => unreachable!(),
+        }
+    }
+}

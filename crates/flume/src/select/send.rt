@@ -1,0 +1,140 @@
+//! A send as an arm of a selector.
+ghost use Rattle.std.specs.Prelude.{◌≡◌};
+ghost use Rattle.flume_calls.specs.declared.gates.select.ArmNext.{ArmNext};
+ghost use Rattle.flume.specs.Selecting.{EndsSend, IsArmSend, HoldsSend, CanMap, Maps};
+
+use crate::select::arms::Arm;
+use crate::sender::Sender;
+use crate::shared::Waits;
+use crate::signal::{ArmSignal, Parker, Signal};
+use flume_calls::calls::{AgainSend, ParkSend, SendCall, SendNext};
+use flume_calls::gates::ArmNext;
+use flume_core::error::SendError;
+use flume_core::error::SendTimeoutError::{Disconnected, NoMemory, Timeout};
+use std::alloc::{Allocator, Global};
+use std::mem::replace;
+use std::sync::Arc;
+
+// How far a send arm is.
+#[derive(Drop)]
+enum SendState<T> {
+    // Not started, with its message.
+    Unstarted(T),
+    // Parked.
+    Parked(SendCall),
+    // Completed, with its result.
+    Completed(Result<(), SendError<T>>),
+    // Withdrawn, or refused for want of memory.
+    Over,
+}
+
+/// A send of one message, and what is to be made of its result: `Selector::send`.
+#[derive(Drop)]
+pub struct SendArm<'a, T, F, R: Waits, A: Allocator + Copy = Global> {
+    sender: &'a Sender<T, R, A>,
+    state: SendState<T>,
+    mapper: F,
+}
+
+impl<'a, T: Drop, F: Drop, R: Waits, A: Allocator + Copy> SendArm<'a, T, F, R, A> {
+    /// An arm that isn't started. Takes no memory.
+    pub(crate) fn new(sender: &'a Sender<T, R, A>, message: T, mapper: F) -> Self
+        ensures mapper { result.mapper ≡ mapper }
+    {
+        SendArm {
+            sender,
+            state: SendState::Unstarted(message),
+            mapper,
+        }
+    }
+}
+
+// Where a turn takes the arm.
+fn after<T: Drop>(next: SendNext<T>) -> (SendState<T>, ArmNext)
+    requires turn { IsArmSend next }
+    ensures completed { result.1 ≡ ArmNext.Completed → HoldsSend result.0 }
+{
+    match next {
+        SendNext::Park(call) => (SendState::Parked(call), ArmNext::Waits),
+        SendNext::Done(Ok(())) => (SendState::Completed(Ok(())), ArmNext::Completed),
+        SendNext::Done(Err(Disconnected(message))) => {
+            let result = Err(SendError::Disconnected(message));
+            (SendState::Completed(result), ArmNext::Completed)
+        }
+        SendNext::Done(Err(NoMemory(_))) => (SendState::Over, ArmNext::NoMemory),
+        SendNext::Done(Err(Timeout(_))) | SendNext::NeedSignal(_) => unreachable!(),
+    }
+}
+
+impl<'a, V, T: Drop, F, R: Waits, A: Allocator + Copy> Arm<V, A> for SendArm<'a, T, F, R, A>
+where
+    F: FnOnce(Result<(), SendError<T>>) -> V + Drop,
+{
+    type Runtime = R;
+
+    type Mapper = F;
+
+    ghost mapper = { λ arm. arm.mapper };
+
+    ghost can_map = { CanMap F.pre EndsSend };
+
+    ghost maps = { Maps F.post EndsSend };
+
+    ghost has_completed = { λ arm. HoldsSend arm.state };
+
+    fn runtime(&self) -> R {
+        self.sender.shared().rt
+    }
+
+    fn alloc(&self) -> A {
+        self.sender.shared().alloc
+    }
+
+    fn checks(&self) -> u32 {
+        self.sender.shared().checks()
+    }
+
+    fn turn(&mut self, number: usize, parker: &Arc<Parker, A>) -> ArmNext {
+        let shared = self.sender.shared();
+        let next = match replace(&mut self.state, SendState::Over) {
+            SendState::Unstarted(message) => match ArmSignal::new(parker, number) {
+                Some(signal) => {
+                    let signal = Signal::Arm(signal);
+                    shared.make_seldom(ParkSend { message, signal })
+                }
+                None => return ArmNext::NoMemory,
+            },
+            SendState::Parked(call) => {
+                let (late, signal) = (false, None);
+                shared.make_seldom(AgainSend { call, late, signal })
+            }
+            SendState::Completed(result) => {
+                self.state = SendState::Completed(result);
+                return ArmNext::Completed;
+            }
+            SendState::Over => return ArmNext::NoMemory,
+        };
+        let (state, answer) = after(next);
+        self.state = state;
+        answer
+    }
+
+    fn withdraw(&mut self) {
+        match replace(&mut self.state, SendState::Over) {
+            SendState::Parked(call) => {
+                let (late, signal) = (true, None);
+                let shared = self.sender.shared();
+                drop(shared.make_seldom(AgainSend { call, late, signal }));
+            }
+            other => self.state = other,
+        }
+    }
+
+    fn value(self) -> V {
+        let SendArm { state, mapper, .. } = self;
+        match state {
+            SendState::Completed(result) => mapper(result),
+            _ => unreachable!(),
+        }
+    }
+}
