@@ -1,5 +1,6 @@
 //! Waiting for the first of several sends and receives, on channels of whatever messages.
 ghost use Rattle.std.specs.Prelude.{◌≡◌, ◌≢◌, ◌<◌, ◌⊎◌, ℕ, IfOk, is_some, Bool, true};
+ghost use Rattle.flume.specs.Selecting.{IsValue, first_arm};
 ghost use Rattle.flume_deadline.specs.declared.Deadline.TheVariants.{Never};
 
 mod arms;
@@ -10,18 +11,20 @@ use crate::receiver::Receiver;
 use crate::sender::Sender;
 use crate::shared::Waits;
 use crate::signal::Parker;
-pub use arms::{Arm, Arms};
+pub use arms::{Arm, Arms, AtLeastOneArm};
 use flume_calls::gates::{ArmNext, SelectGate, select_over};
 use flume_core::error::{NoMemory, RecvError, SendError};
 pub use flume_core::error::SelectError;
 use flume_deadline::Deadline;
 use rand::RngExt;
+use rand::distr::uniform::SampleRange;
 use rand_core::Rng;
 pub use receive::RecvArm;
 pub use send::SendArm;
 use std::alloc::{Allocator, Global};
 use std::fmt;
 use std::marker::PhantomData;
+use std::ops::Range;
 use std::sync::Arc;
 use std::time::{Duration, Instant};
 
@@ -51,7 +54,9 @@ pub struct Selector<'a, V, L = (), A: Allocator + Copy = Global> {
 
 impl<'a, V, A: Allocator + Copy> Selector<'a, V, (), A> {
     /// A selector without arms. Takes no memory.
-    pub fn new() -> Self {
+    pub fn new() -> Self
+        ensures start { result.start ≡ 0 }
+    {
         Selector {
             arms: (),
             start: 0,
@@ -62,7 +67,7 @@ impl<'a, V, A: Allocator + Copy> Selector<'a, V, (), A> {
     }
 }
 
-impl<'a, V, L: Arms<V, A>, A: Allocator + Copy> Selector<'a, V, L, A> {
+impl<'a, V, L: Arms<V, A> + Drop, A: Allocator + Copy> Selector<'a, V, L, A> {
     /// With one more arm, which sends the message. Its mapper gets `Ok`: the message was taken in;
     /// or `Disconnected` with the message: all receivers are gone. Where another arm completes
     /// first the mapper isn't called, and the message is dropped unless it was taken in by then.
@@ -74,6 +79,9 @@ impl<'a, V, L: Arms<V, A>, A: Allocator + Copy> Selector<'a, V, L, A> {
     ) -> Selector<'a, V, (L, SendArm<'a, T, F, R, A>), A>
     where
         F: FnOnce(Result<(), SendError<T>>) -> V + Drop,
+        ensures before { result.arms.0 ≡ self.entry.arms }
+        ensures mapper { result.arms.1.mapper ≡ mapper }
+        ensures start { result.start ≡ self.entry.start }
     {
         self.with(SendArm::new(sender, message, mapper))
     }
@@ -88,12 +96,18 @@ impl<'a, V, L: Arms<V, A>, A: Allocator + Copy> Selector<'a, V, L, A> {
     ) -> Selector<'a, V, (L, RecvArm<'a, T, F, R, A>), A>
     where
         F: FnOnce(Result<T, RecvError>) -> V + Drop,
+        ensures before { result.arms.0 ≡ self.entry.arms }
+        ensures mapper { result.arms.1.mapper ≡ mapper }
+        ensures start { result.start ≡ self.entry.start }
     {
         self.with(RecvArm::new(receiver, mapper))
     }
 
     // With one more arm.
-    fn with<C>(self, arm: C) -> Selector<'a, V, (L, C), A> {
+    fn with<C: Arm<V, A> + Drop>(self, arm: C) -> Selector<'a, V, (L, C), A>
+        ensures arms { result.arms ≡ (self.entry.arms, arm) }
+        ensures start { result.start ≡ self.entry.start }
+    {
         Selector {
             arms: (self.arms, arm),
             start: self.start,
@@ -104,15 +118,16 @@ impl<'a, V, L: Arms<V, A>, A: Allocator + Copy> Selector<'a, V, L, A> {
     }
 }
 
-impl<'a, V, L, C, A> Selector<'a, V, (L, C), A>
-where
-    L: Arms<V, A> + Drop,
-    C: Arm<V, A> + Drop,
-    A: Allocator + Copy,
-{
+impl<'a, V, L: AtLeastOneArm<V, A> + Drop, A: Allocator + Copy> Selector<'a, V, L, A> {
     /// Begins with an arm that the generator draws, out of those that were added so far, each as
     /// likely. Without it arm 0 begins.
-    pub fn with_rng<G: Rng>(self, rng: &mut G) -> Self {
+    pub fn with_rng<G: Rng>(self, rng: &mut G) -> Self
+        ensures arms { result.arms ≡ self.entry.arms }
+        ensures within { result.start < L.count }
+        ensures drawn { ⟦<Range<usize> as SampleRange<usize>>⟧.draws
+            (record { start = 0; end = L.count })
+            (G.stream rng.old) result.start (G.stream rng.new) }
+    {
         let start = rng.random_range(0..self.arms.count());
         Selector { start, ..self }
     }
@@ -121,8 +136,11 @@ where
     /// tried in the order in which they were added, from the beginning arm on and then from arm 0;
     /// the first that completes wins, and the others are withdrawn before its mapper is called.
     /// `NoMemory`: there was no memory to wait, or in an arm; no mapper was called.
-    pub fn wait(self) -> Result<V, NoMemory> {
-        match self.select() {
+    pub fn wait(self) -> Result<V, NoMemory>
+        requires can_map { (arm : ℕ) → L.can_map (L.mappers self.arms) arm }
+        ensures value { IfOk result (IsValue L.count L.maps (L.mappers self.entry.arms)) }
+    {
+        match self.select(Deadline::Never) {
             Ok(value) => Ok(value),
             Err(_) => Err(NoMemory),
         }
@@ -130,44 +148,48 @@ where
 
     /// Waits as `wait` does, up to the deadline. `Timeout`: it is reached, and no arm completes. A
     /// clock that can't be read counts as past each deadline.
-    pub fn wait_deadline(self, deadline: Instant) -> Result<V, SelectError> {
-        let deadline = Deadline::At(deadline);
-        Selector { deadline, ..self }.select()
+    pub fn wait_deadline(self, deadline: Instant) -> Result<V, SelectError>
+        requires can_map { (arm : ℕ) → L.can_map (L.mappers self.arms) arm }
+        ensures value { IfOk result (IsValue L.count L.maps (L.mappers self.entry.arms)) }
+    {
+        self.select(Deadline::At(deadline))
     }
 
     /// Waits as `wait` does, up to so long from now. Where no time is that late it waits without a
     /// deadline.
-    pub fn wait_timeout(self, timeout: Duration) -> Result<V, SelectError> {
-        let deadline = Deadline::after(&self.arms.1.runtime(), timeout);
-        Selector { deadline, ..self }.select()
+    pub fn wait_timeout(self, timeout: Duration) -> Result<V, SelectError>
+        requires can_map { (arm : ℕ) → L.can_map (L.mappers self.arms) arm }
+        ensures value { IfOk result (IsValue L.count L.maps (L.mappers self.entry.arms)) }
+    {
+        let deadline = Deadline::after(&self.arms.runtime(), timeout);
+        self.select(deadline)
     }
 
     // What the mapper of the first arm that completes makes of its result.
-    fn select(mut self) -> Result<V, SelectError> {
-        let rt = self.arms.1.runtime();
+    fn select(mut self, deadline: Deadline) -> Result<V, SelectError>
+        requires can_map { (arm : ℕ) → L.can_map (L.mappers self.arms) arm }
+        ensures value { IfOk result (IsValue L.count L.maps (L.mappers self.entry.arms)) }
+    {
+        let rt = self.arms.runtime();
+        self.deadline = deadline;
         let arm = select_over(&rt, &mut self)?;
         Ok(self.arms.value(arm))
     }
 }
 
-impl<'a, V, L, C, A> SelectGate for Selector<'a, V, (L, C), A>
-where
-    L: Arms<V, A> + Drop,
-    C: Arm<V, A> + Drop,
-    A: Allocator + Copy,
-{
+impl<'a, V, L: AtLeastOneArm<V, A>, A: Allocator + Copy> SelectGate for Selector<'a, V, L, A> {
     type Waiter = Arc<Parker, A>;
 
-    type Kept = (<(L, C) as Arms<V, A>>::Mappers, usize);
+    type Kept = (L::Mappers, usize);
 
     // What isn't changed: the mappers, and where each round begins.
-    ghost kept = { λ selector. (⟦<(L, C) as Arms<V, A>>⟧.mappers selector.arms, selector.start) };
+    ghost kept = { λ selector. (L.mappers selector.arms, selector.start) };
 
-    ghost count = { λ _. ⟦<(L, C) as Arms<V, A>>⟧.count };
+    ghost count = { λ _. L.count };
 
-    ghost start = { λ kept. kept.1 };
+    ghost start = { λ kept. first_arm L.count kept.1 };
 
-    ghost holds = { λ selector. ⟦<(L, C) as Arms<V, A>>⟧.has_completed selector.arms };
+    ghost holds = { λ selector. L.has_completed selector.arms };
 
     ghost makes = { λ old new _. new ≡ old };
 
@@ -182,12 +204,12 @@ where
     }
 
     fn start(&self) -> usize {
-        self.start
+        if self.start < self.arms.count() { self.start } else { 0 }
     }
 
     fn make_waiter(&mut self) -> Option<Arc<Parker, A>> {
         let parker = Parker::new(self.arms.checks());
-        Arc::new(self.arms.1.alloc(), parker).ok()
+        Arc::new(self.arms.alloc(), parker).ok()
     }
 
     fn turn(&mut self, arm: usize, parker: &Arc<Parker, A>) -> ArmNext {
@@ -195,7 +217,7 @@ where
     }
 
     fn wait(&mut self, parker: &Arc<Parker, A>) -> bool {
-        parker.wait_up_to(&self.arms.1.runtime(), self.deadline)
+        parker.wait_up_to(&self.arms.runtime(), self.deadline)
     }
 
     fn withdraw(&mut self, arm: usize) {

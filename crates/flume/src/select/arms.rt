@@ -105,6 +105,21 @@ pub trait Arms<V, A: Allocator + Copy> {
         ensures maps { maps (mappers self) arm result };
 }
 
+/// A list of arms that can be waited for, since there is one.
+pub trait AtLeastOneArm<V, A: Allocator + Copy>: Arms<V, A> {
+    /// The runtime of the last arm's channel.
+    type Runtime: Waits;
+
+    /// The runtime of the last arm's channel.
+    fn runtime(&self) -> Self::Runtime;
+
+    /// Where the last arm's channel takes memory from.
+    fn alloc(&self) -> A;
+
+    // There is an arm.
+    ghost has_one: { 0 < Self.count };
+}
+
 impl<V, A: Allocator + Copy> Arms<V, A> for () {
     type Mappers = ();
 
@@ -140,7 +155,7 @@ impl<V, A: Allocator + Copy> Arms<V, A> for () {
 }
 
 impl<V, A: Allocator + Copy, L: Arms<V, A> + Drop, C: Arm<V, A> + Drop> Arms<V, A> for (L, C) {
-    ghost use Rattle.flume.specs.Selecting.{count_one_more, AtLast};
+    ghost use Rattle.flume.specs.Selecting.{count_one_more, ByNumber};
 
     type Mappers = (L::Mappers, C::Mapper);
 
@@ -148,13 +163,13 @@ impl<V, A: Allocator + Copy, L: Arms<V, A> + Drop, C: Arm<V, A> + Drop> Arms<V, 
 
     ghost count = { count_one_more L.count };
 
-    ghost can_map = { λ mappers. AtLast L.count (L.can_map mappers.0) (C.can_map mappers.1) };
+    ghost can_map = { λ mappers. ByNumber L.count (L.can_map mappers.0) (C.can_map mappers.1) };
 
     ghost maps = { λ mappers arm value.
-        AtLast L.count (λ n. L.maps mappers.0 n value) (C.maps mappers.1 value) arm };
+        ByNumber L.count (λ n. L.maps mappers.0 n value) (C.maps mappers.1 value) arm };
 
     ghost has_completed = { λ arms.
-        AtLast L.count (L.has_completed arms.0) (C.has_completed arms.1) };
+        ByNumber L.count (L.has_completed arms.0) (C.has_completed arms.1) };
 
     fn count(&self) -> usize {
         self.0.count().saturating_add(1)
@@ -187,5 +202,24 @@ impl<V, A: Allocator + Copy, L: Arms<V, A> + Drop, C: Arm<V, A> + Drop> Arms<V, 
         } else {
             before.value(arm)
         }
+    }
+}
+
+impl<V, A: Allocator + Copy, L: Arms<V, A> + Drop, C: Arm<V, A> + Drop> AtLeastOneArm<V, A>
+    for (L, C)
+{
+    ghost use Rattle.std.proofs.Common.{arith};
+    ghost use Rattle.flume.specs.Selecting.{count_one_more};
+
+    type Runtime = C::Runtime;
+
+    ghost has_one = { Prim.omega arith };
+
+    fn runtime(&self) -> C::Runtime {
+        self.1.runtime()
+    }
+
+    fn alloc(&self) -> A {
+        self.1.alloc()
     }
 }

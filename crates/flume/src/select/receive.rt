@@ -23,8 +23,8 @@ enum ReceiveState<T> {
     Unstarted,
     // Parked.
     Parked(RecvCall),
-    // Completed, with its result.
-    Completed(Result<T, RecvError>),
+    // Completed, with the message; `None`: none is there, and the channel is closed.
+    Completed(Option<T>),
     // Withdrawn, or refused for want of memory.
     Over,
 }
@@ -57,11 +57,10 @@ fn after<T: Drop>(next: RecvNext<T>) -> (ReceiveState<T>, ArmNext)
 {
     match next {
         RecvNext::Park(call) => (ReceiveState::Parked(call), ArmNext::Waits),
-        RecvNext::Done(Ok(message)) => (ReceiveState::Completed(Ok(message)), ArmNext::Completed),
-        RecvNext::Done(Err(Disconnected)) => {
-            let result = Err(RecvError::Disconnected);
-            (ReceiveState::Completed(result), ArmNext::Completed)
+        RecvNext::Done(Ok(message)) => {
+            (ReceiveState::Completed(Some(message)), ArmNext::Completed)
         }
+        RecvNext::Done(Err(Disconnected)) => (ReceiveState::Completed(None), ArmNext::Completed),
         RecvNext::Refused(call) => (ReceiveState::Parked(call), ArmNext::NoMemory),
         RecvNext::Done(Err(NoMemory)) => (ReceiveState::Over, ArmNext::NoMemory),
         RecvNext::Done(Err(Timeout)) | RecvNext::NeedSignal => unreachable!(),
@@ -110,8 +109,8 @@ where
                 let (late, signal) = (false, None);
                 shared.make_seldom(AgainReceive { call, late, signal })
             }
-            ReceiveState::Completed(result) => {
-                self.state = ReceiveState::Completed(result);
+            ReceiveState::Completed(message) => {
+                self.state = ReceiveState::Completed(message);
                 return ArmNext::Completed;
             }
             ReceiveState::Over => return ArmNext::NoMemory,
@@ -135,7 +134,8 @@ where
     fn value(self) -> V {
         let RecvArm { state, mapper, .. } = self;
         match state {
-            ReceiveState::Completed(result) => mapper(result),
+            ReceiveState::Completed(Some(message)) => mapper(Ok(message)),
+            ReceiveState::Completed(None) => mapper(Err(RecvError::Disconnected)),
             _ => unreachable!(),
         }
     }

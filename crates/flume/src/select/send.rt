@@ -22,8 +22,8 @@ enum SendState<T> {
     Unstarted(T),
     // Parked.
     Parked(SendCall),
-    // Completed, with its result.
-    Completed(Result<(), SendError<T>>),
+    // Completed: the message was taken in, or comes back since the channel is closed.
+    Completed(Result<(), T>),
     // Withdrawn, or refused for want of memory.
     Over,
 }
@@ -57,9 +57,8 @@ fn after<T: Drop>(next: SendNext<T>) -> (SendState<T>, ArmNext)
     match next {
         SendNext::Park(call) => (SendState::Parked(call), ArmNext::Waits),
         SendNext::Done(Ok(())) => (SendState::Completed(Ok(())), ArmNext::Completed),
-        SendNext::Done(Err(Disconnected(message))) => {
-            let result = Err(SendError::Disconnected(message));
-            (SendState::Completed(result), ArmNext::Completed)
+        SendNext::Done(Err(Disconnected(back))) => {
+            (SendState::Completed(Err(back)), ArmNext::Completed)
         }
         SendNext::Done(Err(NoMemory(_))) => (SendState::Over, ArmNext::NoMemory),
         SendNext::Done(Err(Timeout(_))) | SendNext::NeedSignal(_) => unreachable!(),
@@ -133,7 +132,8 @@ where
     fn value(self) -> V {
         let SendArm { state, mapper, .. } = self;
         match state {
-            SendState::Completed(result) => mapper(result),
+            SendState::Completed(Ok(())) => mapper(Ok(())),
+            SendState::Completed(Err(back)) => mapper(Err(SendError::Disconnected(back))),
             _ => unreachable!(),
         }
     }
