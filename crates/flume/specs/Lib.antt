@@ -1,3 +1,4 @@
+pub mod ArmTurns
 pub mod Endings
 pub mod Ends
 pub mod Iterators

@@ -1,51 +1,5 @@
--- What the mappers of a selector's arms are called on, and what they answer.
-use Rattle.std.specs.Prelude.{◌≡◌, ◌≢◌, ◌<◌, ◌+◌, if◌then◌else◌, nat_lt, ℕ, min}
-use Rattle.std.specs.Prelude.{Result, Ok, Err}
-use Rattle.flume_core.specs.declared.error.SendError.{SendError}
-use Rattle.flume_core.specs.declared.error.SendError.TheVariants as send
-use Rattle.flume_core.specs.declared.error.RecvError.{RecvError}
-use Rattle.flume_core.specs.declared.error.RecvError.TheVariants as receive
-use Rattle.flume_core.specs.declared.error.SendTimeoutError.{SendTimeoutError}
-use Rattle.flume_core.specs.declared.error.RecvTimeoutError.{RecvTimeoutError}
-use Rattle.flume_calls.specs.declared.calls.send.SendNext.{SendNext}
-use Rattle.flume_calls.specs.declared.calls.receive.RecvNext.{RecvNext}
-use Rattle.flume.specs.declared.select.send.SendState.{SendState}
-use Rattle.flume.specs.declared.select.receive.ReceiveState.{ReceiveState}
-
-module _ {T : Type 0} where
-  -- how a send arm completes: the message was taken in, or the channel is closed
-  abbrev pub EndsSend : Result (Unit {0}) (SendError T) → Type 0
-  EndsSend (Ok sent) = Unit {0}
-  EndsSend (Err (send.Disconnected back)) = Unit {0}
-  EndsSend (Err (send.NoMemory back)) = ⊥
-
-  -- how a receive arm completes: a message came, or the channel is closed
-  abbrev pub EndsReceive : Result T RecvError → Type 0
-  EndsReceive (Ok message) = Unit {0}
-  EndsReceive (Err receive.Disconnected) = Unit {0}
-  EndsReceive (Err receive.NoMemory) = ⊥
-
-  -- a turn of a send arm: it starts, or is polled before any deadline
-  abbrev pub IsArmSend : SendNext T → Type 0
-  IsArmSend (SendNext.NeedSignal back) = ⊥
-  IsArmSend (SendNext.Done (Err (SendTimeoutError.Timeout back))) = ⊥
-  IsArmSend _ = Unit {0}
-
-  -- a turn of a receive arm: it starts, or is polled before any deadline
-  abbrev pub IsArmReceive : RecvNext T → Type 0
-  IsArmReceive RecvNext.NeedSignal = ⊥
-  IsArmReceive (RecvNext.Done (Err RecvTimeoutError.Timeout)) = ⊥
-  IsArmReceive _ = Unit {0}
-
-  -- a send arm that has completed
-  abbrev pub HoldsSend : SendState T → Type 0
-  HoldsSend (SendState.Completed result) = Unit {0}
-  HoldsSend _ = ⊥
-
-  -- a receive arm that has completed
-  abbrev pub HoldsReceive : ReceiveState T → Type 0
-  HoldsReceive (ReceiveState.Completed message) = Unit {0}
-  HoldsReceive _ = ⊥
+-- What the mappers of a selector's arms make of results, and the numbers of the arms.
+use Rattle.std.specs.Prelude.{◌≡◌, ◌≢◌, ◌<◌, ◌+◌, if◌then◌else◌, nat_lt, ℕ, min, Option, Some, None}
 
 module _ {F I : Type 0} where
   -- the mapper may be called on each input of this form
@@ -56,6 +10,11 @@ module _ {F I V : Type 0} where
   -- the value is what the mapper answers on an input of this form
   abbrev pub Maps : (F → I → V → Type 0) → (I → Type 0) → F → V → Type 0
   Maps post form mapper value = (input : I) × form input × post mapper input value
+
+  -- the value is what the mapper answers on this result, if there is one
+  abbrev pub MapsResult : (F → I → V → Type 0) → F → Option I → V → Type 0
+  MapsResult post mapper (Some result) value = post mapper result value
+  MapsResult post mapper None value = ⊥
 
 -- how many arms there are with one more; more than can be counted aren't
 abbrev pub count_one_more : ℕ → ℕ

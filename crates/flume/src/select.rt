@@ -13,8 +13,8 @@ use crate::shared::Waits;
 use crate::signal::Parker;
 pub use arms::{Arm, Arms, AtLeastOneArm};
 use flume_calls::gates::{ArmNext, SelectGate, select_over};
-use flume_core::error::{NoMemory, RecvError, SendError};
 pub use flume_core::error::SelectError;
+use flume_core::error::{NoMemory, RecvError, SendError};
 use flume_deadline::Deadline;
 use rand::RngExt;
 use rand::distr::uniform::SampleRange;
@@ -193,18 +193,22 @@ impl<'a, V, L: AtLeastOneArm<V, A>, A: Allocator + Copy> SelectGate for Selector
 
     ghost makes = { λ old new _. new ≡ old };
 
-    ghost turns = { λ _ _ _ _. Unit {0} };
+    ghost turns = { λ old arm new next. L.turns old.arms arm next new.arms };
 
     ghost waits = { λ old new late. (new ≡ old) × (late ≡ true → old.deadline ≢ Never) };
 
-    ghost withdraws = { λ _ _ _. Unit {0} };
+    ghost withdraws = { λ old arm new. L.withdraws old.arms arm new.arms };
 
     fn count(&self) -> usize {
         self.arms.count()
     }
 
     fn start(&self) -> usize {
-        if self.start < self.arms.count() { self.start } else { 0 }
+        if self.start < self.arms.count() {
+            self.start
+        } else {
+            0
+        }
     }
 
     fn make_waiter(&mut self) -> Option<Arc<Parker, A>> {

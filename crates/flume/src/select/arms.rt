@@ -29,6 +29,15 @@ pub trait Arm<V, A: Allocator + Copy> {
     // The arm has completed, and holds its result.
     ghost has_completed: { Self → Type 0 };
 
+    // The value is what the mapper answers to the result that the arm holds.
+    ghost answers: { Self → V → Type 0 };
+
+    // The arm before a turn, what that leads to, and the arm after.
+    ghost turns: { Self → ArmNext → Self → Type 0 };
+
+    // The arm before its withdrawal, and after.
+    ghost withdraws: { Self → Self → Type 0 };
+
     /// The runtime of its channel.
     fn runtime(&self) -> Self::Runtime;
 
@@ -41,12 +50,14 @@ pub trait Arm<V, A: Allocator + Copy> {
     /// Its turn, which is one step of its channel: it is started, or polled where it was started
     /// before. Where it parks it leaves a copy of the parker, with its number.
     fn turn(&mut self, number: usize, parker: &Arc<Parker, A>) -> ArmNext
+        ensures does { turns self.old result self.new }
         ensures completed { result ≡ ArmNext.Completed → has_completed self.new }
         ensures mapper { mapper self.new ≡ mapper self.old };
 
     /// Takes it out of its channel, by one step, where it is parked. What it would have sent is
     /// dropped.
     fn withdraw(&mut self)
+        ensures does { withdraws self.old self.new }
         ensures completed { has_completed self.old → has_completed self.new }
         ensures mapper { mapper self.new ≡ mapper self.old };
 
@@ -54,6 +65,7 @@ pub trait Arm<V, A: Allocator + Copy> {
     fn value(self) -> V
         requires completed { has_completed self }
         requires can_map { can_map (mapper self) }
+        ensures answers { answers self result }
         ensures maps { maps (mapper self) result };
 }
 
@@ -77,6 +89,12 @@ pub trait Arms<V, A: Allocator + Copy> {
     // The arm with this number has completed, and holds its result.
     ghost has_completed: { Self → ℕ → Type 0 };
 
+    // The arms before a turn of the arm with this number, what that leads to, and the arms after.
+    ghost turns: { Self → ℕ → ArmNext → Self → Type 0 };
+
+    // The arms before the withdrawal of the arm with this number, and after.
+    ghost withdraws: { Self → ℕ → Self → Type 0 };
+
     /// How many there are.
     fn count(&self) -> usize
         ensures count { result ≡ count };
@@ -87,12 +105,14 @@ pub trait Arms<V, A: Allocator + Copy> {
     /// The turn of the arm with this number.
     fn turn(&mut self, arm: usize, parker: &Arc<Parker, A>) -> ArmNext
         requires within { arm < count }
+        ensures does { turns self.old arm result self.new }
         ensures completed { result ≡ ArmNext.Completed → has_completed self.new arm }
         ensures mappers { mappers self.new ≡ mappers self.old };
 
     /// Withdraws the arm with this number.
     fn withdraw(&mut self, arm: usize)
         requires within { arm < count }
+        ensures does { withdraws self.old arm self.new }
         ensures completed { (other : ℕ) → has_completed self.old other
             → has_completed self.new other }
         ensures mappers { mappers self.new ≡ mappers self.old };
@@ -133,6 +153,10 @@ impl<V, A: Allocator + Copy> Arms<V, A> for () {
 
     ghost has_completed = { λ _ _. ⊥ };
 
+    ghost turns = { λ _ _ _ _. ⊥ };
+
+    ghost withdraws = { λ _ _ _. ⊥ };
+
     fn count(&self) -> usize {
         0
     }
@@ -171,6 +195,15 @@ impl<V, A: Allocator + Copy, L: Arms<V, A> + Drop, C: Arm<V, A> + Drop> Arms<V, 
     ghost has_completed = { λ arms.
         ByNumber L.count (L.has_completed arms.0) (C.has_completed arms.1) };
 
+    // The other arms are as they were.
+    ghost turns = { λ old arm next new.
+        ByNumber L.count (λ n. L.turns old.0 n next new.0 × (new.1 ≡ old.1))
+        (C.turns old.1 next new.1 × (new.0 ≡ old.0)) arm };
+
+    ghost withdraws = { λ old arm new.
+        ByNumber L.count (λ n. L.withdraws old.0 n new.0 × (new.1 ≡ old.1))
+        (C.withdraws old.1 new.1 × (new.0 ≡ old.0)) arm };
+
     fn count(&self) -> usize {
         self.0.count().saturating_add(1)
     }
@@ -206,8 +239,7 @@ impl<V, A: Allocator + Copy, L: Arms<V, A> + Drop, C: Arm<V, A> + Drop> Arms<V, 
 }
 
 impl<V, A: Allocator + Copy, L: Arms<V, A> + Drop, C: Arm<V, A> + Drop> AtLeastOneArm<V, A>
-    for (L, C)
-{
+    for (L, C) {
     ghost use Rattle.std.proofs.Common.{arith};
     ghost use Rattle.flume.specs.Selecting.{count_one_more};
 

@@ -1,7 +1,9 @@
 //! A receive as an arm of a selector.
-ghost use Rattle.std.specs.Prelude.{◌≡◌};
+ghost use Rattle.std.specs.Prelude.{◌≡◌, IsSome};
 ghost use Rattle.flume_calls.specs.declared.gates.select.ArmNext.{ArmNext};
-ghost use Rattle.flume.specs.Selecting.{EndsReceive, IsArmReceive, HoldsReceive, CanMap, Maps};
+ghost use Rattle.flume.specs.ArmTurns.{ReceiveTurn, ReceiveEnd, EndsReceive, receive_result};
+ghost use Rattle.flume.specs.ArmTurns.{IsArmReceive, TakesReceive};
+ghost use Rattle.flume.specs.Selecting.{CanMap, Maps, MapsResult};
 
 use crate::receiver::Receiver;
 use crate::select::arms::Arm;
@@ -53,7 +55,7 @@ impl<'a, T: Drop, F: Drop, R: Waits, A: Allocator + Copy> RecvArm<'a, T, F, R, A
 // Where a turn takes the arm.
 fn after<T: Drop>(next: RecvNext<T>) -> (ReceiveState<T>, ArmNext)
     requires turn { IsArmReceive next }
-    ensures completed { result.1 ≡ ArmNext.Completed → HoldsReceive result.0 }
+    ensures does { TakesReceive next result.1 result.0 }
 {
     match next {
         RecvNext::Park(call) => (ReceiveState::Parked(call), ArmNext::Waits),
@@ -61,9 +63,10 @@ fn after<T: Drop>(next: RecvNext<T>) -> (ReceiveState<T>, ArmNext)
             (ReceiveState::Completed(Some(message)), ArmNext::Completed)
         }
         RecvNext::Done(Err(Disconnected)) => (ReceiveState::Completed(None), ArmNext::Completed),
-        RecvNext::Refused(call) => (ReceiveState::Parked(call), ArmNext::NoMemory),
         RecvNext::Done(Err(NoMemory)) => (ReceiveState::Over, ArmNext::NoMemory),
-        RecvNext::Done(Err(Timeout)) | RecvNext::NeedSignal => unreachable!(),
+        RecvNext::Done(Err(Timeout)) | RecvNext::NeedSignal | RecvNext::Refused(_) => {
+            unreachable!()
+        }
     }
 }
 
@@ -81,7 +84,14 @@ where
 
     ghost maps = { Maps F.post EndsReceive };
 
-    ghost has_completed = { λ arm. HoldsReceive arm.state };
+    ghost has_completed = { λ arm. IsSome (receive_result arm.state) };
+
+    ghost answers = { λ arm. MapsResult F.post arm.mapper (receive_result arm.state) };
+
+    ghost turns = { λ old next new.
+        ReceiveTurn old.state next new.state × (new.mapper ≡ old.mapper) };
+
+    ghost withdraws = { λ old new. ReceiveEnd old.state new.state × (new.mapper ≡ old.mapper) };
 
     fn runtime(&self) -> R {
         self.receiver.shared().rt

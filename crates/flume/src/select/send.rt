@@ -1,7 +1,9 @@
 //! A send as an arm of a selector.
-ghost use Rattle.std.specs.Prelude.{◌≡◌};
+ghost use Rattle.std.specs.Prelude.{◌≡◌, IsSome};
 ghost use Rattle.flume_calls.specs.declared.gates.select.ArmNext.{ArmNext};
-ghost use Rattle.flume.specs.Selecting.{EndsSend, IsArmSend, HoldsSend, CanMap, Maps};
+ghost use Rattle.flume.specs.ArmTurns.{SendTurn, SendEnd, EndsSend, send_result};
+ghost use Rattle.flume.specs.ArmTurns.{IsArmSend, TakesSend};
+ghost use Rattle.flume.specs.Selecting.{CanMap, Maps, MapsResult};
 
 use crate::select::arms::Arm;
 use crate::sender::Sender;
@@ -52,7 +54,7 @@ impl<'a, T: Drop, F: Drop, R: Waits, A: Allocator + Copy> SendArm<'a, T, F, R, A
 // Where a turn takes the arm.
 fn after<T: Drop>(next: SendNext<T>) -> (SendState<T>, ArmNext)
     requires turn { IsArmSend next }
-    ensures completed { result.1 ≡ ArmNext.Completed → HoldsSend result.0 }
+    ensures does { TakesSend next result.1 result.0 }
 {
     match next {
         SendNext::Park(call) => (SendState::Parked(call), ArmNext::Waits),
@@ -79,7 +81,14 @@ where
 
     ghost maps = { Maps F.post EndsSend };
 
-    ghost has_completed = { λ arm. HoldsSend arm.state };
+    ghost has_completed = { λ arm. IsSome (send_result arm.state) };
+
+    ghost answers = { λ arm. MapsResult F.post arm.mapper (send_result arm.state) };
+
+    ghost turns = { λ old next new.
+        SendTurn old.state next new.state × (new.mapper ≡ old.mapper) };
+
+    ghost withdraws = { λ old new. SendEnd old.state new.state × (new.mapper ≡ old.mapper) };
 
     fn runtime(&self) -> R {
         self.sender.shared().rt

@@ -1,0 +1,113 @@
+-- The arms of a selector: their turns, their ends, and their results.
+use Rattle.std.specs.Prelude.{◌≡◌, Option, Some, None, Result, Ok, Err}
+use Rattle.flume_core.specs.declared.error.SendError.{SendError}
+use Rattle.flume_core.specs.declared.error.SendError.TheVariants as send
+use Rattle.flume_core.specs.declared.error.RecvError.{RecvError}
+use Rattle.flume_core.specs.declared.error.RecvError.TheVariants as receive
+use Rattle.flume_core.specs.declared.error.SendTimeoutError.{SendTimeoutError}
+use Rattle.flume_core.specs.declared.error.RecvTimeoutError.{RecvTimeoutError}
+use Rattle.flume_calls.specs.declared.calls.send.SendNext.{SendNext}
+use Rattle.flume_calls.specs.declared.calls.receive.RecvNext.{RecvNext}
+use Rattle.flume_calls.specs.declared.gates.select.ArmNext.{ArmNext}
+use Rattle.flume_calls.specs.declared.gates.select.ArmNext.TheVariants as next
+use Rattle.flume.specs.declared.select.send.SendState.{SendState}
+use Rattle.flume.specs.declared.select.send.SendState.TheVariants as sending
+use Rattle.flume.specs.declared.select.receive.ReceiveState.{ReceiveState}
+use Rattle.flume.specs.declared.select.receive.ReceiveState.TheVariants as receiving
+
+module _ {T : Type 0} where
+  -- A turn of a send arm, from its state to what it leads to and its state after: it starts, or it
+  -- is polled. A message that comes back from its start is its own. A turn that isn't in the table
+  -- never comes.
+  abbrev pub SendTurn : SendState T → ArmNext → SendState T → Type 0
+  SendTurn (sending.Unstarted message) next.Waits (sending.Parked ticket) = Unit {0}
+  SendTurn (sending.Unstarted message) next.Completed (sending.Completed (Ok sent)) = Unit {0}
+  SendTurn (sending.Unstarted message) next.Completed (sending.Completed (Err back)) =
+      back ≡ message
+  SendTurn (sending.Unstarted message) next.NoMemory sending.Over = Unit {0}
+  SendTurn (sending.Parked ticket) next.Waits (sending.Parked same) = same ≡ ticket
+  SendTurn (sending.Parked ticket) next.Completed (sending.Completed result) = Unit {0}
+  SendTurn (sending.Completed result) next.Completed new = new ≡ sending.Completed result
+  SendTurn sending.Over next.NoMemory new = new ≡ sending.Over
+  SendTurn _ _ _ = ⊥
+
+  -- a turn of a receive arm, the same way
+  abbrev pub ReceiveTurn : ReceiveState T → ArmNext → ReceiveState T → Type 0
+  ReceiveTurn receiving.Unstarted next.Waits (receiving.Parked ticket) = Unit {0}
+  ReceiveTurn receiving.Unstarted next.Completed (receiving.Completed message) = Unit {0}
+  ReceiveTurn receiving.Unstarted next.NoMemory receiving.Over = Unit {0}
+  ReceiveTurn (receiving.Parked ticket) next.Waits (receiving.Parked same) = same ≡ ticket
+  ReceiveTurn (receiving.Parked ticket) next.Completed (receiving.Completed message) = Unit {0}
+  ReceiveTurn (receiving.Completed message) next.Completed new =
+      new ≡ receiving.Completed message
+  ReceiveTurn receiving.Over next.NoMemory new = new ≡ receiving.Over
+  ReceiveTurn _ _ _ = ⊥
+
+  -- a withdrawal of a send arm: one that is parked is over, and another one is as it was
+  abbrev pub SendEnd : SendState T → SendState T → Type 0
+  SendEnd (sending.Parked ticket) new = new ≡ sending.Over
+  SendEnd old new = new ≡ old
+
+  -- a withdrawal of a receive arm, the same way
+  abbrev pub ReceiveEnd : ReceiveState T → ReceiveState T → Type 0
+  ReceiveEnd (receiving.Parked ticket) new = new ≡ receiving.Over
+  ReceiveEnd old new = new ≡ old
+
+  -- how a send arm completes: the message was taken in, or comes back since the channel is closed
+  abbrev pub EndsSend : Result (Unit {0}) (SendError T) → Type 0
+  EndsSend (Ok sent) = Unit {0}
+  EndsSend (Err (send.Disconnected back)) = Unit {0}
+  EndsSend (Err (send.NoMemory back)) = ⊥
+
+  -- how a receive arm completes: with a message, or since the channel is closed
+  abbrev pub EndsReceive : Result T RecvError → Type 0
+  EndsReceive (Ok message) = Unit {0}
+  EndsReceive (Err receive.Disconnected) = Unit {0}
+  EndsReceive (Err receive.NoMemory) = ⊥
+
+  -- the result that a send arm has completed with
+  abbrev pub send_result : SendState T → Option (Result (Unit {0}) (SendError T))
+  send_result (sending.Completed (Ok sent)) = Some (Ok tt)
+  send_result (sending.Completed (Err back)) = Some (Err (send.Disconnected back))
+  send_result _ = None
+
+  -- the result that a receive arm has completed with
+  abbrev pub receive_result : ReceiveState T → Option (Result T RecvError)
+  receive_result (receiving.Completed (Some message)) = Some (Ok message)
+  receive_result (receiving.Completed None) = Some (Err receive.Disconnected)
+  receive_result _ = None
+
+  -- a step of a send arm: it never wants a signal, and is never too late
+  abbrev pub IsArmSend : SendNext T → Type 0
+  IsArmSend (SendNext.NeedSignal back) = ⊥
+  IsArmSend (SendNext.Done (Err (SendTimeoutError.Timeout back))) = ⊥
+  IsArmSend _ = Unit {0}
+
+  -- a step of a receive arm: it never wants a signal, is never too late, and never ends for want of
+  -- memory once it is parked
+  abbrev pub IsArmReceive : RecvNext T → Type 0
+  IsArmReceive RecvNext.NeedSignal = ⊥
+  IsArmReceive (RecvNext.Done (Err RecvTimeoutError.Timeout)) = ⊥
+  IsArmReceive (RecvNext.Refused ticket) = ⊥
+  IsArmReceive _ = Unit {0}
+
+  -- where a step takes a send arm
+  abbrev pub TakesSend : SendNext T → ArmNext → SendState T → Type 0
+  TakesSend (SendNext.Park ticket) next.Waits new = new ≡ sending.Parked ticket
+  TakesSend (SendNext.Done (Ok sent)) next.Completed new = new ≡ sending.Completed (Ok tt)
+  TakesSend (SendNext.Done (Err (SendTimeoutError.Disconnected back))) next.Completed new =
+      new ≡ sending.Completed (Err back)
+  TakesSend (SendNext.Done (Err (SendTimeoutError.NoMemory back))) next.NoMemory new =
+      new ≡ sending.Over
+  TakesSend _ _ _ = ⊥
+
+  -- where a step takes a receive arm
+  abbrev pub TakesReceive : RecvNext T → ArmNext → ReceiveState T → Type 0
+  TakesReceive (RecvNext.Park ticket) next.Waits new = new ≡ receiving.Parked ticket
+  TakesReceive (RecvNext.Done (Ok message)) next.Completed new =
+      new ≡ receiving.Completed (Some message)
+  TakesReceive (RecvNext.Done (Err RecvTimeoutError.Disconnected)) next.Completed new =
+      new ≡ receiving.Completed None
+  TakesReceive (RecvNext.Done (Err RecvTimeoutError.NoMemory)) next.NoMemory new =
+      new ≡ receiving.Over
+  TakesReceive _ _ _ = ⊥
