@@ -1,5 +1,6 @@
 //! Waiting for the first of several sends and receives, on channels of whatever messages.
-ghost use Rattle.std.specs.Prelude.{◌≡◌, ◌≢◌, ◌<◌, ◌⊎◌, ℕ, IfOk, is_some, Bool, true};
+ghost use Rattle.std.specs.Prelude.{◌≡◌, ◌≢◌, ◌<◌, ℕ, IfOk, Err, true};
+ghost use Rattle.flume_core.specs.declared.error.SelectError.{SelectError};
 ghost use Rattle.flume.specs.Selecting.{IsValue, first_arm};
 ghost use Rattle.flume_deadline.specs.declared.Deadline.TheVariants.{Never};
 
@@ -142,7 +143,8 @@ impl<'a, V, L: AtLeastOneArm<V, A> + Drop, A: Allocator + Copy> Selector<'a, V, 
     {
         match self.select(Deadline::Never) {
             Ok(value) => Ok(value),
-            Err(_) => Err(NoMemory),
+            Err(SelectError::NoMemory) => Err(NoMemory),
+            Err(SelectError::Timeout) => unreachable!(),
         }
     }
 
@@ -169,6 +171,7 @@ impl<'a, V, L: AtLeastOneArm<V, A> + Drop, A: Allocator + Copy> Selector<'a, V, 
     fn select(mut self, deadline: Deadline) -> Result<V, SelectError>
         requires can_map { (arm : ℕ) → L.can_map (L.mappers self.arms) arm }
         ensures value { IfOk result (IsValue L.count L.maps (L.mappers self.entry.arms)) }
+        ensures in_time { deadline ≡ Never → result ≢ Err SelectError.Timeout }
     {
         let rt = self.arms.runtime();
         self.deadline = deadline;
@@ -180,10 +183,11 @@ impl<'a, V, L: AtLeastOneArm<V, A> + Drop, A: Allocator + Copy> Selector<'a, V, 
 impl<'a, V, L: AtLeastOneArm<V, A>, A: Allocator + Copy> SelectGate for Selector<'a, V, L, A> {
     type Waiter = Arc<Parker, A>;
 
-    type Kept = (L::Mappers, usize);
+    type Kept = (L::Mappers, usize, Deadline);
 
-    // What isn't changed: the mappers, and where each round begins.
-    ghost kept = { λ selector. (L.mappers selector.arms, selector.start) };
+    // What isn't changed: the mappers, where each round begins, and the deadline.
+    ghost kept = { λ selector.
+        (L.mappers selector.arms, selector.start, selector.deadline) };
 
     ghost count = { λ _. L.count };
 

@@ -135,7 +135,10 @@ where
             ReceiveState::Parked(call) => {
                 let (late, signal) = (true, None);
                 let shared = self.receiver.shared();
-                drop(shared.make_seldom(AgainReceive { call, late, signal }));
+                match shared.make_seldom(AgainReceive { call, late, signal }) {
+                    RecvNext::Done(result) => drop(result),
+                    _ => unreachable!(),
+                }
             }
             other => self.state = other,
         }

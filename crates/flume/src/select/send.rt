@@ -132,7 +132,10 @@ where
             SendState::Parked(call) => {
                 let (late, signal) = (true, None);
                 let shared = self.sender.shared();
-                drop(shared.make_seldom(AgainSend { call, late, signal }));
+                match shared.make_seldom(AgainSend { call, late, signal }) {
+                    SendNext::Done(result) => drop(result),
+                    _ => unreachable!(),
+                }
             }
             other => self.state = other,
         }

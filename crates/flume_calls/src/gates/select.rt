@@ -1,6 +1,7 @@
 //! A selection through a gate: the first of several arms that completes.
 ghost use Rattle.std.specs.Prelude.{◌≡◌, ◌≢◌, ◌<◌, ◌↔◌, ℕ, Bool, Some, IfOk, IsTrue};
-ghost use Rattle.std.specs.Prelude.{is_some};
+ghost use Rattle.std.specs.Prelude.{Err, true, is_some};
+ghost use Rattle.flume_core.specs.declared.error.SelectError.{SelectError};
 ghost use Rattle.flume_calls.specs.declared.gates.select.ArmNext.{ArmNext};
 ghost use Rattle.flume_calls.specs.SelectGates.{next_arm, IsRound, IfCompleted, Withdraws, Ends};
 ghost use Rattle.flume_calls.specs.SelectGates.{HasCompleted, StartedSelection, WholeSelection};
@@ -114,6 +115,8 @@ pub fn select_over<R: Wait, G: SelectGate>(rt: &R, gate: &mut G) -> Result<usize
     ensures run { WholeSelection G.makes G.turns G.waits G.withdraws (G.count (G.kept gate.old))
         (G.start (G.kept gate.old)) gate.old gate.new result }
     ensures completed { IfOk result (HasCompleted G.holds (G.count (G.kept gate.old)) gate.new) }
+    ensures in_time { ((old new : G) → G.kept old ≡ G.kept gate.old → ¬ (G.waits old new true))
+        → result ≢ Err SelectError.Timeout }
     ensures kept { G.kept gate.new ≡ G.kept gate.old }
 {
     let Some(waiter) = gate.make_waiter() else {
@@ -141,6 +144,8 @@ fn started_selection<R: Wait, G: SelectGate>(
     ensures run { StartedSelection G.turns G.waits G.withdraws (G.count (G.kept gate.old))
         (G.start (G.kept gate.old)) gate.old gate.new result }
     ensures completed { IfOk result (HasCompleted G.holds (G.count (G.kept gate.old)) gate.new) }
+    ensures in_time { ((old new : G) → G.kept old ≡ G.kept gate.old → ¬ (G.waits old new true))
+        → result ≢ Err SelectError.Timeout }
     ensures kept { G.kept gate.new ≡ G.kept gate.old }
 {
     for _ in rt.forever() {
@@ -164,6 +169,7 @@ fn ended<G: SelectGate>(gate: &mut G, round: RoundEnd) -> Result<usize, SelectEr
     ensures ends { Ends G.withdraws (G.count (G.kept gate.old)) (G.start (G.kept gate.old))
         (G.count (G.kept gate.old)) round gate.old gate.new result }
     ensures completed { IfOk result (HasCompleted G.holds (G.count (G.kept gate.old)) gate.new) }
+    ensures late { result ≡ Err SelectError.Timeout → round ≡ RoundEnd.AllWait }
     ensures kept { G.kept gate.new ≡ G.kept gate.old }
 {
     let all = gate.count();

@@ -10,6 +10,7 @@ returns-in_default g c =
           c.in_default.not-AllWait
           (rw (c.round-polled.ensures.kept, known.kept) at c.ended.ensures.ends));
       completed = rw (c.round-polled.ensures.kept, known.kept) at c.ended.ensures.completed;
+      in_time = λ never late. c.in_default.not-AllWait (c.ended.ensures.late late);
       kept = cc;
     }
 
@@ -23,6 +24,12 @@ returns-then-wait-clause-run g c =
     (rw (c.if-wait.ensures.kept, polled.kept, known.kept) at c.round-last.ensures.round)
     (rw (c.round-last.ensures.kept, c.if-wait.ensures.kept, polled.kept, known.kept)
     at c.ended-then-wait.ensures.ends))
+
+pub returns-then-wait-clause-in_time : goal.returns-then-wait-clause-in_time
+returns-then-wait-clause-in_time g c =
+    let polled = c.in-AllWait.ensures in λ never late. never _ _
+    (rw c.loop.invariant.kept at polled.kept)
+    c.if-wait.ensures.does
 
 pub loop-preserved : goal.loop-preserved
 loop-preserved g c =
