@@ -181,18 +181,17 @@ impl<T: Drop, R: Waits, A: Allocator + Copy> Shared<T, R, A> {
     pub(crate) fn poll<P: Polled<T, Signal<A>, A>>(
         &self,
         call: &mut P,
-        task: &mut Task<A>,
+        task: &Task,
         cx: &mut Context<'_>,
     ) -> Option<P::Answer>
         ensures row { HasPolled P.polls call.old call.new result }
-        ensures registered { result ≡ None → Covers cx.new (λ s. s ≡ task.new.source.id) }
+        ensures registered { result ≡ None → Covers cx.new (λ s. s ≡ task.now.source.id) }
         ensures kept { Keeps cx.old cx.new }
-        ensures source { task.new.source ≡ task.old.source }
     {
         let mut locked = self.lock();
         let mut signal = None;
         if locked.would_wait(call) {
-            signal = task.signal(&self.rt, self.alloc, cx);
+            signal = task.signal(locked.left(call), cx);
         }
         locked.poll(call, &mut signal, &mut Firing { rt: self.rt })
     }

@@ -5,6 +5,7 @@ ghost use Rattle.flume_deadline.specs.declared.Deadline.{Deadline};
 use flume_deadline::{Deadline, left_until};
 use futures::task::Waker;
 use std::alloc::{Allocator, Global};
+use std::cell::Cell;
 use std::hint::spin_loop;
 use std::sync::atomic::{AtomicU64, Ordering};
 use std::sync::{Arc, Condvar, Mutex, Wait};
@@ -145,37 +146,30 @@ impl Parker {
     }
 }
 
-/// What a future, a sink or a stream is woken by: the waker of the task that polled it last, in a
-/// place that the call and what it left with the channel share. It is empty from a wake on until
-/// the next poll that waits.
+/// What a future, a sink or a stream is woken by: the waker of the task that polled it last. It
+/// stands with the channel, under its lock, and is empty from a wake on.
 #[derive(Drop)]
 pub struct TaskSignal {
-    waker: Mutex<Option<Waker>>,
+    waker: Cell<Option<Waker>>,
 }
 
 impl TaskSignal {
-    // Holds this waker, if there is one. Takes no memory.
-    pub(crate) fn new(waker: Option<Waker>) -> TaskSignal {
+    // Holds this waker. Takes no memory.
+    pub(crate) fn new(waker: Waker) -> TaskSignal {
         TaskSignal {
-            waker: Mutex::new(waker),
+            waker: Cell::new(Some(waker)),
         }
     }
 
     /// Wakes the task that polled the call last, if it wasn't woken since.
-    pub fn fire<R: Wait>(&self, rt: &R) {
-        let waker = self.take(rt);
-        // A waker wakes its task as it is dropped, which the place's lock isn't held for.
-        drop(waker);
+    pub fn fire(&self) {
+        // A waker wakes its task as it is dropped.
+        drop(self.take());
     }
 
     // Takes the waker out.
-    pub(crate) fn take<R: Wait>(&self, rt: &R) -> Option<Waker> {
-        self.waker.lock(rt).take()
-    }
-
-    // Puts a waker in, where there is none.
-    pub(crate) fn put<R: Wait>(&self, rt: &R, waker: Option<Waker>) {
-        *self.waker.lock(rt) = waker;
+    pub(crate) fn take(&self) -> Option<Waker> {
+        self.waker.take()
     }
 }
 
@@ -213,7 +207,7 @@ pub enum Signal<A: Allocator = Global> {
     /// An arm of a selector, by the parker that the selector waits on.
     Arm(ArmSignal<A>),
     /// A call that is polled, by the task that polls it.
-    Task(Arc<TaskSignal, A>),
+    Task(TaskSignal),
 }
 
 impl<A: Allocator> Signal<A> {
@@ -222,7 +216,7 @@ impl<A: Allocator> Signal<A> {
         match self {
             Signal::Parker(parker) => parker.fire(rt),
             Signal::Arm(arm) => arm.fire(rt),
-            Signal::Task(task) => task.fire(rt),
+            Signal::Task(task) => task.fire(),
         }
     }
 }

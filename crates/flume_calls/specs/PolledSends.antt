@@ -31,6 +31,13 @@ module _ {T : Type 0} where
       (after ≡ Finished) × (answer ≡ Some (Err (NoMemory back)))
   settles_send (Park ticket) after answer = (after ≡ Parked ticket) × (answer ≡ None)
 
+module _ {T : Type 0} where
+  -- the ticket that the send is parked under
+  abbrev pub ticket_of : PolledSend T → Option ℕ
+  ticket_of (Unsent message) = None
+  ticket_of (Parked ticket) = Some ticket
+  ticket_of Finished = None
+
 module _ {T S : Type 0} where
   -- where the poll would wait
   abbrev pub send_waits : PolledSend T → State T S → Type 0

@@ -1,9 +1,11 @@
 //! What stands behind a channel's lock.
 ghost use Rattle.std.specs.Prelude.{◌≡◌, ◌↔◌, IsTrue, IsSome, None};
+ghost use Rattle.std.specs.Option.{option_copied, option_and_then};
 ghost use Rattle.flume_model.specs.Log.{opens};
 ghost use Rattle.flume_state.specs.Sends.{NoDueSend};
 ghost use Rattle.flume_state.specs.Receivers.{NoDueReceiver};
 ghost use Rattle.flume_state.specs.State.{State, opened};
+ghost use Rattle.flume_state.specs.Told.{signal_of};
 ghost use Rattle.flume_core.specs.StandsFor.{IsLedTo};
 ghost use Rattle.flume_core.specs.StateFacts.{ChannelFacts};
 ghost use Rattle.flume_calls.specs.AtRest.{IsAtRest, IsCall};
@@ -86,6 +88,18 @@ impl<T: Drop, S: Drop, A: Allocator + Copy> Locked<T, S, A> {
         ensures waits { IsTrue result ↔ P.waits polled.now self.now }
     {
         polled.would_wait(&self.chan)
+    }
+
+    /// The signal that the call left last, where it is parked. It changes nothing, and is no step.
+    #[inline(always)]
+    pub fn left<P: Polled<T, S, A>>(&self, polled: &P) -> Option<&S>
+        ensures left { option_copied result
+            ≡ option_and_then (signal_of self.now) (P.parked polled.now) }
+    {
+        match polled.ticket() {
+            Some(ticket) => self.chan.signal(ticket),
+            None => None,
+        }
     }
 
     /// Polls the call, and rings once for each ticket that is due then.

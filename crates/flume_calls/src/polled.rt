@@ -1,6 +1,6 @@
 //! A call that is polled: a future, a sink or a stream without its lock and its waker. Each poll
 //! makes at most one step of the channel, in which it ends or leaves its signal.
-ghost use Rattle.std.specs.Prelude.{◌≡◌, ◌↔◌, IsTrue, Option, None, IsSome};
+ghost use Rattle.std.specs.Prelude.{◌≡◌, ◌↔◌, ℕ, IsTrue, Option, None, IsSome};
 ghost use Rattle.flume_state.specs.State.{State};
 ghost use Rattle.flume_calls.specs.Polls.{AtMostOneStep};
 
@@ -25,6 +25,13 @@ pub trait Polled<T, S, A: Allocator> {
     // The call before, the signal that it is given, if any, the channel before and after, the call
     // after, and what it answers.
     ghost polls: { Self → Option S → State T S → State T S → Self → Option Self.Answer → Type 0 };
+
+    // The ticket that it is parked under.
+    ghost parked: { Self → Option ℕ };
+
+    /// The ticket that the call is parked under. `None`: it isn't parked. No memory.
+    fn ticket(&self) -> Option<u64>
+        ensures ticket { result ≡ parked self.now };
 
     /// Whether a poll would have to wait now. It changes nothing, and is no step.
     fn would_wait(&self, chan: &Chan<T, S, A>) -> bool

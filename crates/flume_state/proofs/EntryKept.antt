@@ -1,57 +1,103 @@
--- What the fields beside the list of parked receivers keep: how many wait, and a bit that is false only where nobody is to be told.
-use Rattle.std.proofs.Common.{◌≡◌, ℕ, suc, ◌+◌, ◌-◌, ◌≤◌, Bool, true, false, cond, [], ◌∷◌, ◌++◌}
-use Rattle.std.proofs.Common.{set, Some, refl, sym, ap, ◌∙◌, arith}
+-- What the fields beside the list of parked receivers keep: how many wait, and a number that is no less than how many are due.
+use Rattle.std.proofs.Common.{◌≡◌, ℕ, zero, suc, length, min, ◌+◌, ◌-◌, ◌≤◌, Bool, true, false, cond, [], ◌∷◌, ◌++◌}
+use Rattle.std.proofs.Common.{set, Some, refl, ap, arith}
 use Rattle.std.specs.List.{remove, slice_get}
-use Rattle.std.proofs.lemmas.List.Elements.{All-append, All-cons, All-drop, All-nil, All-set, All-take}
-use Rattle.std.proofs.lemmas.Option.{get_or_from_slice_get, slice_get_within}
+use Rattle.std.proofs.lemmas.List.Elements.{All-cons, All-nil}
+use Rattle.std.proofs.lemmas.List.{length-set}
 use Rattle.flume_model.specs.Entries.{is_waiting, waiting_count}
-use Rattle.flume_state.specs.Receivers.{Entries, NoDueReceiver}
+use Rattle.flume_state.specs.Receivers.{Entries, NoDueReceiver, due_count}
 use Rattle.flume_model.specs.declared.entry.Entry.{Entry}
 use Rattle.flume_state.specs.declared.notice.Notice.{Notice}
-use Rattle.flume_state.proofs.EntryListLemmas.{count-append, count-remove, count-set, count_at, weight}
+use Rattle.flume_state.proofs.EntryListLemmas.{at_zero, count-append, count-remove, count-set, count_at, weight}
+
+-- one that is due only where another is adds no more
+due_weight-le : (b c : Bool) → (b ≡ false → c ≡ false) → cond c 1 0 ≤ cond b 1 0
+due_weight-le true true only = omega arith
+due_weight-le true false only = omega arith
+due_weight-le false true only = let is : true ≡ false = only refl in absurd (let none : ⊥ = cc in none)
+due_weight-le false false only = omega arith
+
+-- one adds no more than 1
+due_weight-le-1 : (b : Bool) → cond b 1 0 ≤ 1
+due_weight-le-1 true = omega arith
+due_weight-le-1 false = omega arith
+
+-- a first one of a sum that is 0 isn't due
+quiet_sum : (b : Bool) (n : ℕ) → cond b 1 0 + n ≤ 0 → (b ≡ false) × (n ≤ 0)
+quiet_sum true n e = absurd (omega (arith, e))
+quiet_sum false n e = (refl, omega (arith, e))
 
 module _ {T S : Type 0} where
-  -- no receiver is due in a list with one entry more that isn't due
-  pub no_due_receiver_push : (xs : Entries T S) (e : Entry T (Notice S)) → NoDueReceiver xs → e.notice.due ≡ false → NoDueReceiver (xs ++ e ∷ [])
-  no_due_receiver_push xs e none is =
-      let not_due = λ (x : Entry T (Notice S)). x.notice.due ≡ false in
-      All-append not_due xs (e ∷ []) none (All-cons not_due e [] is (All-nil not_due))
+  -- what an entry adds to the number of those that are due
+  abbrev pub due_weight : Entry T (Notice S) → ℕ
+  due_weight e = cond e.notice.due 1 0
 
-  -- no receiver is due in a list with one entry less
-  pub no_due_receiver_remove : (xs : Entries T S) (i : ℕ) → NoDueReceiver xs → NoDueReceiver (remove xs i)
-  no_due_receiver_remove xs i none =
-      let not_due = λ (x : Entry T (Notice S)). x.notice.due ≡ false in
-      All-append not_due _ _ (All-take not_due i xs none) (All-drop not_due (suc i) xs none)
+  -- as many are due in two lists as in the one and in the other
+  due-append : (xs ys : Entries T S) → due_count (xs ++ ys) ≡ due_count xs + due_count ys
+  due-append [] ys = omega arith
+  due-append (x ∷ xs) ys = omega (arith, due-append xs ys)
 
-  -- no receiver is due in a list where an entry is replaced by one that isn't due
-  pub no_due_receiver_set : (xs : Entries T S) (i : ℕ) (x : Entry T (Notice S)) → NoDueReceiver xs → x.notice.due ≡ false → NoDueReceiver (set xs i x)
-  no_due_receiver_set xs i x none is = All-set (λ (y : Entry T (Notice S)). y.notice.due ≡ false) xs i x is none
+  -- no more are due than are parked
+  due-le : (xs : Entries T S) → due_count xs ≤ length xs
+  due-le [] = omega arith
+  due-le (x ∷ xs) = omega (arith, due-le xs, due_weight-le-1 x.notice.due)
 
-  -- this number counts those that wait, and where this bit is false no receiver is due
-  abbrev pub Kept : ℕ → Bool → Entries T S → Type 0
-  Kept n some_due xs = (n ≡ waiting_count xs) × (some_due ≡ false → NoDueReceiver xs)
+  -- how many are due after the entry at a place is replaced
+  due-set : (xs : Entries T S) (i : ℕ) (e x : Entry T (Notice S)) → slice_get xs i ≡ Some e
+      → due_count (set xs i x) + due_weight e ≡ due_count xs + due_weight x
+  due-set [] i e x is = absurd (let none : ⊥ = cc in none)
+  due-set (y ∷ xs) zero e x is = rw (at_zero y e is) (omega arith)
+  due-set (y ∷ xs) (suc i) e x is = omega (arith, due-set xs i e x is)
 
-  -- `Kept` stays where one that waits comes behind the others: the number is one more
-  pub kept_push : (n : ℕ) (b : Bool) (xs : Entries T S) (e : Entry T (Notice S)) → Kept n b xs → is_waiting e.mark ≡ true
-      → (b ≡ false → e.notice.due ≡ false) → Kept (n + 1) b (xs ++ e ∷ [])
-  kept_push n b xs e kept waits due =
+  -- how many are due after the entry at a place is removed
+  due-remove : (xs : Entries T S) (i : ℕ) (e : Entry T (Notice S)) → slice_get xs i ≡ Some e
+      → due_count (remove xs i) + due_weight e ≡ due_count xs
+  due-remove [] i e is = absurd (let none : ⊥ = cc in none)
+  due-remove (y ∷ xs) zero e is = rw (at_zero y e is) (omega arith)
+  due-remove (y ∷ xs) (suc i) e is = omega (arith, due-remove xs i e is)
+
+  -- where none is counted no receiver is due
+  pub none_counted : (xs : Entries T S) → due_count xs ≤ 0 → NoDueReceiver xs
+  none_counted [] none = All-nil (λ (x : Entry T (Notice S)). x.notice.due ≡ false)
+  none_counted (x ∷ xs) none =
+      let both = quiet_sum x.notice.due (due_count xs) none in
+      All-cons (λ (y : Entry T (Notice S)). y.notice.due ≡ false) x xs both.0 (none_counted xs both.1)
+
+  -- where no receiver is due none is counted
+  pub counts_none : (xs : Entries T S) → NoDueReceiver xs → due_count xs ≤ 0
+  counts_none [] none = omega arith
+  counts_none (x ∷ xs) none =
+      let here : x.notice.due ≡ false = none 0 x (omega arith) in
+      let zero_weight : due_weight x ≡ 0 = rw here refl in
+      omega (arith, zero_weight, counts_none xs (λ k d within. none (suc k) d (omega (arith, within))))
+
+  -- this number counts those that wait, and no more are due than this one
+  abbrev pub Kept : ℕ → ℕ → Entries T S → Type 0
+  Kept n d xs = (n ≡ waiting_count xs) × (due_count xs ≤ d)
+
+  -- `Kept` stays where one that waits and isn't due comes behind the others: the number is one more
+  pub kept_push : (n d : ℕ) (xs : Entries T S) (e : Entry T (Notice S)) → Kept n d xs → is_waiting e.mark ≡ true
+      → e.notice.due ≡ false → Kept (n + 1) d (xs ++ e ∷ [])
+  kept_push n d xs e kept waits quiet =
       let one : weight e ≡ 1 = rw waits refl in
+      let zero_weight : due_weight e ≡ 0 = rw quiet refl in
       let sum : waiting_count (xs ++ e ∷ []) ≡ waiting_count xs + (weight e + 0) = count-append xs (e ∷ []) in
-      (omega (arith, kept.0), λ none. no_due_receiver_push xs e (kept.1 none) (due none))
+      let dues : due_count (xs ++ e ∷ []) ≡ due_count xs + (due_weight e + 0) = due-append xs (e ∷ []) in
+      (omega (arith, kept.0), omega (arith, kept.1))
 
   -- `Kept` stays where one leaves that doesn't wait
-  pub kept_remove_awake : (n : ℕ) (b : Bool) (xs : Entries T S) (i : ℕ) (e : Entry T (Notice S)) → Kept n b xs
-      → slice_get xs i ≡ Some e → is_waiting e.mark ≡ false → Kept n b (remove xs i)
-  kept_remove_awake n b xs i e kept at awake =
+  pub kept_remove_awake : (n d : ℕ) (xs : Entries T S) (i : ℕ) (e : Entry T (Notice S)) → Kept n d xs
+      → slice_get xs i ≡ Some e → is_waiting e.mark ≡ false → Kept n d (remove xs i)
+  kept_remove_awake n d xs i e kept at awake =
       let zero_weight : weight e ≡ 0 = rw awake refl in
-      (omega (arith, kept.0, count-remove xs i e at), λ none. no_due_receiver_remove xs i (kept.1 none))
+      (omega (arith, kept.0, count-remove xs i e at), omega (arith, kept.1, due-remove xs i e at))
 
   -- `Kept` stays where one leaves that waits: the number is one less
-  pub kept_remove_waiting : (n : ℕ) (b : Bool) (xs : Entries T S) (i : ℕ) (e : Entry T (Notice S)) → Kept n b xs
-      → slice_get xs i ≡ Some e → is_waiting e.mark ≡ true → Kept (n - 1) b (remove xs i)
-  kept_remove_waiting n b xs i e kept at waits =
+  pub kept_remove_waiting : (n d : ℕ) (xs : Entries T S) (i : ℕ) (e : Entry T (Notice S)) → Kept n d xs
+      → slice_get xs i ≡ Some e → is_waiting e.mark ≡ true → Kept (n - 1) d (remove xs i)
+  kept_remove_waiting n d xs i e kept at waits =
       let one : weight e ≡ 1 = rw waits refl in
-      (omega (arith, kept.0, count-remove xs i e at), λ none. no_due_receiver_remove xs i (kept.1 none))
+      (omega (arith, kept.0, count-remove xs i e at), omega (arith, kept.1, due-remove xs i e at))
 
   -- a number that counts one that waits is positive
   pub counted_waiting : (n : ℕ) (xs : Entries T S) (i : ℕ) (e : Entry T (Notice S)) → n ≡ waiting_count xs
@@ -59,33 +105,54 @@ module _ {T S : Type 0} where
   counted_waiting n xs i e counts at waits =
       let one : weight e ≡ 1 = rw waits refl in omega (arith, counts, count_at xs i e at)
 
-  -- where no receiver is due, the one at a place isn't
-  pub not_due_at : (xs : Entries T S) (i : ℕ) (e : Entry T (Notice S)) → slice_get xs i ≡ Some e → NoDueReceiver xs → e.notice.due ≡ false
-  not_due_at xs i e at none =
-      ap (λ (x : Entry T (Notice S)). x.notice.due) (sym (get_or_from_slice_get xs i e e at)) ∙ none i e (slice_get_within xs i e at)
+  -- and so is one that counts one that is due
+  pub counted_due : (n d : ℕ) (xs : Entries T S) (i : ℕ) (e : Entry T (Notice S)) → Kept n d xs
+      → slice_get xs i ≡ Some e → e.notice.due ≡ true → 1 ≤ d
+  counted_due n d xs i e kept at due =
+      let one : due_weight e ≡ 1 = rw due refl in omega (arith, kept.1, due-remove xs i e at)
 
   -- `Kept` stays where one is replaced by one that waits as it does, and is due only where it was
-  pub kept_set : (n : ℕ) (b : Bool) (xs : Entries T S) (i : ℕ) (e x : Entry T (Notice S)) → Kept n b xs
+  pub kept_set : (n d : ℕ) (xs : Entries T S) (i : ℕ) (e x : Entry T (Notice S)) → Kept n d xs
       → slice_get xs i ≡ Some e → is_waiting x.mark ≡ is_waiting e.mark → (e.notice.due ≡ false → x.notice.due ≡ false)
-      → Kept n b (set xs i x)
-  kept_set n b xs i e x kept at same due =
-      let as_much : weight x ≡ weight e = ap (λ w. cond w 1 0) same in (
-        omega (arith, kept.0, count-set xs i e x at),
-        λ none. no_due_receiver_set xs i x (kept.1 none) (due (not_due_at xs i e at (kept.1 none))),
-      )
+      → Kept n d (set xs i x)
+  kept_set n d xs i e x kept at same due =
+      let as_much : weight x ≡ weight e = ap (λ w. cond w 1 0) same in
+      let no_more = due_weight-le e.notice.due x.notice.due due in
+      (omega (arith, kept.0, count-set xs i e x at), omega (arith, kept.1, no_more, due-set xs i e x at))
 
-  -- `Kept` stays where one that waits is replaced by one that doesn't: the number is one less
-  pub kept_woken : (n : ℕ) (b : Bool) (xs : Entries T S) (i : ℕ) (e x : Entry T (Notice S)) → Kept n b xs
-      → slice_get xs i ≡ Some e → is_waiting e.mark ≡ true → is_waiting x.mark ≡ false → Kept (n - 1) true (set xs i x)
-  kept_woken n b xs i e x kept at waits awake =
+  -- `Kept` stays where one that was due is due no more: the other number is one less
+  pub kept_told : (n d : ℕ) (xs : Entries T S) (i : ℕ) (e x : Entry T (Notice S)) → Kept n d xs
+      → slice_get xs i ≡ Some e → is_waiting x.mark ≡ is_waiting e.mark → e.notice.due ≡ true → x.notice.due ≡ false
+      → Kept n (d - 1) (set xs i x)
+  kept_told n d xs i e x kept at same was quiet =
+      let as_much : weight x ≡ weight e = ap (λ w. cond w 1 0) same in
+      let one : due_weight e ≡ 1 = rw was refl in
+      let zero_weight : due_weight x ≡ 0 = rw quiet refl in
+      (omega (arith, kept.0, count-set xs i e x at), omega (arith, kept.1, due-set xs i e x at))
+
+  -- `Kept` stays where one that waits is replaced by one that doesn't: the one number is one less, the other is one more, up to
+  -- the most that any list is long
+  pub kept_woken : (n d f : ℕ) (xs : Entries T S) (i : ℕ) (e x : Entry T (Notice S)) → Kept n d xs
+      → slice_get xs i ≡ Some e → is_waiting e.mark ≡ true → is_waiting x.mark ≡ false
+      → (limit : ℕ) → length xs ≤ limit → f ≡ min (d + 1) limit → Kept (n - 1) f (set xs i x)
+  kept_woken n d f xs i e x kept at waits awake limit long is =
       let one : weight e ≡ 1 = rw waits refl in
       let zero_weight : weight x ≡ 0 = rw awake refl in
-      (omega (arith, kept.0, count-set xs i e x at), λ none. absurd (let no_bit : ⊥ = cc in no_bit))
+      let few = due-le (set xs i x) in
+      let as_long = length-set xs i x in
+      let most = due_weight-le-1 x.notice.due in (
+        omega (arith, kept.0, count-set xs i e x at),
+        omega (arith, kept.1, is, long, few, as_long, most, due-set xs i e x at),
+      )
 
   -- `Kept` stays where one that doesn't wait goes behind all others, and waits: the number is one more
-  pub kept_to_back : (n : ℕ) (b : Bool) (xs : Entries T S) (i : ℕ) (e x : Entry T (Notice S)) → Kept n b xs
+  pub kept_to_back : (n d : ℕ) (xs : Entries T S) (i : ℕ) (e x : Entry T (Notice S)) → Kept n d xs
       → slice_get xs i ≡ Some e → is_waiting e.mark ≡ false → is_waiting x.mark ≡ true → (e.notice.due ≡ false → x.notice.due ≡ false)
-      → Kept (n + 1) b (remove xs i ++ x ∷ [])
-  kept_to_back n b xs i e x kept at awake waits due =
-      kept_push n b (remove xs i) x (kept_remove_awake n b xs i e kept at awake) waits
-      (λ none. due (not_due_at xs i e at (kept.1 none)))
+      → Kept (n + 1) d (remove xs i ++ x ∷ [])
+  kept_to_back n d xs i e x kept at awake waits due =
+      let one : weight x ≡ 1 = rw waits refl in
+      let zero_weight : weight e ≡ 0 = rw awake refl in
+      let no_more = due_weight-le e.notice.due x.notice.due due in
+      let sum : waiting_count (remove xs i ++ x ∷ []) ≡ waiting_count (remove xs i) + (weight x + 0) = count-append (remove xs i) (x ∷ []) in
+      let dues : due_count (remove xs i ++ x ∷ []) ≡ due_count (remove xs i) + (due_weight x + 0) = due-append (remove xs i) (x ∷ []) in
+      (omega (arith, kept.0, count-remove xs i e at), omega (arith, kept.1, no_more, due-remove xs i e at))

@@ -23,10 +23,27 @@ wait_bool : (b : Bool) (n : ℕ) (some : Bool) → ltb 0 n ≡ some → ltb 0 (c
 wait_bool true n some e = lt-ltb _ _ (omega arith)
 wait_bool false n some e = ap (ltb 0) (let less : 0 + n ≡ n = omega arith in less) ∙ e
 
+-- what isn't more than 0 is no more than 0
+pub not_more : (n : ℕ) → ltb 0 n ≡ false → n ≤ 0
+not_more zero is = omega arith
+not_more (suc n) is =
+    let more : ltb 0 (suc n) ≡ true = lt-ltb _ _ (omega arith) in absurd (let none : ⊥ = cc in none)
+
 module _ {X : Type 0} where
   -- the element at place 0 is the first
-  at_zero : (x e : X) → Some x ≡ Some e → x ≡ e
+  pub at_zero : (x e : X) → Some x ≡ Some e → x ≡ e
   at_zero x e is = cc
+
+  -- where the front passes it is the first that does
+  pub front_first : (p : X → Bool) (xs : List X) (e : X) → slice_get xs 0 ≡ Some e → p e ≡ true → Some 0 ≡ position p xs
+  front_first p [] e is passes = absurd (let none : ⊥ = cc in none)
+  front_first p (x ∷ xs) e is passes =
+      let more = lt-ltb 0 (suc (length xs)) (omega arith) in
+      rw (at_zero x e is) (rw passes (sym (ap (λ b. cond b (Some 0) None) more)))
+
+  -- what is first to pass passes
+  pub passes_first : (p : X → Bool) (xs : List X) (i : ℕ) (e : X) → position p xs ≡ Some i → slice_get xs i ≡ Some e → p e ≡ true
+  passes_first p xs i e found is = rw (get_or_from_slice_get xs i e e is) at (position-Some p xs i e found).1
 
   -- where no element is first to pass, each fails
   pub fails_all : (p : X → Bool) (xs : List X) → position p xs ≡ None → All (λ x. p x ≡ false) xs

@@ -6,3 +6,4 @@ pub mod EntryWakes
 pub mod EntryWaits
 pub mod SendsLemmas
 pub mod SendsLaws
+pub mod NearLemmas

@@ -1,7 +1,7 @@
 -- What some steps leave, as functions of the state before them.
 use Rattle.std.specs.Prelude.{◌≡◌, ◌==◌, ℕ, ◌+◌, Bool, not, ◌&&◌, if◌then◌else◌, List, [], ◌∷◌}
 use Rattle.std.specs.Prelude.{◌++◌}
-use Rattle.std.specs.Prelude.{length, max, ◌<◌, Option, Some, None}
+use Rattle.std.specs.Prelude.{length, max, ◌<◌, Option}
 use Rattle.std.specs.FinMap.{remove}
 use Rattle.flume_model.specs.Limits.{is_closed, is_full, IsOpen, most}
 use Rattle.flume_model.specs.declared.step.Kind.{Kind}

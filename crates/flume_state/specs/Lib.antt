@@ -2,6 +2,7 @@ pub mod Messages
 pub mod LineEntry
 pub mod Notices
 pub mod Sends
+pub mod NearSend
 pub mod Receivers
 pub mod State
 pub mod Effects

@@ -1,5 +1,5 @@
 -- What the contracts of the parked receivers cite: how they stand, their notices, and who is due.
-use Rattle.std.specs.Prelude.{◌≡◌, ◌==◌, ℕ, Bool, true, false, if◌then◌else◌, List, [], ◌∷◌, ◌++◌}
+use Rattle.std.specs.Prelude.{◌≡◌, ◌==◌, ◌+◌, ℕ, Bool, true, false, if◌then◌else◌, List, [], ◌∷◌, ◌++◌}
 use Rattle.std.specs.Prelude.{Option, Some, None}
 use Rattle.std.specs.List.{All}
 use Rattle.std.specs.Option.{option_map}
@@ -88,6 +88,11 @@ module _ {T S : Type 0} where
   -- no parked receiver is due
   abbrev pub NoDueReceiver : Entries T S → Type 0
   NoDueReceiver entries = All (λ e. e.notice.due ≡ false) entries
+
+  -- how many parked receivers are due
+  abbrev pub due_count : Entries T S → ℕ
+  due_count [] = 0
+  due_count (e ∷ entries) = (if e.notice.due then 1 else 0) + due_count entries
 
   -- one that was due, under this ticket, is due no more
   pub record Tells (old new : Entries T S) (ticket : ℕ) : Type 0 where

@@ -1,6 +1,8 @@
 //! The parked receivers of a channel, the waiting ones in the order in which they began to wait.
 ghost use Rattle.std.specs.Prelude.{◌≡◌, length, ◌∷◌, [], ◌++◌, ◌==◌, true, false};
-ghost use Rattle.std.specs.Prelude.{Some, None, OnOk, OnErr, slice_get, slice_set};
+ghost use Rattle.std.specs.Prelude.{Some, None, OnOk, OnErr, slice_get, slice_set, slice_index_or};
+ghost use Rattle.std.specs.Prelude.{IfSome, IfNone, OnSome, IsSome, ◌↔◌, ◌<◌};
+ghost use Rattle.std.specs.VecDeque.{deque_len};
 ghost use Rattle.std.specs.Option.{option_map, option_copied, ForSome};
 ghost use Rattle.std.specs.List.{position, remove};
 ghost use Rattle.flume_model.specs.Entries.{is_woken, some_wait, waiting_count, entry_of, held_by, held_in};
@@ -8,7 +10,6 @@ ghost use Rattle.flume_model.specs.Entries.{without, again};
 ghost use Rattle.flume_model.specs.declared.entry.Mark.TheVariants.{Waiting, Woken, Filled};
 ghost use Rattle.flume_state.specs.Receivers.{begins, waits_on, noticed_receiver};
 ghost use Rattle.flume_state.specs.Receivers.{standing_as, standing_of};
-ghost use Rattle.flume_state.specs.Receivers.{NoDueReceiver};
 
 mod wakes;
 
@@ -40,8 +41,8 @@ pub struct Entries<T, S, A: Allocator> {
     entries: VecDeque<Entry<T, Notice<S>>, A>,
     // How many wait, so that a send needn't look.
     waiting: usize,
-    // False only where nobody is due, so that `next_due` needn't look.
-    some_due: bool,
+    // No fewer than are due, so that `next_due` needn't look where it is 0.
+    due: usize,
 }
 
 impl Standing {
@@ -73,17 +74,32 @@ fn message_in<T: Drop>(mark: Mark<T>) -> Option<T>
     }
 }
 
+// Takes out the element at this place: the front one without a look at the others.
+#[inline(always)]
+fn take_at<X, A: Allocator>(entries: &mut VecDeque<X, A>, place: usize) -> Option<X>
+    ensures value { IfSome result (λ y. y ≡ slice_index_or entries.old.items place y) }
+    ensures items { OnSome result (entries.new.items ≡ remove entries.old.items place) }
+    ensures variant { IsSome result ↔ (place < deque_len entries.old) }
+    ensures unchanged { IfNone result (entries.new.items ≡ entries.old.items) }
+{
+    if place == 0 {
+        entries.pop_front()
+    } else {
+        entries.remove(place)
+    }
+}
+
 impl<T, S, A: Allocator> Model for Entries<T, S, A> {
-    ghost use Rattle.std.specs.Prelude.{◌≡◌, false};
+    ghost use Rattle.std.specs.Prelude.{◌≡◌, ◌≤◌};
     ghost use Rattle.flume_model.specs.Entries.{waiting_count};
-    ghost use Rattle.flume_state.specs.Receivers.{Entries as EntryList, NoDueReceiver};
+    ghost use Rattle.flume_state.specs.Receivers.{Entries as EntryList, due_count};
 
     ghost Value = { EntryList T S };
 
     ghost view = { λ s. s.entries.items };
 
     ghost invariant = { λ s. (s.waiting ≡ waiting_count s.entries.items)
-        × (s.some_due ≡ false → NoDueReceiver s.entries.items) };
+        × (due_count s.entries.items ≤ s.due) };
 }
 
 impl<T: Drop, S: Drop, A: Allocator + Copy> Entries<T, S, A> {
@@ -102,7 +118,7 @@ impl<T: Drop, S: Drop, A: Allocator + Copy> Entries<T, S, A> {
         Entries {
             entries: VecDeque::new(alloc),
             waiting: 0,
-            some_due: false,
+            due: 0,
         }
     }
 
@@ -149,7 +165,10 @@ impl<T: Drop, S: Drop, A: Allocator + Copy> Entries<T, S, A> {
     fn place_of(&self, ticket: u64) -> Option<usize>
         ensures first { result ≡ position (λ e. e.ticket == ticket) self.now }
     {
-        self.entries.iter().position(|entry| entry.ticket == ticket)
+        match self.entries.front() {
+            Some(entry) if entry.ticket == ticket => Some(0),
+            _ => self.entries.iter().position(|entry| entry.ticket == ticket),
+        }
     }
 
     /// How the receiver with this ticket stands. `None` where nobody is parked under it.
@@ -179,7 +198,7 @@ impl<T: Drop, S: Drop, A: Allocator + Copy> Entries<T, S, A> {
         ensures removed { self.new ≡ without ticket self.old }
     {
         let place = self.place_of(ticket)?;
-        let Entry { mark, .. } = self.entries.remove(place)?;
+        let Entry { mark, .. } = take_at(&mut self.entries, place)?;
         if let Mark::Waiting = mark {
             self.waiting -= 1;
         }
@@ -240,6 +259,6 @@ impl<T: Drop, S: Drop, A: Allocator + Copy> Entries<T, S, A> {
     {
         self.entries.clear();
         self.waiting = 0;
-        self.some_due = false;
+        self.due = 0;
     }
 }

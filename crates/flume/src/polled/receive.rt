@@ -25,7 +25,7 @@ use std::fmt;
 pub struct RecvFut<'a, T, R: Waits, A: Allocator + Copy = Global> {
     receiver: OwnedOrRef<'a, Receiver<T, R, A>>,
     call: PolledReceive,
-    task: Task<A>,
+    task: Task,
 }
 
 impl<T: Drop, R: Waits, A: Allocator + Copy> Receiver<T, R, A> {
@@ -80,8 +80,8 @@ impl<'a, T: Drop, R: Waits, A: Allocator + Copy> RecvFut<'a, T, R, A> {
     }
 
     /// The receiver that it receives from, as it has it.
-    pub(crate) fn end(&self) -> &OwnedOrRef<'a, Receiver<T, R, A>>
-        ensures end { result.now ≡ self.now.receiver }
+    pub(crate) fn held(&self) -> &OwnedOrRef<'a, Receiver<T, R, A>>
+        ensures held { result.now ≡ self.now.receiver }
     {
         &self.receiver
     }
@@ -145,7 +145,7 @@ impl<T: Drop, R: Waits, A: Allocator + Copy> Future for RecvFut<'_, T, R, A> {
             → self.new.call.call ≡ None }
     {
         let shared = self.receiver.get().shared();
-        match shared.poll(&mut self.call, &mut self.task, cx) {
+        match shared.poll(&mut self.call, &self.task, cx) {
             Some(answer) => Poll::Ready(answer),
             None => Poll::Pending,
         }
@@ -159,15 +159,15 @@ impl<T: Drop, R: Waits, A: Allocator + Copy> fmt::Debug for RecvFut<'_, T, R, A>
 }
 
 impl<T: Drop, R: Waits, A: Allocator + Copy> Drop for RecvFut<'_, T, R, A> {
+    #[inline(always)]
     fn drop(self) {
         let Self {
             receiver,
             mut call,
-            task,
+            task: _,
         } = self;
         if let Some(leaves) = call.end() {
             receiver.get().shared().make_seldom(leaves);
         }
-        drop(task);
     }
 }

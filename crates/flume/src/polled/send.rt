@@ -25,7 +25,7 @@ use std::fmt;
 pub struct SendFut<'a, T, R: Waits, A: Allocator + Copy = Global> {
     sender: OwnedOrRef<'a, Sender<T, R, A>>,
     send: PolledSend<T>,
-    task: Task<A>,
+    task: Task,
 }
 
 impl<T: Drop, R: Waits, A: Allocator + Copy> Sender<T, R, A> {
@@ -82,8 +82,8 @@ impl<'a, T: Drop, R: Waits, A: Allocator + Copy> SendFut<'a, T, R, A> {
     }
 
     /// The sender that it sends by, as it has it.
-    pub(crate) fn end(&self) -> &OwnedOrRef<'a, Sender<T, R, A>>
-        ensures end { result.now ≡ self.now.sender }
+    pub(crate) fn held(&self) -> &OwnedOrRef<'a, Sender<T, R, A>>
+        ensures held { result.now ≡ self.now.sender }
     {
         &self.sender
     }
@@ -159,8 +159,11 @@ impl<T: Drop, R: Waits, A: Allocator + Copy> Future for SendFut<'_, T, R, A> {
         ensures no_memory { (message back : T) → self.old.send ≡ Unsent message
             → result ≡ Poll.Ready (Err (SendError.NoMemory back)) → back ≡ message }
     {
+        if let PolledSend::Finished = &self.send {
+            return Poll::Ready(Ok(()));
+        }
         let shared = self.sender.get().shared();
-        match shared.poll(&mut self.send, &mut self.task, cx) {
+        match shared.poll(&mut self.send, &self.task, cx) {
             Some(answer) => Poll::Ready(answer),
             None => Poll::Pending,
         }
@@ -174,15 +177,15 @@ impl<T: Drop, R: Waits, A: Allocator + Copy> fmt::Debug for SendFut<'_, T, R, A>
 }
 
 impl<T: Drop, R: Waits, A: Allocator + Copy> Drop for SendFut<'_, T, R, A> {
+    #[inline(always)]
     fn drop(self) {
         let Self {
             sender,
             mut send,
-            task,
+            task: _,
         } = self;
         if let Some(takes_back) = send.end() {
             sender.get().shared().make_seldom(takes_back);
         }
-        drop(task);
     }
 }

@@ -145,7 +145,7 @@ impl<T: Drop, R: Waits, A: Allocator + Copy> Clone for SendSink<'_, T, R, A> {
         × (copy.kept.send ≡ Finished) };
 
     fn clone(&self) -> Result<Self, AllocError> {
-        Ok(SendSink::new(self.kept.end().clone()?))
+        Ok(SendSink::new(self.kept.held().clone()?))
     }
 }
 

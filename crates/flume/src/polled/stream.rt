@@ -179,7 +179,7 @@ impl<T: Drop, R: Waits, A: Allocator + Copy> Clone for RecvStream<'_, T, R, A> {
         × (copy.next.call.call ≡ None) × (copy.fault ≡ false) };
 
     fn clone(&self) -> Result<Self, AllocError> {
-        Ok(RecvStream::new(self.next.end().clone()?))
+        Ok(RecvStream::new(self.next.held().clone()?))
     }
 }
 

@@ -43,6 +43,14 @@ pub enum RecvNext<T> {
 }
 
 impl RecvCall {
+    /// The ticket that it is parked under. No memory.
+    #[inline(always)]
+    pub fn ticket(&self) -> u64
+        ensures ticket { result ≡ self.now }
+    {
+        self.ticket
+    }
+
     /// The first turn: asks for the message at the front, and doesn't park. `Done(Ok)`: the
     /// message. `NeedSignal`: there is none, and the channel is open. `Done(Err(Disconnected))`:
     /// there is none, and the channel is closed. The last two leave the channel as it was. Never

@@ -41,6 +41,14 @@ pub enum SendNext<T> {
 }
 
 impl SendCall {
+    /// The ticket that it is parked under. No memory.
+    #[inline(always)]
+    pub fn ticket(&self) -> u64
+        ensures ticket { result ≡ self.now }
+    {
+        self.ticket
+    }
+
     /// The first turn: offers the message, and doesn't park. `Done(Ok)`: it was taken in.
     /// `NeedSignal`: the channel is full; the message comes back, for `park`.
     /// `Done(Err(Disconnected))`: the channel is closed. `Done(Err(NoMemory))`: the queue couldn't

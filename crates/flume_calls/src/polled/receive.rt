@@ -131,8 +131,18 @@ impl<T: Drop, S: Drop, A: Allocator + Copy> Polled<T, S, A> for PolledReceive {
 
     ghost waits = { λ _. FindsNothing };
 
+    ghost parked = { λ receive. receive.call };
+
     ghost polls = { λ old signal before after new answer. (new.kind ≡ old.kind)
         × ReceivePoll A old.kind old.call signal before after new.call answer };
+
+    #[inline(always)]
+    fn ticket(&self) -> Option<u64> {
+        match &self.call {
+            Some(call) => Some(call.ticket()),
+            None => None,
+        }
+    }
 
     #[inline(always)]
     fn would_wait(&self, chan: &Chan<T, S, A>) -> bool {

@@ -1,7 +1,7 @@
 //! A send that is polled.
 ghost use Rattle.std.specs.Prelude.{◌≡◌, ◌≢◌, ℕ, Some, None, true, IsSome};
 ghost use Rattle.flume_calls.specs.Polls.{AtMostOneStep};
-ghost use Rattle.flume_calls.specs.PolledSends.{SendPoll, settles_send, send_waits};
+ghost use Rattle.flume_calls.specs.PolledSends.{SendPoll, settles_send, send_waits, ticket_of};
 
 use super::Polled;
 use crate::calls::{AgainSend, SendCall, SendNext};
@@ -120,8 +120,18 @@ impl<T: Drop, S: Drop, A: Allocator + Copy> Polled<T, S, A> for PolledSend<T> {
 
     ghost waits = { send_waits };
 
+    ghost parked = { ticket_of };
+
     ghost polls = { λ old signal before after new answer.
         SendPoll A old signal before after new answer };
+
+    #[inline(always)]
+    fn ticket(&self) -> Option<u64> {
+        match self {
+            PolledSend::Parked(call) => Some(call.ticket()),
+            PolledSend::Unsent(_) | PolledSend::Finished => None,
+        }
+    }
 
     #[inline(always)]
     fn would_wait(&self, chan: &Chan<T, S, A>) -> bool {

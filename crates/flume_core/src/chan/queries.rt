@@ -86,8 +86,8 @@ impl<T: Drop, S: Drop, A: Allocator + Copy> Chan<T, S, A> {
         Reply::Truth(!self.is_open())
     }
 
-    /// Whether some ticket may be due: false only where `next_due` has none to name. It reads two
-    /// flags, whatever is parked.
+    /// Whether some ticket may be due: false only where `next_due` has none to name. It reads flags
+    /// and a count, whatever is parked.
     ///
     /// ```
     /// chan.may_be_due();                 // false of a channel where nobody parked

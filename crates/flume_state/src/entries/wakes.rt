@@ -71,7 +71,7 @@ impl<T: Drop, S: Drop, A: Allocator + Copy> Entries<T, S, A> {
                 entry.mark = Mark::Woken;
                 entry.notice.due = true;
                 self.waiting -= 1;
-                self.some_due = true;
+                self.due = self.due.saturating_add(1);
                 Some(entry.kind)
             }
             _ => None,
@@ -101,31 +101,32 @@ impl<T: Drop, S: Drop, A: Allocator + Copy> Entries<T, S, A> {
         }
     }
 
-    /// Whether some receiver may be due. It reads a flag, whatever the length.
+    /// Whether some receiver may be due. It reads a count, whatever the length.
     #[inline(always)]
     pub fn may_be_due(&self) -> bool
         ensures none { result ≡ false → NoDueReceiver self.now }
     {
-        self.some_due
+        self.due > 0
     }
 
     /// The ticket of a receiver that was due, and now isn't: it is named once. `None` where none is
-    /// due, and then nothing changes. It doesn't look through the receivers again until one is made
-    /// due. Takes no memory.
+    /// due, and then nothing changes. It looks through the receivers up to the first that is due, and
+    /// not where all were named. Takes no memory.
     pub fn next_due(&mut self) -> Option<u64>
         ensures told { IfSome result (λ ticket. Tells self.old self.new ticket) }
         ensures none_due { IfNone result (NoDueReceiver self.old) }
         ensures unchanged { IfNone result (self.new ≡ self.old) }
     {
-        if !self.some_due {
+        if self.due == 0 {
             return None;
         }
         let Some(place) = self.first_due() else {
-            self.some_due = false;
+            self.due = 0;
             return None;
         };
         let entry = self.entries.get_mut(place)?;
         entry.notice.due = false;
+        self.due -= 1;
         Some(entry.ticket)
     }
 
@@ -133,6 +134,9 @@ impl<T: Drop, S: Drop, A: Allocator + Copy> Entries<T, S, A> {
     fn first_due(&self) -> Option<usize>
         ensures first { result ≡ position (λ e. e.notice.due) self.now }
     {
-        self.entries.iter().position(|entry| entry.notice.due)
+        match self.entries.front() {
+            Some(entry) if entry.notice.due => Some(0),
+            _ => self.entries.iter().position(|entry| entry.notice.due),
+        }
     }
 }

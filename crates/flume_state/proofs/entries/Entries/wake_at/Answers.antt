@@ -1,4 +1,4 @@
-use Rattle.std.proofs.Common.{ap, refl}
+use Rattle.std.proofs.Common.{arith, ap, refl}
 use Rattle.flume_model.specs.Entries.{is_waiting}
 use Rattle.flume_state.specs.Notices.{due_now}
 use Rattle.flume_model.proofs.Places.{read_at, same_at}
@@ -17,7 +17,9 @@ pub invariant_of-self-in-Waiting : goal.invariant_of-self-in-Waiting
 invariant_of-self-in-Waiting g c =
     let e = c.in_ok-entry.ensures in
     let at = read_at _ _ _ _ _ (e.variant.0 refl) c.self.inside.entries.ok.0 e.value refl in
-    kept_woken _ _ _ _ _ _ c.self.invariant at (ap is_waiting c.in-Waiting.is) refl
+    kept_woken _ _ _ _ _ _ _ c.self.invariant at (ap is_waiting c.in-Waiting.is) refl _
+    (omega (arith, c.self.inside.entries.ok.0, c.self.inside.entries.small.0, c.self.inside.entries.small.1))
+    c.saturating_add-self-inside.ensures
 
 pub invariant_of-self-in_default : goal.invariant_of-self-in_default
 invariant_of-self-in_default g c =

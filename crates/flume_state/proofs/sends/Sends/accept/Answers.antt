@@ -1,8 +1,34 @@
-use Rattle.flume_state.proofs.SendsLemmas.{written}
+use Rattle.std.proofs.Common.{◌≡◌, sym, ap, ◌∙◌}
+use Rattle.flume_state.specs.Sends.{accepted_now, changed}
+use Rattle.flume_state.proofs.NearLemmas.{IsAway, away_none, away_some, away_changed, apart_changed, here_changed}
 use Rattle.flume_state.proofs.sends.Sends.accept.Goals as goal
+use Rattle.flume_state.proofs.sends.Sends.accept.Goals.{in_default-via-in-Some+else-near-ticket, in_default-via-in_default}
+
+pub invariant_of-self-in_default : goal.invariant_of-self-in_default
+invariant_of-self-in_default g c =
+    let both : (c.in_default.self-inside ≡ c.self.inside) × IsAway c.self.inside.near c.args.ticket = elim c.in_default.branch [
+      | in_default-via-in-Some+else-near-ticket w ↦ (
+        w.self-inside-is ∙ ap (λ n. record { near = n; tree = c.self.inside.tree }) (sym w.in-Some.is),
+        away_some _ _ _ w.in-Some.is w.if-near-ticket.false,
+      )
+      | in_default-via-in_default w ↦ (w.self-inside-is, away_none _ _ w.in_default.is)
+    ] in
+    rw (c.accept.ensures.accepted, both.0) (apart_changed _ _ _ accepted_now both.1 c.self.invariant)
 
 pub returns-in-Some : goal.returns-in-Some
 returns-in-Some g c = record {
-  accepted =
-      written c.self.inside.table c.get_mut.follows.lender _ _ _ _ c.self.view_is c.in-Some.ensures.value c.get_mut.follows.holds;
+  accepted = here_changed c.self.inside.near c.in-Some.near c.self.inside.tree _ _ accepted_now c.in-Some.is c.if-near-ticket.true c.self.view_is;
 }
+
+pub returns-in_default : goal.returns-in_default
+returns-in_default g c =
+    let both : (c.in_default.self-inside ≡ c.self.inside) × IsAway c.self.inside.near c.args.ticket = elim c.in_default.branch [
+      | in_default-via-in-Some+else-near-ticket w ↦ (
+        w.self-inside-is ∙ ap (λ n. record { near = n; tree = c.self.inside.tree }) (sym w.in-Some.is),
+        away_some _ _ _ w.in-Some.is w.if-near-ticket.false,
+      )
+      | in_default-via-in_default w ↦ (w.self-inside-is, away_none _ _ w.in_default.is)
+    ] in
+    record {
+      accepted = rw (c.accept.ensures.accepted, both.0) (away_changed _ _ _ accepted_now both.1) ∙ ap (λ m. changed m c.args.ticket accepted_now) c.self.view_is;
+    }

@@ -4,7 +4,7 @@ use Rattle.std.specs.Map.Iter.{deref_pair}
 use Rattle.std.proofs.lemmas.Map.Iter.{btree_map_turn}
 use Rattle.flume_state.specs.Sends.{send_due_in}
 use Rattle.flume_state.proofs.SendsLemmas.{no_due_send_cons, no_due_send_nil, get_of_tree}
-use Rattle.flume_state.proofs.sends.Sends.first_due.Goals as goal
+use Rattle.flume_state.proofs.sends.tree.SendTree.first_due.Goals as goal
 
 pub loop-ticket-preserved : goal.loop-ticket-preserved
 loop-ticket-preserved g c = λ h. c.loop-ticket.invariant (no_due_send_cons _ _ _ _ c.in-Some.ensures.steps h c.if-send.false)

@@ -1,0 +1,21 @@
+use Rattle.std.proofs.Common.{sym, ap, ◌∙◌}
+use Rattle.std.specs.FinMap.{get}
+use Rattle.std.specs.Option.{option_map}
+use Rattle.flume_state.proofs.NearLemmas.{IsAway, away_none, away_some, away_get, here_get}
+use Rattle.flume_state.proofs.sends.Sends.signal.Goals as goal
+use Rattle.flume_state.proofs.sends.Sends.signal.Goals.{in_default-via-in-Some+else-near-ticket, in_default-via-in_default}
+
+pub returns-in-Some : goal.returns-in-Some
+returns-in-Some g c = record {
+  value = sym (ap (option_map (λ s. s.notice.signal)) (here_get _ c.in-Some.near _ _ c.args.ticket c.in-Some.is c.if-near-ticket.true c.self.view_is));
+}
+
+pub returns-in_default : goal.returns-in_default
+returns-in_default g c =
+    let away : IsAway c.self.inside.near c.args.ticket = elim c.in_default.branch [
+      | in_default-via-in-Some+else-near-ticket w ↦ away_some _ _ _ w.in-Some.is w.if-near-ticket.false
+      | in_default-via-in_default w ↦ away_none _ _ w.in_default.is
+    ] in
+    record {
+      value = c.signal.ensures.value ∙ ap (option_map (λ s. s.notice.signal)) (sym (away_get _ _ _ away) ∙ ap (λ m. get m c.args.ticket) c.self.view_is);
+    }
