@@ -1,9 +1,23 @@
 //! The examples of the library's documentation of selectors, line by line, with `is` for what they
 //! assert; and the worker of `docs/USING.md` that is told to stop.
-use crate::fixtures::holds;
+use crate::fixtures::{holds, is};
 use flume::{Receiver, Selector, Sender, Waits};
 use std::test::Fail;
 use std::{io, thread};
+
+#[test]
+fn a_selection_gives_what_its_mapper_makes_as_in_its_example(rt: HostRuntime) -> Result<(), Fail> {
+    let (jobs, work) = flume::on(rt).unbounded::<u64>()?;
+    let (stop, stopped) = flume::on(rt).bounded::<()>(1)?;
+    jobs.send(7)?;
+    let job = Selector::new()
+        .recv(&work, |job| job.ok())
+        .recv(&stopped, |_| None)
+        .wait()?;
+    is(&rt, job, Some(7));
+    drop(stop);
+    Ok(())
+}
 
 /// Doubles numbers until it is told to stop, or no more can come.
 fn work<R: Waits>(

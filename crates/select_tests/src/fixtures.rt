@@ -1,6 +1,7 @@
 //! What several tests use: what a selection gave, answers compared in one place for each type, a
 //! message that counts its drops, and a long time.
 use flume::error::{NoMemory, RecvError, SelectError, SendError, TryRecvError, TrySendError};
+use std::fmt::Debug;
 use std::process::Abort;
 use std::sync::atomic::{AtomicU64, Ordering};
 use std::time::Duration;
@@ -62,6 +63,11 @@ pub(crate) fn amounts_to(rt: &impl Abort, answer: u64, wanted: u64) {
 
 /// So many messages are queued.
 pub(crate) fn queued(rt: &impl Abort, answer: usize, wanted: usize) {
+    assert_eq!(rt; answer, wanted);
+}
+
+/// The answer is the wanted one.
+pub(crate) fn is<T: Debug + PartialEq + Drop>(rt: &impl Abort, answer: T, wanted: T) {
     assert_eq!(rt; answer, wanted);
 }
 

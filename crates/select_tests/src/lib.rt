@@ -24,6 +24,8 @@ mod starts;
 #[cfg(test)]
 mod threads;
 #[cfg(test)]
+mod unreadable;
+#[cfg(test)]
 mod wakes;
 #[cfg(test)]
 mod works;

@@ -53,8 +53,11 @@ fn a_selection_whose_time_is_up_times_out_and_leaves_nobody_waiting(
     let timeout = Until::Timeout(Duration::ZERO);
     let timed = receive_from_two_until(&rx0, &rx1, timeout);
     selected(&rt, timed, Err(SelectError::Timeout));
-    let deadline = Until::Deadline(Instant::now(&rt)?);
-    let timed = receive_from_two_until(&rx0, &rx1, deadline);
+    let now = Instant::now(&rt)?;
+    let timed = receive_from_two_until(&rx0, &rx1, Until::Deadline(now));
+    selected(&rt, timed, Err(SelectError::Timeout));
+    let past = now.checked_sub(Duration::from_nanos(1)).unwrap_or(now);
+    let timed = receive_from_two_until(&rx0, &rx1, Until::Deadline(past));
     selected(&rt, timed, Err(SelectError::Timeout));
     offered(&rt, tx0.try_send(7), Err(TrySendError::Full(7)));
     offered(&rt, tx1.try_send(8), Err(TrySendError::Full(8)));
@@ -191,7 +194,7 @@ fn a_selector_shows_its_name(rt: HostRuntime) -> Result<(), Fail> {
     let none: Selector<'_, Won> = Selector::default();
     let shown = format!(in rt.alloc(); "{none:?}")?;
     holds(&rt, shown.as_str() == "Selector");
-    let two = none.recv(&rx, Won::First).send(&tx, 1, Won::Sent);
+    let two = Selector::new().recv(&rx, Won::First).send(&tx, 1, Won::Sent);
     let shown = format!(in rt.alloc(); "{two:?}")?;
     holds(&rt, shown.as_str() == "Selector");
     Ok(())

@@ -64,13 +64,9 @@ fn woken_again<R: Waits + Threads + Abort + Sync + Send>(
 ) -> Result<Option<Result<Won, SelectError>>, Fail> {
     let (reads, read) = unbounded(rt, alloc, 1)?;
     let (release, go_on) = unbounded(rt, alloc, 2)?;
-    let standing = Standing {
-        rt,
-        reads: &reads,
-        go_on: &go_on,
-    };
-    let (tx, rx) = unbounded(standing, alloc, 3)?;
-    let (_other, empty) = unbounded(standing, alloc, 4)?;
+    let (reads, go_on) = (&reads, &go_on);
+    let (tx, rx) = unbounded(Standing { rt, reads, go_on }, alloc, 3)?;
+    let (_other, empty) = unbounded(Standing { rt, reads, go_on }, alloc, 4)?;
     let select = SelectTwo {
         one: &empty,
         other: &rx,
@@ -148,13 +144,9 @@ fn wake_passed_on<R: Waits + Threads + Abort + Sync + Send>(
 ) -> Result<(), Fail> {
     let (reads, read) = unbounded(rt, alloc, 1)?;
     let (release, go_on) = unbounded(rt, alloc, 2)?;
-    let standing = Standing {
-        rt,
-        reads: &reads,
-        go_on: &go_on,
-    };
-    let (tx0, rx0) = unbounded(standing, alloc, 3)?;
-    let (tx1, rx1) = unbounded(standing, alloc, 4)?;
+    let (reads, go_on) = (&reads, &go_on);
+    let (tx0, rx0) = unbounded(Standing { rt, reads, go_on }, alloc, 3)?;
+    let (tx1, rx1) = unbounded(Standing { rt, reads, go_on }, alloc, 4)?;
     let select = SelectTwo {
         one: &rx0,
         other: &rx1,
@@ -218,12 +210,8 @@ fn three_arms_wait<R: Waits + Threads + Abort + Sync + Send>(
 ) -> Result<(), Fail> {
     let (reads, read) = unbounded(rt, alloc, 1)?;
     let (release, go_on) = unbounded(rt, alloc, 2)?;
-    let standing = Standing {
-        rt,
-        reads: &reads,
-        go_on: &go_on,
-    };
-    let (tx, rx) = bounded(standing, alloc, 3, 0)?;
+    let (reads, go_on) = (&reads, &go_on);
+    let (tx, rx) = bounded(Standing { rt, reads, go_on }, alloc, 3, 0)?;
     let reading = Reading {
         read: &read,
         release,
@@ -275,13 +263,9 @@ fn first_of_two_woken<R: Waits + Threads + Abort + Sync + Send>(
 ) -> Result<(), Fail> {
     let (reads, read) = unbounded(rt, alloc, 1)?;
     let (release, go_on) = unbounded(rt, alloc, 2)?;
-    let standing = Standing {
-        rt,
-        reads: &reads,
-        go_on: &go_on,
-    };
-    let (tx0, rx0) = unbounded(standing, alloc, 3)?;
-    let (tx1, rx1) = unbounded(standing, alloc, 4)?;
+    let (reads, go_on) = (&reads, &go_on);
+    let (tx0, rx0) = unbounded(Standing { rt, reads, go_on }, alloc, 3)?;
+    let (tx1, rx1) = unbounded(Standing { rt, reads, go_on }, alloc, 4)?;
     let reading = Reading {
         read: &read,
         release,
