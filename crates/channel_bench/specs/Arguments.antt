@@ -10,6 +10,7 @@ use Rattle.channel_bench.specs.declared.arguments.Shape.TheVariants.{Inout, TryP
 use Rattle.channel_bench.specs.declared.arguments.Shape.TheVariants.{PollPair, PollRecvPark, PollSendPark}
 use Rattle.channel_bench.specs.declared.arguments.Shape.TheVariants.{AsyncPair, AsyncJoin, AsyncPing}
 use Rattle.channel_bench.specs.declared.arguments.Shape.TheVariants.{Pending, PendingDrop}
+use Rattle.channel_bench.specs.declared.arguments.Shape.TheVariants.{SelectSeq, SelectRx}
 
 -- the word of a shape
 abbrev pub shape_word : Shape → List ℕ
@@ -30,6 +31,8 @@ shape_word AsyncJoin = codes "async_join"
 shape_word AsyncPing = codes "async_ping"
 shape_word Pending = codes "pending"
 shape_word PendingDrop = codes "pending_drop"
+shape_word SelectSeq = codes "select_seq"
+shape_word SelectRx = codes "select_rx"
 
 -- the word names this shape
 abbrev pub IsShapeWord : List ℕ → Shape → Type 0
@@ -87,4 +90,5 @@ CanBeTimed PollSendPark Unbounded = ⊥
 CanBeTimed PollSendPark Big = ⊥
 CanBeTimed PollSendPark (Of capacity) = 0 < capacity
 CanBeTimed AsyncPair (Of capacity) = 0 < capacity
+CanBeTimed SelectSeq (Of capacity) = 0 < capacity
 CanBeTimed _ _ = ⊤

@@ -29,6 +29,8 @@ pub enum Shape {
     AsyncPing,
     Pending,
     PendingDrop,
+    SelectSeq,
+    SelectRx,
 }
 
 impl Shape {
@@ -53,6 +55,8 @@ impl Shape {
             "async_ping" => Some(Shape::AsyncPing),
             "pending" => Some(Shape::Pending),
             "pending_drop" => Some(Shape::PendingDrop),
+            "select_seq" => Some(Shape::SelectSeq),
+            "select_rx" => Some(Shape::SelectRx),
             _ => None,
         }
     }
@@ -132,8 +136,12 @@ impl Arguments {
             Shape::Seq => !matches!(self.capacity, Capacity::Of(_)),
             Shape::TryFull => matches!(self.capacity, Capacity::Of(_)),
             Shape::PollSendPark => matches!(self.capacity, Capacity::Of(1..)),
-            Shape::Oneshot | Shape::Inout | Shape::TryPair | Shape::PollPair | Shape::AsyncPair =>
-                !matches!(self.capacity, Capacity::Of(0)),
+            Shape::Oneshot
+            | Shape::Inout
+            | Shape::TryPair
+            | Shape::PollPair
+            | Shape::AsyncPair
+            | Shape::SelectSeq => !matches!(self.capacity, Capacity::Of(0)),
             _ => true,
         }
     }

@@ -124,6 +124,8 @@ impl<R: Waits + Threads + RandomSource + AllocGlobal + Send + Sync> Bench<R> {
             Shape::AsyncPing => self.async_ping(),
             Shape::Pending => self.pending(),
             Shape::PendingDrop => self.pending_drop(),
+            Shape::SelectSeq => self.select_seq(),
+            Shape::SelectRx => self.select_rx(),
         }
     }
 }

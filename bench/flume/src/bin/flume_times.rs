@@ -2,7 +2,7 @@
 //! `crates/channel_bench` is, so that `bench/compare` can let the two take turns.
 
 use flume::r#async::RecvFut;
-use flume::{Receiver, RecvError, SendError, Sender};
+use flume::{Receiver, RecvError, Selector, SendError, Sender};
 use futures::executor::block_on;
 use futures::future::join;
 use futures::task::noop_waker;
@@ -41,7 +41,11 @@ async_pair      one message sent and received, again and again, by one task; not
 async_join      a future that sends all, joined in one task with one that receives all
 async_ping      two threads, a task each, send half of the messages to and fro over two channels
 pending         so many receives wait; then a message for each is sent, and it polled again
-pending_drop    so many receives wait, and each is dropped, the newest first";
+pending_drop    so many receives wait, and each is dropped, the newest first
+select_seq      a message sent into one of four channels in turn, and received by a selection over
+                the four; not at 0
+select_rx       four threads send, each into a channel of its own, and one receives by selections
+                over the four";
 
 /// How many threads send, and how many receive, where several do.
 const SEVERAL: usize = 4;
@@ -88,11 +92,11 @@ impl Asked {
             "seq" | "plain" => Some(!matches!(self.capacity, Capacity::Of(_))),
             "try_full" => Some(matches!(self.capacity, Capacity::Of(_))),
             "poll_send_park" => Some(matches!(self.capacity, Capacity::Of(1..))),
-            "oneshot" | "inout" | "try_pair" | "poll_pair" | "async_pair" => {
+            "oneshot" | "inout" | "try_pair" | "poll_pair" | "async_pair" | "select_seq" => {
                 Some(self.capacity != Capacity::Of(0))
             }
             "spsc" | "mpsc" | "mpmc" | "try_empty" | "poll_recv_park" | "async_join"
-            | "async_ping" | "pending" | "pending_drop" => Some(true),
+            | "async_ping" | "pending" | "pending_drop" | "select_rx" => Some(true),
             _ => None,
         }
     }
@@ -125,6 +129,8 @@ impl Asked {
             "async_ping" => self.async_ping(),
             "pending" => self.pending(),
             "pending_drop" => self.pending_drop(),
+            "select_seq" => self.select_seq(),
+            "select_rx" => self.select_rx(),
             _ => self.try_full(),
         };
         let each = (0..self.messages / senders).fold(0, usize::wrapping_add);
@@ -431,6 +437,53 @@ impl Asked {
         }
         receives
     }
+}
+
+/// The shapes of selections over four channels.
+impl Asked {
+    fn open_four(&self) -> ([Sender<usize>; SEVERAL], [Receiver<usize>; SEVERAL]) {
+        let (one, two, three, four) = (self.open(), self.open(), self.open(), self.open());
+        ([one.0, two.0, three.0, four.0], [one.1, two.1, three.1, four.1])
+    }
+
+    /// Each message sent into one of the channels in turn, and received by a selection over all.
+    fn select_seq(&self) -> (Duration, usize, usize) {
+        let (senders, receivers) = self.open_four();
+        let start = Instant::now();
+        let mut sum = 0usize;
+        for message in 0..self.messages {
+            if senders[message % SEVERAL].send(message).is_err() {
+                break;
+            }
+            sum = sum.wrapping_add(select(&receivers));
+        }
+        (start.elapsed(), sum, 1)
+    }
+
+    /// Four threads send, each into a channel of its own, and this one receives all by selections.
+    /// Making the channels and the threads is in the time.
+    fn select_rx(&self) -> (Duration, usize, usize) {
+        let start = Instant::now();
+        let each = self.messages / SEVERAL;
+        let (senders, receivers) = self.open_four();
+        let sum = thread::scope(|scope| {
+            for sender in &senders {
+                scope.spawn(move || send_each(sender, each));
+            }
+            (0..each * SEVERAL).fold(0usize, |sum, _| sum.wrapping_add(select(&receivers)))
+        });
+        (start.elapsed(), sum, SEVERAL)
+    }
+}
+
+/// What one selection over the four channels receives.
+fn select(receivers: &[Receiver<usize>; SEVERAL]) -> usize {
+    Selector::new()
+        .recv(&receivers[0], |answer| answer.unwrap_or(0))
+        .recv(&receivers[1], |answer| answer.unwrap_or(0))
+        .recv(&receivers[2], |answer| answer.unwrap_or(0))
+        .recv(&receivers[3], |answer| answer.unwrap_or(0))
+        .wait()
 }
 
 /// The sum of so many messages, each sent, and one awaited before the next.

@@ -1,0 +1,165 @@
+//! Two selectors against each other, in two threads.
+use crate::fixtures::{amounts_to, holds};
+use crate::works::{Work, started};
+use flume::error::{NoMemory, RecvError, SendError};
+use flume::{Receiver, Selector, Sender, Waits};
+use std::alloc::{AllocError, Global};
+use std::test::Fail;
+
+// How many selections each makes, where the other does as well.
+const ROUNDS: u64 = 10_000;
+
+// What a selection did: one that sends a number, or receives one.
+#[derive(Drop)]
+enum Turn {
+    Sent,
+    Got(u64),
+    Closed,
+}
+
+impl Turn {
+    fn of_send(answer: Result<(), SendError<u64>>) -> Turn {
+        match answer {
+            Ok(()) => Turn::Sent,
+            Err(_) => Turn::Closed,
+        }
+    }
+
+    fn of_receive(answer: Result<u64, RecvError>) -> Turn {
+        match answer {
+            Ok(number) => Turn::Got(number),
+            Err(_) => Turn::Closed,
+        }
+    }
+}
+
+// Sends or receives: in rounds of an even number the send arm comes first.
+fn select<R: Waits>(
+    tx: &Sender<u64, R>,
+    rx: &Receiver<u64, R>,
+    round: u64,
+) -> Result<Turn, NoMemory> {
+    let selector = Selector::new();
+    if round % 2 == 0 {
+        let selector = selector.send(tx, round, Turn::of_send);
+        selector.recv(rx, Turn::of_receive).wait()
+    } else {
+        let selector = selector.recv(rx, Turn::of_receive);
+        selector.send(tx, round, Turn::of_send).wait()
+    }
+}
+
+// What one of the two did, and where it received.
+#[derive(Drop)]
+struct Log<R: Waits> {
+    rounds: u64,
+    // The numbers of the rounds in which it sent.
+    sent: Vec<u64>,
+    // What it received, in order.
+    got: Vec<u64>,
+    rx: Receiver<u64, R>,
+}
+
+impl<R: Waits> Log<R> {
+    // Adds what each round did, until all are over or the other is gone.
+    fn play(&mut self, tx: &Sender<u64, R>) -> Result<(), AllocError> {
+        for round in 0..ROUNDS {
+            match select(tx, &self.rx, round)? {
+                Turn::Sent => self.sent.push(round)?,
+                Turn::Got(number) => self.got.push(number)?,
+                Turn::Closed => return Ok(()),
+            }
+            self.rounds = self.rounds.saturating_add(1);
+        }
+        Ok(())
+    }
+
+    // Adds what is still there.
+    fn take_what_is_left(&mut self) -> Result<(), AllocError> {
+        for number in self.rx.try_iter() {
+            self.got.push(number)?;
+        }
+        Ok(())
+    }
+}
+
+// Makes selections against another thread.
+#[derive(Drop)]
+struct Play<R: Waits> {
+    alloc: Global,
+    tx: Sender<u64, R>,
+    rx: Receiver<u64, R>,
+}
+
+impl<R: Waits> Work for Play<R> {
+    type Answer = Result<Log<R>, AllocError>;
+
+    fn work(self) -> Result<Log<R>, AllocError> {
+        let Play { alloc, tx, rx } = self;
+        let (sent, got) = (Vec::new(alloc), Vec::new(alloc));
+        let mut log = Log {
+            rounds: 0,
+            sent,
+            got,
+            rx,
+        };
+        log.play(&tx)?;
+        Ok(log)
+    }
+}
+
+// Whether each number is above the one before it.
+fn rises(numbers: &[u64]) -> bool {
+    let mut least = 0;
+    for &number in numbers {
+        if number < least {
+            return false;
+        }
+        least = number.saturating_add(1);
+    }
+    true
+}
+
+// Whether each number of the one stands in the other, where both rise.
+fn all_stand_in(some: &[u64], numbers: &[u64]) -> bool {
+    let mut rest = numbers.iter();
+    for wanted in some {
+        if !rest.by_ref().any(|number| number == wanted) {
+            return false;
+        }
+    }
+    true
+}
+
+#[test]
+fn two_selectors_that_meet_lose_and_double_no_message(rt: HostRuntime) -> Result<(), Fail> {
+    let (to_other, from_one) = flume::on(rt).bounded(0)?;
+    let (to_one, from_other) = flume::on(rt).bounded(0)?;
+    let alloc = rt.alloc();
+    let one = started(
+        &rt,
+        Play {
+            alloc,
+            tx: to_other,
+            rx: from_other,
+        },
+    )?;
+    let other = started(
+        &rt,
+        Play {
+            alloc,
+            tx: to_one,
+            rx: from_one,
+        },
+    )?;
+    let (mut one, mut other) = (one.join(&rt)?, other.join(&rt)?);
+    one.take_what_is_left()?;
+    other.take_what_is_left()?;
+    // What came is in order and came once, and what an arm sent came.
+    holds(&rt, rises(&one.got) && rises(&other.got));
+    holds(&rt, all_stand_in(&one.sent, &other.got));
+    holds(&rt, all_stand_in(&other.sent, &one.got));
+    // One of them made all its selections, each of which took a message or gave one.
+    amounts_to(&rt, one.rounds.max(other.rounds), ROUNDS);
+    Ok(())
+}

@@ -1,0 +1,70 @@
+//! A clock that stands still, so that a test knows when a selection waits: with a deadline it reads
+//! its clock once it has parked its arms, and before it sleeps.
+use crate::fixtures::Won;
+use crate::selections::{Until, receive_from_three_until, receive_from_two_until};
+use crate::works::Work;
+use flume::error::SelectError;
+use flume::{Receiver, Sender, Waits};
+use std::io;
+use std::sync::Wait;
+use std::time::{Clock, Duration, Instant};
+
+/// A runtime whose clock says that it is read, and tells the time only once it may: by a message of
+/// `go_on`, or where that has no sender left.
+#[derive(Clone, Copy)]
+pub(crate) struct Standing<'a, R: Waits> {
+    pub(crate) rt: R,
+    pub(crate) reads: &'a Sender<(), R>,
+    pub(crate) go_on: &'a Receiver<(), R>,
+}
+
+impl<R: Waits> Wait for Standing<'_, R> {}
+
+impl<R: Waits> Clock for Standing<'_, R> {
+    fn monotonic(&self) -> io::Result<Duration> {
+        let _ = self.reads.send(());
+        let _ = self.go_on.recv();
+        self.rt.monotonic()
+    }
+
+    fn since_1970(&self) -> io::Result<Duration> {
+        self.rt.since_1970()
+    }
+}
+
+/// Receives from one channel or another, up to a deadline.
+#[derive(Drop)]
+pub(crate) struct SelectTwo<'a, R: Waits> {
+    pub(crate) one: &'a Receiver<u64, R>,
+    pub(crate) other: &'a Receiver<u64, R>,
+    pub(crate) deadline: Instant,
+}
+
+impl<R: Waits> Work for SelectTwo<'_, R> {
+    type Answer = Result<Won, SelectError>;
+
+    fn work(self) -> Result<Won, SelectError> {
+        let SelectTwo {
+            one,
+            other,
+            deadline,
+        } = self;
+        receive_from_two_until(one, other, Until::Deadline(deadline))
+    }
+}
+
+/// Receives from one channel by three arms, up to a deadline.
+#[derive(Drop)]
+pub(crate) struct SelectThrice<'a, R: Waits> {
+    pub(crate) rx: &'a Receiver<u64, R>,
+    pub(crate) deadline: Instant,
+}
+
+impl<R: Waits> Work for SelectThrice<'_, R> {
+    type Answer = Result<Won, SelectError>;
+
+    fn work(self) -> Result<Won, SelectError> {
+        let SelectThrice { rx, deadline } = self;
+        receive_from_three_until(rx, rx, rx, deadline)
+    }
+}

@@ -1,0 +1,301 @@
+//! Selections that were woken: one that finds nothing waits on, and an arm that loses passes its
+//! wake on. That a selection waits its clock tells, which stands still.
+use crate::fixtures::{Won, holds, long, offered, queued, received, selected, tried};
+use crate::standing::{SelectThrice, SelectTwo, Standing};
+use crate::works::{Work, beside};
+use flume::error::{RecvError, SelectError, TryRecvError, TrySendError};
+use flume::polled::RecvFut;
+use flume::{Receiver, Sender, Waits, bounded, unbounded};
+use futures::task::Poll;
+use futures::test::MockTask;
+use std::alloc::Global;
+use std::process::Abort;
+use std::test::Fail;
+use std::thread::Threads;
+use std::time::Instant;
+
+// The other side of a clock that stands still: it is read, and may go on.
+#[derive(Drop)]
+struct Reading<'a, R: Waits> {
+    read: &'a Receiver<(), R>,
+    release: Sender<(), R>,
+}
+
+// Sends to a selection that waits a message, takes it at once, and lets the selection look in vain.
+// Once it waits again: the next message, or the sender goes.
+#[derive(Drop)]
+struct TakeThenEnd<'a, R: Waits, Q: Waits> {
+    reading: Reading<'a, R>,
+    tx: Sender<u64, Q>,
+    rx: &'a Receiver<u64, Q>,
+    next: Option<u64>,
+}
+
+impl<R: Waits, Q: Waits> Work for TakeThenEnd<'_, R, Q> {
+    type Answer = Result<u64, TryRecvError>;
+
+    fn work(self) -> Result<u64, TryRecvError> {
+        let TakeThenEnd {
+            reading,
+            tx,
+            rx,
+            next,
+        } = self;
+        let Reading { read, release } = reading;
+        let _ = read.recv();
+        let _ = tx.send(1);
+        let taken = rx.try_recv();
+        let _ = release.send(());
+        let _ = read.recv();
+        if let Some(message) = next {
+            let _ = tx.send(message);
+        }
+        drop(tx);
+        taken
+    }
+}
+
+// What a selection answers that was woken for a message which another took, and then for this.
+fn woken_again<R: Waits + Threads + Abort + Sync + Send>(
+    rt: R,
+    alloc: Global,
+    deadline: Instant,
+    next: Option<u64>,
+) -> Result<Option<Result<Won, SelectError>>, Fail> {
+    let (reads, read) = unbounded(rt, alloc, 1)?;
+    let (release, go_on) = unbounded(rt, alloc, 2)?;
+    let (reads, go_on) = (&reads, &go_on);
+    let (tx, rx) = unbounded(Standing { rt, reads, go_on }, alloc, 3)?;
+    let (_other, empty) = unbounded(Standing { rt, reads, go_on }, alloc, 4)?;
+    let select = SelectTwo {
+        one: &empty,
+        other: &rx,
+        deadline,
+    };
+    let reading = Reading {
+        read: &read,
+        release,
+    };
+    let meanwhile = TakeThenEnd {
+        reading,
+        tx,
+        rx: &rx,
+        next,
+    };
+    let (answer, taken) = beside(&rt, select, meanwhile);
+    tried(&rt, taken, Ok(1));
+    Ok(answer)
+}
+
+#[test]
+fn a_selection_that_was_woken_for_nothing_is_woken_again(rt: HostRuntime) -> Result<(), Fail> {
+    let far = Instant::now(&rt)?.checked_add(long());
+    let far = far.expect(&rt, "an hour has a sum");
+    let answer = woken_again(rt, rt.alloc(), far, Some(2))?;
+    let answer = answer.expect(&rt, "a thread");
+    selected(&rt, answer, Ok(Won::Second(Ok(2))));
+    let answer = woken_again(rt, rt.alloc(), far, None)?;
+    let answer = answer.expect(&rt, "a thread");
+    selected(&rt, answer, Ok(Won::Second(Err(RecvError::Disconnected))));
+    Ok(())
+}
+
+// While a selection waits for two channels, a future waits behind its second arm. Then both arms
+// get a message, so that the first wins and the second was woken.
+#[derive(Drop)]
+struct WakeBoth<'a, R: Waits, Q: Waits> {
+    reading: Reading<'a, R>,
+    senders: (&'a Sender<u64, Q>, &'a Sender<u64, Q>),
+    rx: &'a Receiver<u64, Q>,
+    task: &'a MockTask,
+}
+
+// The future that waited behind an arm, and whether it was woken before the selection went on.
+type Behind<'a, Q> = (RecvFut<'a, u64, Q>, bool);
+
+impl<'a, R: Waits, Q: Waits> Work for WakeBoth<'a, R, Q> {
+    type Answer = Behind<'a, Q>;
+
+    fn work(self) -> Behind<'a, Q> {
+        let WakeBoth {
+            reading,
+            senders,
+            rx,
+            task,
+        } = self;
+        let Reading { read, release } = reading;
+        let _ = read.recv();
+        let mut future = rx.recv_async();
+        let waits = task.poll(&mut future).is_pending();
+        let _ = senders.1.send(5);
+        let _ = senders.0.send(1);
+        let early = task.is_woken();
+        drop(release);
+        (future, early || !waits)
+    }
+}
+
+// A selection loses by an arm that was woken, while a future waits behind that arm.
+fn wake_passed_on<R: Waits + Threads + Abort + Sync + Send>(
+    rt: R,
+    alloc: Global,
+    task: &MockTask,
+    deadline: Instant,
+) -> Result<(), Fail> {
+    let (reads, read) = unbounded(rt, alloc, 1)?;
+    let (release, go_on) = unbounded(rt, alloc, 2)?;
+    let (reads, go_on) = (&reads, &go_on);
+    let (tx0, rx0) = unbounded(Standing { rt, reads, go_on }, alloc, 3)?;
+    let (tx1, rx1) = unbounded(Standing { rt, reads, go_on }, alloc, 4)?;
+    let select = SelectTwo {
+        one: &rx0,
+        other: &rx1,
+        deadline,
+    };
+    let reading = Reading {
+        read: &read,
+        release,
+    };
+    let meanwhile = WakeBoth {
+        reading,
+        senders: (&tx0, &tx1),
+        rx: &rx1,
+        task,
+    };
+    let (answer, (mut future, early)) = beside(&rt, select, meanwhile);
+    selected(&rt, answer.expect(&rt, "a thread"), Ok(Won::First(Ok(1))));
+    holds(&rt, !early);
+    holds(&rt, task.is_woken());
+    holds(&rt, task.poll(&mut future) == Poll::Ready(Ok(5)));
+    Ok(())
+}
+
+#[test]
+fn an_arm_that_was_woken_and_loses_wakes_another(rt: HostRuntime) -> Result<(), Fail> {
+    let far = Instant::now(&rt)?.checked_add(long());
+    let far = far.expect(&rt, "an hour has a sum");
+    let task = MockTask::new(&rt)?;
+    wake_passed_on(rt, rt.alloc(), &task, far)
+}
+
+// Offers four messages to a selection that waits for one channel by three arms.
+#[derive(Drop)]
+struct OfferFour<'a, R: Waits, Q: Waits> {
+    reading: Reading<'a, R>,
+    tx: &'a Sender<u64, Q>,
+}
+
+// Which of four offers were taken.
+type Four = (bool, bool, bool, bool);
+
+impl<R: Waits, Q: Waits> Work for OfferFour<'_, R, Q> {
+    type Answer = Four;
+
+    fn work(self) -> Four {
+        let OfferFour { reading, tx } = self;
+        let Reading { read, release } = reading;
+        let _ = read.recv();
+        let (first, second) = (tx.try_send(1).is_ok(), tx.try_send(2).is_ok());
+        let (third, fourth) = (tx.try_send(3).is_ok(), tx.try_send(4).is_ok());
+        drop(release);
+        (first, second, third, fourth)
+    }
+}
+
+// A selection waits for a channel of capacity 0 by three arms.
+fn three_arms_wait<R: Waits + Threads + Abort + Sync + Send>(
+    rt: R,
+    alloc: Global,
+    deadline: Instant,
+) -> Result<(), Fail> {
+    let (reads, read) = unbounded(rt, alloc, 1)?;
+    let (release, go_on) = unbounded(rt, alloc, 2)?;
+    let (reads, go_on) = (&reads, &go_on);
+    let (tx, rx) = bounded(Standing { rt, reads, go_on }, alloc, 3, 0)?;
+    let reading = Reading {
+        read: &read,
+        release,
+    };
+    let meanwhile = OfferFour { reading, tx: &tx };
+    let (answer, offers) = beside(&rt, SelectThrice { rx: &rx, deadline }, meanwhile);
+    // Each arm waits by itself, and lets one message in.
+    holds(&rt, offers == (true, true, true, false));
+    selected(&rt, answer.expect(&rt, "a thread"), Ok(Won::First(Ok(1))));
+    // Those that lost took nothing, and none waits on.
+    tried(&rt, rx.try_recv(), Ok(2));
+    tried(&rt, rx.try_recv(), Ok(3));
+    offered(&rt, tx.try_send(5), Err(TrySendError::Full(5)));
+    Ok(())
+}
+
+#[test]
+fn three_arms_that_wait_for_one_channel_take_one_message(rt: HostRuntime) -> Result<(), Fail> {
+    let far = Instant::now(&rt)?.checked_add(long());
+    let far = far.expect(&rt, "an hour has a sum");
+    three_arms_wait(rt, rt.alloc(), far)
+}
+
+// Gives each of two arms a message, the second first.
+#[derive(Drop)]
+struct GiveBoth<'a, R: Waits, Q: Waits> {
+    reading: Reading<'a, R>,
+    senders: (&'a Sender<u64, Q>, &'a Sender<u64, Q>),
+}
+
+impl<R: Waits, Q: Waits> Work for GiveBoth<'_, R, Q> {
+    type Answer = bool;
+
+    fn work(self) -> bool {
+        let GiveBoth { reading, senders } = self;
+        let Reading { read, release } = reading;
+        let _ = read.recv();
+        let both = senders.1.send(2).is_ok() && senders.0.send(1).is_ok();
+        drop(release);
+        both
+    }
+}
+
+// Whatever woke a selection, its first arm that can go on wins.
+fn first_of_two_woken<R: Waits + Threads + Abort + Sync + Send>(
+    rt: R,
+    alloc: Global,
+    deadline: Instant,
+) -> Result<(), Fail> {
+    let (reads, read) = unbounded(rt, alloc, 1)?;
+    let (release, go_on) = unbounded(rt, alloc, 2)?;
+    let (reads, go_on) = (&reads, &go_on);
+    let (tx0, rx0) = unbounded(Standing { rt, reads, go_on }, alloc, 3)?;
+    let (tx1, rx1) = unbounded(Standing { rt, reads, go_on }, alloc, 4)?;
+    let reading = Reading {
+        read: &read,
+        release,
+    };
+    let meanwhile = GiveBoth {
+        reading,
+        senders: (&tx0, &tx1),
+    };
+    let select = SelectTwo {
+        one: &rx0,
+        other: &rx1,
+        deadline,
+    };
+    let (answer, both) = beside(&rt, select, meanwhile);
+    holds(&rt, both);
+    selected(&rt, answer.expect(&rt, "a thread"), Ok(Won::First(Ok(1))));
+    queued(&rt, rx1.len(), 1);
+    received(&rt, rx1.recv(), Ok(2));
+    Ok(())
+}
+
+#[test]
+fn after_a_wake_the_first_arm_that_can_go_on_wins(rt: HostRuntime) -> Result<(), Fail> {
+    let far = Instant::now(&rt)?.checked_add(long());
+    let far = far.expect(&rt, "an hour has a sum");
+    first_of_two_woken(rt, rt.alloc(), far)
+}
+
+#[test]
+fn a_message_that_comes_as_the_time_is_up_is_taken(rt: HostRuntime) -> Result<(), Fail> {
+    // The clock tells the time only once the messages are there, and then the deadline is past.
+    first_of_two_woken(rt, rt.alloc(), Instant::now(&rt)?)
+}
