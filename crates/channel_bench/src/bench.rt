@@ -116,16 +116,16 @@ impl<R: Waits + Threads + RandomSource + AllocGlobal + Send + Sync> Bench<R> {
             Shape::TryPair => self.try_pair(),
             Shape::TryEmpty => self.try_empty(),
             Shape::TryFull => self.try_full(),
-            Shape::PollPair => self.poll_pair(),
-            Shape::PollRecvPark => self.poll_recv_park(),
-            Shape::PollSendPark => self.poll_send_park(),
             Shape::AsyncPair => self.async_pair(),
             Shape::AsyncJoin => self.async_join(),
             Shape::AsyncPing => self.async_ping(),
-            Shape::Pending => self.pending(),
-            Shape::PendingDrop => self.pending_drop(),
             Shape::SelectSeq => self.select_seq(),
             Shape::SelectRx => self.select_rx(),
+            Shape::PollPair
+            | Shape::PollRecvPark
+            | Shape::PollSendPark
+            | Shape::Pending
+            | Shape::PendingDrop => self.by_hand(shape),
         }
     }
 }

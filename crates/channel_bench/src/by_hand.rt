@@ -1,5 +1,6 @@
 //! The shapes polled by hand. All polls of a run lie in one poll of a task, and are handed its
 //! context: so no executor is in the time of a message.
+use crate::arguments::Shape;
 use crate::bench::{Bench, Fault, send_each};
 use flume::{Receiver, Sender, Waits};
 use futures::Future;
@@ -10,40 +11,38 @@ use std::random::RandomSource;
 use std::time::{Duration, Instant};
 
 impl<R: Waits + RandomSource + AllocGlobal> Bench<R> {
-    /// A task in whose one poll the others lie.
-    pub fn task(&self) -> Result<MockTask, Fault> {
-        match MockTask::new(&self.rt) {
-            Ok(task) => Ok(task),
-            Err(_) => Err(Fault::NoExecutor),
+    /// A shape that is polled by hand: all of it in one poll of one task.
+    pub fn by_hand(&self, shape: Shape) -> Result<Duration, Fault> {
+        let (tx, rx) = self.open()?;
+        let Ok(task) = MockTask::new(&self.rt) else {
+            return Err(Fault::NoExecutor);
+        };
+        task.enter(|cx| self.in_one_poll(shape, &tx, &rx, cx))
+    }
+}
+
+impl<R: Waits> Bench<R> {
+    // What the shape asks of a new channel.
+    fn in_one_poll(
+        &self,
+        shape: Shape,
+        tx: &Sender<usize, R>,
+        rx: &Receiver<usize, R>,
+        cx: &mut Context<'_>,
+    ) -> Result<Duration, Fault> {
+        match shape {
+            Shape::Pending => return self.fill_each(tx, rx, cx),
+            Shape::PendingDrop => return self.drop_each(rx, cx),
+            // The channel is full first.
+            Shape::PollSendPark => send_each(tx, self.capacity.unwrap_or(0)),
+            _ => {}
         }
-    }
-
-    /// Each message sent, and received before the next, by polls that are ready at once.
-    pub fn poll_pair(&self) -> Result<Duration, Fault> {
-        let (tx, rx) = self.open()?;
-        let task = self.task()?;
         let start = Instant::now(&self.rt)?;
-        let sum = task.enter(|cx| pair_each(&tx, &rx, self.messages, cx));
-        self.time_since(start, sum, 1)
-    }
-
-    /// For each message a receive that waits, the message sent, and the receive polled again.
-    pub fn poll_recv_park(&self) -> Result<Duration, Fault> {
-        let (tx, rx) = self.open()?;
-        let task = self.task()?;
-        let start = Instant::now(&self.rt)?;
-        let sum = task.enter(|cx| park_receives(&tx, &rx, self.messages, cx));
-        self.time_since(start, sum, 1)
-    }
-
-    /// For each message a send that waits, since the channel is full, a message received, and the
-    /// send polled again.
-    pub fn poll_send_park(&self) -> Result<Duration, Fault> {
-        let (tx, rx) = self.open()?;
-        send_each(&tx, self.capacity.unwrap_or(0));
-        let task = self.task()?;
-        let start = Instant::now(&self.rt)?;
-        let sum = task.enter(|cx| park_sends(&tx, &rx, self.messages, cx));
+        let sum = match shape {
+            Shape::PollSendPark => park_sends(tx, rx, self.messages, cx),
+            Shape::PollRecvPark => park_receives(tx, rx, self.messages, cx),
+            _ => pair_each(tx, rx, self.messages, cx),
+        };
         self.time_since(start, sum, 1)
     }
 }

@@ -4,28 +4,11 @@ use flume::polled::RecvFut;
 use flume::{Receiver, Sender, Waits};
 use futures::Future;
 use futures::task::{Context, Poll};
-use std::alloc::AllocGlobal;
-use std::random::RandomSource;
 use std::time::{Duration, Instant};
 
-impl<R: Waits + RandomSource + AllocGlobal> Bench<R> {
-    /// For each receive that waits a message sent, which it takes as it is polled again.
-    pub fn pending(&self) -> Result<Duration, Fault> {
-        let (tx, rx) = self.open()?;
-        let task = self.task()?;
-        task.enter(|cx| self.fill_each(&tx, &rx, cx))
-    }
-
-    /// Each receive that waits dropped, the newest first.
-    pub fn pending_drop(&self) -> Result<Duration, Fault> {
-        let (_tx, rx) = self.open()?;
-        let task = self.task()?;
-        task.enter(|cx| self.drop_each(&rx, cx))
-    }
-}
-
 impl<R: Waits> Bench<R> {
-    fn fill_each(
+    /// For each receive that waits a message sent, which it takes as it is polled again.
+    pub fn fill_each(
         &self,
         tx: &Sender<usize, R>,
         rx: &Receiver<usize, R>,
@@ -44,7 +27,12 @@ impl<R: Waits> Bench<R> {
         self.time_since(start, sum, 1)
     }
 
-    fn drop_each(&self, rx: &Receiver<usize, R>, cx: &mut Context<'_>) -> Result<Duration, Fault> {
+    /// Each receive that waits dropped, the newest first.
+    pub fn drop_each(
+        &self,
+        rx: &Receiver<usize, R>,
+        cx: &mut Context<'_>,
+    ) -> Result<Duration, Fault> {
         let mut receives = self.park_each(rx, cx)?;
         let start = Instant::now(&self.rt)?;
         let mut sum = 0usize;

@@ -1,10 +1,10 @@
 //! Futures beside threads that block, on one channel.
-use crate::fixtures::{is, receive_is, send_is, woken_are};
+use crate::fixtures::is;
 use crate::watch::begin_watch;
 use crate::works::{Runs, Work, started};
-use flume::error::{RecvTimeoutError, TrySendError};
+use flume::error::RecvTimeoutError;
 use flume::polled::RecvStream;
-use flume::{Receiver, Sender, Waits, bounded, unbounded};
+use flume::{Receiver, Sender, Waits, unbounded};
 use futures::executor::block_on;
 use futures::task::{Context, Poll};
 use futures::test::MockTask;
@@ -124,41 +124,6 @@ fn a_thread_that_blocks_behind_a_future_gets_the_message_that_this_was_woken_for
     let both = behind_a_future(&rt, &task, (&tx, &rx), (readings, later), &[5]);
     is(&rt, both, Some((Ok(5), None)));
     watch.end(&rt);
-    Ok(())
-}
-
-#[test]
-fn a_future_that_is_polled_thrice_lets_one_message_in(rt: HostRuntime) -> Result<(), Fail> {
-    let task = MockTask::new(&rt)?;
-    let (tx, rx) = bounded::<u64, _, _>(rt, rt.alloc(), 1, 0)?;
-    let mut future = rx.recv_async();
-    receive_is(&rt, task.poll(&mut future), Poll::Pending);
-    is(&rt, tx.try_send(5), Ok(()));
-    is(&rt, rx.try_recv(), Ok(5));
-    receive_is(&rt, task.poll(&mut future), Poll::Pending);
-    receive_is(&rt, task.poll(&mut future), Poll::Pending);
-    receive_is(&rt, task.poll(&mut future), Poll::Pending);
-    is(&rt, tx.try_send(6), Ok(()));
-    is(&rt, tx.try_send(7), Err(TrySendError::Full(7)));
-    is(&rt, (tx.len(), tx.is_full()), (1, true));
-    receive_is(&rt, task.poll(&mut future), Poll::Ready(Ok(6)));
-    Ok(())
-}
-
-#[test]
-fn a_send_that_a_drain_took_in_ends_well_though_the_receiver_is_gone(
-    rt: HostRuntime,
-) -> Result<(), Fail> {
-    let task = MockTask::new(&rt)?;
-    let (tx, rx) = bounded::<u64, _, _>(rt, rt.alloc(), 1, 1)?;
-    is(&rt, tx.try_send(1), Ok(()));
-    let mut send = tx.send_async(2);
-    send_is(&rt, task.poll(&mut send), Poll::Pending);
-    drop(rx.drain()?);
-    drop(rx);
-    woken_are(&rt, (&task, &task), (true, true));
-    send_is(&rt, task.poll(&mut send), Poll::Ready(Ok(())));
-    is(&rt, (tx.is_disconnected(), tx.len()), (true, 1));
     Ok(())
 }
 

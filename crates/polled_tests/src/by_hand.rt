@@ -1,299 +1,264 @@
-//! Futures, sinks and streams of the ends, polled by hand: what each poll answers, and whether the
-//! task is woken.
-use crate::fixtures::{is, message_is, receive_is, send_is, woken_are};
-use flume::error::{RecvError, SendError, TryRecvError, TrySendError};
-use flume::{bounded, unbounded};
-use futures::task::Poll;
-use futures::test::MockTask;
-use futures::{Sink, Stream};
+//! Scripts of futures, sinks and streams of the ends, polled by hand: what each poll answers, and
+//! whether the task is woken.
+use crate::replay::replay;
 use std::test::Fail;
 
+// Sends, and what waits for them.
+const SENDS: &str = "
+= a send with room is ready at its first poll, and a later one does nothing
+bounded 1
+send_async first 1
+try_recv -> empty
+poll first -> sent
+poll first -> sent
+look receiver -> open, 1 of 1, full
+try_recv -> got 1
+try_recv -> empty
+= a send without room waits until a receive; a second poll finds the waker of its own task
+bounded 1
+try_send 1 -> sent
+send_async first 2
+poll first -> pending
+woken -> false
+poll first -> pending
+woken -> false
+try_recv -> got 1
+woken -> true
+poll first -> sent
+try_recv -> got 2
+= a send that waits is woken as the last receiver goes, and gives its message back
+bounded 0
+own_receiver
+clone receiver second
+send_async first 7
+poll first -> pending
+drop_receiver
+woken -> false
+drop second
+woken -> true
+poll first -> disconnected 7
+poll first -> sent
+= a send without receivers gives its message back, and is then finished
+unbounded
+own_receiver
+drop_receiver
+send_async first 42
+poll first -> disconnected 42
+poll first -> sent
+= what is queued stays as a send is refused by a closed channel
+unbounded
+own_receiver
+try_send 1 -> sent
+try_send 2 -> sent
+try_send 3 -> sent
+drop_receiver
+send_async first 8
+poll first -> disconnected 8
+drop first
+look sender -> closed, 3 of any
+= what is queued stays as a send is refused by a closed channel of capacity 100
+bounded 100
+own_receiver
+try_send 1 -> sent
+try_send 2 -> sent
+try_send 3 -> sent
+drop_receiver
+send_async first 8
+poll first -> disconnected 8
+drop first
+look sender -> closed, 3 of 100
+= a drain wakes a send that waits, and a later send doesn't overtake it
+bounded 1
+send 1 -> sent
+send_async first 2
+poll first -> pending
+drain -> only 1
+woken -> true
+try_send 3 -> full 3
+try_recv -> got 2
+poll first -> sent
+= a send that a drain took in ends well though the receiver is gone
+bounded 1
+own_receiver
+try_send 1 -> sent
+send_async first 2
+poll first -> pending
+drop_drain
+drop_receiver
+woken -> true
+poll first -> sent
+look sender -> closed, 1 of 1, full
+";
+
+const RECEIVES: &str = "
+= a receive waits until a send; a second poll finds the waker of its own task
+unbounded
+recv_async first
+poll first -> pending
+poll first -> pending
+woken -> false
+send 5 -> sent
+woken -> true
+poll first -> got 5
+poll first -> pending
+woken -> false
+send 6 -> sent
+woken -> true
+poll first -> got 6
+= a future is woken for the task that polled it last; a waker that is displaced wakes its task
+unbounded
+recv_async first
+poll first one -> pending
+poll first two -> pending
+woken one -> true
+woken two -> false
+send 5 -> sent
+woken one -> true
+woken two -> true
+poll first two -> got 5
+= a receive that waits is woken as the last sender goes
+unbounded
+own_sender
+clone sender second
+recv_async first
+poll first -> pending
+drop_sender
+woken -> false
+drop second
+woken -> true
+poll first -> disconnected
+= a receive that is polled on takes the next message
+unbounded
+send 1 -> sent
+send 2 -> sent
+recv_async first
+poll first -> got 1
+poll first -> got 2
+= a receive is terminated once no more can come
+unbounded
+own_sender
+send 1 -> sent
+drop_sender
+recv_async first
+is_terminated first -> false
+poll first -> got 1
+is_terminated first -> true
+poll first -> disconnected
+= futures that own their ends pass a message
+unbounded
+own_sender
+own_receiver
+into_send_async first 7
+poll first -> sent
+into_recv_async second
+poll second -> got 7
+drop first
+poll second -> disconnected
+= a future that is polled thrice lets one message in
+bounded 0
+recv_async first
+poll first -> pending
+try_send 5 -> sent
+try_recv -> got 5
+poll first -> pending
+poll first -> pending
+poll first -> pending
+try_send 6 -> sent
+try_send 7 -> full 7
+look sender -> open, 1 of 0, full
+poll first -> got 6
+";
+
+const STREAMS_AND_SINKS: &str = "
+= a stream waits for each message, and then ends
+unbounded
+own_sender
+stream first
+poll first -> pending
+poll first -> pending
+woken -> false
+send 1 -> sent
+send 2 -> sent
+woken -> true
+poll first -> got 1
+drop_sender
+poll first -> got 2
+is_terminated first -> true
+poll first -> ended
+fault first -> false
+= a stream that waits is woken as the last sender goes
+unbounded
+own_sender
+own_receiver
+into_stream first
+poll first -> pending
+drop_sender
+woken -> true
+poll first -> ended
+fault first -> false
+= each stream is woken of a message, and one that goes takes none with it
+bounded 10
+stream first
+stream second
+poll first one -> pending
+poll second two -> pending
+send 42 -> sent
+woken one -> true
+woken two -> true
+drop first
+poll second two -> got 42
+= a clone of a stream that waits isn't parked: one receiver waits, and so one message is let in
+bounded 0
+stream first
+poll first one -> pending
+clone first second
+try_send 5 -> sent
+try_send 6 -> full 6
+woken one -> true
+poll second two -> got 5
+= a sink sends the last message that it was given
+bounded 1
+sink first
+start_send first 1 -> kept
+start_send first 2 -> kept
+look receiver -> open, 0 of 1, empty
+poll_flush first -> sent
+drain -> only 2
+= a sink that is closed leaves the channel open, and then waits for room
+bounded 1
+sink first
+start_send first 1 -> kept
+poll_close first -> sent
+look first -> open, 1 of 1, full
+start_send first 2 -> kept
+poll_ready first -> pending
+woken -> false
+try_recv -> got 1
+woken -> true
+poll_ready first -> sent
+try_recv -> got 2
+= a clone of a sink keeps no message
+unbounded
+sink first
+start_send first 1 -> kept
+clone first second
+poll_flush second -> sent
+look receiver -> open, 0 of any, empty
+poll_flush first -> sent
+look receiver -> open, 1 of any
+";
+
 #[test]
-fn a_send_with_room_is_ready_at_its_first_poll_and_a_later_one_does_nothing(
-    rt: HostRuntime,
-) -> Result<(), Fail> {
-    let task = MockTask::new(&rt)?;
-    let (tx, rx) = bounded::<u64, _, _>(rt, rt.alloc(), 1, 1)?;
-    let mut send = tx.send_async(1);
-    is(&rt, rx.try_recv(), Err(TryRecvError::Empty));
-    send_is(&rt, task.poll(&mut send), Poll::Ready(Ok(())));
-    send_is(&rt, task.poll(&mut send), Poll::Ready(Ok(())));
-    is(&rt, rx.len(), 1);
-    is(&rt, rx.try_recv(), Ok(1));
-    is(&rt, rx.try_recv(), Err(TryRecvError::Empty));
-    Ok(())
+fn each_script_of_sends_answers_as_it_says(rt: HostRuntime) -> Result<(), Fail> {
+    replay(rt, rt.alloc(), SENDS)
 }
 
 #[test]
-fn a_send_without_room_waits_until_a_receive(rt: HostRuntime) -> Result<(), Fail> {
-    let task = MockTask::new(&rt)?;
-    let (tx, rx) = bounded::<u64, _, _>(rt, rt.alloc(), 1, 1)?;
-    is(&rt, tx.try_send(1), Ok(()));
-    let mut send = tx.send_async(2);
-    send_is(&rt, task.poll(&mut send), Poll::Pending);
-    woken_are(&rt, (&task, &task), (false, false));
-    // A second poll finds the waker of its own task, and doesn't wake it.
-    send_is(&rt, task.poll(&mut send), Poll::Pending);
-    woken_are(&rt, (&task, &task), (false, false));
-    is(&rt, rx.try_recv(), Ok(1));
-    woken_are(&rt, (&task, &task), (true, true));
-    send_is(&rt, task.poll(&mut send), Poll::Ready(Ok(())));
-    is(&rt, rx.try_recv(), Ok(2));
-    Ok(())
+fn each_script_of_receives_answers_as_it_says(rt: HostRuntime) -> Result<(), Fail> {
+    replay(rt, rt.alloc(), RECEIVES)
 }
 
 #[test]
-fn a_send_that_waits_is_woken_as_the_last_receiver_goes_and_gives_its_message_back(
-    rt: HostRuntime,
-) -> Result<(), Fail> {
-    let task = MockTask::new(&rt)?;
-    let (tx, rx) = bounded::<u64, _, _>(rt, rt.alloc(), 1, 0)?;
-    let other = rx.clone()?;
-    let mut send = tx.send_async(7);
-    send_is(&rt, task.poll(&mut send), Poll::Pending);
-    drop(rx);
-    woken_are(&rt, (&task, &task), (false, false));
-    drop(other);
-    woken_are(&rt, (&task, &task), (true, true));
-    let closed = Poll::Ready(Err(SendError::Disconnected(7)));
-    send_is(&rt, task.poll(&mut send), closed);
-    send_is(&rt, task.poll(&mut send), Poll::Ready(Ok(())));
-    Ok(())
-}
-
-#[test]
-fn a_send_without_receivers_gives_its_message_back_and_is_then_finished(
-    rt: HostRuntime,
-) -> Result<(), Fail> {
-    let task = MockTask::new(&rt)?;
-    let (tx, rx) = unbounded::<u64, _, _>(rt, rt.alloc(), 1)?;
-    drop(rx);
-    let mut send = tx.send_async(42);
-    let closed = Poll::Ready(Err(SendError::Disconnected(42)));
-    send_is(&rt, task.poll(&mut send), closed);
-    send_is(&rt, task.poll(&mut send), Poll::Ready(Ok(())));
-    Ok(())
-}
-
-#[test]
-fn what_is_queued_stays_as_a_send_is_refused_by_a_closed_channel(
-    rt: HostRuntime,
-) -> Result<(), Fail> {
-    let task = MockTask::new(&rt)?;
-    for capacity in [None, Some(100)] {
-        let (tx, rx) = crate::fixtures::opened::<u64, _>(rt, rt.alloc(), capacity)?;
-        for message in 1..4 {
-            is(&rt, tx.try_send(message), Ok(()));
-        }
-        drop(rx);
-        let mut send = tx.send_async(8);
-        let closed = Poll::Ready(Err(SendError::Disconnected(8)));
-        send_is(&rt, task.poll(&mut send), closed);
-        drop(send);
-        is(&rt, tx.len(), 3);
-    }
-    Ok(())
-}
-
-#[test]
-fn a_receive_waits_until_a_send(rt: HostRuntime) -> Result<(), Fail> {
-    let task = MockTask::new(&rt)?;
-    let (tx, rx) = unbounded::<u64, _, _>(rt, rt.alloc(), 1)?;
-    let mut receive = rx.recv_async();
-    receive_is(&rt, task.poll(&mut receive), Poll::Pending);
-    // A second poll finds the waker of its own task, and doesn't wake it.
-    receive_is(&rt, task.poll(&mut receive), Poll::Pending);
-    woken_are(&rt, (&task, &task), (false, false));
-    is(&rt, tx.send(5), Ok(()));
-    woken_are(&rt, (&task, &task), (true, true));
-    receive_is(&rt, task.poll(&mut receive), Poll::Ready(Ok(5)));
-    // It asks for one message more.
-    receive_is(&rt, task.poll(&mut receive), Poll::Pending);
-    woken_are(&rt, (&task, &task), (false, false));
-    is(&rt, tx.send(6), Ok(()));
-    woken_are(&rt, (&task, &task), (true, true));
-    receive_is(&rt, task.poll(&mut receive), Poll::Ready(Ok(6)));
-    Ok(())
-}
-
-#[test]
-fn a_future_is_woken_for_the_task_that_polled_it_last(rt: HostRuntime) -> Result<(), Fail> {
-    let (one, two) = (MockTask::new(&rt)?, MockTask::new(&rt)?);
-    let (tx, rx) = unbounded::<u64, _, _>(rt, rt.alloc(), 1)?;
-    let mut receive = rx.recv_async();
-    receive_is(&rt, one.poll(&mut receive), Poll::Pending);
-    receive_is(&rt, two.poll(&mut receive), Poll::Pending);
-    // A waker of another task that is displaced wakes its task as it goes.
-    woken_are(&rt, (&one, &two), (true, false));
-    is(&rt, tx.send(5), Ok(()));
-    woken_are(&rt, (&one, &two), (true, true));
-    receive_is(&rt, two.poll(&mut receive), Poll::Ready(Ok(5)));
-    Ok(())
-}
-
-#[test]
-fn a_receive_that_waits_is_woken_as_the_last_sender_goes(rt: HostRuntime) -> Result<(), Fail> {
-    let task = MockTask::new(&rt)?;
-    let (tx, rx) = unbounded::<u64, _, _>(rt, rt.alloc(), 1)?;
-    let other = tx.clone()?;
-    let mut receive = rx.recv_async();
-    receive_is(&rt, task.poll(&mut receive), Poll::Pending);
-    drop(tx);
-    woken_are(&rt, (&task, &task), (false, false));
-    drop(other);
-    woken_are(&rt, (&task, &task), (true, true));
-    let over = Poll::Ready(Err(RecvError::Disconnected));
-    receive_is(&rt, task.poll(&mut receive), over);
-    Ok(())
-}
-
-#[test]
-fn a_receive_that_is_polled_on_takes_the_next_message(rt: HostRuntime) -> Result<(), Fail> {
-    let task = MockTask::new(&rt)?;
-    let (tx, rx) = unbounded::<u64, _, _>(rt, rt.alloc(), 1)?;
-    is(&rt, tx.send(1), Ok(()));
-    is(&rt, tx.send(2), Ok(()));
-    let mut receive = rx.recv_async();
-    receive_is(&rt, task.poll(&mut receive), Poll::Ready(Ok(1)));
-    receive_is(&rt, task.poll(&mut receive), Poll::Ready(Ok(2)));
-    Ok(())
-}
-
-#[test]
-fn a_receive_is_terminated_once_no_more_can_come(rt: HostRuntime) -> Result<(), Fail> {
-    let task = MockTask::new(&rt)?;
-    let (tx, rx) = unbounded::<u64, _, _>(rt, rt.alloc(), 1)?;
-    is(&rt, tx.send(1), Ok(()));
-    drop(tx);
-    let mut receive = rx.recv_async();
-    is(&rt, receive.is_terminated(), false);
-    receive_is(&rt, task.poll(&mut receive), Poll::Ready(Ok(1)));
-    is(&rt, receive.is_terminated(), true);
-    let over = Poll::Ready(Err(RecvError::Disconnected));
-    receive_is(&rt, task.poll(&mut receive), over);
-    Ok(())
-}
-
-#[test]
-fn futures_that_own_their_ends_pass_a_message(rt: HostRuntime) -> Result<(), Fail> {
-    let task = MockTask::new(&rt)?;
-    let (tx, rx) = unbounded::<u64, _, _>(rt, rt.alloc(), 1)?;
-    let mut send = tx.into_send_async(7);
-    send_is(&rt, task.poll(&mut send), Poll::Ready(Ok(())));
-    let mut receive = rx.into_recv_async();
-    receive_is(&rt, task.poll(&mut receive), Poll::Ready(Ok(7)));
-    drop(send);
-    let over = Poll::Ready(Err(RecvError::Disconnected));
-    receive_is(&rt, task.poll(&mut receive), over);
-    Ok(())
-}
-
-#[test]
-fn a_drain_wakes_a_send_that_waits_and_a_later_send_does_not_overtake_it(
-    rt: HostRuntime,
-) -> Result<(), Fail> {
-    let task = MockTask::new(&rt)?;
-    let (tx, rx) = bounded::<u64, _, _>(rt, rt.alloc(), 1, 1)?;
-    is(&rt, tx.send(1), Ok(()));
-    let mut send = tx.send_async(2);
-    send_is(&rt, task.poll(&mut send), Poll::Pending);
-    let mut drained = rx.drain()?;
-    is(&rt, (drained.next(), drained.next()), (Some(1), None));
-    woken_are(&rt, (&task, &task), (true, true));
-    is(&rt, tx.try_send(3), Err(TrySendError::Full(3)));
-    is(&rt, rx.try_recv(), Ok(2));
-    send_is(&rt, task.poll(&mut send), Poll::Ready(Ok(())));
-    Ok(())
-}
-
-#[test]
-fn a_stream_waits_for_each_message_and_then_ends(rt: HostRuntime) -> Result<(), Fail> {
-    let task = MockTask::new(&rt)?;
-    let (tx, rx) = unbounded::<u64, _, _>(rt, rt.alloc(), 1)?;
-    let mut stream = rx.stream();
-    message_is(&rt, task.enter(|cx| stream.poll_next(cx)), Poll::Pending);
-    message_is(&rt, task.enter(|cx| stream.poll_next(cx)), Poll::Pending);
-    woken_are(&rt, (&task, &task), (false, false));
-    is(&rt, tx.send(1), Ok(()));
-    is(&rt, tx.send(2), Ok(()));
-    woken_are(&rt, (&task, &task), (true, true));
-    let first = task.enter(|cx| stream.poll_next(cx));
-    message_is(&rt, first, Poll::Ready(Some(1)));
-    drop(tx);
-    let second = task.enter(|cx| stream.poll_next(cx));
-    message_is(&rt, second, Poll::Ready(Some(2)));
-    is(&rt, stream.is_terminated(), true);
-    let end = task.enter(|cx| stream.poll_next(cx));
-    message_is(&rt, end, Poll::Ready(None));
-    is(&rt, stream.fault(), false);
-    Ok(())
-}
-
-#[test]
-fn a_stream_that_waits_is_woken_as_the_last_sender_goes(rt: HostRuntime) -> Result<(), Fail> {
-    let task = MockTask::new(&rt)?;
-    let (tx, rx) = unbounded::<u64, _, _>(rt, rt.alloc(), 1)?;
-    let mut stream = rx.into_stream();
-    message_is(&rt, task.enter(|cx| stream.poll_next(cx)), Poll::Pending);
-    drop(tx);
-    woken_are(&rt, (&task, &task), (true, true));
-    let end = task.enter(|cx| stream.poll_next(cx));
-    message_is(&rt, end, Poll::Ready(None));
-    is(&rt, stream.fault(), false);
-    Ok(())
-}
-
-#[test]
-fn each_stream_is_woken_of_a_message_and_one_that_goes_takes_none_with_it(
-    rt: HostRuntime,
-) -> Result<(), Fail> {
-    let (one, two) = (MockTask::new(&rt)?, MockTask::new(&rt)?);
-    let (tx, rx) = bounded::<u64, _, _>(rt, rt.alloc(), 1, 10)?;
-    let (mut first, mut second) = (rx.stream(), rx.stream());
-    message_is(&rt, one.enter(|cx| first.poll_next(cx)), Poll::Pending);
-    message_is(&rt, two.enter(|cx| second.poll_next(cx)), Poll::Pending);
-    is(&rt, tx.send(42), Ok(()));
-    woken_are(&rt, (&one, &two), (true, true));
-    drop(first);
-    let taken = two.enter(|cx| second.poll_next(cx));
-    message_is(&rt, taken, Poll::Ready(Some(42)));
-    Ok(())
-}
-
-#[test]
-fn a_sink_sends_the_last_message_that_it_was_given(rt: HostRuntime) -> Result<(), Fail> {
-    let task = MockTask::new(&rt)?;
-    let (tx, rx) = bounded::<u64, _, _>(rt, rt.alloc(), 1, 1)?;
-    let mut sink = tx.sink();
-    is(&rt, sink.start_send(1), Ok(()));
-    is(&rt, sink.start_send(2), Ok(()));
-    is(&rt, rx.len(), 0);
-    let flushed = task.enter(|cx| sink.poll_flush(cx));
-    send_is(&rt, flushed, Poll::Ready(Ok(())));
-    let mut drained = rx.drain()?;
-    is(&rt, (drained.next(), drained.next()), (Some(2), None));
-    Ok(())
-}
-
-#[test]
-fn a_sink_that_is_closed_leaves_the_channel_open_and_then_waits_for_room(
-    rt: HostRuntime,
-) -> Result<(), Fail> {
-    let task = MockTask::new(&rt)?;
-    let (tx, rx) = bounded::<u64, _, _>(rt, rt.alloc(), 1, 1)?;
-    let mut sink = tx.sink();
-    is(&rt, sink.start_send(1), Ok(()));
-    let closed = task.enter(|cx| sink.poll_close(cx));
-    send_is(&rt, closed, Poll::Ready(Ok(())));
-    is(&rt, sink.is_disconnected(), false);
-    is(&rt, sink.start_send(2), Ok(()));
-    let ready = task.enter(|cx| sink.poll_ready(cx));
-    send_is(&rt, ready, Poll::Pending);
-    woken_are(&rt, (&task, &task), (false, false));
-    is(&rt, rx.try_recv(), Ok(1));
-    woken_are(&rt, (&task, &task), (true, true));
-    let ready = task.enter(|cx| sink.poll_ready(cx));
-    send_is(&rt, ready, Poll::Ready(Ok(())));
-    is(&rt, rx.try_recv(), Ok(2));
-    Ok(())
+fn each_script_of_streams_and_sinks_answers_as_it_says(rt: HostRuntime) -> Result<(), Fail> {
+    replay(rt, rt.alloc(), STREAMS_AND_SINKS)
 }

@@ -1,97 +1,80 @@
 //! Futures, sinks and streams that are dropped: what they leave, whom they tell, and that each
 //! message is dropped once.
-use crate::fixtures::{is, message_is, receive_is, send_is, woken_are};
+use crate::fixtures::is;
+use crate::replay::replay;
 use ends_tests::counting::Counting;
-use flume::error::TryRecvError;
 use flume::polled::{SendFut, SendSink};
 use flume::{Waits, bounded, unbounded};
-use futures::task::Poll;
+use futures::Sink;
 use futures::test::MockTask;
-use futures::{Sink, Stream};
 use std::alloc::Allocator;
 use std::process::Abort;
 use std::sync::Arc;
 use std::sync::atomic::{AtomicU64, Ordering};
 use std::test::Fail;
 
-#[test]
-fn a_send_that_is_dropped_as_it_waits_takes_its_message_back(rt: HostRuntime) -> Result<(), Fail> {
-    let task = MockTask::new(&rt)?;
-    let (tx, rx) = bounded::<u64, _, _>(rt, rt.alloc(), 1, 0)?;
-    let mut send = tx.send_async(7);
-    send_is(&rt, task.poll(&mut send), Poll::Pending);
-    drop(send);
-    is(&rt, rx.try_recv(), Err(TryRecvError::Empty));
-    Ok(())
-}
+// What is dropped as it waits, or as it was woken.
+const DROPPED: &str = "
+= a send that is dropped as it waits takes its message back
+bounded 0
+send_async first 7
+poll first -> pending
+drop first
+try_recv -> empty
+= a send that is dropped once its message was taken in leaves it
+bounded 1
+send 1 -> sent
+send_async first 2
+poll first -> pending
+recv -> got 1
+drop first
+recv -> got 2
+= a receive that is dropped as it was woken wakes another
+unbounded
+recv_async first
+recv_async second
+poll first one -> pending
+poll second two -> pending
+send 5 -> sent
+woken one -> true
+woken two -> false
+drop first
+woken one -> true
+woken two -> true
+poll second two -> got 5
+= a receive that is dropped as it waits leaves nothing
+unbounded
+recv_async first
+poll first one -> pending
+stream second
+poll second one -> pending
+drop first
+drop second
+send 5 -> sent
+try_recv -> got 5
+recv_async third
+poll third two -> pending
+send 6 -> sent
+woken two -> true
+poll third two -> got 6
+= one that waits is woken though those before it were dropped
+unbounded
+recv_async first
+recv_async second
+stream third
+poll first one -> pending
+poll third one -> pending
+poll second two -> pending
+drop first
+drop third
+send 5 -> sent
+woken two -> true
+poll second two -> got 5
+";
 
 #[test]
-fn a_send_that_is_dropped_once_its_message_was_taken_in_leaves_it(
-    rt: HostRuntime,
-) -> Result<(), Fail> {
-    let task = MockTask::new(&rt)?;
-    let (tx, rx) = bounded::<u64, _, _>(rt, rt.alloc(), 1, 1)?;
-    is(&rt, tx.send(1), Ok(()));
-    let mut send = tx.send_async(2);
-    send_is(&rt, task.poll(&mut send), Poll::Pending);
-    is(&rt, rx.recv(), Ok(1));
-    drop(send);
-    is(&rt, rx.recv(), Ok(2));
-    Ok(())
-}
-
-#[test]
-fn a_receive_that_is_dropped_as_it_was_woken_wakes_another(rt: HostRuntime) -> Result<(), Fail> {
-    let (one, two) = (MockTask::new(&rt)?, MockTask::new(&rt)?);
-    let (tx, rx) = unbounded::<u64, _, _>(rt, rt.alloc(), 1)?;
-    let (mut first, mut second) = (rx.recv_async(), rx.recv_async());
-    receive_is(&rt, one.poll(&mut first), Poll::Pending);
-    receive_is(&rt, two.poll(&mut second), Poll::Pending);
-    is(&rt, tx.send(5), Ok(()));
-    woken_are(&rt, (&one, &two), (true, false));
-    drop(first);
-    woken_are(&rt, (&one, &two), (true, true));
-    receive_is(&rt, two.poll(&mut second), Poll::Ready(Ok(5)));
-    Ok(())
-}
-
-#[test]
-fn a_receive_that_is_dropped_as_it_waits_leaves_nothing(rt: HostRuntime) -> Result<(), Fail> {
-    let (one, two) = (MockTask::new(&rt)?, MockTask::new(&rt)?);
-    let (tx, rx) = unbounded::<u64, _, _>(rt, rt.alloc(), 1)?;
-    let mut first = rx.recv_async();
-    receive_is(&rt, one.poll(&mut first), Poll::Pending);
-    let mut stream = rx.stream();
-    message_is(&rt, one.enter(|cx| stream.poll_next(cx)), Poll::Pending);
-    drop(first);
-    drop(stream);
-    is(&rt, tx.send(5), Ok(()));
-    is(&rt, rx.try_recv(), Ok(5));
-    let mut second = rx.recv_async();
-    receive_is(&rt, two.poll(&mut second), Poll::Pending);
-    is(&rt, tx.send(6), Ok(()));
-    woken_are(&rt, (&two, &two), (true, true));
-    receive_is(&rt, two.poll(&mut second), Poll::Ready(Ok(6)));
-    Ok(())
-}
-
-#[test]
-fn one_that_waits_is_woken_though_those_before_it_were_dropped(
-    rt: HostRuntime,
-) -> Result<(), Fail> {
-    let (one, two) = (MockTask::new(&rt)?, MockTask::new(&rt)?);
-    let (tx, rx) = unbounded::<u64, _, _>(rt, rt.alloc(), 1)?;
-    let (mut first, mut second) = (rx.recv_async(), rx.recv_async());
-    let mut stream = rx.stream();
-    receive_is(&rt, one.poll(&mut first), Poll::Pending);
-    message_is(&rt, one.enter(|cx| stream.poll_next(cx)), Poll::Pending);
-    receive_is(&rt, two.poll(&mut second), Poll::Pending);
-    drop(first);
-    drop(stream);
-    is(&rt, tx.send(5), Ok(()));
-    woken_are(&rt, (&two, &two), (true, true));
-    receive_is(&rt, two.poll(&mut second), Poll::Ready(Ok(5)));
-    Ok(())
+fn each_script_of_what_is_dropped_answers_as_it_says(rt: HostRuntime) -> Result<(), Fail> {
+    replay(rt, rt.alloc(), DROPPED)
 }
 
 // A message that counts its drops.

@@ -1,8 +1,6 @@
 //! What several tests use: answers compared in one place, channels of any capacity, and a message.
 use flume::error::{NoMemory, RecvError, SendError};
 use flume::{Receiver, Sender, Waits, bounded, unbounded};
-use futures::task::Poll;
-use futures::test::MockTask;
 use std::alloc::Global;
 use std::fmt::Debug;
 use std::process::Abort;
@@ -20,34 +18,6 @@ pub(crate) fn is_so<T: Debug + PartialEq + Drop>(
     wanted: T,
 ) {
     assert_eq!(rt; answer, wanted, "{title}");
-}
-
-/// The poll of a send answered so.
-pub(crate) fn send_is(
-    rt: &impl Abort,
-    answer: Poll<Result<(), SendError<u64>>>,
-    wanted: Poll<Result<(), SendError<u64>>>,
-) {
-    assert_eq!(rt; answer, wanted);
-}
-
-/// The poll of a receive answered so.
-pub(crate) fn receive_is(
-    rt: &impl Abort,
-    answer: Poll<Result<u64, RecvError>>,
-    wanted: Poll<Result<u64, RecvError>>,
-) {
-    assert_eq!(rt; answer, wanted);
-}
-
-/// The poll of a stream answered so.
-pub(crate) fn message_is(rt: &impl Abort, answer: Poll<Option<u64>>, wanted: Poll<Option<u64>>) {
-    assert_eq!(rt; answer, wanted);
-}
-
-/// Whether the two tasks were woken since their last polls began.
-pub(crate) fn woken_are(rt: &impl Abort, tasks: (&MockTask, &MockTask), wanted: (bool, bool)) {
-    is(rt, (tasks.0.is_woken(), tasks.1.is_woken()), wanted);
 }
 
 /// The ends of a new channel of this capacity: `None` is unbounded.

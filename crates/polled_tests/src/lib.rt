@@ -3,17 +3,27 @@
 #![tactic(auto)]
 
 #[cfg(test)]
+mod answers;
+#[cfg(test)]
+mod asked;
+#[cfg(test)]
 mod beside;
 #[cfg(test)]
 mod by_hand;
 #[cfg(test)]
 mod dropped;
 #[cfg(test)]
+mod ends;
+#[cfg(test)]
 mod examples;
 #[cfg(test)]
 mod fixtures;
 #[cfg(test)]
 mod forwarded;
+#[cfg(test)]
+mod hand;
+#[cfg(test)]
+mod held;
 #[cfg(test)]
 mod many;
 #[cfg(test)]
@@ -23,7 +33,11 @@ mod moved;
 #[cfg(test)]
 mod order;
 #[cfg(test)]
+mod planted;
+#[cfg(test)]
 mod receives;
+#[cfg(test)]
+mod replay;
 #[cfg(test)]
 mod rows;
 #[cfg(test)]

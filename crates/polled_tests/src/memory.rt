@@ -1,149 +1,124 @@
-//! Want of memory: what a poll answers whose allocator refuses, and that the channel goes on after.
-use crate::fixtures::{is, message_is, receive_is, send_is, woken_are};
-use ends_tests::counting::Counting;
-use flume::error::{RecvError, SendError, TryRecvError};
-use flume::{bounded, unbounded};
-use futures::task::Poll;
-use futures::test::MockTask;
-use futures::{Sink, Stream};
+//! Scripts of want of memory: what a poll answers whose allocator refuses, that the channel goes on
+//! after, and which polls take none.
+use crate::replay::replay;
 use std::test::Fail;
 
+// The allocator refuses between a line `refuse` and a line `grant`.
+const REFUSED: &str = "
+= a receive that would wait finds no memory, and a later poll waits
+bounded 1
+try_send 1 -> sent
+try_recv -> got 1
+recv_async first
+refuse
+poll first -> no memory
+look sender -> open, 0 of 1, empty
+grant
+poll first -> pending
+try_send 2 -> sent
+woken -> true
+poll first -> got 2
+= a receive that waits and is polled on needs no more memory
+bounded 1
+try_send 1 -> sent
+try_recv -> got 1
+recv_async first
+poll first -> pending
+refuse
+poll first -> pending
+try_send 2 -> sent
+woken -> true
+poll first -> got 2
+= a stream that would wait ends with a fault, and can be polled on; its clone has no fault
+unbounded
+stream first
+refuse
+poll first -> ended
+fault first -> true
+clone first second
+fault second -> false
+grant
+poll first -> pending
+send 5 -> sent
+poll first -> got 5
+fault first -> false
+= the end of a stream after a fault is no fault
+unbounded
+own_sender
+stream first
+refuse
+poll first -> ended
+fault first -> true
+drop_sender
+poll first -> ended
+fault first -> false
+= a send or a sink that would wait gives its message back, and none is blocked
+bounded 1
+try_send 1 -> sent
+send_async first 2
+refuse
+poll first -> no memory 2
+poll first -> sent
+grant
+try_recv -> got 1
+try_recv -> empty
+sink second
+try_send 3 -> sent
+start_send second 4 -> kept
+refuse
+poll_flush second -> no memory 4
+= a poll that need not wait needs no memory
+bounded 1
+try_send 1 -> sent
+try_recv -> got 1
+refuse
+send_async first 2
+poll first -> sent
+recv_async second
+poll second -> got 2
+sink third
+start_send third 3 -> kept
+poll_flush third -> sent
+stream fourth
+poll fourth -> got 3
+";
+
+// What was polled is held to the end, so a signal that it had made would be counted.
+const COUNTED: &str = "
+= a poll that is ready at once takes no block of memory, and so makes no signal
+bounded 1
+try_send 1 -> sent
+try_recv -> got 1
+count_blocks
+send_async first 2
+poll first -> sent
+same_blocks -> true
+recv_async second
+poll second -> got 2
+same_blocks -> true
+sink third
+start_send third 3 -> kept
+poll_flush third -> sent
+same_blocks -> true
+stream fourth
+poll fourth -> got 3
+same_blocks -> true
+= a poll that waits takes a block at least, for its signal
+bounded 1
+try_send 1 -> sent
+try_recv -> got 1
+recv_async first
+count_blocks
+poll first -> pending
+same_blocks -> false
+";
+
 #[test]
-fn a_receive_that_would_wait_finds_no_memory_and_a_later_poll_waits(
-    rt: HostRuntime,
-) -> Result<(), Fail> {
-    let task = MockTask::new(&rt)?;
-    let heap = Counting::new(rt.alloc());
-    let (tx, rx) = bounded::<u64, _, _>(rt, &heap, 1, 1)?;
-    is(&rt, tx.try_send(1), Ok(()));
-    is(&rt, rx.try_recv(), Ok(1));
-    let mut receive = rx.recv_async();
-    let refused = Poll::Ready(Err(RecvError::NoMemory));
-    heap.refuse(true);
-    receive_is(&rt, task.poll(&mut receive), refused);
-    is(&rt, (tx.len(), tx.is_disconnected()), (0, false));
-    heap.refuse(false);
-    receive_is(&rt, task.poll(&mut receive), Poll::Pending);
-    is(&rt, tx.try_send(2), Ok(()));
-    woken_are(&rt, (&task, &task), (true, true));
-    receive_is(&rt, task.poll(&mut receive), Poll::Ready(Ok(2)));
-    drop(receive);
-    drop((tx, rx));
-    is(&rt, heap.live(), 0);
-    Ok(())
+fn each_script_of_a_refusing_allocator_answers_as_it_says(rt: HostRuntime) -> Result<(), Fail> {
+    replay(rt, rt.alloc(), REFUSED)
 }
 
 #[test]
-fn a_receive_that_waits_and_is_polled_on_needs_no_more_memory(rt: HostRuntime) -> Result<(), Fail> {
-    let task = MockTask::new(&rt)?;
-    let heap = Counting::new(rt.alloc());
-    let (tx, rx) = bounded::<u64, _, _>(rt, &heap, 1, 1)?;
-    is(&rt, tx.try_send(1), Ok(()));
-    is(&rt, rx.try_recv(), Ok(1));
-    let mut receive = rx.recv_async();
-    receive_is(&rt, task.poll(&mut receive), Poll::Pending);
-    heap.refuse(true);
-    receive_is(&rt, task.poll(&mut receive), Poll::Pending);
-    is(&rt, tx.try_send(2), Ok(()));
-    woken_are(&rt, (&task, &task), (true, true));
-    receive_is(&rt, task.poll(&mut receive), Poll::Ready(Ok(2)));
-    Ok(())
-}
-
-#[test]
-fn a_stream_that_would_wait_ends_with_a_fault_and_can_be_polled_on(
-    rt: HostRuntime,
-) -> Result<(), Fail> {
-    let task = MockTask::new(&rt)?;
-    let heap = Counting::new(rt.alloc());
-    let (tx, rx) = unbounded::<u64, _, _>(rt, &heap, 1)?;
-    let mut stream = rx.stream();
-    heap.refuse(true);
-    message_is(
-        &rt,
-        task.enter(|cx| stream.poll_next(cx)),
-        Poll::Ready(None),
-    );
-    is(&rt, stream.fault(), true);
-    is(&rt, stream.clone()?.fault(), false);
-    heap.refuse(false);
-    message_is(&rt, task.enter(|cx| stream.poll_next(cx)), Poll::Pending);
-    is(&rt, tx.send(5), Ok(()));
-    let message = task.enter(|cx| stream.poll_next(cx));
-    message_is(&rt, message, Poll::Ready(Some(5)));
-    is(&rt, stream.fault(), false);
-    Ok(())
-}
-
-#[test]
-fn the_end_of_a_stream_after_a_fault_is_no_fault(rt: HostRuntime) -> Result<(), Fail> {
-    let task = MockTask::new(&rt)?;
-    let heap = Counting::new(rt.alloc());
-    let (tx, rx) = unbounded::<u64, _, _>(rt, &heap, 1)?;
-    let mut stream = rx.stream();
-    heap.refuse(true);
-    message_is(
-        &rt,
-        task.enter(|cx| stream.poll_next(cx)),
-        Poll::Ready(None),
-    );
-    is(&rt, stream.fault(), true);
-    drop(tx);
-    message_is(
-        &rt,
-        task.enter(|cx| stream.poll_next(cx)),
-        Poll::Ready(None),
-    );
-    is(&rt, stream.fault(), false);
-    Ok(())
-}
-
-#[test]
-fn a_send_that_would_wait_gives_its_message_back_and_none_is_blocked(
-    rt: HostRuntime,
-) -> Result<(), Fail> {
-    let task = MockTask::new(&rt)?;
-    let heap = Counting::new(rt.alloc());
-    let (tx, rx) = bounded::<u64, _, _>(rt, &heap, 1, 1)?;
-    is(&rt, tx.try_send(1), Ok(()));
-    let mut send = tx.send_async(2);
-    heap.refuse(true);
-    let refused = Poll::Ready(Err(SendError::NoMemory(2)));
-    send_is(&rt, task.poll(&mut send), refused);
-    send_is(&rt, task.poll(&mut send), Poll::Ready(Ok(())));
-    heap.refuse(false);
-    is(&rt, rx.try_recv(), Ok(1));
-    is(&rt, rx.try_recv(), Err(TryRecvError::Empty));
-    let mut sink = tx.sink();
-    is(&rt, tx.try_send(3), Ok(()));
-    is(&rt, sink.start_send(4), Ok(()));
-    heap.refuse(true);
-    let flushed = task.enter(|cx| sink.poll_flush(cx));
-    send_is(&rt, flushed, Poll::Ready(Err(SendError::NoMemory(4))));
-    drop((send, sink));
-    drop((tx, rx));
-    is(&rt, heap.live(), 0);
-    Ok(())
-}
-
-#[test]
-fn a_poll_that_need_not_wait_needs_no_memory(rt: HostRuntime) -> Result<(), Fail> {
-    let task = MockTask::new(&rt)?;
-    let heap = Counting::new(rt.alloc());
-    let (tx, rx) = bounded::<u64, _, _>(rt, &heap, 1, 1)?;
-    is(&rt, tx.try_send(1), Ok(()));
-    is(&rt, rx.try_recv(), Ok(1));
-    heap.refuse(true);
-    let mut send = tx.send_async(2);
-    send_is(&rt, task.poll(&mut send), Poll::Ready(Ok(())));
-    let mut receive = rx.recv_async();
-    receive_is(&rt, task.poll(&mut receive), Poll::Ready(Ok(2)));
-    let mut sink = tx.sink();
-    is(&rt, sink.start_send(3), Ok(()));
-    let flushed = task.enter(|cx| sink.poll_flush(cx));
-    send_is(&rt, flushed, Poll::Ready(Ok(())));
-    let mut stream = rx.stream();
-    let message = task.enter(|cx| stream.poll_next(cx));
-    message_is(&rt, message, Poll::Ready(Some(3)));
-    Ok(())
+fn each_script_of_a_counting_allocator_answers_as_it_says(rt: HostRuntime) -> Result<(), Fail> {
+    replay(rt, rt.alloc(), COUNTED)
 }

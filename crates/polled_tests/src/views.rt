@@ -1,11 +1,8 @@
 //! What futures, sinks and streams say of themselves and of their channel: texts, queries, which
 //! channel they are of, and their clones.
-use crate::fixtures::{is, message_is, send_is, woken_are};
-use flume::polled::{RecvFut, RecvStream, SendFut, SendSink};
-use flume::{Waits, bounded, unbounded};
-use futures::task::Poll;
-use futures::test::MockTask;
-use futures::{Sink, Stream};
+use crate::fixtures::is;
+use crate::replay::replay;
+use flume::unbounded;
 use std::alloc::Global;
 use std::fmt::Debug;
 use std::process::Abort;
@@ -28,91 +25,81 @@ fn each_shows_its_name(rt: HostRuntime) -> Result<(), Fail> {
     Ok(())
 }
 
-// What the five queries answer: disconnected, empty, full, how many are queued, and the capacity.
-#[derive(Clone, Copy, Debug, PartialEq, Drop)]
-struct Seen(bool, bool, bool, usize, Option<usize>);
-
-fn seen_by_send<R: Waits>(it: &SendFut<'_, u64, R>) -> Seen {
-    Seen(
-        it.is_disconnected(),
-        it.is_empty(),
-        it.is_full(),
-        it.len(),
-        it.capacity(),
-    )
-}
-
-fn seen_by_sink<R: Waits>(it: &SendSink<'_, u64, R>) -> Seen {
-    Seen(
-        it.is_disconnected(),
-        it.is_empty(),
-        it.is_full(),
-        it.len(),
-        it.capacity(),
-    )
-}
-
-fn seen_by_receive<R: Waits>(it: &RecvFut<'_, u64, R>) -> Seen {
-    Seen(
-        it.is_disconnected(),
-        it.is_empty(),
-        it.is_full(),
-        it.len(),
-        it.capacity(),
-    )
-}
-
-fn seen_by_stream<R: Waits>(it: &RecvStream<'_, u64, R>) -> Seen {
-    Seen(
-        it.is_disconnected(),
-        it.is_empty(),
-        it.is_full(),
-        it.len(),
-        it.capacity(),
-    )
-}
-
-// The channel looks so.
-fn seen_is(rt: &impl Abort, seen: Seen, wanted: Seen) {
-    is(rt, seen, wanted);
-}
+// What each tells of its channel, by the queries of its end, and which clones count.
+const VIEWS: &str = "
+= each answers the queries of a full channel as its end does
+bounded 1
+try_send 1 -> sent
+send_async first 2
+sink second
+recv_async third
+stream fourth
+look first -> open, 1 of 1, full
+look second -> open, 1 of 1, full
+look third -> open, 1 of 1, full
+look fourth -> open, 1 of 1, full
+is_terminated first -> false
+= a send is terminated once the receiver is gone, and what is queued stays
+bounded 1
+own_receiver
+try_send 1 -> sent
+send_async first 2
+is_terminated first -> false
+drop_receiver
+is_terminated first -> true
+look first -> closed, 1 of 1, full
+= a send and a sink answer the queries of an empty channel that is unbounded
+unbounded
+send_async first 1
+sink second
+look first -> open, 0 of any, empty
+look second -> open, 0 of any, empty
+= a receive and a stream answer the queries of an empty channel whose senders are gone
+unbounded
+own_sender
+drop_sender
+recv_async first
+stream second
+look first -> closed, 0 of any, empty
+look second -> closed, 0 of any, empty
+is_terminated first -> true
+is_terminated second -> true
+= a clone of what borrows its end doesn't count
+unbounded
+sink first
+stream second
+clone first third
+clone second fourth
+counts sender -> 1 and 1
+counts receiver -> 1 and 1
+drop first
+drop second
+drop third
+drop fourth
+counts sender -> 1 and 1
+counts receiver -> 1 and 1
+= a clone of what owns its end counts
+unbounded
+clone_into_sink first
+clone_into_stream second
+clone first third
+clone second fourth
+counts sender -> 3 and 3
+counts receiver -> 3 and 3
+is_of_channel third -> true
+drop first
+drop fourth
+counts sender -> 2 and 2
+counts receiver -> 2 and 2
+drop third
+drop second
+counts sender -> 1 and 1
+counts receiver -> 1 and 1
+";
 
 #[test]
-fn each_answers_the_queries_as_its_end_does(rt: HostRuntime) -> Result<(), Fail> {
-    let (tx, rx) = bounded::<u64, _, _>(rt, rt.alloc(), 1, 1)?;
-    is(&rt, tx.try_send(1), Ok(()));
-    let full = Seen(false, false, true, 1, Some(1));
-    let send = tx.send_async(2);
-    seen_is(&rt, seen_by_send(&send), full);
-    seen_is(&rt, seen_by_sink(&tx.sink()), full);
-    seen_is(&rt, seen_by_receive(&rx.recv_async()), full);
-    seen_is(&rt, seen_by_stream(&rx.stream()), full);
-    is(&rt, send.is_terminated(), false);
-    drop(rx);
-    is(&rt, send.is_terminated(), true);
-    seen_is(
-        &rt,
-        seen_by_send(&send),
-        Seen(true, false, true, 1, Some(1)),
-    );
-    Ok(())
-}
-
-#[test]
-fn each_answers_the_queries_of_an_unbounded_channel_whose_senders_are_gone(
-    rt: HostRuntime,
-) -> Result<(), Fail> {
-    let (tx, rx) = unbounded::<u64, _, _>(rt, rt.alloc(), 1)?;
-    let open = Seen(false, true, false, 0, None);
-    seen_is(&rt, seen_by_send(&tx.send_async(1)), open);
-    seen_is(&rt, seen_by_sink(&tx.sink()), open);
-    drop(tx);
-    let closed = Seen(true, true, false, 0, None);
-    seen_is(&rt, seen_by_receive(&rx.recv_async()), closed);
-    seen_is(&rt, seen_by_stream(&rx.stream()), closed);
-    is(&rt, rx.recv_async().is_terminated(), true);
-    is(&rt, rx.stream().is_terminated(), true);
-    Ok(())
+fn each_script_of_views_answers_as_it_says(rt: HostRuntime) -> Result<(), Fail> {
+    replay(rt, rt.alloc(), VIEWS)
 }
 
 #[test]
@@ -125,58 +112,5 @@ fn sinks_and_streams_know_whether_they_are_of_one_channel(rt: HostRuntime) -> Re
     let stream = rx.into_stream();
     is(&rt, stream.same_channel(&stream.clone()?), true);
     is(&rt, stream.same_channel(&other_rx.into_stream()), false);
-    Ok(())
-}
-
-#[test]
-fn a_clone_of_what_owns_its_end_counts_and_one_of_what_borrows_does_not(
-    rt: HostRuntime,
-) -> Result<(), Fail> {
-    let (tx, rx) = unbounded::<u64, _, _>(rt, rt.alloc(), 1)?;
-    let (sink, stream) = (tx.sink(), rx.stream());
-    let (other_sink, other_stream) = (sink.clone()?, stream.clone()?);
-    is(&rt, (tx.sender_count(), rx.receiver_count()), (1, 1));
-    drop((other_sink, other_stream, sink, stream));
-    is(&rt, (tx.sender_count(), rx.receiver_count()), (1, 1));
-    let (sink, stream) = (tx.clone()?.into_sink(), rx.clone()?.into_stream());
-    let (other_sink, other_stream) = (sink.clone()?, stream.clone()?);
-    is(&rt, (tx.sender_count(), rx.receiver_count()), (3, 3));
-    is(&rt, other_sink.sender().same_channel(&tx), true);
-    drop((sink, other_stream));
-    is(&rt, (tx.sender_count(), rx.receiver_count()), (2, 2));
-    drop((other_sink, stream));
-    is(&rt, (tx.sender_count(), rx.receiver_count()), (1, 1));
-    Ok(())
-}
-
-#[test]
-fn a_clone_of_a_sink_keeps_no_message(rt: HostRuntime) -> Result<(), Fail> {
-    let task = MockTask::new(&rt)?;
-    let (tx, rx) = unbounded::<u64, _, _>(rt, rt.alloc(), 1)?;
-    let mut sink = tx.sink();
-    is(&rt, sink.start_send(1), Ok(()));
-    let mut other = sink.clone()?;
-    let flushed = task.enter(|cx| other.poll_flush(cx));
-    send_is(&rt, flushed, Poll::Ready(Ok(())));
-    is(&rt, rx.len(), 0);
-    let flushed = task.enter(|cx| sink.poll_flush(cx));
-    send_is(&rt, flushed, Poll::Ready(Ok(())));
-    is(&rt, rx.len(), 1);
-    Ok(())
-}
-
-#[test]
-fn a_clone_of_a_stream_that_waits_is_not_parked(rt: HostRuntime) -> Result<(), Fail> {
-    let (one, two) = (MockTask::new(&rt)?, MockTask::new(&rt)?);
-    let (tx, rx) = bounded::<u64, _, _>(rt, rt.alloc(), 1, 0)?;
-    let mut stream = rx.stream();
-    message_is(&rt, one.enter(|cx| stream.poll_next(cx)), Poll::Pending);
-    let mut other = stream.clone()?;
-    // One receiver waits, and so one message is let in.
-    is(&rt, tx.try_send(5), Ok(()));
-    is(&rt, tx.try_send(6).is_err(), true);
-    woken_are(&rt, (&one, &one), (true, true));
-    let taken = two.enter(|cx| other.poll_next(cx));
-    message_is(&rt, taken, Poll::Ready(Some(5)));
     Ok(())
 }
