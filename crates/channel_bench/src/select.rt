@@ -38,14 +38,13 @@ impl<R: Waits + Threads + Send + Sync> Bench<R> {
         let start = Instant::now(&self.rt)?;
         let each = self.messages / FOUR;
         let (senders, receivers) = self.open_four()?;
-        let [tx0, tx1, tx2, tx3] = &senders;
+        let senders = &senders;
         let sum = thread::scope(thread::scope_env(), &self.rt, |scope| {
-            if scope.spawn(move || send_each(tx0, each)).is_err()
-                || scope.spawn(move || send_each(tx1, each)).is_err()
-                || scope.spawn(move || send_each(tx2, each)).is_err()
-                || scope.spawn(move || send_each(tx3, each)).is_err()
-            {
-                return Err(Fault::NoThread);
+            for place in 0..FOUR {
+                let sends = move || send_each(&senders[place], each);
+                if scope.spawn(sends).is_err() {
+                    return Err(Fault::NoThread);
+                }
             }
             Ok(select_each(&receivers, each.saturating_mul(FOUR)))
         })?;

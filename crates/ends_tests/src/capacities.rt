@@ -76,20 +76,6 @@ fn both_are<R: Waits + Abort>(
     is(&rt, (tx.is_full(), rx.is_full()), (is_full, is_full));
 }
 
-#[test]
-fn an_unbounded_channel_is_empty_or_not_but_never_full(rt: HostRuntime) -> Result<(), Fail> {
-    let (tx, rx) = opened::<u64, _>(rt, rt.alloc(), None)?;
-    both_hold(rt, (&tx, &rx), 0, None);
-    both_are(rt, (&tx, &rx), true, false);
-    assert!(rt; tx.send(1).is_ok());
-    both_hold(rt, (&tx, &rx), 1, None);
-    both_are(rt, (&tx, &rx), false, false);
-    is(&rt, rx.recv(), Ok(1));
-    both_hold(rt, (&tx, &rx), 0, None);
-    both_are(rt, (&tx, &rx), true, false);
-    Ok(())
-}
-
 // A send of 1 in another thread meets a receive.
 fn meets_a_send<R: Waits + Abort + Threads + Send + Sync + 'static>(
     rt: R,

@@ -1,95 +1,13 @@
-//! Tests of the ends in one thread.
+//! Tests of the ends in one thread: which channel they are of, their names, and what a call waits
+//! on.
 use crate::fixtures::is;
-use flume::error::{
-    RecvError, RecvTimeoutError, SendError, SendTimeoutError, TryRecvError, TrySendError,
-};
 use flume::signal::Parker;
-use flume::{Receiver, Sender, Waits, bounded, unbounded};
+use flume::unbounded;
 use std::io;
-use std::process::Abort;
 use std::sync::Wait;
 use std::sync::atomic::{AtomicU64, Ordering};
 use std::test::Fail;
 use std::time::{Clock, Duration, Instant};
-
-// What both ends answer to the queries of which each has one: len, is_empty, is_full,
-// sender_count, receiver_count.
-fn both_answer<R: Waits + Abort>(
-    rt: R,
-    tx: &Sender<u64, R>,
-    rx: &Receiver<u64, R>,
-    queries: (usize, bool, bool, usize, usize),
-) {
-    let (len, empty, full, senders, receivers) = queries;
-    is(&rt, (tx.len(), rx.len()), (len, len));
-    is(&rt, (tx.is_empty(), rx.is_empty()), (empty, empty));
-    is(&rt, (tx.is_full(), rx.is_full()), (full, full));
-    is(
-        &rt,
-        (tx.sender_count(), rx.sender_count()),
-        (senders, senders),
-    );
-    is(
-        &rt,
-        (tx.receiver_count(), rx.receiver_count()),
-        (receivers, receivers),
-    );
-}
-
-#[test]
-fn both_ends_answer_the_same(rt: HostRuntime) -> Result<(), Fail> {
-    let (tx, rx) = bounded::<u64, _, _>(rt, rt.alloc(), 1, 2)?;
-    let other = tx.clone()?;
-    assert!(rt; tx.send(1).is_ok());
-    both_answer(rt, &tx, &rx, (1, false, false, 2, 1));
-    is(&rt, (tx.capacity(), rx.capacity()), (Some(2), Some(2)));
-    is(
-        &rt,
-        (tx.is_disconnected(), rx.is_disconnected()),
-        (false, false),
-    );
-
-    assert!(rt; other.send(2).is_ok());
-    let another = rx.clone()?;
-    drop(other);
-    both_answer(rt, &tx, &rx, (2, false, true, 1, 2));
-
-    is(&rt, rx.recv(), Ok(1));
-    is(&rt, another.recv(), Ok(2));
-    both_answer(rt, &tx, &rx, (0, true, false, 1, 2));
-
-    drop(rx);
-    is(&rt, tx.is_disconnected(), false);
-    drop(another);
-    is(&rt, tx.is_disconnected(), true);
-    Ok(())
-}
-
-#[test]
-fn an_unbounded_channel_has_no_capacity(rt: HostRuntime) -> Result<(), Fail> {
-    let (tx, rx) = unbounded::<u64, _, _>(rt, rt.alloc(), 1)?;
-    is(&rt, (tx.capacity(), rx.capacity()), (None, None));
-    is(&rt, (tx.is_full(), rx.is_full()), (false, false));
-    Ok(())
-}
-
-#[test]
-fn a_receive_of_an_empty_channel_times_out(rt: HostRuntime) -> Result<(), Fail> {
-    let (tx, rx) = bounded::<u64, _, _>(rt, rt.alloc(), 1, 10)?;
-    let timed = rx.recv_timeout(Duration::from_millis(100));
-    is(&rt, timed, Err(RecvTimeoutError::Timeout));
-    assert!(rt; tx.send(42).is_ok());
-    is(&rt, rx.recv(), Ok(42));
-    Ok(())
-}
-
-#[test]
-fn the_longest_timeout_is_no_deadline(rt: HostRuntime) -> Result<(), Fail> {
-    let (tx, rx) = unbounded::<u64, _, _>(rt, rt.alloc(), 1)?;
-    assert!(rt; tx.send_timeout(1, Duration::MAX).is_ok());
-    is(&rt, rx.recv_timeout(Duration::MAX), Ok(1));
-    Ok(())
-}
 
 #[test]
 fn ends_know_their_channel(rt: HostRuntime) -> Result<(), Fail> {
@@ -115,57 +33,6 @@ fn ends_know_their_channel(rt: HostRuntime) -> Result<(), Fail> {
     is(&rt, rx1.is_disconnected(), false);
     assert!(rt; upgraded.send(7).is_ok());
     is(&rt, rx1.recv(), Ok(7));
-    Ok(())
-}
-
-#[test]
-fn a_weak_sender_upgrades_while_a_sender_lives(rt: HostRuntime) -> Result<(), Fail> {
-    let (tx, rx) = unbounded::<u64, _, _>(rt, rt.alloc(), 1)?;
-    let weak = tx.downgrade()?;
-    drop(tx);
-    assert!(rt; weak.upgrade()?.is_none());
-    is(&rt, rx.is_disconnected(), true);
-    is(&rt, rx.try_recv(), Err(TryRecvError::Disconnected));
-    is(&rt, rx.recv(), Err(RecvError::Disconnected));
-
-    let (tx, rx) = unbounded::<u64, _, _>(rt, rt.alloc(), 2)?;
-    let weak = tx.downgrade()?;
-    drop(rx);
-    assert!(rt; weak.upgrade()?.is_some());
-    is(&rt, tx.sender_count(), 1);
-    Ok(())
-}
-
-#[test]
-fn calls_whose_deadline_is_now_end_at_once(rt: HostRuntime) -> Result<(), Fail> {
-    let (tx, rx) = bounded::<u64, _, _>(rt, rt.alloc(), 1, 1)?;
-    let now = Instant::now(&rt)?;
-    assert!(rt; tx.send_deadline(1, now).is_ok());
-    is(
-        &rt,
-        tx.send_deadline(2, now),
-        Err(SendTimeoutError::Timeout(2)),
-    );
-    is(&rt, rx.recv_deadline(now), Ok(1));
-    is(&rt, rx.recv_deadline(now), Err(RecvTimeoutError::Timeout));
-    Ok(())
-}
-
-#[test]
-fn a_full_channel_refuses_and_a_closed_one_gives_back(rt: HostRuntime) -> Result<(), Fail> {
-    let (tx, rx) = bounded::<u64, _, _>(rt, rt.alloc(), 1, 5)?;
-    for message in 0..5 {
-        assert!(rt; tx.try_send(message).is_ok());
-    }
-    is(&rt, tx.try_send(42), Err(TrySendError::Full(42)));
-    is(&rt, rx.recv(), Ok(0));
-    assert!(rt; tx.try_send(42).is_ok());
-    is(&rt, rx.recv(), Ok(1));
-    drop(rx);
-    is(&rt, tx.try_send(42), Err(TrySendError::Disconnected(42)));
-    is(&rt, tx.send(43), Err(SendError::Disconnected(43)));
-    let timed = tx.send_timeout(44, Duration::from_millis(350));
-    is(&rt, timed, Err(SendTimeoutError::Disconnected(44)));
     Ok(())
 }
 

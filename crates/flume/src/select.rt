@@ -138,7 +138,7 @@ impl<'a, V, L: AtLeastOneArm<V, A> + Drop, A: Allocator + Copy> Selector<'a, V, 
     /// the first that completes wins, and the others are withdrawn before its mapper is called.
     /// `NoMemory`: there was no memory to wait, or in an arm; no mapper was called.
     pub fn wait(self) -> Result<V, NoMemory>
-        requires can_map { (arm : ℕ) → L.can_map (L.mappers self.arms) arm }
+        requires can_map { L.can_map (L.mappers self.arms) }
         ensures value { IfOk result (IsValue L.count L.maps (L.mappers self.entry.arms)) }
     {
         match self.select(Deadline::Never) {
@@ -151,7 +151,7 @@ impl<'a, V, L: AtLeastOneArm<V, A> + Drop, A: Allocator + Copy> Selector<'a, V, 
     /// Waits as `wait` does, up to the deadline. `Timeout`: it is reached, and no arm completes. A
     /// clock that can't be read counts as past each deadline.
     pub fn wait_deadline(self, deadline: Instant) -> Result<V, SelectError>
-        requires can_map { (arm : ℕ) → L.can_map (L.mappers self.arms) arm }
+        requires can_map { L.can_map (L.mappers self.arms) }
         ensures value { IfOk result (IsValue L.count L.maps (L.mappers self.entry.arms)) }
     {
         self.select(Deadline::At(deadline))
@@ -160,7 +160,7 @@ impl<'a, V, L: AtLeastOneArm<V, A> + Drop, A: Allocator + Copy> Selector<'a, V, 
     /// Waits as `wait` does, up to so long from now. Where no time is that late it waits without a
     /// deadline.
     pub fn wait_timeout(self, timeout: Duration) -> Result<V, SelectError>
-        requires can_map { (arm : ℕ) → L.can_map (L.mappers self.arms) arm }
+        requires can_map { L.can_map (L.mappers self.arms) }
         ensures value { IfOk result (IsValue L.count L.maps (L.mappers self.entry.arms)) }
     {
         let deadline = Deadline::after(&self.arms.runtime(), timeout);
@@ -169,7 +169,7 @@ impl<'a, V, L: AtLeastOneArm<V, A> + Drop, A: Allocator + Copy> Selector<'a, V, 
 
     // What the mapper of the first arm that completes makes of its result.
     fn select(mut self, deadline: Deadline) -> Result<V, SelectError>
-        requires can_map { (arm : ℕ) → L.can_map (L.mappers self.arms) arm }
+        requires can_map { L.can_map (L.mappers self.arms) }
         ensures value { IfOk result (IsValue L.count L.maps (L.mappers self.entry.arms)) }
         ensures in_time { deadline ≡ Never → result ≢ Err SelectError.Timeout }
     {

@@ -182,11 +182,13 @@ pub(crate) fn received<R: Waits>(rx: &Rx<'_, R>, how: How, now: Instant) -> Answ
 }
 
 /// What a drain gives: one message, or none, or more than one.
-pub(crate) fn drained<R: Waits>(rx: &Rx<'_, R>) -> Option<Answer> {
-    let mut drain = rx.drain().ok()?;
-    Some(match (drain.next(), drain.next()) {
+pub(crate) fn drained<R: Waits>(rx: &Rx<'_, R>) -> Answer {
+    let Ok(mut drain) = rx.drain() else {
+        return Answer::Word("no memory");
+    };
+    match (drain.next(), drain.next()) {
         (None, _) => Answer::Word("nothing"),
         (Some(message), None) => Answer::Message("only", message),
         (Some(message), Some(_)) => Answer::Message("more than", message),
-    })
+    }
 }

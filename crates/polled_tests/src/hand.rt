@@ -59,7 +59,7 @@ impl<'t, 'r, 'h, R: Waits> Stage<'t, 'r, 'h, R> {
         match asked.call {
             Call::Send(how) => Some(sent(self.sender()?, how, asked.number, self.now)),
             Call::Recv(how) => Some(received(self.receiver()?, how, self.now)),
-            Call::Drain => drained(self.receiver()?),
+            Call::Drain => Some(drained(self.receiver()?)),
             Call::DropDrain => {
                 drop(self.receiver()?.drain().ok()?);
                 Some(DONE)

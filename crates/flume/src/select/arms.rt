@@ -80,8 +80,11 @@ pub trait Arms<V, A: Allocator + Copy> {
     // How many arms there are.
     ghost count: { ℕ };
 
+    // Each mapper may be called on each result of its arm.
+    ghost can_map: { Self.Mappers → Type 0 };
+
     // The mapper of the arm with this number may be called on each result of the arm.
-    ghost can_map: { Self.Mappers → ℕ → Type 0 };
+    ghost can_map_at: { Self.Mappers → ℕ → Type 0 };
 
     // The value is what the mapper of the arm with this number answers to a result of the arm.
     ghost maps: { Self.Mappers → ℕ → V → Type 0 };
@@ -121,8 +124,12 @@ pub trait Arms<V, A: Allocator + Copy> {
     fn value(self, arm: usize) -> V
         requires within { arm < count }
         requires completed { has_completed self arm }
-        requires can_map { can_map (mappers self) arm }
+        requires can_map { can_map_at (mappers self) arm }
         ensures maps { maps (mappers self) arm result };
+
+    // What holds of each mapper holds of that of the arm with this number.
+    ghost can_map_each: { (mappers : Self.Mappers) (arm : ℕ) → arm < count → can_map mappers
+        → can_map_at mappers arm };
 }
 
 /// A list of arms that can be waited for, since there is one.
@@ -141,13 +148,19 @@ pub trait AtLeastOneArm<V, A: Allocator + Copy>: Arms<V, A> {
 }
 
 impl<V, A: Allocator + Copy> Arms<V, A> for () {
+    ghost use Rattle.std.proofs.Common.{arith};
+
     type Mappers = ();
 
     ghost mappers = { λ _. tt };
 
     ghost count = { 0 };
 
-    ghost can_map = { λ _ _. ⊥ };
+    ghost can_map = { λ _. Unit {0} };
+
+    ghost can_map_at = { λ _ _. ⊥ };
+
+    ghost can_map_each = { λ mappers arm within all. Prim.omega arith };
 
     ghost maps = { λ _ _ _. ⊥ };
 
@@ -179,6 +192,7 @@ impl<V, A: Allocator + Copy> Arms<V, A> for () {
 }
 
 impl<V, A: Allocator + Copy, L: Arms<V, A> + Drop, C: Arm<V, A> + Drop> Arms<V, A> for (L, C) {
+    ghost use Rattle.std.proofs.Common.{arith};
     ghost use Rattle.flume.specs.Selecting.{count_one_more, ByNumber};
 
     type Mappers = (L::Mappers, C::Mapper);
@@ -187,7 +201,15 @@ impl<V, A: Allocator + Copy, L: Arms<V, A> + Drop, C: Arm<V, A> + Drop> Arms<V, 
 
     ghost count = { count_one_more L.count };
 
-    ghost can_map = { λ mappers. ByNumber L.count (L.can_map mappers.0) (C.can_map mappers.1) };
+    ghost can_map = { λ mappers. L.can_map mappers.0 × C.can_map mappers.1 };
+
+    ghost can_map_at = { λ mappers.
+        ByNumber L.count (L.can_map_at mappers.0) (C.can_map mappers.1) };
+
+    ghost can_map_each = { λ mappers arm within all. record {
+        is_before = λ other. L.can_map_each mappers.0 arm (Prim.omega arith) all.0;
+        is_last = λ last. all.1;
+    } };
 
     ghost maps = { λ mappers arm value.
         ByNumber L.count (λ n. L.maps mappers.0 n value) (C.maps mappers.1 value) arm };
