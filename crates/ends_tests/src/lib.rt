@@ -1,4 +1,4 @@
-//! Tests of the ends of `flume`: each call, its errors, clocks, memory, and what is dropped.
+//! Tests of the ends of `flume`: calls, their errors, clocks, memory, and what is dropped.
 #![tactic(auto)]
 
 #[cfg(test)]

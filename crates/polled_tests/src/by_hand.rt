@@ -90,6 +90,7 @@ poll first -> sent
 look sender -> closed, 1 of 1, full
 ";
 
+// Receives, and what waits for them.
 const RECEIVES: &str = "
 = a receive waits until a send; a second poll finds the waker of its own task
 unbounded
@@ -169,6 +170,7 @@ look sender -> open, 1 of 0, full
 poll first -> got 6
 ";
 
+// Streams and sinks.
 const STREAMS_AND_SINKS: &str = "
 = a stream waits for each message, and then ends
 unbounded
