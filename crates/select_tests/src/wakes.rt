@@ -65,8 +65,10 @@ fn woken_again<R: Waits + Threads + Abort + Sync + Send>(
     let (reads, read) = unbounded(rt, alloc, 1)?;
     let (release, go_on) = unbounded(rt, alloc, 2)?;
     let (reads, go_on) = (&reads, &go_on);
-    let (tx, rx) = unbounded(Standing { rt, reads, go_on }, alloc, 3)?;
-    let (_other, empty) = unbounded(Standing { rt, reads, go_on }, alloc, 4)?;
+    let here = Standing { rt, reads, go_on };
+    let there = Standing { rt, reads, go_on };
+    let (tx, rx) = unbounded(here, alloc, 3)?;
+    let (_other, empty) = unbounded(there, alloc, 4)?;
     let select = SelectTwo {
         one: &empty,
         other: &rx,
@@ -145,8 +147,10 @@ fn wake_passed_on<R: Waits + Threads + Abort + Sync + Send>(
     let (reads, read) = unbounded(rt, alloc, 1)?;
     let (release, go_on) = unbounded(rt, alloc, 2)?;
     let (reads, go_on) = (&reads, &go_on);
-    let (tx0, rx0) = unbounded(Standing { rt, reads, go_on }, alloc, 3)?;
-    let (tx1, rx1) = unbounded(Standing { rt, reads, go_on }, alloc, 4)?;
+    let here = Standing { rt, reads, go_on };
+    let there = Standing { rt, reads, go_on };
+    let (tx0, rx0) = unbounded(here, alloc, 3)?;
+    let (tx1, rx1) = unbounded(there, alloc, 4)?;
     let select = SelectTwo {
         one: &rx0,
         other: &rx1,
@@ -264,8 +268,10 @@ fn first_of_two_woken<R: Waits + Threads + Abort + Sync + Send>(
     let (reads, read) = unbounded(rt, alloc, 1)?;
     let (release, go_on) = unbounded(rt, alloc, 2)?;
     let (reads, go_on) = (&reads, &go_on);
-    let (tx0, rx0) = unbounded(Standing { rt, reads, go_on }, alloc, 3)?;
-    let (tx1, rx1) = unbounded(Standing { rt, reads, go_on }, alloc, 4)?;
+    let here = Standing { rt, reads, go_on };
+    let there = Standing { rt, reads, go_on };
+    let (tx0, rx0) = unbounded(here, alloc, 3)?;
+    let (tx1, rx1) = unbounded(there, alloc, 4)?;
     let reading = Reading {
         read: &read,
         release,
