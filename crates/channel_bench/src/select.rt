@@ -38,11 +38,10 @@ impl<R: Waits + Threads + Send + Sync> Bench<R> {
         let start = Instant::now(&self.rt)?;
         let each = self.messages / FOUR;
         let (senders, receivers) = self.open_four()?;
-        let senders = &senders;
         let sum = thread::scope(thread::scope_env(), &self.rt, |scope| {
-            for place in 0..FOUR {
-                let sends = move || send_each(&senders[place], each);
-                if scope.spawn(sends).is_err() {
+            for tx in senders.iter() {
+                let tx = tx.clone()?;
+                if scope.spawn(move || send_each(&tx, each)).is_err() {
                     return Err(Fault::NoThread);
                 }
             }
