@@ -207,8 +207,8 @@ impl<V, A: Allocator + Copy, L: Arms<V, A> + Drop, C: Arm<V, A> + Drop> Arms<V, 
         ByNumber L.count (L.can_map_at mappers.0) (C.can_map mappers.1) };
 
     ghost can_map_each = { λ mappers arm within all. record {
-        is_before = λ other. L.can_map_each mappers.0 arm (Prim.omega arith) all.0;
-        is_last = λ last. all.1;
+      is_before = λ other. L.can_map_each mappers.0 arm (Prim.omega arith) all.0;
+      is_last = λ last. all.1;
     } };
 
     ghost maps = { λ mappers arm value.
