@@ -4,8 +4,11 @@ use crate::selections::{
     Until, receive_from_two, receive_from_two_until, receive_or_send, receive_until,
     send_or_receive, send_until,
 };
-use flume::Selector;
 use flume::error::{RecvError, SelectError, SendError, TryRecvError, TrySendError};
+use flume::{Receiver, Selector, Sender, Waits};
+use std::alloc::Global;
+use std::fmt::Debug;
+use std::process::Abort;
 use std::test::Fail;
 use std::time::{Duration, Instant};
 
@@ -188,14 +191,27 @@ fn arms_of_different_types_give_one_type(rt: HostRuntime) -> Result<(), Fail> {
     Ok(())
 }
 
+// It shows as the name of its type.
+fn shows_its_name(rt: &impl Abort, alloc: Global, selector: &impl Debug) -> Result<(), Fail> {
+    let shown = format!(in alloc; "{selector:?}")?;
+    holds(rt, shown.as_str() == "Selector");
+    Ok(())
+}
+
+// One with two arms does.
+fn two_arms_show_it<R: Waits + Abort>(
+    rt: &R,
+    alloc: Global,
+    tx: &Sender<u64, R>,
+    rx: &Receiver<u64, R>,
+) -> Result<(), Fail> {
+    let selector = Selector::new().recv(rx, Won::First).send(tx, 1, Won::Sent);
+    shows_its_name(rt, alloc, &selector)
+}
+
 #[test]
 fn a_selector_shows_its_name(rt: HostRuntime) -> Result<(), Fail> {
     let (tx, rx) = flume::on(rt).unbounded::<u64>()?;
-    let none: Selector<'_, Won> = Selector::default();
-    let shown = format!(in rt.alloc(); "{none:?}")?;
-    holds(&rt, shown.as_str() == "Selector");
-    let two = Selector::new().recv(&rx, Won::First).send(&tx, 1, Won::Sent);
-    let shown = format!(in rt.alloc(); "{two:?}")?;
-    holds(&rt, shown.as_str() == "Selector");
-    Ok(())
+    shows_its_name(&rt, rt.alloc(), &Selector::<'_, Won>::default())?;
+    two_arms_show_it(&rt, rt.alloc(), &tx, &rx)
 }
