@@ -3,8 +3,9 @@
 use crate::fixtures::Won;
 use crate::selections::{Until, receive_from_three_until, receive_from_two_until};
 use crate::works::Work;
-use flume::error::SelectError;
-use flume::{Receiver, Sender, Waits};
+use flume::error::{NoMemory, SelectError};
+use flume::{Receiver, Sender, Waits, unbounded};
+use std::alloc::Global;
 use std::io;
 use std::sync::Wait;
 use std::time::{Clock, Duration, Instant};
@@ -30,6 +31,24 @@ impl<R: Waits> Clock for Standing<'_, R> {
     fn since_1970(&self) -> io::Result<Duration> {
         self.rt.since_1970()
     }
+}
+
+/// The ends of a channel of numbers.
+pub(crate) type Ends<Q> = (Sender<u64, Q>, Receiver<u64, Q>);
+
+/// Lent ends of a channel of numbers.
+pub(crate) type Lent<'a, Q> = (&'a Sender<u64, Q>, &'a Receiver<u64, Q>);
+
+/// Two channels whose ends read a clock that stands still.
+pub(crate) fn two_standing<'a, R: Waits>(
+    rt: R,
+    alloc: Global,
+    reads: &'a Sender<(), R>,
+    go_on: &'a Receiver<(), R>,
+) -> Result<(Ends<Standing<'a, R>>, Ends<Standing<'a, R>>), NoMemory> {
+    let one = unbounded(Standing { rt, reads, go_on }, alloc, 3)?;
+    let other = unbounded(Standing { rt, reads, go_on }, alloc, 4)?;
+    Ok((one, other))
 }
 
 /// Receives from one channel or another, up to a deadline.

@@ -1,9 +1,9 @@
 //! Selections that were woken: one that finds nothing waits on, and an arm that loses passes its
 //! wake on. That a selection waits its clock tells, which stands still.
 use crate::fixtures::{Won, holds, long, offered, queued, received, selected, tried};
-use crate::standing::{SelectThrice, SelectTwo, Standing};
+use crate::standing::{Lent, SelectThrice, SelectTwo, Standing, two_standing};
 use crate::works::{Work, beside};
-use flume::error::{RecvError, SelectError, TryRecvError, TrySendError};
+use flume::error::{RecvError, TryRecvError, TrySendError};
 use flume::polled::RecvFut;
 use flume::{Receiver, Sender, Waits, bounded, unbounded};
 use futures::task::Poll;
@@ -55,70 +55,74 @@ impl<R: Waits, Q: Waits> Work for TakeThenEnd<'_, R, Q> {
     }
 }
 
-// What a selection answers that was woken for a message which another took, and then for this.
-fn woken_again<R: Waits + Threads + Abort + Sync + Send>(
-    rt: R,
-    alloc: Global,
-    deadline: Instant,
+// A selection is woken for a message which another took, and then for the next one or the end.
+fn woken_again<R: Waits + Threads + Abort + Sync + Send, Q: Waits + Send + Sync>(
+    rt: &R,
+    reading: Reading<'_, R>,
+    (tx, rx): (Sender<u64, Q>, &Receiver<u64, Q>),
+    (empty, deadline): (&Receiver<u64, Q>, Instant),
     next: Option<u64>,
-) -> Result<Option<Result<Won, SelectError>>, Fail> {
-    let (reads, read) = unbounded(rt, alloc, 1)?;
-    let (release, go_on) = unbounded(rt, alloc, 2)?;
-    let (reads, go_on) = (&reads, &go_on);
-    let here = Standing { rt, reads, go_on };
-    let there = Standing { rt, reads, go_on };
-    let (tx, rx) = unbounded(here, alloc, 3)?;
-    let (_other, empty) = unbounded(there, alloc, 4)?;
+) {
     let select = SelectTwo {
-        one: &empty,
-        other: &rx,
+        one: empty,
+        other: rx,
         deadline,
-    };
-    let reading = Reading {
-        read: &read,
-        release,
     };
     let meanwhile = TakeThenEnd {
         reading,
         tx,
-        rx: &rx,
+        rx,
         next,
     };
-    let (answer, taken) = beside(&rt, select, meanwhile);
-    tried(&rt, taken, Ok(1));
-    Ok(answer)
+    let (answer, taken) = beside(rt, select, meanwhile);
+    tried(rt, taken, Ok(1));
+    let wanted = next.ok_or(RecvError::Disconnected);
+    selected(rt, answer.expect(rt, "a thread"), Ok(Won::Second(wanted)));
+}
+
+// The same over two new channels.
+fn woken_again_anew<R: Waits + Threads + Abort + Sync + Send>(
+    rt: R,
+    alloc: Global,
+    deadline: Instant,
+    next: Option<u64>,
+) -> Result<(), Fail> {
+    let (reads, read) = unbounded(rt, alloc, 1)?;
+    let (release, go_on) = unbounded(rt, alloc, 2)?;
+    let ((tx, rx), (_other, empty)) = two_standing(rt, alloc, &reads, &go_on)?;
+    let reading = Reading {
+        read: &read,
+        release,
+    };
+    woken_again(&rt, reading, (tx, &rx), (&empty, deadline), next);
+    Ok(())
 }
 
 #[test]
 fn a_selection_that_was_woken_for_nothing_is_woken_again(rt: HostRuntime) -> Result<(), Fail> {
     let far = Instant::now(&rt)?.checked_add(long());
     let far = far.expect(&rt, "an hour has a sum");
-    let answer = woken_again(rt, rt.alloc(), far, Some(2))?;
-    let answer = answer.expect(&rt, "a thread");
-    selected(&rt, answer, Ok(Won::Second(Ok(2))));
-    let answer = woken_again(rt, rt.alloc(), far, None)?;
-    let answer = answer.expect(&rt, "a thread");
-    selected(&rt, answer, Ok(Won::Second(Err(RecvError::Disconnected))));
-    Ok(())
+    woken_again_anew(rt, rt.alloc(), far, Some(2))?;
+    woken_again_anew(rt, rt.alloc(), far, None)
 }
 
 // While a selection waits for two channels, a future waits behind its second arm. Then both arms
 // get a message, so that the first wins and the second was woken.
 #[derive(Drop)]
-struct WakeBoth<'a, R: Waits, Q: Waits> {
+struct WakeBoth<'a, 's, 'f, 't, R: Waits, Q: Waits> {
     reading: Reading<'a, R>,
-    senders: (&'a Sender<u64, Q>, &'a Sender<u64, Q>),
-    rx: &'a Receiver<u64, Q>,
-    task: &'a MockTask,
+    senders: (&'s Sender<u64, Q>, &'s Sender<u64, Q>),
+    rx: &'f Receiver<u64, Q>,
+    task: &'t MockTask,
 }
 
 // The future that waited behind an arm, and whether it was woken before the selection went on.
 type Behind<'a, Q> = (RecvFut<'a, u64, Q>, bool);
 
-impl<'a, R: Waits, Q: Waits> Work for WakeBoth<'a, R, Q> {
-    type Answer = Behind<'a, Q>;
+impl<'f, R: Waits, Q: Waits> Work for WakeBoth<'_, '_, 'f, '_, R, Q> {
+    type Answer = Behind<'f, Q>;
 
-    fn work(self) -> Behind<'a, Q> {
+    fn work(self) -> Behind<'f, Q> {
         let WakeBoth {
             reading,
             senders,
@@ -138,7 +142,33 @@ impl<'a, R: Waits, Q: Waits> Work for WakeBoth<'a, R, Q> {
 }
 
 // A selection loses by an arm that was woken, while a future waits behind that arm.
-fn wake_passed_on<R: Waits + Threads + Abort + Sync + Send>(
+fn wake_passed_on<R: Waits + Threads + Abort + Sync + Send, Q: Waits + Send + Sync>(
+    rt: &R,
+    reading: Reading<'_, R>,
+    (tx0, one): Lent<'_, Q>,
+    (tx1, other): Lent<'_, Q>,
+    (task, deadline): (&MockTask, Instant),
+) {
+    let select = SelectTwo {
+        one,
+        other,
+        deadline,
+    };
+    let meanwhile = WakeBoth {
+        reading,
+        senders: (tx0, tx1),
+        rx: other,
+        task,
+    };
+    let (answer, (mut future, early)) = beside(rt, select, meanwhile);
+    selected(rt, answer.expect(rt, "a thread"), Ok(Won::First(Ok(1))));
+    holds(rt, !early);
+    holds(rt, task.is_woken());
+    holds(rt, task.poll(&mut future) == Poll::Ready(Ok(5)));
+}
+
+// The same over two new channels.
+fn wake_passed_on_anew<R: Waits + Threads + Abort + Sync + Send>(
     rt: R,
     alloc: Global,
     task: &MockTask,
@@ -146,31 +176,12 @@ fn wake_passed_on<R: Waits + Threads + Abort + Sync + Send>(
 ) -> Result<(), Fail> {
     let (reads, read) = unbounded(rt, alloc, 1)?;
     let (release, go_on) = unbounded(rt, alloc, 2)?;
-    let (reads, go_on) = (&reads, &go_on);
-    let here = Standing { rt, reads, go_on };
-    let there = Standing { rt, reads, go_on };
-    let (tx0, rx0) = unbounded(here, alloc, 3)?;
-    let (tx1, rx1) = unbounded(there, alloc, 4)?;
-    let select = SelectTwo {
-        one: &rx0,
-        other: &rx1,
-        deadline,
-    };
+    let ((tx0, rx0), (tx1, rx1)) = two_standing(rt, alloc, &reads, &go_on)?;
     let reading = Reading {
         read: &read,
         release,
     };
-    let meanwhile = WakeBoth {
-        reading,
-        senders: (&tx0, &tx1),
-        rx: &rx1,
-        task,
-    };
-    let (answer, (mut future, early)) = beside(&rt, select, meanwhile);
-    selected(&rt, answer.expect(&rt, "a thread"), Ok(Won::First(Ok(1))));
-    holds(&rt, !early);
-    holds(&rt, task.is_woken());
-    holds(&rt, task.poll(&mut future) == Poll::Ready(Ok(5)));
+    wake_passed_on(&rt, reading, (&tx0, &rx0), (&tx1, &rx1), (task, deadline));
     Ok(())
 }
 
@@ -179,7 +190,7 @@ fn an_arm_that_was_woken_and_loses_wakes_another(rt: HostRuntime) -> Result<(), 
     let far = Instant::now(&rt)?.checked_add(long());
     let far = far.expect(&rt, "an hour has a sum");
     let task = MockTask::new(&rt)?;
-    wake_passed_on(rt, rt.alloc(), &task, far)
+    wake_passed_on_anew(rt, rt.alloc(), &task, far)
 }
 
 // Offers four messages to a selection that waits for one channel by three arms.
@@ -207,7 +218,25 @@ impl<R: Waits, Q: Waits> Work for OfferFour<'_, R, Q> {
 }
 
 // A selection waits for a channel of capacity 0 by three arms.
-fn three_arms_wait<R: Waits + Threads + Abort + Sync + Send>(
+fn three_arms_wait<R: Waits + Threads + Abort + Sync + Send, Q: Waits + Send + Sync>(
+    rt: &R,
+    reading: Reading<'_, R>,
+    (tx, rx): Lent<'_, Q>,
+    deadline: Instant,
+) {
+    let meanwhile = OfferFour { reading, tx };
+    let (answer, offers) = beside(rt, SelectThrice { rx, deadline }, meanwhile);
+    // Each arm waits by itself, and lets one message in.
+    holds(rt, offers == (true, true, true, false));
+    selected(rt, answer.expect(rt, "a thread"), Ok(Won::First(Ok(1))));
+    // Those that lost took nothing, and none waits on.
+    tried(rt, rx.try_recv(), Ok(2));
+    tried(rt, rx.try_recv(), Ok(3));
+    offered(rt, tx.try_send(5), Err(TrySendError::Full(5)));
+}
+
+// The same over a new channel.
+fn three_arms_wait_anew<R: Waits + Threads + Abort + Sync + Send>(
     rt: R,
     alloc: Global,
     deadline: Instant,
@@ -220,15 +249,7 @@ fn three_arms_wait<R: Waits + Threads + Abort + Sync + Send>(
         read: &read,
         release,
     };
-    let meanwhile = OfferFour { reading, tx: &tx };
-    let (answer, offers) = beside(&rt, SelectThrice { rx: &rx, deadline }, meanwhile);
-    // Each arm waits by itself, and lets one message in.
-    holds(&rt, offers == (true, true, true, false));
-    selected(&rt, answer.expect(&rt, "a thread"), Ok(Won::First(Ok(1))));
-    // Those that lost took nothing, and none waits on.
-    tried(&rt, rx.try_recv(), Ok(2));
-    tried(&rt, rx.try_recv(), Ok(3));
-    offered(&rt, tx.try_send(5), Err(TrySendError::Full(5)));
+    three_arms_wait(&rt, reading, (&tx, &rx), deadline);
     Ok(())
 }
 
@@ -236,7 +257,7 @@ fn three_arms_wait<R: Waits + Threads + Abort + Sync + Send>(
 fn three_arms_that_wait_for_one_channel_take_one_message(rt: HostRuntime) -> Result<(), Fail> {
     let far = Instant::now(&rt)?.checked_add(long());
     let far = far.expect(&rt, "an hour has a sum");
-    three_arms_wait(rt, rt.alloc(), far)
+    three_arms_wait_anew(rt, rt.alloc(), far)
 }
 
 // Gives each of two arms a message, the second first.
@@ -260,36 +281,46 @@ impl<R: Waits, Q: Waits> Work for GiveBoth<'_, R, Q> {
 }
 
 // Whatever woke a selection, its first arm that can go on wins.
-fn first_of_two_woken<R: Waits + Threads + Abort + Sync + Send>(
+fn first_of_two_woken<R: Waits + Threads + Abort + Sync + Send, Q: Waits + Send + Sync>(
+    rt: &R,
+    reading: Reading<'_, R>,
+    (tx0, one): Lent<'_, Q>,
+    (tx1, other): Lent<'_, Q>,
+    deadline: Instant,
+) {
+    let meanwhile = GiveBoth {
+        reading,
+        senders: (tx0, tx1),
+    };
+    let (answer, both) = beside(
+        rt,
+        SelectTwo {
+            one,
+            other,
+            deadline,
+        },
+        meanwhile,
+    );
+    holds(rt, both);
+    selected(rt, answer.expect(rt, "a thread"), Ok(Won::First(Ok(1))));
+    queued(rt, other.len(), 1);
+    received(rt, other.recv(), Ok(2));
+}
+
+// The same over two new channels.
+fn first_of_two_woken_anew<R: Waits + Threads + Abort + Sync + Send>(
     rt: R,
     alloc: Global,
     deadline: Instant,
 ) -> Result<(), Fail> {
     let (reads, read) = unbounded(rt, alloc, 1)?;
     let (release, go_on) = unbounded(rt, alloc, 2)?;
-    let (reads, go_on) = (&reads, &go_on);
-    let here = Standing { rt, reads, go_on };
-    let there = Standing { rt, reads, go_on };
-    let (tx0, rx0) = unbounded(here, alloc, 3)?;
-    let (tx1, rx1) = unbounded(there, alloc, 4)?;
+    let ((tx0, rx0), (tx1, rx1)) = two_standing(rt, alloc, &reads, &go_on)?;
     let reading = Reading {
         read: &read,
         release,
     };
-    let meanwhile = GiveBoth {
-        reading,
-        senders: (&tx0, &tx1),
-    };
-    let select = SelectTwo {
-        one: &rx0,
-        other: &rx1,
-        deadline,
-    };
-    let (answer, both) = beside(&rt, select, meanwhile);
-    holds(&rt, both);
-    selected(&rt, answer.expect(&rt, "a thread"), Ok(Won::First(Ok(1))));
-    queued(&rt, rx1.len(), 1);
-    received(&rt, rx1.recv(), Ok(2));
+    first_of_two_woken(&rt, reading, (&tx0, &rx0), (&tx1, &rx1), deadline);
     Ok(())
 }
 
@@ -297,11 +328,11 @@ fn first_of_two_woken<R: Waits + Threads + Abort + Sync + Send>(
 fn after_a_wake_the_first_arm_that_can_go_on_wins(rt: HostRuntime) -> Result<(), Fail> {
     let far = Instant::now(&rt)?.checked_add(long());
     let far = far.expect(&rt, "an hour has a sum");
-    first_of_two_woken(rt, rt.alloc(), far)
+    first_of_two_woken_anew(rt, rt.alloc(), far)
 }
 
 #[test]
 fn a_message_that_comes_as_the_time_is_up_is_taken(rt: HostRuntime) -> Result<(), Fail> {
     // The clock tells the time only once the messages are there, and then the deadline is past.
-    first_of_two_woken(rt, rt.alloc(), Instant::now(&rt)?)
+    first_of_two_woken_anew(rt, rt.alloc(), Instant::now(&rt)?)
 }
