@@ -85,7 +85,7 @@ poll fourth -> got 3
 
 // What was polled is held to the end, so a signal that it had made would be counted.
 const COUNTED: &str = "
-= a poll that is ready at once takes no block of memory, and so makes no signal
+= a poll that is ready at once takes no block of memory, and makes no waker, whose drop would wake its task
 bounded 1
 try_send 1 -> sent
 try_recv -> got 1
@@ -93,17 +93,21 @@ count_blocks
 send_async first 2
 poll first -> sent
 same_blocks -> true
+woken -> false
 recv_async second
 poll second -> got 2
 same_blocks -> true
+woken -> false
 sink third
 start_send third 3 -> kept
 poll_flush third -> sent
 same_blocks -> true
+woken -> false
 stream fourth
 poll fourth -> got 3
 same_blocks -> true
-= a poll that waits takes a block at least, for its signal
+woken -> false
+= a poll that waits takes a block at least, for its place among the receivers
 bounded 1
 try_send 1 -> sent
 try_recv -> got 1
