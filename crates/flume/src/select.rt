@@ -176,7 +176,10 @@ impl<'a, V, L: AtLeastOneArm<V, A> + Drop, A: Allocator + Copy> Selector<'a, V, 
         let rt = self.arms.runtime();
         self.deadline = deadline;
         let arm = select_over(&rt, &mut self)?;
-        Ok(self.arms.value(arm))
+        match self.arms.value(arm) {
+            Some(value) => Ok(value),
+            None => unreachable!(),
+        }
     }
 }
 

@@ -1,5 +1,5 @@
 //! The arms of a selector: one, and a list of them in a type.
-ghost use Rattle.std.specs.Prelude.{◌≡◌, ◌≢◌, ◌<◌, ℕ};
+ghost use Rattle.std.specs.Prelude.{◌≡◌, ◌<◌, ◌↔◌, ℕ, IfSome, IsSome};
 ghost use Rattle.flume_calls.specs.declared.gates.select.ArmNext.{ArmNext};
 
 use crate::shared::Waits;
@@ -61,12 +61,13 @@ pub trait Arm<V, A: Allocator + Copy> {
         ensures completed { has_completed self.old → has_completed self.new }
         ensures mapper { mapper self.new ≡ mapper self.old };
 
-    /// What its mapper answers to its result.
-    fn value(self) -> V
-        requires completed { has_completed self }
+    /// What its mapper answers to its result. `None`: it hasn't completed, and the mapper wasn't
+    /// called.
+    fn value(self) -> Option<V>
         requires can_map { can_map (mapper self) }
-        ensures answers { answers self result }
-        ensures maps { maps (mapper self) result };
+        ensures completed { has_completed self ↔ IsSome result }
+        ensures answers { IfSome result (answers self) }
+        ensures maps { IfSome result (maps (mapper self)) };
 }
 
 /// The arms of a selector, numbered from 0 in the order in which they were added: none, or those
@@ -82,9 +83,6 @@ pub trait Arms<V, A: Allocator + Copy> {
 
     // Each mapper may be called on each result of its arm.
     ghost can_map: { Self.Mappers → Type 0 };
-
-    // The mapper of the arm with this number may be called on each result of the arm.
-    ghost can_map_at: { Self.Mappers → ℕ → Type 0 };
 
     // The value is what the mapper of the arm with this number answers to a result of the arm.
     ghost maps: { Self.Mappers → ℕ → V → Type 0 };
@@ -105,31 +103,25 @@ pub trait Arms<V, A: Allocator + Copy> {
     /// The greatest of their numbers of checks.
     fn checks(&self) -> u32;
 
-    /// The turn of the arm with this number.
+    /// The turn of the arm with this number. Where there is none, nothing is done.
     fn turn(&mut self, arm: usize, parker: &Arc<Parker, A>) -> ArmNext
-        requires within { arm < count }
         ensures does { turns self.old arm result self.new }
         ensures completed { result ≡ ArmNext.Completed → has_completed self.new arm }
         ensures mappers { mappers self.new ≡ mappers self.old };
 
-    /// Withdraws the arm with this number.
+    /// Withdraws the arm with this number. Where there is none, nothing is done.
     fn withdraw(&mut self, arm: usize)
-        requires within { arm < count }
         ensures does { withdraws self.old arm self.new }
         ensures completed { (other : ℕ) → has_completed self.old other
             → has_completed self.new other }
         ensures mappers { mappers self.new ≡ mappers self.old };
 
-    /// What the mapper of the arm with this number answers. No other mapper is called.
-    fn value(self, arm: usize) -> V
-        requires within { arm < count }
-        requires completed { has_completed self arm }
-        requires can_map { can_map_at (mappers self) arm }
-        ensures maps { maps (mappers self) arm result };
-
-    // What holds of each mapper holds of that of the arm with this number.
-    ghost can_map_each: { (mappers : Self.Mappers) (arm : ℕ) → arm < count → can_map mappers
-        → can_map_at mappers arm };
+    /// What the mapper of the arm with this number answers to its result. `None`: there is no such
+    /// arm, or it hasn't completed.
+    fn value(self, arm: usize) -> Option<V>
+        requires can_map { can_map (mappers self) }
+        ensures completed { has_completed self arm ↔ IsSome result }
+        ensures maps { IfSome result (maps (mappers self) arm) };
 }
 
 /// A list of arms that can be waited for, since there is one.
@@ -148,7 +140,8 @@ pub trait AtLeastOneArm<V, A: Allocator + Copy>: Arms<V, A> {
 }
 
 impl<V, A: Allocator + Copy> Arms<V, A> for () {
-    ghost use Rattle.std.proofs.Common.{arith};
+    ghost use Rattle.std.specs.Prelude.{◌≡◌};
+    ghost use Rattle.flume_calls.specs.declared.gates.select.ArmNext.TheVariants.{NoMemory};
 
     type Mappers = ();
 
@@ -158,17 +151,13 @@ impl<V, A: Allocator + Copy> Arms<V, A> for () {
 
     ghost can_map = { λ _. Unit {0} };
 
-    ghost can_map_at = { λ _ _. ⊥ };
-
-    ghost can_map_each = { λ mappers arm within all. Prim.omega arith };
-
     ghost maps = { λ _ _ _. ⊥ };
 
     ghost has_completed = { λ _ _. ⊥ };
 
-    ghost turns = { λ _ _ _ _. ⊥ };
+    ghost turns = { λ old _ next new. (next ≡ NoMemory) × (new ≡ old) };
 
-    ghost withdraws = { λ _ _ _. ⊥ };
+    ghost withdraws = { λ old _ new. new ≡ old };
 
     fn count(&self) -> usize {
         0
@@ -179,20 +168,17 @@ impl<V, A: Allocator + Copy> Arms<V, A> for () {
     }
 
     fn turn(&mut self, _arm: usize, _parker: &Arc<Parker, A>) -> ArmNext {
-        unreachable!()
+        ArmNext::NoMemory
     }
 
-    fn withdraw(&mut self, _arm: usize) {
-        unreachable!()
-    }
+    fn withdraw(&mut self, _arm: usize) {}
 
-    fn value(self, _arm: usize) -> V {
-        unreachable!()
+    fn value(self, _arm: usize) -> Option<V> {
+        None
     }
 }
 
 impl<V, A: Allocator + Copy, L: Arms<V, A> + Drop, C: Arm<V, A> + Drop> Arms<V, A> for (L, C) {
-    ghost use Rattle.std.proofs.Common.{arith};
     ghost use Rattle.flume.specs.Selecting.{count_one_more, ByNumber};
 
     type Mappers = (L::Mappers, C::Mapper);
@@ -202,14 +188,6 @@ impl<V, A: Allocator + Copy, L: Arms<V, A> + Drop, C: Arm<V, A> + Drop> Arms<V, 
     ghost count = { count_one_more L.count };
 
     ghost can_map = { λ mappers. L.can_map mappers.0 × C.can_map mappers.1 };
-
-    ghost can_map_at = { λ mappers.
-        ByNumber L.count (L.can_map_at mappers.0) (C.can_map mappers.1) };
-
-    ghost can_map_each = { λ mappers arm within all. record {
-      is_before = λ other. L.can_map_each mappers.0 arm (Prim.omega arith) all.0;
-      is_last = λ last. all.1;
-    } };
 
     ghost maps = { λ mappers arm value.
         ByNumber L.count (λ n. L.maps mappers.0 n value) (C.maps mappers.1 value) arm };
@@ -250,7 +228,7 @@ impl<V, A: Allocator + Copy, L: Arms<V, A> + Drop, C: Arm<V, A> + Drop> Arms<V, 
         }
     }
 
-    fn value(self, arm: usize) -> V {
+    fn value(self, arm: usize) -> Option<V> {
         let (before, last) = self;
         if arm == before.count() {
             last.value()

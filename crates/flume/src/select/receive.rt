@@ -144,12 +144,12 @@ where
         }
     }
 
-    fn value(self) -> V {
+    fn value(self) -> Option<V> {
         let RecvArm { state, mapper, .. } = self;
         match state {
-            ReceiveState::Completed(Some(message)) => mapper(Ok(message)),
-            ReceiveState::Completed(None) => mapper(Err(RecvError::Disconnected)),
-            _ => unreachable!(),
+            ReceiveState::Completed(Some(message)) => Some(mapper(Ok(message))),
+            ReceiveState::Completed(None) => Some(mapper(Err(RecvError::Disconnected))),
+            _ => None,
         }
     }
 }

@@ -141,12 +141,12 @@ where
         }
     }
 
-    fn value(self) -> V {
+    fn value(self) -> Option<V> {
         let SendArm { state, mapper, .. } = self;
         match state {
-            SendState::Completed(Ok(())) => mapper(Ok(())),
-            SendState::Completed(Err(back)) => mapper(Err(SendError::Disconnected(back))),
-            _ => unreachable!(),
+            SendState::Completed(Ok(())) => Some(mapper(Ok(()))),
+            SendState::Completed(Err(back)) => Some(mapper(Err(SendError::Disconnected(back)))),
+            _ => None,
         }
     }
 }
