@@ -7,7 +7,8 @@ use Rattle.channel_bench.specs.declared.arguments.Capacity.TheVariants.{Unbounde
 use Rattle.channel_bench.specs.declared.arguments.Shape.{Shape}
 use Rattle.channel_bench.specs.declared.arguments.Shape.TheVariants.{Seq, Spsc, Mpsc, Mpmc, Oneshot}
 use Rattle.channel_bench.specs.declared.arguments.Shape.TheVariants.{Inout, TryPair, TryEmpty, TryFull}
-use Rattle.channel_bench.specs.declared.arguments.Shape.TheVariants.{PollPair, PollRecvPark, PollSendPark}
+use Rattle.channel_bench.specs.declared.arguments.Shape.TheVariants.{AuditPair, PollPair}
+use Rattle.channel_bench.specs.declared.arguments.Shape.TheVariants.{PollRecvPark, PollSendPark}
 use Rattle.channel_bench.specs.declared.arguments.Shape.TheVariants.{AsyncPair, AsyncJoin, AsyncPing}
 use Rattle.channel_bench.specs.declared.arguments.Shape.TheVariants.{Pending, PendingDrop}
 use Rattle.channel_bench.specs.declared.arguments.Shape.TheVariants.{SelectSeq, SelectRx}
@@ -23,6 +24,7 @@ shape_word Inout = codes "inout"
 shape_word TryPair = codes "try_pair"
 shape_word TryEmpty = codes "try_empty"
 shape_word TryFull = codes "try_full"
+shape_word AuditPair = codes "audit_pair"
 shape_word PollPair = codes "poll_pair"
 shape_word PollRecvPark = codes "poll_recv_park"
 shape_word PollSendPark = codes "poll_send_park"
@@ -83,6 +85,7 @@ CanBeTimed Seq (Of _) = ⊥
 CanBeTimed Oneshot (Of capacity) = 0 < capacity
 CanBeTimed Inout (Of capacity) = 0 < capacity
 CanBeTimed TryPair (Of capacity) = 0 < capacity
+CanBeTimed AuditPair (Of capacity) = 0 < capacity
 CanBeTimed TryFull Unbounded = ⊥
 CanBeTimed TryFull Big = ⊥
 CanBeTimed PollPair (Of capacity) = 0 < capacity

@@ -21,6 +21,7 @@ pub enum Shape {
     TryPair,
     TryEmpty,
     TryFull,
+    AuditPair,
     PollPair,
     PollRecvPark,
     PollSendPark,
@@ -47,6 +48,7 @@ impl Shape {
             "try_pair" => Some(Shape::TryPair),
             "try_empty" => Some(Shape::TryEmpty),
             "try_full" => Some(Shape::TryFull),
+            "audit_pair" => Some(Shape::AuditPair),
             "poll_pair" => Some(Shape::PollPair),
             "poll_recv_park" => Some(Shape::PollRecvPark),
             "poll_send_park" => Some(Shape::PollSendPark),
@@ -139,6 +141,7 @@ impl Arguments {
             Shape::Oneshot
             | Shape::Inout
             | Shape::TryPair
+            | Shape::AuditPair
             | Shape::PollPair
             | Shape::AsyncPair
             | Shape::SelectSeq => !matches!(self.capacity, Capacity::Of(0)),

@@ -2,8 +2,8 @@
 //! send waits for a receive.
 //!
 //! Each call of an end is a few steps of the one channel behind its lock, whose steps are proved.
-//! The names of `flume_core`, the calls, bells and gates of `flume_calls`, and the scripts of
-//! `flume_script`, are given again here.
+//! The names of `flume_core`, the calls, bells and gates of `flume_calls`, the audit of
+//! `flume_audit`, and the scripts of `flume_script`, are given again here.
 //!
 //! ```
 //! let (tx, rx) = flume::on(rt).unbounded()?;
@@ -32,6 +32,7 @@ mod weak;
 
 pub use builder::{Builder, on};
 pub use drain::Drain;
+pub use flume_audit::{audit, book, closed, differs, receipt, seat, weigh};
 pub use flume_calls::{calls, due, gates};
 pub use flume_core::error::{
     RecvError, RecvTimeoutError, SelectError, SendError, SendTimeoutError, TryRecvError,

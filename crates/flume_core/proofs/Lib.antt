@@ -1,6 +1,6 @@
 mod Start
 mod Bare
-mod Views
+pub mod Views
 mod BlockedLive
 mod StateFacts
 mod Stands

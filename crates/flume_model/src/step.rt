@@ -16,7 +16,7 @@ pub enum Kind {
 }
 
 /// One step of one party, with the message that it hands in.
-#[derive(Clone, Debug, PartialEq, Eq, Drop)]
+#[derive(Clone, Copy, Debug, PartialEq, Eq, Drop)]
 pub enum Step<T> {
     /// Offer a message, without waiting.
     TrySend(T),
@@ -61,7 +61,8 @@ pub enum Step<T> {
 }
 
 /// What the channel answers to a step. `A` is the allocator of a drained list.
-#[derive(Clone, Debug, PartialEq, Eq, Drop)]
+#[derive(Clone, Drop)]
+#[derive_where(Debug, PartialEq, Eq; T)]
 pub enum Reply<T, A: Allocator = Global> {
     /// The message was taken in, and went to the receiver with ticket `filled` if one waited.
     Sent { filled: Option<u64> },

@@ -1,0 +1,10 @@
+mod Anys
+mod Froms
+mod Leasts
+mod Neighbours
+mod Risings
+mod Tellings
+mod Disagreements
+mod Settlement
+mod Steps
+mod Closings

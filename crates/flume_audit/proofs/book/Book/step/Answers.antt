@@ -1,0 +1,83 @@
+use Rattle.std.proofs.Common.{rules, ◌≡◌, ℕ, List, [], ◌∷◌, ◌++◌, length, refl, ◌∙◌, ap}
+use Rattle.flume_model.specs.declared.step.Step.{Step}
+use Rattle.flume_model.specs.declared.step.Reply.{Reply}
+use Rattle.flume_state.proofs.LineLemmas.{on_err}
+use Rattle.flume_audit.specs.declared.receipt.Receipt.{Receipt}
+use Rattle.flume_audit.proofs.Steps.{room_serves, pushed, written, entry_weighs, receipt_weighs}
+use Rattle.flume_audit.proofs.book.Book.step.Goals as goal
+
+-- a history with room for one more is the same history
+pub returns-in_err-try_reserve-2-clause-unchanged :
+    goal.returns-in_err-try_reserve-2-clause-unchanged
+returns-in_err-try_reserve-2-clause-unchanged g c =
+    on_err c.from_residual-in_err-try_reserve-2.result _
+    (ap (λ (items : List (Step g.row.T.Denot × Reply g.row.T.Denot g.row.A.Denot)). record {
+      opening = c.self.inside.opening;
+      history = items;
+      channel = c.self.inside.chan;
+    }) c.try_reserve.ensures.items ∙ c.self.view_is)
+
+-- the drained list has as many messages as were queued
+pub copied-told-requires-clause-room : goal.copied-told-requires-clause-room
+copied-told-requires-clause-room g c =
+    room_serves _ _ _ c.step-reply.new.self c.args.step c.step-reply.result _ _
+    c.self.invariant.0 c.step-reply.ensures.step c.step-reply.ensures.comes
+    c.drained_by-drained.ensures.drain c.in_ok-room.ensures.capacity
+
+pub copied-answer-requires-clause-room : goal.copied-answer-requires-clause-room
+copied-answer-requires-clause-room g c =
+    room_serves _ _ _ c.step-reply.new.self c.args.step c.step-reply.result _ _
+    c.self.invariant.0 c.step-reply.ensures.step c.step-reply.ensures.comes
+    c.drained_by-drained.ensures.drain c.in_ok-more.ensures.capacity
+
+-- the entry stands at the end of the history, and its weight is in the total
+pub invariant_of-self-2 : goal.invariant_of-self-2
+invariant_of-self-2 g c =
+    let grows = pushed (c.args.step, c.step-reply.result) c.try_reserve.ensures.items
+    c.push_reserved.ensures.items in (
+      written _ _ _ _ _ grows (c.step-reply.ensures.step _ _ c.self.invariant.0),
+      c.self.invariant.1,
+      c.self.invariant.2,
+      entry_weighs g.W.Weigh.weight _ _ c.args.step c.step-reply.result _ _ grows
+          c.self.invariant.3 c.add_weight.ensures.total,
+    )
+
+-- the receipt's weight is in the share's amount
+pub invariant_of-seat-2 : goal.invariant_of-seat-2
+invariant_of-seat-2 g c =
+    let receipt : Receipt g.row.T.Denot g.row.A.Denot =
+    record { number = c.len-number.result; step = c.args.step; reply = c.copied-told.result } in (
+      c.add_weight.ensures.parts ∙ c.seat.invariant.0,
+      receipt_weighs g.W.Weigh.weight c.seat.inside.receipts.items c.push_reserved-2.new.self.items
+          c.len-number.result c.args.step c.step-reply.result c.copied-told.result
+          c.seat.inside.share.amount c.add_weight.new.share.amount
+          g.W.Weigh.by_messages c.copied-told.ensures.same
+          (pushed receipt c.try_reserve-2.ensures.items c.push_reserved-2.ensures.items)
+          c.seat.invariant.1 c.add_weight.ensures.amount,
+    )
+
+-- the channel made the step, the history has it and the seat a receipt
+pub returns-clause-step : goal.returns-clause-step
+returns-clause-step g c =
+    let receipt : ℕ → Receipt g.row.T.Denot g.row.A.Denot = λ number.
+    record { number = number; step = c.args.step; reply = c.copied-told.result } in
+    let numbered : c.len-number.result ≡ length c.self.inside.history.items = search rules in
+    rw (← c.self.view_is, ← c.seat.view_is) (record {
+      reply = c.step-reply.result;
+      told = c.copied-told.result;
+      channel = record {
+        stands = c.step-reply.ensures.step;
+        dues = c.step-reply.ensures.dues (_, _, c.self.invariant.0);
+        comes = c.step-reply.ensures.comes;
+        unchanged = c.step-reply.ensures.unchanged;
+      };
+      history = pushed (c.args.step, c.step-reply.result) c.try_reserve.ensures.items
+          c.push_reserved.ensures.items;
+      opening = refl;
+      receipt =
+          pushed (receipt c.len-number.result) c.try_reserve-2.ensures.items
+          c.push_reserved-2.ensures.items
+          ∙ ap (λ number. c.seat.inside.receipts.items ++ receipt number ∷ []) numbered;
+      told_same = c.copied-told.ensures.same;
+      answer_same = c.copied-answer.ensures.same;
+    })

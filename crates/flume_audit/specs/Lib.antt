@@ -1,0 +1,5 @@
+pub mod Weights
+pub mod Recorded
+pub mod Settled
+pub mod Misplaced
+pub mod Only

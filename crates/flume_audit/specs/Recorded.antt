@@ -1,0 +1,66 @@
+-- What a contract sees of a book, and what a step through it leaves.
+use Rattle.std.specs.Prelude.{◌≡◌, ℕ, List, [], ◌∷◌, ◌++◌, length, reverse, Option}
+use Rattle.flume_model.specs.declared.step.Step.{Step}
+use Rattle.flume_model.specs.declared.step.Reply.{Reply}
+use Rattle.flume_model.specs.Log.{opens}
+use Rattle.flume_state.specs.State.{State, opened}
+use Rattle.flume_state.specs.Due.{BecomesDue}
+use Rattle.flume_core.specs.StandsFor.{StandsFor, Extends, ChangesNothing}
+use Rattle.flume_core.specs.Comes.{Comes}
+use Rattle.flume_audit.specs.declared.receipt.Receipt.{Receipt}
+use Rattle.flume_audit.specs.Weights.{SameReply}
+
+-- steps with their replies, the oldest first
+abbrev pub History : Type 0 → Type 0 → Type 0
+History T A = List (Step T × Reply T A)
+
+-- what a contract sees of a book: the capacity with which its channel was opened, what was done
+-- since, and the channel
+pub record Recorded (T A : Type 0) : Type 0 where
+  pub opening : Option ℕ
+  pub history : History T A
+  pub channel : State T (Unit {0})
+
+module _ {T A : Type 0} where
+  -- a book in which nothing was written: its channel is new
+  abbrev pub unwritten : Option ℕ → Recorded T A
+  unwritten capacity = record {
+    opening = capacity;
+    history = [];
+    channel = opened (opens capacity 1);
+  }
+
+  -- the channel is what the history led to, from a new one of that capacity
+  abbrev pub StandsByHistory : Recorded T A → Type 0
+  StandsByHistory book =
+      StandsFor {A = A} (opens book.opening 1) (reverse book.history) book.channel
+
+  -- one core step of the channel, with its reply
+  pub record IsCoreStep (old : State T (Unit {0})) (step : Step T) (reply : Reply T A)
+      (new : State T (Unit {0})) : Type 0 where
+    pub stands : Extends old step reply new
+    pub dues : BecomesDue old step reply new
+    pub comes : Comes step reply
+    pub unchanged : ChangesNothing step reply → new ≡ old
+
+  -- a step through a book by a seat: the channel makes it, and it stands with the channel's reply
+  -- at the end of the history, and with its number there in the seat; the seat's copy of the reply
+  -- and the answer are that reply
+  pub record IsRecorded (old : Recorded T A) (seat : List (Receipt T A)) (step : Step T)
+      (answer : Reply T A) (new : Recorded T A) (after : List (Receipt T A)) : Type 0 where
+    pub reply : Reply T A
+    pub told : Reply T A
+    pub channel : IsCoreStep old.channel step reply new.channel
+    pub history : new.history ≡ old.history ++ (step, reply) ∷ []
+    pub opening : new.opening ≡ old.opening
+    pub receipt :
+        after ≡ seat ++ record { number = length old.history; step = step; reply = told } ∷ []
+    pub told_same : SameReply reply told
+    pub answer_same : SameReply reply answer
+
+  -- a seat gained a receipt of the step, and the answer is the same reply as the receipt's
+  abbrev pub GainsReceipt : List (Receipt T A) → Step T → Reply T A → List (Receipt T A) → Type 0
+  GainsReceipt seat step answer after =
+      (number : ℕ) × (reply : Reply T A) × (told : Reply T A)
+      × SameReply reply told × SameReply reply answer
+      × (after ≡ seat ++ record { number = number; step = step; reply = told } ∷ [])

@@ -1,0 +1,59 @@
+-- When a history and the receipts of those who made it agree.
+use Rattle.std.specs.Prelude.{◌≡◌, ℕ, ◌<◌, ◌≤◌, ◌==◌, Bool, true, false}
+use Rattle.std.specs.Prelude.{◌⊎◌, List, [], ◌∷◌, length, filter, flat_map, Some, slice_get}
+use Rattle.std.specs.Prelude.{All, Any, AllPairs}
+use Rattle.flume_model.specs.declared.step.Step.{Step}
+use Rattle.flume_model.specs.declared.step.Reply.{Reply}
+use Rattle.flume_audit.specs.declared.receipt.Receipt.{Receipt}
+use Rattle.flume_audit.specs.Recorded.{History}
+
+module _ {T A : Type 0} where
+  -- the step and the reply that a receipt tells of
+  abbrev pub entry_of : Receipt T A → Step T × Reply T A
+  entry_of receipt = (receipt.step, receipt.reply)
+
+  -- the receipts with this number, of all lists
+  abbrev pub told_at : ℕ → List (List (Receipt T A)) → List (Receipt T A)
+  told_at number lists = flat_map (filter (λ receipt. receipt.number == number)) lists
+
+  -- one of these receipts has this number, and isn't above the one before it
+  abbrev pub NotAbove : ℕ → List (Receipt T A) → Type 0
+  NotAbove number (before ∷ receipt ∷ rest) =
+      ((receipt.number ≡ number) × (number ≤ before.number)) ⊎ NotAbove number (receipt ∷ rest)
+  NotAbove number _ = ⊥
+
+  module _ (equal : Step T × Reply T A → Step T × Reply T A → Bool) where
+    -- there is one receipt, and it equals the entry
+    abbrev pub is_told_once : Step T × Reply T A → List (Receipt T A) → Bool
+    is_told_once entry (receipt ∷ []) = equal (entry_of receipt) entry
+    is_told_once entry _ = false
+
+    -- history and receipts agree at a number below the history's length where there is one receipt
+    -- with this number, and it equals the entry
+    abbrev pub AgreeAt : History T A → List (List (Receipt T A)) → ℕ → Type 0
+    AgreeAt history lists number =
+        (entry : Step T × Reply T A) → slice_get history number ≡ Some entry
+        → is_told_once entry (told_at number lists) ≡ true
+
+    -- They disagree at a number where they don't agree so, where a receipt with this number isn't
+    -- above the one before it in its list, and, for receipts past the end, at the history's length.
+    abbrev pub DisagreeAt : History T A → List (List (Receipt T A)) → ℕ → Type 0
+    DisagreeAt history lists number =
+        (AgreeAt history lists number → ⊥)
+        ⊎ Any (NotAbove number) lists
+        ⊎ ((number ≡ length history)
+        × Any (Any (λ receipt. length history ≤ receipt.number)) lists)
+
+    -- the least number at which they disagree
+    abbrev pub LeastDisagreement : History T A → List (List (Receipt T A)) → ℕ → Type 0
+    LeastDisagreement history lists number =
+        DisagreeAt history lists number
+        × ((lower : ℕ) → lower < number → DisagreeAt history lists lower → ⊥)
+
+    -- a history is settled: each number has one receipt over all lists, which equals the entry; the
+    -- numbers of each list rise, and none is past the end
+    pub record IsSettled (history : History T A) (lists : List (List (Receipt T A)))
+        : Type 0 where
+      pub once : (number : ℕ) → AgreeAt history lists number
+      pub rising : All (AllPairs (λ receipt later. receipt.number < later.number)) lists
+      pub within : All (All (λ receipt. receipt.number < length history)) lists

@@ -1,0 +1,111 @@
+//! An audited channel that threads share.
+ghost use Rattle.std.specs.Prelude.{◌≡◌, ◌<◌, ◌↔◌, ℕ, [], reverse, vec_len, All, IfOk, OnErr};
+ghost use Rattle.flume_model.specs.Log.{opens};
+ghost use Rattle.flume_model.specs.Conserved.{Conserved};
+ghost use Rattle.flume_audit.specs.Recorded.{GainsReceipt, StandsByHistory};
+ghost use Rattle.flume_audit.specs.Settled.{IsSettled, LeastDisagreement};
+ghost use Rattle.flume_audit.specs.Weights.{history_weight, lists_weight};
+
+use crate::book::Book;
+use crate::closed::Closed;
+use crate::seat::Seat;
+use crate::weigh::{Ones, Weigh};
+use flume_core::error::NoMemory;
+use flume_model::step::{Reply, Step};
+use std::alloc::{Allocator, Global};
+use std::sync::ledger::{Blank, Ledger};
+use std::sync::{Mutex, Wait};
+
+/// A book behind a lock: threads that share it make their steps, each with a seat of its own. What
+/// happened under the lock is told by `close`: the history that it gives back is a run of the
+/// channel, and it weighs what the receipts of all seats weigh, by any weight. So each step with
+/// its reply stands in the history as often as in the receipts.
+#[derive(Drop)]
+pub struct Audit<T, L: Ledger, R, W: Weigh<T, A> = Ones, A: Allocator = Global> {
+    rt: R,
+    book: Mutex<Book<T, L, W, A>>,
+}
+
+impl<T: Copy, L: Ledger, R: Wait, W: Weigh<T, A>, A: Allocator + Copy> Audit<T, L, R, W, A> {
+    /// An audit of a new channel of this capacity, and so many seats, at least one. `blank` is a
+    /// new ledger of one part a seat. `NoMemory`: there was no room for the seats.
+    ///
+    /// ```
+    /// let (audit, mut seats) = Audit::new(rt, rt.alloc(), blank, None, 1)?;
+    /// audit.step(&mut seats[0], Step::TrySend(5));     // Ok(Sent { filled: None })
+    /// audit.step(&mut seats[0], Step::TryRecv);        // Ok(Got(5))
+    /// let (closed, book) = audit.close(seats);         // Settled, with two entries
+    /// ```
+    pub fn new(
+        rt: R,
+        alloc: A,
+        blank: Blank,
+        capacity: Option<usize>,
+        seats: usize,
+    ) -> Result<(Self, Vec<Seat<T, L, W, A>, A>), NoMemory>
+    where
+        R: Drop,
+        requires name { blank.name ≡ L.name }
+        requires parts { blank.parts ≡ L.parts }
+        requires one_each { blank.parts ≡ seats }
+        requires some { 0 < seats }
+        ensures seats { IfOk result (λ r. vec_len r.1 ≡ seats) }
+        ensures no_receipts { IfOk result (λ r. All (λ seat. seat ≡ []) r.1.items) }
+    {
+        let (book, seated) = Book::new(alloc, blank, capacity, seats)?;
+        let audit = Audit {
+            rt,
+            book: Mutex::new(book),
+        };
+        Ok((audit, seated))
+    }
+
+    /// Makes the step under the lock, as `Book::step` does: the seat gains a receipt of it, with the
+    /// reply that is answered. `NoMemory`: nothing was done.
+    ///
+    /// ```
+    /// audit.step(&mut seat, Step::TrySend(5));         // Ok(Sent { filled: None })
+    /// audit.step(&mut seat, Step::TryRecv);            // Ok(Got(5))
+    /// ```
+    pub fn step(&self, seat: &mut Seat<T, L, W, A>, step: Step<T>) -> Result<Reply<T, A>, NoMemory>
+        ensures receipt { IfOk result (λ answer. GainsReceipt seat.old step answer seat.new) }
+        ensures unchanged { OnErr result (seat.new ≡ seat.old) }
+    {
+        self.book.lock(&self.rt).step(seat, step)
+    }
+
+    /// Ends the audit, and compares the history with the receipts of these seats, as `Book::close`
+    /// does. Whatever is answered, the book comes back as it stood: its history is a run from a new
+    /// channel to the one that it has, and where all seats were handed in, it weighs what their
+    /// receipts weigh. Takes no memory and no lock.
+    ///
+    /// ```
+    /// let (closed, book) = audit.close(seats);         // Settled, where all seats are there
+    /// book.history();                                  // each step with its reply
+    /// ```
+    pub fn close(self, seats: Vec<Seat<T, L, W, A>, A>) -> (Closed, Book<T, L, W, A>)
+    where
+        T: Eq,
+        R: Drop,
+        ensures run { StandsByHistory result.1 }
+        ensures conserved { Conserved (opens result.1.opening 1) (reverse result.1.history) }
+        ensures missing { (result.0 ≡ Closed.MissingSeat) ↔ (vec_len seats ≡ L.parts → ⊥) }
+        ensures differs { (number : ℕ) → (result.0 ≡ Closed.Differs number)
+            ↔ (vec_len seats ≡ L.parts)
+            × LeastDisagreement ⟦<(Step<T>, Reply<T, A>) as PartialEq>⟧.eq
+            result.1.history seats.items number }
+        ensures settled { (result.0 ≡ Closed.Settled)
+            ↔ (vec_len seats ≡ L.parts)
+            × IsSettled ⟦<(Step<T>, Reply<T, A>) as PartialEq>⟧.eq
+            result.1.history seats.items }
+        ensures weights { vec_len seats ≡ L.parts
+            → history_weight W.weight result.1.history ≡ lists_weight W.weight seats.items }
+    {
+        let Audit { rt: _, book } = self;
+        let mut book = book.into_inner();
+        let closed = book.close(seats);
+        book.history();
+        book.channel();
+        (closed, book)
+    }
+}

@@ -1,0 +1,202 @@
+//! A channel with its history, for whoever has it lent.
+ghost use Rattle.std.specs.Prelude.{◌≡◌, ◌<◌, ◌↔◌, ℕ, [], length, map, reverse, vec_len, All};
+ghost use Rattle.std.specs.Prelude.{IfOk, OnErr};
+ghost use Rattle.flume_model.specs.Log.{opens};
+ghost use Rattle.flume_model.specs.Conserved.{Conserved};
+ghost use Rattle.flume_audit.specs.Recorded.{StandsByHistory, IsRecorded, unwritten};
+ghost use Rattle.flume_audit.specs.Settled.{IsSettled, LeastDisagreement};
+ghost use Rattle.flume_audit.specs.Weights.{history_weight, lists_weight};
+
+use crate::closed::Closed;
+use crate::differs::differs;
+use crate::laws::settled_where_nothing_differs;
+use crate::receipt::Receipt;
+use crate::reply::{copied, drained_by};
+use crate::seat::Seat;
+use crate::tally::{add_weight, merge_all, seat_all};
+use crate::weigh::{Ones, Weigh};
+use flume_core::chan::Chan;
+use flume_core::error::NoMemory;
+use flume_model::laws::users::messages_are_conserved;
+use flume_model::step::{Reply, Step};
+use std::alloc::{Allocator, Global};
+use std::marker::{Model, PhantomData};
+use std::sync::ledger;
+use std::sync::ledger::{Blank, Ledger};
+
+/// A channel and each step that was made on it since it was opened, with its reply. Steps are made
+/// by seats; each of them keeps a receipt.
+#[derive(Drop)]
+pub struct Book<T, L: Ledger, W: Weigh<T, A> = Ones, A: Allocator = Global> {
+    chan: Chan<T, (), A>,
+    opening: Option<usize>,
+    history: Vec<(Step<T>, Reply<T, A>), A>,
+    seats: usize,
+    // Its total is what the history weighs.
+    ledger: ledger::Book<L>,
+    weigh: PhantomData<W>,
+}
+
+impl<T, L: Ledger, W: Weigh<T, A>, A: Allocator> Model for Book<T, L, W, A> {
+    ghost use Rattle.std.specs.Prelude.{◌≡◌, ◌<◌};
+    ghost use base.Stored.{coded_unit};
+    ghost use Rattle.std.specs.Coded.{codes};
+    ghost use Rattle.flume_state.specs.Sends.{send_map_code};
+    ghost use Rattle.flume_audit.specs.Recorded.{Recorded, StandsByHistory};
+    ghost use Rattle.flume_audit.specs.Weights.{history_weight};
+
+    ghost Value = { Recorded T A };
+
+    ghost view = { λ book. record {
+      opening = book.opening;
+      history = book.history.items;
+      channel = book.chan;
+    } };
+
+    ghost coded = { Prim.hlevel (codes, send_map_code coded_unit) };
+
+    ghost invariant = { λ book. StandsByHistory (record {
+      opening = book.opening;
+      history = book.history.items;
+      channel = book.chan;
+    }) × (book.seats ≡ L.parts) × (0 < L.parts)
+        × (book.ledger.total ≡ history_weight W.weight book.history.items) };
+}
+
+impl<T: Copy, L: Ledger, W: Weigh<T, A>, A: Allocator + Copy> Book<T, L, W, A> {
+    /// A new channel of this capacity, with no history, and so many seats, at least one. `blank` is
+    /// a new ledger of one part a seat. `NoMemory`: there was no room for the seats.
+    ///
+    /// ```
+    /// let (mut book, mut seats) = Book::new(rt.alloc(), blank, Some(1), 2)?;
+    /// book.step(&mut seats[0], Step::TrySend(1));      // Ok(Sent { filled: None })
+    /// book.step(&mut seats[1], Step::TryRecv);         // Ok(Got(1))
+    /// book.close(seats);                               // Settled
+    /// ```
+    pub fn new(
+        alloc: A,
+        blank: Blank,
+        capacity: Option<usize>,
+        seats: usize,
+    ) -> Result<(Self, Vec<Seat<T, L, W, A>, A>), NoMemory>
+        requires name { blank.name ≡ L.name }
+        requires parts { blank.parts ≡ L.parts }
+        requires one_each { blank.parts ≡ seats }
+        requires some { 0 < seats }
+        ensures book { IfOk result (λ r. r.0 ≡ unwritten capacity) }
+        ensures seats { IfOk result (λ r. vec_len r.1 ≡ seats) }
+        ensures no_receipts { IfOk result (λ r. All (λ seat. seat ≡ []) r.1.items) }
+    {
+        let (ledger, whole) = blank.open::<L>();
+        let seated = seat_all(alloc, whole, seats)?;
+        let book = Book {
+            chan: Chan::new(alloc, capacity),
+            opening: capacity,
+            history: Vec::new(alloc),
+            seats,
+            ledger,
+            weigh: PhantomData,
+        };
+        Ok((book, seated))
+    }
+
+    /// Makes the step, writes it with its reply at the end of the history, and gives the seat a
+    /// receipt of it. The answer is the reply. `NoMemory`: there was no room for the entry, for the
+    /// receipt or for the copies of a drained list; the book and the seat are as they were.
+    ///
+    /// ```
+    /// book.step(&mut seat, Step::TrySend(5));          // Ok(Sent { filled: None })
+    /// book.step(&mut seat, Step::TryRecv);             // Ok(Got(5))
+    /// ```
+    pub fn step(
+        &mut self,
+        seat: &mut Seat<T, L, W, A>,
+        step: Step<T>,
+    ) -> Result<Reply<T, A>, NoMemory>
+        ensures step { IfOk result (λ answer.
+            IsRecorded self.old seat.old step answer self.new seat.new) }
+        ensures unchanged { OnErr result (self.new ≡ self.old) }
+        ensures seat_unchanged { OnErr result (seat.new ≡ seat.old) }
+    {
+        let alloc = *self.history.allocator();
+        let drained = drained_by(&self.chan, &step);
+        let room = Vec::with_capacity(alloc, drained)?;
+        let more = Vec::with_capacity(alloc, drained)?;
+        self.history.try_reserve(1)?;
+        seat.receipts.try_reserve(1)?;
+        let number = self.history.len();
+        let reply = self.chan.step(step);
+        let told = copied(&reply, room);
+        let answer = copied(&reply, more);
+        add_weight::<T, A, L, W>(&mut self.ledger, &mut seat.share, &step, &reply);
+        self.history.push_reserved((step, reply));
+        seat.receipts.push_reserved(Receipt {
+            number,
+            step,
+            reply: told,
+        });
+        Ok(answer)
+    }
+
+    /// Compares the history with the receipts of these seats. `MissingSeat`: they aren't all.
+    /// `Differs`: the least number at which they disagree, as `differs` has it. `Settled`: they
+    /// agree throughout. Whatever is answered, the book stays as it is; where all seats were handed
+    /// in, the history weighs what their receipts weigh. Takes no memory.
+    ///
+    /// ```
+    /// let (mut book, seats) = Book::new(rt.alloc(), blank, None, 2)?;
+    /// book.close(seats);                               // Settled
+    /// ```
+    pub fn close(&mut self, seats: Vec<Seat<T, L, W, A>, A>) -> Closed
+    where
+        T: Eq,
+        ensures unchanged { self.new ≡ self.old }
+        ensures missing { (result ≡ Closed.MissingSeat) ↔ (vec_len seats ≡ L.parts → ⊥) }
+        ensures differs { (number : ℕ) → (result ≡ Closed.Differs number)
+            ↔ (vec_len seats ≡ L.parts)
+            × LeastDisagreement ⟦<(Step<T>, Reply<T, A>) as PartialEq>⟧.eq
+            self.old.history seats.items number }
+        ensures settled { (result ≡ Closed.Settled)
+            ↔ (vec_len seats ≡ L.parts)
+            × IsSettled ⟦<(Step<T>, Reply<T, A>) as PartialEq>⟧.eq
+            self.old.history seats.items }
+        ensures weights { vec_len seats ≡ L.parts
+            → history_weight W.weight self.old.history ≡ lists_weight W.weight seats.items }
+    {
+        settled_where_nothing_differs::<T, A>();
+        if seats.len() != self.seats {
+            return Closed::MissingSeat;
+        }
+        let closed = match differs(&self.history, &seats) {
+            Some(number) => Closed::Differs(number),
+            None => Closed::Settled,
+        };
+        merge_all::<T, L, W, A>(&mut self.ledger, seats);
+        closed
+    }
+
+    /// The capacity with which the channel was opened, or none of an unbounded one.
+    pub fn opening(&self) -> Option<usize>
+        ensures opening { result ≡ self.now.opening }
+    {
+        self.opening
+    }
+
+    /// The steps that were made, with their replies, in their order. They are a run of the channel:
+    /// each reply is the abstract channel's, and no message was lost or given out twice.
+    pub fn history(&self) -> &[(Step<T>, Reply<T, A>)]
+        ensures history { result.now ≡ self.now.history }
+        ensures conserved { Conserved (opens self.now.opening 1) (reverse self.now.history) }
+    {
+        messages_are_conserved::<T, A>();
+        &self.history
+    }
+
+    /// The channel as the history left it: a new one, after the history's steps.
+    pub fn channel(&self) -> &Chan<T, (), A>
+        ensures channel { result.now ≡ self.now.channel }
+        ensures stands { StandsByHistory self.now }
+    {
+        &self.chan
+    }
+}

@@ -1,0 +1,12 @@
+//! What closing an audit answers.
+
+/// What closing an audit answers.
+#[derive(Clone, Copy, Debug, PartialEq, Eq, Drop)]
+pub enum Closed {
+    /// Not all seats were handed in.
+    MissingSeat,
+    /// This is the least number at which the history and the receipts disagree.
+    Differs(usize),
+    /// The history and the receipts agree at every number.
+    Settled,
+}

@@ -1,0 +1,168 @@
+//! Where a history and receipts disagree.
+ghost use Rattle.std.specs.Prelude.{◌≡◌, ◌<◌, ◌≤◌, ◌==◌, ◌↔◌, ℕ, IfNone, IfSome, IsTrue};
+ghost use Rattle.std.specs.Prelude.{[], ◌∷◌, Any, filter, map, MatchOption, option_map};
+ghost use Rattle.std.specs.List.Sorted.{IsPartitionPoint};
+ghost use Rattle.flume_audit.specs.Settled.{DisagreeAt, LeastDisagreement, NotAbove};
+ghost use Rattle.flume_audit.specs.Settled.{is_told_once, told_at, entry_of};
+ghost use Rattle.flume_audit.specs.Only.{only};
+ghost use Rattle.flume_audit.specs.Misplaced.{IsLeast, Misplaced, lesser};
+
+use crate::receipt::{Receipt, Receipts};
+use flume_model::step::{Reply, Step};
+use std::alloc::Allocator;
+
+/// The least number at which a history and the receipts of these lists disagree; `None` where they
+/// agree throughout. They agree at a number where exactly one receipt has it and equals the entry
+/// there. A receipt whose number isn't above the one before it in its list disagrees at its number;
+/// one past the end disagrees at the history's length. Takes no memory.
+///
+/// ```
+/// let history = [(Step::TrySend(1), Reply::Sent { filled: None })];
+/// differs(&history, &[told]);        // None, where `told` has the one receipt of that
+/// ```
+pub fn differs<T: Eq, A: Allocator, H: Receipts<T, A>>(
+    history: &[(Step<T>, Reply<T, A>)],
+    seats: &[H],
+) -> Option<usize>
+    ensures some { IfSome result (λ number. LeastDisagreement
+        ⟦<(Step<T>, Reply<T, A>) as PartialEq>⟧.eq
+        history.now (map H.receipts seats.now) number) }
+    ensures none { IfNone result ((number : ℕ)
+        → DisagreeAt ⟦<(Step<T>, Reply<T, A>) as PartialEq>⟧.eq
+        history.now (map H.receipts seats.now) number → ⊥) }
+{
+    let end = first_misplaced(history.len(), seats);
+    for number in 0..end.unwrap_or(history.len()) {
+        if !is_told_at(&history[number], number, seats) {
+            return Some(number);
+        }
+    }
+    end
+}
+
+// The least number of a receipt that isn't above the one before it in its list, or the length
+// where a receipt is past the end and no such number is less.
+fn first_misplaced<T, A: Allocator, H: Receipts<T, A>>(length: usize, seats: &[H]) -> Option<usize>
+    ensures least { IsLeast (λ number. Any (Misplaced length number) (map H.receipts seats.now))
+        result }
+{
+    let mut least = None;
+    for seat in seats {
+        least = lesser(least, misplaced_in(length, seat.list()));
+    }
+    least
+}
+
+// The same of one list: the least number that is misplaced in it.
+fn misplaced_in<T, A: Allocator>(length: usize, list: &[Receipt<T, A>]) -> Option<usize>
+    ensures least { IsLeast (λ number. Misplaced length number list.now) result }
+{
+    let past = if is_past(length, list) {
+        Some(length)
+    } else {
+        None
+    };
+    lesser(first_not_above(list), past)
+}
+
+// Whether a receipt of the list is past the end.
+fn is_past<T, A: Allocator>(length: usize, list: &[Receipt<T, A>]) -> bool
+    ensures past { IsTrue result ↔ Any (λ receipt. length ≤ receipt.number) list.now }
+{
+    list.iter().any(|receipt| receipt.number >= length)
+}
+
+// The least number of a receipt that isn't above the one before it in the list.
+fn first_not_above<T, A: Allocator>(list: &[Receipt<T, A>]) -> Option<usize>
+    ensures least { IsLeast (λ number. NotAbove number list.now) result }
+{
+    let mut rest = list;
+    let mut least = None;
+    while let [before, receipt, ..] = rest {
+        if receipt.number <= before.number {
+            least = lesser(least, Some(receipt.number));
+        }
+        rest = &rest[1..];
+    }
+    least
+}
+
+// The lesser of two numbers, where there are two.
+fn lesser(first: Option<usize>, second: Option<usize>) -> Option<usize>
+    ensures lesser { result ≡ lesser first second }
+{
+    match (first, second) {
+        (Some(one), Some(other)) => Some(one.min(other)),
+        (None, _) => second,
+        (_, None) => first,
+    }
+}
+
+// Whether there is one receipt with this number, over all lists, and it tells of this entry.
+fn is_told_at<T: Eq, A: Allocator, H: Receipts<T, A>>(
+    entry: &(Step<T>, Reply<T, A>),
+    number: usize,
+    seats: &[H],
+) -> bool
+    requires before { (misplaced : ℕ) → Any (NotAbove misplaced) (map H.receipts seats.now)
+        → number < misplaced }
+    ensures told { result ≡ is_told_once ⟦<(Step<T>, Reply<T, A>) as PartialEq>⟧.eq entry.now
+        (told_at number (map H.receipts seats.now)) }
+{
+    match only_receipt_at(number, seats) {
+        Some(receipt) => tells(receipt, entry),
+        None => false,
+    }
+}
+
+// The one receipt with this number, over all lists; `None` where there is none, or another.
+fn only_receipt_at<T, A: Allocator, H: Receipts<T, A>>(
+    number: usize,
+    seats: &[H],
+) -> Option<&Receipt<T, A>>
+    requires before { (misplaced : ℕ) → Any (NotAbove misplaced) (map H.receipts seats.now)
+        → number < misplaced }
+    ensures only { option_map (λ receipt. receipt.now) result
+        ≡ only (told_at number (map H.receipts seats.now)) }
+{
+    let mut only: Option<&Receipt<T, A>> = None;
+    for seat in seats {
+        if let Some(receipt) = receipt_at(number, seat.list()) {
+            if only.is_some() {
+                return None;
+            }
+            only = Some(receipt);
+        }
+    }
+    only
+}
+
+// The one receipt of the list with this number; `None` where there is none.
+fn receipt_at<T, A: Allocator>(number: usize, list: &[Receipt<T, A>]) -> Option<&Receipt<T, A>>
+    requires before { (misplaced : ℕ) → NotAbove misplaced list.now → number < misplaced }
+    ensures told { MatchOption result
+        (filter (λ receipt. receipt.number == number) list.now ≡ [])
+        (λ told. filter (λ receipt. receipt.number == number) list.now ≡ told.now ∷ []) }
+{
+    match list.get(place_of(number, list)) {
+        Some(receipt) if receipt.number == number => Some(receipt),
+        _ => None,
+    }
+}
+
+// How many receipts of the list come before those with this number or a higher one.
+fn place_of<T, A: Allocator>(number: usize, list: &[Receipt<T, A>]) -> usize
+    requires before { (misplaced : ℕ) → NotAbove misplaced list.now → number < misplaced }
+    ensures place { IsPartitionPoint (λ receipt. receipt.number < number)
+        (λ receipt. number ≤ receipt.number) list.now result }
+{
+    list.partition_point(|receipt| receipt.number < number)
+}
+
+// Whether a receipt tells of this entry.
+fn tells<T: Eq, A: Allocator>(receipt: &Receipt<T, A>, entry: &(Step<T>, Reply<T, A>)) -> bool
+    ensures same { result ≡ ⟦<(Step<T>, Reply<T, A>) as PartialEq>⟧.eq (entry_of receipt.now)
+        entry.now }
+{
+    receipt.step == entry.0 && receipt.reply == entry.1
+}

@@ -1,0 +1,78 @@
+//! A user's place at an audit.
+ghost use Rattle.std.specs.Prelude.{◌≡◌, [], List};
+ghost use Rattle.flume_audit.specs.declared.receipt.Receipt.{Receipt};
+ghost use Rattle.flume_audit.specs.Weights.{receipts_weight};
+
+use crate::receipt::{Receipt, Receipts};
+use crate::weigh::{Ones, Weigh};
+use std::alloc::{Allocator, Global};
+use std::marker::{Model, PhantomData};
+use std::sync::ledger::{Ledger, Share};
+
+/// A user's place at an audit, with a receipt for each step that was made with it. It is of the
+/// audit whose ledger `L` is: no other takes it. It can't be copied.
+#[derive(Drop)]
+pub struct Seat<T, L: Ledger, W: Weigh<T, A> = Ones, A: Allocator = Global> {
+    pub(crate) receipts: Vec<Receipt<T, A>, A>,
+    // One part of the ledger, whose amount is what the receipts weigh.
+    pub(crate) share: Share<L>,
+    weigh: PhantomData<W>,
+}
+
+impl<T, L: Ledger, W: Weigh<T, A>, A: Allocator> Model for Seat<T, L, W, A> {
+    ghost use Rattle.std.specs.Prelude.{◌≡◌, List};
+    ghost use Rattle.flume_audit.specs.declared.receipt.Receipt.{Receipt};
+    ghost use Rattle.flume_audit.specs.Weights.{receipts_weight};
+
+    ghost Value = { List (Receipt T A) };
+
+    ghost view = { λ seat. seat.receipts.items };
+
+    ghost invariant = { λ seat. (seat.share.parts ≡ 1)
+        × (seat.share.amount ≡ receipts_weight W.weight seat.receipts.items) };
+}
+
+impl<T, L: Ledger, W: Weigh<T, A>, A: Allocator> Seat<T, L, W, A> {
+    // A seat with no receipt.
+    pub(crate) fn new(alloc: A, share: Share<L>) -> Self
+        requires part { share.parts ≡ 1 }
+        requires amount { share.amount ≡ 0 }
+        ensures empty { result ≡ [] }
+    {
+        Seat {
+            receipts: Vec::new(alloc),
+            share,
+            weigh: PhantomData,
+        }
+    }
+
+    /// The receipts, in the order in which the steps were made.
+    pub fn receipts(&self) -> &[Receipt<T, A>]
+        ensures receipts { result.now ≡ self.now }
+    {
+        &self.receipts
+    }
+
+    // The seat's part of the ledger. The receipts are dropped.
+    pub(crate) fn into_share(self) -> Share<L>
+    where
+        T: Drop,
+        ensures part { result.parts ≡ 1 }
+        ensures amount { result.amount ≡ receipts_weight W.weight self }
+    {
+        let Seat {
+            receipts: _,
+            share,
+            weigh: _,
+        } = self;
+        share
+    }
+}
+
+impl<T, L: Ledger, W: Weigh<T, A>, A: Allocator> Receipts<T, A> for Seat<T, L, W, A> {
+    ghost receipts = { λ seat. seat };
+
+    fn list(&self) -> &[Receipt<T, A>] {
+        self.receipts()
+    }
+}
