@@ -26,7 +26,7 @@ pub struct Audit<T, L: Ledger, R, W: Weigh<T, A> = Ones, A: Allocator = Global> 
     book: Mutex<Book<T, L, W, A>>,
 }
 
-impl<T: Copy, L: Ledger, R: Wait, W: Weigh<T, A>, A: Allocator + Copy> Audit<T, L, R, W, A> {
+impl<T: Copy, L: Ledger, R: Drop, W: Weigh<T, A>, A: Allocator + Copy> Audit<T, L, R, W, A> {
     /// An audit of a new channel of this capacity, and so many seats, at least one. `blank` is a
     /// new ledger of one part a seat. `NoMemory`: there was no room for the seats.
     ///
@@ -43,8 +43,6 @@ impl<T: Copy, L: Ledger, R: Wait, W: Weigh<T, A>, A: Allocator + Copy> Audit<T, 
         capacity: Option<usize>,
         seats: usize,
     ) -> Result<(Self, Vec<Seat<T, L, W, A>, A>), NoMemory>
-    where
-        R: Drop,
         requires name { blank.name ≡ L.name }
         requires parts { blank.parts ≡ L.parts }
         requires one_each { blank.parts ≡ seats }
@@ -60,20 +58,6 @@ impl<T: Copy, L: Ledger, R: Wait, W: Weigh<T, A>, A: Allocator + Copy> Audit<T, 
         Ok((audit, seated))
     }
 
-    /// Makes the step under the lock, as `Book::step` does: the seat gains a receipt of it, with the
-    /// reply that is answered. `NoMemory`: nothing was done.
-    ///
-    /// ```
-    /// audit.step(&mut seat, Step::TrySend(5));         // Ok(Sent { filled: None })
-    /// audit.step(&mut seat, Step::TryRecv);            // Ok(Got(5))
-    /// ```
-    pub fn step(&self, seat: &mut Seat<T, L, W, A>, step: Step<T>) -> Result<Reply<T, A>, NoMemory>
-        ensures receipt { IfOk result (λ answer. GainsReceipt seat.old step answer seat.new) }
-        ensures unchanged { OnErr result (seat.new ≡ seat.old) }
-    {
-        self.book.lock(&self.rt).step(seat, step)
-    }
-
     /// Ends the audit, and compares the history with the receipts of these seats, as `Book::close`
     /// does. Whatever is answered, the book comes back as it stood: its history is a run from a new
     /// channel to the one that it has, and where all seats were handed in, it weighs what their
@@ -86,7 +70,6 @@ impl<T: Copy, L: Ledger, R: Wait, W: Weigh<T, A>, A: Allocator + Copy> Audit<T, 
     pub fn close(self, seats: Vec<Seat<T, L, W, A>, A>) -> (Closed, Book<T, L, W, A>)
     where
         T: Eq,
-        R: Drop,
         ensures run { StandsByHistory result.1 }
         ensures conserved { Conserved (opens result.1.opening 1) (reverse result.1.history) }
         ensures missing { (result.0 ≡ Closed.MissingSeat) ↔ (vec_len seats ≡ L.parts → ⊥) }
@@ -107,5 +90,21 @@ impl<T: Copy, L: Ledger, R: Wait, W: Weigh<T, A>, A: Allocator + Copy> Audit<T, 
         book.history();
         book.channel();
         (closed, book)
+    }
+}
+
+impl<T: Copy, L: Ledger, R: Wait, W: Weigh<T, A>, A: Allocator + Copy> Audit<T, L, R, W, A> {
+    /// Makes the step under the lock, as `Book::step` does: the seat gains a receipt of it, with the
+    /// reply that is answered. `NoMemory`: nothing was done.
+    ///
+    /// ```
+    /// audit.step(&mut seat, Step::TrySend(5));         // Ok(Sent { filled: None })
+    /// audit.step(&mut seat, Step::TryRecv);            // Ok(Got(5))
+    /// ```
+    pub fn step(&self, seat: &mut Seat<T, L, W, A>, step: Step<T>) -> Result<Reply<T, A>, NoMemory>
+        ensures receipt { IfOk result (λ answer. GainsReceipt seat.old step answer seat.new) }
+        ensures unchanged { OnErr result (seat.new ≡ seat.old) }
+    {
+        self.book.lock(&self.rt).step(seat, step)
     }
 }
