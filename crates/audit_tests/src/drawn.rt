@@ -24,7 +24,11 @@ const SEEDS: &[u64] = &[1, 20_261_122, 20_261_123, 20_261_124];
 const CAPACITIES: &[Option<usize>] = &[None, Some(0), Some(1), Some(3)];
 
 // How many of these receipts have this number and tell of this entry.
-fn times_told(number: usize, entry: &(Step<u64>, Reply<u64>), receipts: &[Receipt<u64>]) -> usize {
+pub(crate) fn times_told(
+    number: usize,
+    entry: &(Step<u64>, Reply<u64>),
+    receipts: &[Receipt<u64>],
+) -> usize {
     let mut times = 0usize;
     for receipt in receipts {
         if receipt.number == number && receipt.step == entry.0 && receipt.reply == entry.1 {
@@ -50,7 +54,7 @@ fn told_once<L: Ledger>(book: &Book<u64, L>, seats: &[Seat<u64, L>]) -> usize {
 }
 
 // How many receipts there are.
-fn receipts_of<L: Ledger>(seats: &[Seat<u64, L>]) -> usize {
+pub(crate) fn receipts_of<L: Ledger>(seats: &[Seat<u64, L>]) -> usize {
     let mut receipts = 0usize;
     for seat in seats {
         receipts = receipts.saturating_add(seat.receipts().len());

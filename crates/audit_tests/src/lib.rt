@@ -1,7 +1,9 @@
-//! Tests of `flume_audit`: seats in one thread and in four, drawn steps, receipts that disagree with
+//! Tests of `flume_audit`: seats in one thread and in several, drawn steps, receipts that disagree with
 //! a history, and want of memory.
 #![tactic(auto)]
 
+#[cfg(test)]
+mod at_once;
 #[cfg(test)]
 mod compared;
 #[cfg(test)]
