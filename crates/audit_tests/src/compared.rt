@@ -7,8 +7,8 @@ use std::alloc::Global;
 use std::process::Abort;
 use std::test::Fail;
 
-// The step and the reply that a letter stands for. `a`, `b` and `c` are the history. `d` is `c` with
-// another reply, and `e` is `b` with another step.
+// The step and the reply that a letter stands for. `a`, `b` and `c` are the history. `d` is `c`
+// with another reply, and `e` is `b` with another step.
 fn entry(letter: u8) -> (Step<u64>, Reply<u64>) {
     let sent = Reply::Sent { filled: None };
     match letter {
@@ -20,8 +20,8 @@ fn entry(letter: u8) -> (Step<u64>, Reply<u64>) {
     }
 }
 
-// A title, how long the history is, lists of receipts, each a number and the letter of what it tells,
-// and the least number at which they disagree.
+// A title, how long the history is, lists of receipts, each a number and the letter of what it
+// tells, and the least number at which they disagree.
 #[derive(Clone, Copy)]
 struct Row(
     &'static str,

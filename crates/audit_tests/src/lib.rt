@@ -1,5 +1,5 @@
-//! Tests of `flume_audit`: seats in one thread and in several, drawn steps, receipts that disagree with
-//! a history, and want of memory.
+//! Tests of `flume_audit`: seats in one thread and in several, drawn steps, receipts that disagree
+//! with a history, and want of memory.
 #![tactic(auto)]
 
 #[cfg(test)]
