@@ -7,7 +7,7 @@ use Rattle.channel_bench.specs.declared.arguments.Capacity.TheVariants.{Unbounde
 use Rattle.channel_bench.specs.declared.arguments.Shape.{Shape}
 use Rattle.channel_bench.specs.declared.arguments.Shape.TheVariants.{Seq, Spsc, Mpsc, Mpmc, Oneshot}
 use Rattle.channel_bench.specs.declared.arguments.Shape.TheVariants.{Inout, TryPair, TryEmpty, TryFull}
-use Rattle.channel_bench.specs.declared.arguments.Shape.TheVariants.{AuditPair, PollPair}
+use Rattle.channel_bench.specs.declared.arguments.Shape.TheVariants.{AuditPair, AuditMemory, PollPair}
 use Rattle.channel_bench.specs.declared.arguments.Shape.TheVariants.{PollRecvPark, PollSendPark}
 use Rattle.channel_bench.specs.declared.arguments.Shape.TheVariants.{AsyncPair, AsyncJoin, AsyncPing}
 use Rattle.channel_bench.specs.declared.arguments.Shape.TheVariants.{Pending, PendingDrop}
@@ -25,6 +25,7 @@ shape_word TryPair = codes "try_pair"
 shape_word TryEmpty = codes "try_empty"
 shape_word TryFull = codes "try_full"
 shape_word AuditPair = codes "audit_pair"
+shape_word AuditMemory = codes "audit_memory"
 shape_word PollPair = codes "poll_pair"
 shape_word PollRecvPark = codes "poll_recv_park"
 shape_word PollSendPark = codes "poll_send_park"

@@ -1,12 +1,14 @@
-//! The shape of an audited channel.
+//! The shapes of an audited channel.
 ghost use Rattle.std.specs.Prelude.{◌≡◌};
 
 use crate::bench::{Bench, Fault};
 use flume::Waits;
 use flume_audit::audit::Audit;
+use flume_audit::receipt::Receipt;
 use flume_audit::seat::Seat;
 use flume_core::error::NoMemory;
 use flume_model::step::{Reply, Step};
+use std::alloc::AllocError;
 use std::marker::Brand;
 use std::sync::ledger::{Blank, Ledger};
 use std::time::{Duration, Instant};
@@ -25,6 +27,45 @@ fn pass_each<L: Ledger, R: Waits>(
         }
     }
     Ok(sum)
+}
+
+// Stores the entries and the receipts of 0, 1, 2 and so on, each sent and then received. The sum of
+// these.
+fn store_each(
+    history: &mut Vec<(Step<usize>, Reply<usize>)>,
+    receipts: &mut Vec<Receipt<usize>>,
+    messages: usize,
+) -> Result<usize, AllocError> {
+    let mut sum = 0usize;
+    for message in 0..messages {
+        let sent = [Reply::Sent { filled: None }, Reply::Sent { filled: None }];
+        store(history, receipts, Step::TrySend(message), sent)?;
+        let got = [Reply::Got(message), Reply::Got(message)];
+        store(history, receipts, Step::TryRecv, got)?;
+        sum = sum.wrapping_add(message);
+    }
+    Ok(sum)
+}
+
+// Stores an entry and a receipt of this step with this reply, which is handed in twice.
+#[inline(always)]
+fn store(
+    history: &mut Vec<(Step<usize>, Reply<usize>)>,
+    receipts: &mut Vec<Receipt<usize>>,
+    step: Step<usize>,
+    replies: [Reply<usize>; 2],
+) -> Result<(), AllocError> {
+    let [reply, told] = replies;
+    history.try_reserve(1)?;
+    receipts.try_reserve(1)?;
+    let number = history.len();
+    receipts.push_reserved(Receipt {
+        number,
+        step,
+        reply: told,
+    });
+    history.push_reserved((step, reply));
+    Ok(())
 }
 
 impl<R: Waits> Bench<R> {
@@ -51,6 +92,15 @@ impl<R: Waits> Bench<R> {
         for seat in seats.iter_mut() {
             sum = pass_each(&audit, seat, self.messages)?;
         }
+        self.time_since(start, sum, 1)
+    }
+
+    /// The entries and the receipts of `audit_pair`, stored with no channel and no audit.
+    pub fn audit_memory(&self) -> Result<Duration, Fault> {
+        let mut history = Vec::new(self.alloc);
+        let mut receipts = Vec::new(self.alloc);
+        let start = Instant::now(&self.rt)?;
+        let sum = store_each(&mut history, &mut receipts, self.messages)?;
         self.time_since(start, sum, 1)
     }
 }

@@ -14,7 +14,7 @@ use flume_core::error::NoMemory;
 use flume_model::step::{Reply, Step};
 use std::alloc::{Allocator, Global};
 use std::sync::ledger::{Blank, Ledger};
-use std::sync::{Mutex, Wait};
+use std::sync::{Mutex, MutexGuard, Wait};
 
 /// A book behind a lock: threads that share it make their steps, each with a seat of its own. What
 /// happened under the lock is told by `close`: the history that it gives back is a run of the
@@ -105,6 +105,21 @@ impl<T: Copy, L: Ledger, R: Wait, W: Weigh<T, A>, A: Allocator + Copy> Audit<T, 
         ensures receipt { IfOk result (λ answer. GainsReceipt seat.old step answer seat.new) }
         ensures unchanged { OnErr result (seat.new ≡ seat.old) }
     {
-        self.book.lock(&self.rt).step(seat, step)
+        self.lock().step(seat, step)
+    }
+
+    // The book, locked. Where nobody has the lock it is taken without a call.
+    #[inline(always)]
+    fn lock(&self) -> MutexGuard<'_, Book<T, L, W, A>> {
+        match self.book.try_lock() {
+            Some(book) => book,
+            None => self.wait_for_lock(),
+        }
+    }
+
+    // The book, locked, where somebody else has the lock.
+    #[inline(never)]
+    fn wait_for_lock(&self) -> MutexGuard<'_, Book<T, L, W, A>> {
+        self.book.lock(&self.rt)
     }
 }

@@ -129,12 +129,12 @@ impl<T: Copy, L: Ledger, W: Weigh<T, A>, A: Allocator + Copy> Book<T, L, W, A> {
         let told = copied(&reply, room);
         let answer = copied(&reply, more);
         add_weight::<T, A, L, W>(&mut self.ledger, &mut seat.share, &step, &reply);
-        self.history.push_reserved((step, reply));
         seat.receipts.push_reserved(Receipt {
             number,
             step,
             reply: told,
         });
+        self.history.push_reserved((step, reply));
         Ok(answer)
     }
 

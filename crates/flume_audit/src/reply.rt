@@ -7,6 +7,7 @@ use flume_model::step::{Reply, Step};
 use std::alloc::Allocator;
 
 // A copy of the reply, whose drained list, where it has one, is made in `room`. Takes no memory.
+#[inline(always)]
 pub(crate) fn copied<T: Copy, A: Allocator>(reply: &Reply<T, A>, room: Vec<T, A>) -> Reply<T, A>
     requires empty { room.items ≡ [] }
     requires room { DrainedWithin (vec_capacity room) reply.now }
@@ -39,6 +40,7 @@ pub(crate) fn copied<T: Copy, A: Allocator>(reply: &Reply<T, A>, room: Vec<T, A>
 }
 
 // The messages again, in `room`.
+#[inline(never)]
 fn copied_list<T: Copy, A: Allocator>(list: &Vec<T, A>, mut room: Vec<T, A>) -> Vec<T, A>
     requires empty { room.items ≡ [] }
     requires room { vec_len list.now ≤ vec_capacity room }
@@ -49,6 +51,7 @@ fn copied_list<T: Copy, A: Allocator>(list: &Vec<T, A>, mut room: Vec<T, A>) -> 
 }
 
 // How many messages the step drains, where it is a drain.
+#[inline(always)]
 pub(crate) fn drained_by<T: Copy, A: Allocator + Copy>(
     chan: &Chan<T, (), A>,
     step: &Step<T>,

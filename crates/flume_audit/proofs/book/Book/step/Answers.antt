@@ -34,7 +34,7 @@ copied-answer-requires-clause-room g c =
 pub invariant_of-self-2 : goal.invariant_of-self-2
 invariant_of-self-2 g c =
     let grows = pushed (c.args.step, c.step-reply.result) c.try_reserve.ensures.items
-    c.push_reserved.ensures.items in (
+    c.push_reserved-2.ensures.items in (
       written _ _ _ _ _ grows (c.step-reply.ensures.step _ _ c.self.invariant.0),
       c.self.invariant.1,
       c.self.invariant.2,
@@ -48,11 +48,11 @@ invariant_of-seat-2 g c =
     let receipt : Receipt g.row.T.Denot g.row.A.Denot =
     record { number = c.len-number.result; step = c.args.step; reply = c.copied-told.result } in (
       c.add_weight.ensures.parts ∙ c.seat.invariant.0,
-      receipt_weighs g.W.Weigh.weight c.seat.inside.receipts.items c.push_reserved-2.new.self.items
+      receipt_weighs g.W.Weigh.weight c.seat.inside.receipts.items c.push_reserved.new.self.items
           c.len-number.result c.args.step c.step-reply.result c.copied-told.result
           c.seat.inside.share.amount c.add_weight.new.share.amount
           g.W.Weigh.by_messages c.copied-told.ensures.same
-          (pushed receipt c.try_reserve-2.ensures.items c.push_reserved-2.ensures.items)
+          (pushed receipt c.try_reserve-2.ensures.items c.push_reserved.ensures.items)
           c.seat.invariant.1 c.add_weight.ensures.amount,
     )
 
@@ -72,11 +72,11 @@ returns-clause-step g c =
         unchanged = c.step-reply.ensures.unchanged;
       };
       history = pushed (c.args.step, c.step-reply.result) c.try_reserve.ensures.items
-          c.push_reserved.ensures.items;
+          c.push_reserved-2.ensures.items;
       opening = refl;
       receipt =
           pushed (receipt c.len-number.result) c.try_reserve-2.ensures.items
-          c.push_reserved-2.ensures.items
+          c.push_reserved.ensures.items
           ∙ ap (λ number. c.seat.inside.receipts.items ++ receipt number ∷ []) numbered;
       told_same = c.copied-told.ensures.same;
       answer_same = c.copied-answer.ensures.same;
