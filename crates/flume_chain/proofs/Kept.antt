@@ -1,0 +1,294 @@
+-- What is known of the links of a chain, and what each call leaves of them.
+use Rattle.std.proofs.Common.{◌≡◌, ◌≢◌, ℕ, ◌-◌, ◌<◌, ◌≤◌, ◌==◌, min, List, [], ◌∷◌, ◌++◌, Some, None, map, length, refl, sym, ap, subst, ◌∙◌, inl, inr, arith, if◌then◌else◌}
+use Rattle.std.proofs.lemmas.Bool.{cases_Bool, cases_lt, eqb-true}
+use Rattle.std.specs.Vec.{vec_len}
+use Rattle.std.proofs.lemmas.List.{map-append, get_or_past}
+use Rattle.flume_chain.specs.declared.chain.links.Node.{Node}
+use Rattle.flume_chain.specs.declared.chain.links.Links.{Links}
+use Rattle.flume_chain.specs.Links.{end, no_node, with, next_at, previous_at, element_at, Linked, Grown}
+use Rattle.flume_chain.specs.Chained.{once, times, Placed, Chained, Table, Holds, HasFree, Kept, places, without, put_before, walk, table_of, chain_of, first_place, behind_first, place_after}
+use Rattle.flume_chain.proofs.Rings.{Ring, times-append, once_same}
+use Rattle.flume_chain.proofs.Splices.{around}
+use Rattle.flume_chain.proofs.Tables.{item, walk_is, Split, found_some, without_at, without_first, put_before_at, after_at, heads, ring_of}
+use Rattle.flume_chain.proofs.Steps.{linked_table, grown, emptied, bypassed, first_free, none_free, ring_below, grows, puts, puts_last, takes}
+
+module _ {X : Type 0} where
+  -- what stands at a place already may be written there
+  pub with_self : (f : ℕ → X) (a : ℕ) (v : X) (k : ℕ) → f a ≡ v → with f a v k ≡ f k
+  with_self f a v k h = elim (cases_Bool (k == a)) [
+    | inl e ↦ ap (λ t. if t then v else f k) e ∙ sym h ∙ ap f (sym (eqb-true k a e))
+    | inr e ↦ ap (λ t. if t then v else f k) e
+  ]
+
+module _ {E : Type 0} where
+  -- the place after `end` is that of the first element
+  first_of : (f : ℕ → ℕ) (items : List (Placed E)) → items ≢ [] → map f (end ∷ places items) ≡ places items ++ end ∷ [] → Some (f end) ≡ first_place items
+  first_of f [] ne h = absurd (ne refl)
+  first_of f (x ∷ xs) ne h = let e : f end ≡ x.place = cc in ap Some e
+
+  -- the places beside that of an element are the end or below the size
+  pub record Neighbours (t : Table E) (c : ℕ) : Type 0 where
+    pub next : t.next c ≢ end → t.next c < t.size
+    pub previous : t.previous c ≢ end → t.previous c < t.size
+
+  pub neighbours : (t : Table E) (xs ys : List (Placed E)) (c : ℕ) (e : E) (frees : List ℕ) → Holds t (xs ++ item c e ∷ ys) frees → Neighbours t c
+  neighbours t xs ys c e frees h =
+      let names : places (xs ++ item c e ∷ ys) ≡ places xs ++ c ∷ places ys = map-append (λ (x : Placed E). x.place) xs (item c e ∷ ys) in
+      let r = around t.next t.previous (places xs) c (places ys) (subst (Ring t.next t.previous) names (ring_of t (xs ++ item c e ∷ ys) frees h)) in
+      let last_stands : 1 ≤ times (t.previous c) (end ∷ places (xs ++ item c e ∷ ys)) =
+      let s = ap (times (t.previous c)) r.ends in
+      let a = times-append (t.previous c) r.front (r.last ∷ []) in
+      let o = once_same (t.previous c) in
+      let p = ap (λ x. once x (t.previous c)) r.from_back in
+      let d = times-append (t.previous c) (places xs) (c ∷ places ys) in
+      let n = ap (times (t.previous c)) names in
+      omega arith in
+      let head_stands : 1 ≤ times (t.next c) (end ∷ places (xs ++ item c e ∷ ys)) =
+      let s = ap (times (t.next c)) r.begins in
+      let a = times-append (t.next c) (places ys) (end ∷ []) in
+      let o = once_same (t.next c) in
+      let p = ap (λ x. once x (t.next c)) r.from in
+      let d = times-append (t.next c) (places xs) (c ∷ places ys) in
+      let n = ap (times (t.next c)) names in
+      omega arith in
+      record {
+        next = ring_below t (xs ++ item c e ∷ ys) frees (t.next c) h head_stands;
+        previous = ring_below t (xs ++ item c e ∷ ys) frees (t.previous c) h last_stands;
+      }
+
+  -- what is after the place of an element is the first of those behind it
+  pub record After (t : Table E) (items : List (Placed E)) (c : ℕ) : Type 0 where
+    pub none : t.next c ≡ end → None ≡ place_after items c
+    pub some : t.next c ≢ end → Some (t.next c) ≡ place_after items c
+
+  pub after_is : (t : Table E) (items : List (Placed E)) (frees : List ℕ) (c : ℕ) (e : E) → Holds t items frees → Some e ≡ t.element c → After t items c
+  after_is t items frees c e h is =
+      let s = found_some items c e (sym (h.elements c) ∙ sym is) in
+      let names : places items ≡ places s.before ++ c ∷ places s.after =
+      ap places s.is ∙ map-append (λ (x : Placed E). x.place) s.before (item c e ∷ s.after) in
+      let ring = ring_of t items frees h in
+      let r = around t.next t.previous (places s.before) c (places s.after) (subst (Ring t.next t.previous) names ring) in
+      let most = ring.apart c in
+      let n = ap (times c) names in
+      let a = times-append c (places s.before) (c ∷ places s.after) in
+      let o = once_same c in
+      let none_end = h.beyond end h.fits in
+      let m = ap (times end) names in
+      let d = times-append end (places s.before) (c ∷ places s.after) in
+      let heads_are = heads r.head r.rest s.after (omega arith) r.begins in
+      let after : first_place s.after ≡ place_after items c =
+      sym (ap (λ (l : List (Placed E)). place_after l c) s.is ∙ after_at s.before s.after c e (omega arith)) in
+      record {
+        none = λ q. heads_are.none (sym r.from ∙ q) ∙ after;
+        some = λ q. ap Some r.from ∙ heads_are.some (λ p. q (r.from ∙ p)) ∙ after;
+      }
+
+module _ {E Z : Type 0} where
+  -- links that were written as they were
+  abbrev pub Same : Links E Z → Links E Z → Type 0
+  Same old new = Linked old new (next_at old) (previous_at old) (element_at old) old.free
+
+  -- where there was none, to take an element changes nothing
+  pub none_taken : (old new : Links E Z) (c : ℕ)
+      → Linked old new (next_at old) (previous_at old) (with (element_at old) c None) old.free → None ≡ element_at old c → Same old new
+  none_taken old new c h none = record {
+    size = h.size;
+    capacity = h.capacity;
+    nexts = h.nexts;
+    previouses = h.previouses;
+    elements = λ k. h.elements k ∙ with_self (element_at old) c None k (sym none);
+    frees = h.frees;
+  }
+
+  -- the same links have the same table
+  pub same_table : (old new : Links E Z) → Same old new → table_of new ≡ table_of old
+  same_table old new h = linked_table old new (next_at old) (previous_at old) (element_at old) old.free h
+
+  -- the same links are of as many elements
+  pub same_kept : (old new : Links E Z) (n : ℕ) → Same old new → Kept old n → Kept new n
+  same_kept old new n h k = record {
+    items = k.items;
+    frees = k.frees;
+    holds = subst (λ t. Holds t k.items k.frees) (sym (same_table old new h)) k.holds;
+    count = k.count;
+  }
+
+  -- the same links are the same chain
+  pub same_chain : (old new : Links E Z) (n : ℕ) (v : Chained E) → Same old new → chain_of old n ≡ v → chain_of new n ≡ v
+  same_chain old new n v h is =
+      (λ i. record {
+        items = walk ((same_table old new h) i) (((same_table old new h) i).next end) n;
+        room = min (h.capacity i) end - n;
+      }) ∙ is
+
+  -- the elements that the links hold are those of the chain
+  pub walked : (s : Links E Z) (n : ℕ) (items : List (Placed E)) (frees : List ℕ) → Holds (table_of s) items frees → n ≡ length items
+      → walk (table_of s) s.first n ≡ items
+  walked s n items frees h e = ap (λ m. walk (table_of s) s.first m) e ∙ walk_is (table_of s) items frees h
+
+  -- the elements that are kept are those of the chain
+  pub kept_items : (s : Links E Z) (n : ℕ) (v : Chained E) (k : Kept s n) → chain_of s n ≡ v → k.items ≡ v.items
+  kept_items s n v k is = sym (walked s n k.items k.frees k.holds k.count) ∙ ap (λ (x : Chained E). x.items) is
+
+  -- links with one more node hold one more free place
+  pub grown_free : (old new : Links E Z) (items : List (Placed E)) (frees : List ℕ) → Grown old new → vec_len old.nodes < end
+      → Holds (table_of old) items frees → HasFree new items
+  grown_free old new items frees g lt h =
+      let is : table_of new ≡ grown (table_of old) = λ i. record {
+        size = g.size i;
+        next = λ k. g.nexts k i;
+        previous = λ k. g.previouses k i;
+        element = λ k. g.elements k i;
+        free = g.frees i;
+      } in
+      record {
+        rest = frees;
+        holds = subst (λ t. Holds t items (t.free ∷ frees)) (sym is) (grows (table_of old) items frees h lt);
+      }
+
+  -- links with a first free place have one
+  pub has_free : (s : Links E Z) (items : List (Placed E)) (frees : List ℕ) → s.free ≢ end → Holds (table_of s) items frees → HasFree s items
+  has_free s items frees ne h =
+      let r = first_free (table_of s) items frees h ne in
+      record { rest = r.rest; holds = subst (λ (l : List ℕ). Holds (table_of s) items l) r.is h }
+
+  -- how many more elements may stand where no place is free
+  pub full_room : (s : Links E Z) (items : List (Placed E)) (frees : List ℕ) → s.free ≡ end → Holds (table_of s) items frees
+      → vec_len s.nodes ≡ length items
+  full_room s items frees e h = let n = none_free (table_of s) items frees h e in let w = h.total in omega arith
+
+  -- what is written to put an element behind all others
+  abbrev pub PutLast : Links E Z → Links E Z → E → Type 0
+  PutLast old new e = Linked old new
+      (with (with (next_at old) old.free end) (previous_at old end) old.free)
+      (with (with (previous_at old) old.free (previous_at old end)) end old.free)
+      (with (element_at old) old.free (Some e))
+      (next_at old old.free)
+
+  -- links with an element put behind all others
+  pub put_holds : (old new : Links E Z) (items : List (Placed E)) (e : E) (f : HasFree old items) → PutLast old new e
+      → Holds (table_of new) (items ++ item old.free e ∷ []) f.rest
+  put_holds old new items e f h =
+      subst (λ t. Holds t (items ++ item old.free e ∷ []) f.rest)
+      (sym (linked_table old new _ _ _ _ h)) (puts_last (table_of old) items f.rest e f.holds)
+
+  -- what is written to put an element before a place
+  abbrev pub PutBefore : Links E Z → Links E Z → ℕ → E → Type 0
+  PutBefore old new c e = Linked old new
+      (with (with (next_at old) old.free c) (previous_at old c) old.free)
+      (with (with (previous_at old) old.free (previous_at old c)) c old.free)
+      (with (element_at old) old.free (Some e))
+      (next_at old old.free)
+
+  -- links with an element put before that at a place
+  pub put_before_holds : (old new : Links E Z) (items : List (Placed E)) (c : ℕ) (x e : E) (r : Split items c x) (f : HasFree old items)
+      → PutBefore old new c e → Holds (table_of new) (r.before ++ item old.free e ∷ item c x ∷ r.after) f.rest
+  put_before_holds old new items c x e r f h =
+      let held : Holds (table_of old) (r.before ++ item c x ∷ r.after) (old.free ∷ f.rest) =
+      subst (λ (l : List (Placed E)). Holds (table_of old) l (old.free ∷ f.rest)) r.is f.holds in
+      subst (λ t. Holds t (r.before ++ item old.free e ∷ item c x ∷ r.after) f.rest)
+      (sym (linked_table old new _ _ _ _ h))
+      (puts (table_of old) r.before (item c x ∷ r.after) f.rest e c (places r.after ++ end ∷ []) held refl)
+
+  -- with one more before a place, the elements are those ahead of it, it, and those behind it
+  pub put_items : (s : Links E Z) (items : List (Placed E)) (frees : List ℕ) (c : ℕ) (x : E) (y : Placed E) (r : Split items c x)
+      → Holds (table_of s) items frees → put_before items c y ≡ r.before ++ y ∷ item c x ∷ r.after
+  put_items s items frees c x y r h =
+      let ring = ring_of (table_of s) items frees h in
+      let most = ring.apart c in
+      let names : places items ≡ places r.before ++ c ∷ places r.after =
+      ap places r.is ∙ map-append (λ (z : Placed E). z.place) r.before (item c x ∷ r.after) in
+      let n = ap (times c) names in
+      let a = times-append c (places r.before) (c ∷ places r.after) in
+      let o = once_same c in
+      ap (λ (l : List (Placed E)). put_before l c y) r.is ∙ put_before_at r.before r.after c x y (omega arith)
+
+  -- what is written to take the element at a place out of its node, and then that place out of the links
+  abbrev pub Bypassed : Links E Z → Links E Z → ℕ → Type 0
+  Bypassed old new c = Linked old new
+      (with (with (next_at old) (previous_at old c) (next_at old c)) c old.free)
+      (with (previous_at old) (next_at old c) (previous_at old c))
+      (element_at old) c
+
+  -- what a place is found in: those ahead of it and those behind it
+  pub found_split : (s : Links E Z) (items : List (Placed E)) (frees : List ℕ) (c : ℕ) (e : E) → Holds (table_of s) items frees
+      → Some e ≡ element_at s c → Split items c e
+  found_split s items frees c e h is = found_some items c e (sym (h.elements c) ∙ sym is)
+
+  -- links with the element at a place taken out
+  pub take_holds : (old mid new : Links E Z) (items : List (Placed E)) (frees : List ℕ) (c : ℕ) (e : E) (r : Split items c e)
+      → Holds (table_of old) items frees
+      → Linked old mid (next_at old) (previous_at old) (with (element_at old) c None) old.free → Bypassed mid new c
+      → Holds (table_of new) (r.before ++ r.after) (c ∷ frees)
+  take_holds old mid new items frees c e r h emptied_is bypassed_is =
+      let t : table_of mid ≡ emptied (table_of old) c = linked_table old mid _ _ _ _ emptied_is in
+      let u : table_of new ≡ bypassed (table_of mid) c = linked_table mid new _ _ _ _ bypassed_is in
+      let held : Holds (table_of old) (r.before ++ item c e ∷ r.after) frees = subst (λ (l : List (Placed E)). Holds (table_of old) l frees) r.is h in
+      subst (λ x. Holds x (r.before ++ r.after) (c ∷ frees)) (sym (u ∙ ap (λ x. bypassed x c) t))
+      (takes (table_of old) r.before r.after c e frees held)
+
+  -- the elements without that at a place are those ahead of it and those behind it
+  pub taken_items : (s : Links E Z) (items : List (Placed E)) (frees : List ℕ) (c : ℕ) (e : E) (r : Split items c e)
+      → Holds (table_of s) items frees → without items c ≡ r.before ++ r.after
+  taken_items s items frees c e r h =
+      let ring = ring_of (table_of s) items frees h in
+      let most = ring.apart c in
+      let names : places items ≡ places r.before ++ c ∷ places r.after =
+      ap places r.is ∙ map-append (λ (x : Placed E). x.place) r.before (item c e ∷ r.after) in
+      let n = ap (times c) names in
+      let a = times-append c (places r.before) (c ∷ places r.after) in
+      let o = once_same c in
+      ap (λ (l : List (Placed E)). without l c) r.is ∙ without_at r.before r.after c e (omega arith) (omega arith)
+
+  -- the first place of the links is that of the first element
+  pub first_kept : (s : Links E Z) (n : ℕ) (k : Kept s n) → n ≢ 0 → Some s.first ≡ first_place k.items
+  first_kept s n k ne = first_of (next_at s) k.items (λ e. ne (k.count ∙ ap length e)) k.holds.forward
+
+  -- links with no nodes are of no elements
+  pub new_kept : (s : Links E Z) → vec_len s.nodes ≡ 0 → s.first ≡ end → s.last ≡ end → s.free ≡ end → Kept s 0
+  new_kept s size first last free = record {
+    items = [];
+    frees = [];
+    holds = record {
+      forward = ap (λ (k : ℕ). k ∷ []) first;
+      backward = ap (λ (k : ℕ). k ∷ []) last;
+      freed = ap (λ (k : ℕ). k ∷ []) free;
+      elements = λ k. ap (λ (x : Node E). x.element) (get_or_past s.nodes.items k no_node (omega (arith, s.nodes.ok.0)));
+      within = λ k l. absurd (omega arith);
+      beyond = λ k l. refl;
+      total = sym size;
+      fits = omega arith;
+    };
+    count = refl;
+  }
+
+  -- the places beside that of an element, once it was taken out of its node
+  pub beside_taken : (old mid : Links E Z) (items : List (Placed E)) (frees : List ℕ) (c : ℕ) (e : E) (r : Split items c e)
+      → Holds (table_of old) items frees
+      → Linked old mid (next_at old) (previous_at old) (with (element_at old) c None) old.free → Neighbours (table_of mid) c
+  beside_taken old mid items frees c e r h emptied_is =
+      let n = neighbours (table_of old) r.before r.after c e frees (subst (λ (l : List (Placed E)). Holds (table_of old) l frees) r.is h) in
+      let again : Neighbours (emptied (table_of old) c) c = record { next = n.next; previous = n.previous } in
+      subst (λ t. Neighbours t c) (sym (linked_table old mid _ _ _ _ emptied_is)) again
+
+  -- where an element stands, its place is below the size
+  pub place_below : (s : Links E Z) (items : List (Placed E)) (frees : List ℕ) (c : ℕ) (e : E) (r : Split items c e)
+      → Holds (table_of s) items frees → c < vec_len s.nodes
+  place_below s items frees c e r h = elim (cases_lt c (vec_len s.nodes)) [
+    | inl lt ↦ lt
+    | inr ge ↦ (
+        let none = h.beyond c ge in
+        let names : places items ≡ places r.before ++ c ∷ places r.after =
+        ap places r.is ∙ map-append (λ (x : Placed E). x.place) r.before (item c e ∷ r.after) in
+        let n = ap (times c) names in
+        let a = times-append c (places r.before) (c ∷ places r.after) in
+        let o = once_same c in
+        absurd (omega arith)
+        )
+  ]
+
+  -- without the first place of the links those behind the first element are left
+  pub first_behind : (s : Links E Z) (n : ℕ) (k : Kept s n) → n ≢ 0 → without k.items s.first ≡ behind_first k.items
+  first_behind s n k ne =
+      let ring = ring_of (table_of s) k.items k.frees k.holds in
+      without_first k.items s.first (λ x. let a = ring.apart x in omega arith) (first_kept s n k ne)

@@ -1,0 +1,5 @@
+pub mod Rings
+pub mod Splices
+pub mod Tables
+pub mod Steps
+pub mod Kept

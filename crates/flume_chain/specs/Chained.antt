@@ -1,0 +1,127 @@
+-- What the contracts of a chain cite: its elements in order, each with the place that names it.
+use Rattle.std.specs.Prelude.{◌≡◌, ℕ, zero, suc, ◌+◌, ◌-◌, ◌<◌, ◌≤◌, ◌==◌, min, List, [], ◌∷◌, ◌++◌}
+use Rattle.std.specs.Prelude.{Option, Some, None, if◌then◌else◌, map, length}
+use Rattle.std.specs.Vec.{vec_len, vec_capacity}
+use Rattle.flume_chain.specs.declared.chain.links.Links.{Links}
+use Rattle.flume_chain.specs.Links.{end, next_at, previous_at, element_at}
+
+-- an element, with the place that names it while it stands
+pub record Placed (E : Type 0) : Type 0 where
+  pub place : ℕ
+  pub element : E
+
+-- the elements in order, and how many more may stand with no more memory
+pub record Chained (E : Type 0) : Type 0 where
+  pub items : List (Placed E)
+  pub room : ℕ
+
+-- 1 where two places are the same, and else 0
+abbrev pub once : ℕ → ℕ → ℕ
+once x k = if x == k then 1 else 0
+
+-- how often a place is in a list
+abbrev pub times : ℕ → List ℕ → ℕ
+times k [] = 0
+times k (x ∷ xs) = once x k + times k xs
+
+-- what the links say: how many nodes there are, what is after and before each place, what stands
+-- there, and the first free place
+pub record Table (E : Type 0) : Type 0 where
+  pub size : ℕ
+  pub next : ℕ → ℕ
+  pub previous : ℕ → ℕ
+  pub element : ℕ → Option E
+  pub free : ℕ
+
+module _ {E : Type 0} where
+  -- the places of some elements
+  abbrev pub places : List (Placed E) → List ℕ
+  places items = map (λ (x : Placed E). x.place) items
+
+  -- the element at a place
+  abbrev pub found : List (Placed E) → ℕ → Option E
+  found [] k = None
+  found (x ∷ xs) k = if k == x.place then Some x.element else found xs k
+
+  -- the elements but that at a place, in their order
+  abbrev pub without : List (Placed E) → ℕ → List (Placed E)
+  without [] k = []
+  without (x ∷ xs) k = if x.place == k then without xs k else x ∷ without xs k
+
+  -- the elements with one more ahead of that at a place, or behind all others where none stands there
+  abbrev pub put_before : List (Placed E) → ℕ → Placed E → List (Placed E)
+  put_before [] k x = x ∷ []
+  put_before (y ∷ ys) k x = if k == y.place then x ∷ y ∷ ys else y ∷ put_before ys k x
+
+  -- the place of the first element
+  abbrev pub first_place : List (Placed E) → Option ℕ
+  first_place [] = None
+  first_place (x ∷ xs) = Some x.place
+
+  -- the first element
+  abbrev pub first_element : List (Placed E) → Option E
+  first_element [] = None
+  first_element (x ∷ xs) = Some x.element
+
+  -- those behind the first
+  abbrev pub behind_first : List (Placed E) → List (Placed E)
+  behind_first [] = []
+  behind_first (x ∷ xs) = xs
+
+  -- the place of the element behind that at a place
+  abbrev pub place_after : List (Placed E) → ℕ → Option ℕ
+  place_after [] k = None
+  place_after (x ∷ xs) k = if k == x.place then first_place xs else place_after xs k
+
+  -- the element that may stand at a place, ahead of others
+  abbrev pub listed : ℕ → Option E → List (Placed E) → List (Placed E)
+  listed k None xs = xs
+  listed k (Some e) xs = record { place = k; element = e } ∷ xs
+
+  -- the elements met from a place on in so many steps
+  abbrev pub walk : Table E → ℕ → ℕ → List (Placed E)
+  walk t k zero = []
+  walk t k (suc n) = listed k (t.element k) (walk t (t.next k) n)
+
+  -- the table is one of these elements and these free places: `end` closes both into rings, and each
+  -- place below the size is of one element or free
+  pub record Holds (t : Table E) (items : List (Placed E)) (frees : List ℕ) : Type 0 where
+    pub forward : map t.next (end ∷ places items) ≡ places items ++ end ∷ []
+    pub backward : map t.previous (places items ++ end ∷ []) ≡ end ∷ places items
+    pub freed : t.free ∷ map t.next frees ≡ frees ++ end ∷ []
+    pub elements : (k : ℕ) → t.element k ≡ found items k
+    pub within : (k : ℕ) → k < t.size → times k (places items) + times k frees ≡ 1
+    pub beyond : (k : ℕ) → t.size ≤ k → times k (places items) + times k frees ≡ 0
+    pub total : length items + length frees ≡ t.size
+    pub fits : t.size ≤ end
+
+module _ {E Z : Type 0} where
+  -- what these links say
+  abbrev pub table_of : Links E Z → Table E
+  table_of s = record {
+    size = vec_len s.nodes;
+    next = next_at s;
+    previous = previous_at s;
+    element = element_at s;
+    free = s.free;
+  }
+
+  -- how many more elements may stand in these links, in which n do
+  abbrev pub room_of : Links E Z → ℕ → ℕ
+  room_of s n = min (vec_capacity s.nodes) end - n
+
+  -- the chain of n elements in these links
+  abbrev pub chain_of : Links E Z → ℕ → Chained E
+  chain_of s n = record { items = walk (table_of s) s.first n; room = room_of s n }
+
+  -- these links are of these elements, and a place is free
+  pub record HasFree (s : Links E Z) (items : List (Placed E)) : Type 0 where
+    pub rest : List ℕ
+    pub holds : Holds (table_of s) items (s.free ∷ rest)
+
+  -- these links are of n elements and of the free places
+  pub record Kept (s : Links E Z) (n : ℕ) : Type 0 where
+    pub items : List (Placed E)
+    pub frees : List ℕ
+    pub holds : Holds (table_of s) items frees
+    pub count : n ≡ length items

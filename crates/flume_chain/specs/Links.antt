@@ -1,0 +1,57 @@
+-- What the contracts of a chain's links cite: what stands at a place, by look-ups.
+use Rattle.std.specs.Prelude.{◌≡◌, ◌≢◌, ℕ, suc, ◌<◌, ◌==◌, Option, None, if◌then◌else◌}
+use Rattle.std.specs.Prelude.{slice_index_or}
+use Rattle.std.specs.Vec.{vec_len, vec_capacity}
+use Rattle.flume_chain.specs.declared.chain.links.Node.{Node}
+use Rattle.flume_chain.specs.declared.chain.links.Links.{Links}
+
+-- the place that no element has: it is before the first and after the last
+abbrev pub end : ℕ
+end = 4294967295
+
+-- f, but v at k
+abbrev pub with : {X : Type 0} → (ℕ → X) → ℕ → X → ℕ → X
+with f k v x = if x == k then v else f x
+
+-- what is read where there is no node
+abbrev pub no_node : {E : Type 0} → Node E
+no_node = record { element = None; previous = end; next = end }
+
+module _ {E Z : Type 0} where
+  -- the node at a place
+  abbrev pub node_at : Links E Z → ℕ → Node E
+  node_at s k = slice_index_or s.nodes.items k no_node
+
+  -- the place after a place; after `end` the first
+  abbrev pub next_at : Links E Z → ℕ → ℕ
+  next_at s k = if k == end then s.first else (node_at s k).next
+
+  -- the place before a place; before `end` the last
+  abbrev pub previous_at : Links E Z → ℕ → ℕ
+  previous_at s k = if k == end then s.last else (node_at s k).previous
+
+  -- the element at a place
+  abbrev pub element_at : Links E Z → ℕ → Option E
+  element_at s k = (node_at s k).element
+
+  -- a node has this place, or it is `end`
+  abbrev pub Stands : Links E Z → ℕ → Type 0
+  Stands s k = k ≢ end → k < vec_len s.nodes
+
+  -- new has the size and the capacity of old, and at each place what these say
+  pub record Linked (old new : Links E Z) (next previous : ℕ → ℕ) (element : ℕ → Option E)
+      (free : ℕ) : Type 0 where
+    pub size : vec_len new.nodes ≡ vec_len old.nodes
+    pub capacity : vec_capacity new.nodes ≡ vec_capacity old.nodes
+    pub nexts : (k : ℕ) → next_at new k ≡ next k
+    pub previouses : (k : ℕ) → previous_at new k ≡ previous k
+    pub elements : (k : ℕ) → element_at new k ≡ element k
+    pub frees : new.free ≡ free
+
+  -- new has one more node than old, which is free
+  pub record Grown (old new : Links E Z) : Type 0 where
+    pub size : vec_len new.nodes ≡ suc (vec_len old.nodes)
+    pub nexts : (k : ℕ) → next_at new k ≡ with (next_at old) (vec_len old.nodes) old.free k
+    pub previouses : (k : ℕ) → previous_at new k ≡ with (previous_at old) (vec_len old.nodes) end k
+    pub elements : (k : ℕ) → element_at new k ≡ with (element_at old) (vec_len old.nodes) None k
+    pub frees : new.free ≡ vec_len old.nodes
