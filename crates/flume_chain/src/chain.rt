@@ -85,17 +85,10 @@ impl<E: Drop, A: Allocator> Chain<E, A> {
         self.links.get(place)
     }
 
-    /// The place of the first element. `None` where none stands.
+    /// The place of the first element. `None` where none stands. Without that place those behind
+    /// the first element are left.
     #[inline(always)]
     pub fn first(&self) -> Option<u32>
-        ensures first { result ≡ first_place self.now.items }
-    {
-        self.front()
-    }
-
-    // The place of the first element, without which those behind it are left.
-    #[inline(always)]
-    fn front(&self) -> Option<u32>
         ensures first { result ≡ first_place self.now.items }
         ensures behind { IfSome result (λ place.
             without self.now.items place ≡ behind_first self.now.items) }
@@ -123,7 +116,8 @@ impl<E: Drop, A: Allocator> Chain<E, A> {
     }
 
     /// Puts an element behind all others, and returns its place, which no other has. With no memory
-    /// left, the element comes back, and the chain stays as it was.
+    /// left, or 4,294,967,295 elements standing, the element comes back, and the chain stays as it
+    /// was.
     #[inline(always)]
     pub fn push_back(&mut self, element: E) -> Result<u32, E>
         ensures pushed { IfOk result (λ place. self.new.items
@@ -143,8 +137,8 @@ impl<E: Drop, A: Allocator> Chain<E, A> {
     }
 
     /// Puts an element ahead of that at a place, or behind all others where none stands there, and
-    /// returns its own place, which no other has. With no memory left, the element comes back, and
-    /// the chain stays as it was.
+    /// returns its own place, which no other has. With no memory left, or 4,294,967,295 elements
+    /// standing, the element comes back, and the chain stays as it was.
     #[inline(always)]
     pub fn insert_before(&mut self, next: u32, element: E) -> Result<u32, E>
         ensures inserted { IfOk result (λ place. self.new.items
@@ -192,7 +186,7 @@ impl<E: Drop, A: Allocator> Chain<E, A> {
         ensures room { OnSome result (self.new.room ≡ self.old.room + 1) }
         ensures unchanged { IfNone result (self.new ≡ self.old) }
     {
-        let place = self.front()?;
+        let place = self.first()?;
         self.remove(place)
     }
 }

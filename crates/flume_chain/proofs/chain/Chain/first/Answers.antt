@@ -1,7 +1,7 @@
 use Rattle.std.proofs.Common.{Some, ap, sym, ◌∙◌}
 use Rattle.flume_chain.specs.Chained.{first_place, without, behind_first}
 use Rattle.flume_chain.proofs.Kept.{kept_items, first_kept, first_behind}
-use Rattle.flume_chain.proofs.chain.Chain.front.Goals as goal
+use Rattle.flume_chain.proofs.chain.Chain.first.Goals as goal
 
 pub returns : goal.returns
 returns g c =
