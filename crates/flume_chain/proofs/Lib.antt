@@ -3,3 +3,6 @@ pub mod Splices
 pub mod Tables
 pub mod Steps
 pub mod Kept
+pub mod Edits
+pub mod Writes
+pub mod ChainLaws

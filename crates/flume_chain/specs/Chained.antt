@@ -53,6 +53,12 @@ module _ {E : Type 0} where
   put_before [] k x = x ∷ []
   put_before (y ∷ ys) k x = if k == y.place then x ∷ y ∷ ys else y ∷ put_before ys k x
 
+  -- the elements with another at a place where one stands
+  abbrev pub put_at : List (Placed E) → ℕ → E → List (Placed E)
+  put_at [] k e = []
+  put_at (x ∷ xs) k e =
+      record { place = x.place; element = if k == x.place then e else x.element } ∷ put_at xs k e
+
   -- the place of the first element
   abbrev pub first_place : List (Placed E) → Option ℕ
   first_place [] = None
@@ -73,10 +79,24 @@ module _ {E : Type 0} where
   place_after [] k = None
   place_after (x ∷ xs) k = if k == x.place then first_place xs else place_after xs k
 
+  -- the place of the last element, or k where there is none
+  abbrev pub last_or : ℕ → List (Placed E) → ℕ
+  last_or k [] = k
+  last_or k (x ∷ xs) = last_or x.place xs
+
+  -- the place of the last element
+  abbrev pub last_place : List (Placed E) → Option ℕ
+  last_place [] = None
+  last_place (x ∷ xs) = Some (last_or x.place xs)
+
   -- the element that may stand at a place, ahead of others
   abbrev pub listed : ℕ → Option E → List (Placed E) → List (Placed E)
   listed k None xs = xs
   listed k (Some e) xs = record { place = k; element = e } ∷ xs
+
+  -- the elements with that at a place behind all others; the same ones where none stands there
+  abbrev pub moved_back : List (Placed E) → ℕ → List (Placed E)
+  moved_back xs k = without xs k ++ listed k (found xs k) []
 
   -- the elements met from a place on in so many steps
   abbrev pub walk : Table E → ℕ → ℕ → List (Placed E)

@@ -1,7 +1,7 @@
 -- What the contracts of a chain's links cite: what stands at a place, by look-ups.
-use Rattle.std.specs.Prelude.{◌≡◌, ◌≢◌, ℕ, suc, ◌<◌, ◌==◌, Option, None, if◌then◌else◌}
+use Rattle.std.specs.Prelude.{◌≡◌, ◌≢◌, ℕ, suc, ◌<◌, ◌==◌, Option, Some, None, if◌then◌else◌}
 use Rattle.std.specs.Prelude.{slice_index_or}
-use Rattle.std.specs.Vec.{vec_len, vec_capacity}
+use Rattle.std.specs.Vec.{vec_len, vec_capacity, with_item}
 use Rattle.flume_chain.specs.declared.chain.links.Node.{Node}
 use Rattle.flume_chain.specs.declared.chain.links.Links.{Links}
 
@@ -33,6 +33,11 @@ module _ {E Z : Type 0} where
   -- the element at a place
   abbrev pub element_at : Links E Z → ℕ → Option E
   element_at s k = (node_at s k).element
+
+  -- s with an element in the node at a place
+  abbrev pub with_element : Links E Z → ℕ → E → Links E Z
+  with_element s k e =
+      record s { nodes = with_item s.nodes k (record (node_at s k) { element = Some e }) }
 
   -- a node has this place, or it is `end`
   abbrev pub Stands : Links E Z → ℕ → Type 0

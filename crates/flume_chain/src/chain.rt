@@ -1,9 +1,13 @@
 //! Elements in order, of which each can be taken out at the same cost wherever it stands.
-ghost use Rattle.std.specs.Prelude.{◌≡◌, ◌≢◌, ◌<◌, ◌+◌, ◌++◌, ◌∷◌, [], Some, None, true, length};
+ghost use Rattle.std.specs.Prelude.{◌≡◌, ◌≢◌, ◌<◌, ◌≤◌, ◌+◌, ◌++◌, ◌∷◌, [], Some, None, length};
+ghost use Rattle.std.specs.Prelude.{ℕ, true, false};
 ghost use Rattle.std.specs.Prelude.{IsOk, IfOk, IfErr, OnOk, OnErr, IfSome, IfNone, OnSome, IsSome};
 ghost use Rattle.std.specs.Prelude.{option_copied, ◌↔◌};
+ghost use Rattle.std.specs.Option.{option_copied_mut};
+ghost use Rattle.std.specs.Borrow.{sem};
 ghost use Rattle.flume_chain.specs.Chained.{found, without, put_before, first_place, place_after};
-ghost use Rattle.flume_chain.specs.Chained.{first_element, behind_first};
+ghost use Rattle.flume_chain.specs.Chained.{first_element, behind_first, last_place, moved_back};
+ghost use Rattle.flume_chain.specs.Chained.{times, places};
 
 mod links;
 
@@ -29,6 +33,8 @@ impl<E, A: Allocator> Model for Chain<E, A> {
 }
 
 impl<E: Drop, A: Allocator> Chain<E, A> {
+    ghost use Rattle.flume_chain.specs.Lends.{lends_element, lends_get};
+
     /// No elements. Takes no memory.
     ///
     /// ```
@@ -77,12 +83,43 @@ impl<E: Drop, A: Allocator> Chain<E, A> {
         }
     }
 
-    /// The element at a place. `None` where none stands there.
+    /// The allocator that memory is taken from.
+    #[inline(always)]
+    pub fn allocator(&self) -> &A {
+        self.links.allocator()
+    }
+
+    /// The element at a place, which no other has. `None` where none stands there.
     #[inline(always)]
     pub fn get(&self, place: u32) -> Option<&E>
         ensures found { option_copied result ≡ found self.now.items place }
+        ensures apart { (k : ℕ) → times k (places self.now.items) ≤ 1 }
     {
         self.links.get(place)
+    }
+
+    /// The element at a place, for writing: it keeps its place. `None` where none stands there, and
+    /// then nothing changes. Takes no memory.
+    #[inline(always)]
+    pub fn get_mut(&mut self, place: u32) -> Option<&mut E>
+        ensures* writes_back { sem 𝓛 (lends_get E.row A.row A.Allocator self.entry place result) }
+        ensures value { option_copied_mut result ≡ found self.old.items place }
+    {
+        if self.get(place).is_some() {
+            Some(self.element_mut(place))
+        } else {
+            None
+        }
+    }
+
+    // The element at a place where one stands, for writing.
+    #[inline(always)]
+    fn element_mut(&mut self, place: u32) -> &mut E
+        requires stands { IsSome (found self.old.items place) }
+        ensures* writes_back { sem 𝓛 (lends_element E.row A.row A.Allocator self.entry place result) }
+        ensures value { found self.old.items place ≡ Some result.now }
+    {
+        self.links.element_mut(place)
     }
 
     /// The place of the first element. `None` where none stands. Without that place those behind
@@ -97,6 +134,17 @@ impl<E: Drop, A: Allocator> Chain<E, A> {
             return None;
         }
         Some(self.links.next(END))
+    }
+
+    /// The place of the last element. `None` where none stands.
+    #[inline(always)]
+    pub fn last(&self) -> Option<u32>
+        ensures last { result ≡ last_place self.now.items }
+    {
+        if self.len == 0 {
+            return None;
+        }
+        Some(self.links.previous(END))
     }
 
     /// The place of the element behind that at a place. `None` where none stands at the place, or
@@ -123,6 +171,7 @@ impl<E: Drop, A: Allocator> Chain<E, A> {
         ensures pushed { IfOk result (λ place. self.new.items
             ≡ self.old.items ++ record { place = place; element = element } ∷ []) }
         ensures fresh { IfOk result (λ place. found self.old.items place ≡ None) }
+        ensures fits { OnOk result (length self.new.items ≤ 4294967295) }
         ensures room { OnOk result (0 < self.old.room → self.new.room + 1 ≡ self.old.room) }
         ensures succeeds { 0 < self.old.room → IsOk result }
         ensures returned { IfErr result (λ back. back ≡ element) }
@@ -144,6 +193,7 @@ impl<E: Drop, A: Allocator> Chain<E, A> {
         ensures inserted { IfOk result (λ place. self.new.items
             ≡ put_before self.old.items next (record { place = place; element = element })) }
         ensures fresh { IfOk result (λ place. found self.old.items place ≡ None) }
+        ensures fits { OnOk result (length self.new.items ≤ 4294967295) }
         ensures room { OnOk result (0 < self.old.room → self.new.room + 1 ≡ self.old.room) }
         ensures succeeds { 0 < self.old.room → IsOk result }
         ensures returned { IfErr result (λ back. back ≡ element) }
@@ -158,6 +208,23 @@ impl<E: Drop, A: Allocator> Chain<E, A> {
         let place = self.links.link_before(next, element);
         self.len += 1;
         Ok(place)
+    }
+
+    /// Puts the element at a place behind all others. It keeps its place, and the others their order
+    /// and their places. `false` where none stands there, and then nothing changes. Takes no memory.
+    #[inline(always)]
+    pub fn move_back(&mut self, place: u32) -> bool
+        ensures stood { result ≡ true ↔ IsSome (found self.old.items place) }
+        ensures moved { self.new.items ≡ moved_back self.old.items place }
+        ensures room { self.new.room ≡ self.old.room }
+        ensures unchanged { result ≡ false → self.new ≡ self.old }
+    {
+        let Some(element) = self.links.take(place) else {
+            return false;
+        };
+        self.links.bypass(place);
+        self.links.link_before(END, element);
+        true
     }
 
     /// Takes out the element at a place, which then names none. The others keep their order and
@@ -187,6 +254,17 @@ impl<E: Drop, A: Allocator> Chain<E, A> {
         ensures unchanged { IfNone result (self.new ≡ self.old) }
     {
         let place = self.first()?;
-        self.remove(place)
+        let element = self.links.take(place)?;
+        self.links.bypass_first(place);
+        self.len -= 1;
+        Some(element)
+    }
+    /// Takes out all elements, and drops them. Gives back no memory, and takes none.
+    pub fn clear(&mut self)
+        ensures empty { self.new.items ≡ [] }
+        ensures room { self.new.room ≡ self.old.room + length self.old.items }
+    {
+        self.links.clear();
+        self.len = 0;
     }
 }

@@ -1,9 +1,10 @@
 //! The nodes of a chain, each with the places before and after it.
 ghost use Rattle.std.specs.Prelude.{◌≡◌, ◌≢◌, ◌<◌, ◌≤◌, Some, None, true, false, option_copied};
-ghost use Rattle.std.specs.Prelude.{ℕ, List, length};
+ghost use Rattle.std.specs.Prelude.{ℕ, List, length, IsSome};
+ghost use Rattle.std.specs.Borrow.{Lends, sem};
 ghost use Rattle.std.specs.Vec.{vec_len, vec_capacity, VecUnchanged};
 ghost use Rattle.flume_chain.specs.Links.{end, with, next_at, previous_at, element_at};
-ghost use Rattle.flume_chain.specs.Links.{Stands, Linked, Grown};
+ghost use Rattle.flume_chain.specs.Links.{Stands, Linked, Grown, with_element};
 ghost use Rattle.flume_chain.specs.Chained.{Placed, Holds, HasFree, table_of, room_of};
 
 use std::alloc::Allocator;
@@ -20,6 +21,24 @@ struct Node<E> {
     next: u32,
 }
 
+impl<E> Node<E> {
+    ghost use Rattle.flume_chain.specs.contracts.chain.links.Node.{the_row};
+
+    // The element of a node that has one, for writing.
+    #[inline(always)]
+    fn element_mut(&mut self) -> &mut E
+        requires stands { IsSome self.old.element }
+        ensures* writes_back { sem 𝓛 (Lends (the_row E.row) E.row self.entry result
+            (λ w. record self.old { element = Some w })) }
+        ensures value { self.old.element ≡ Some result.now }
+    {
+        match &mut self.element {
+            Some(element) => element,
+            None => unreachable!(),
+        }
+    }
+}
+
 /// Nodes, with the places of the first, the last and a free one.
 #[derive(Drop)]
 pub(super) struct Links<E, A: Allocator> {
@@ -30,6 +49,8 @@ pub(super) struct Links<E, A: Allocator> {
 }
 
 impl<E: Drop, A: Allocator> Links<E, A> {
+    ghost use Rattle.flume_chain.specs.contracts.chain.links.Links.{the_row};
+
     /// No nodes. Takes no memory.
     pub fn new(alloc: A) -> Self
         ensures size { vec_len result.nodes ≡ 0 }
@@ -52,6 +73,26 @@ impl<E: Drop, A: Allocator> Links<E, A> {
         ensures capacity { result ≡ vec_capacity self.now.nodes }
     {
         self.nodes.capacity()
+    }
+
+    /// The allocator that memory is taken from.
+    #[inline(always)]
+    pub fn allocator(&self) -> &A {
+        self.nodes.allocator()
+    }
+
+    /// Drops all nodes. Gives back no memory.
+    pub fn clear(&mut self)
+        ensures size { vec_len self.new.nodes ≡ 0 }
+        ensures capacity { vec_capacity self.new.nodes ≡ vec_capacity self.old.nodes }
+        ensures first { self.new.first ≡ end }
+        ensures last { self.new.last ≡ end }
+        ensures free { self.new.free ≡ end }
+    {
+        self.nodes.clear();
+        self.first = END;
+        self.last = END;
+        self.free = END;
     }
 
     /// The place after a place; after `END` the first.
@@ -88,6 +129,17 @@ impl<E: Drop, A: Allocator> Links<E, A> {
         ensures element { option_copied result ≡ element_at self.now place }
     {
         self.nodes.get(place as usize)?.element.as_ref()
+    }
+
+    /// The element at a place where one stands, for writing.
+    #[inline(always)]
+    pub fn element_mut(&mut self, place: u32) -> &mut E
+        requires stands { IsSome (element_at self.old place) }
+        ensures* writes_back { sem 𝓛 (Lends (the_row E.row A.row A.Allocator) E.row self.entry result
+            (with_element self.old place)) }
+        ensures value { element_at self.old place ≡ Some result.now }
+    {
+        self.nodes[place as usize].element_mut()
     }
 
     /// Takes the element at a place out of its node.
@@ -193,6 +245,26 @@ impl<E: Drop, A: Allocator> Links<E, A> {
         self.set_previous(next, previous);
         self.set_next(place, self.free);
         self.free = place;
+    }
+
+    /// Makes the place after the first one the first, and frees the node of the first.
+    #[inline(always)]
+    pub fn bypass_first(&mut self, place: u32)
+        requires place { place < vec_len self.old.nodes }
+        requires fits { vec_len self.old.nodes ≤ end }
+        requires next { Stands self.old (next_at self.old place) }
+        requires first { previous_at self.old place ≡ end }
+        ensures linked { Linked self.old self.new
+            (with (with (next_at self.old) (previous_at self.old place) (next_at self.old place))
+            place self.old.free)
+            (with (previous_at self.old) (next_at self.old place) (previous_at self.old place))
+            (element_at self.old) place }
+    {
+        let node = &mut self.nodes[place as usize];
+        self.first = node.next;
+        node.next = self.free;
+        self.free = place;
+        self.set_previous(self.first, END);
     }
 
     /// Sees to it that a node is free. Nothing changes where there is none and no memory for one

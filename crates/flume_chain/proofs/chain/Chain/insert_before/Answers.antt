@@ -5,6 +5,7 @@ use Rattle.flume_chain.proofs.Rings.{once_same}
 use Rattle.flume_chain.proofs.Tables.{item, found_none, put_before_none}
 use Rattle.flume_chain.proofs.Steps.{free_below}
 use Rattle.flume_chain.proofs.Kept.{same_kept, same_chain, kept_items, found_split, neighbours, place_below, put_before_holds, put_items, walked}
+use Rattle.flume_chain.proofs.ChainLaws.{length-put_before}
 use Rattle.flume_chain.proofs.chain.Chain.insert_before.Goals as goal
 
 -- where none stands at the place the element stands behind all others
@@ -98,3 +99,14 @@ returns-clause-fresh g c =
     ap (λ p. found c.args.self.now.items p) c.link_before-place.ensures.place
     ∙ ap (λ l. found l c.ready.new.self.free) (sym (kept_items c.self.inside.links c.self.inside.len c.args.self.now k c.self.view_is))
     ∙ found_none k.items c.ready.new.self.free (omega arith)
+
+pub returns-clause-fits : goal.returns-clause-fits
+returns-clause-fits g c =
+    let k = c.self.invariant in
+    let f = c.ready.ensures.ready c.if-not-ready.false k.items k.frees k.holds in
+    let new = ap length (returns-clause-inserted g c) in
+    let more = length-put_before c.args.self.now.items c.args.next (item c.link_before-place.result c.args.element) in
+    let old = ap length (kept_items c.self.inside.links c.self.inside.len c.args.self.now k c.self.view_is) in
+    let total = f.holds.total in
+    let fits = f.holds.fits in
+    omega arith

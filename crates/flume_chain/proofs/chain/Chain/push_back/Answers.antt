@@ -1,4 +1,4 @@
-use Rattle.std.proofs.Common.{ℕ, ◌+◌, ◌++◌, ◌∷◌, [], length-append, sym, ap, ◌∙◌, arith}
+use Rattle.std.proofs.Common.{ℕ, ◌+◌, ◌++◌, ◌∷◌, [], length, length-append, sym, ap, ◌∙◌, arith}
 use Rattle.flume_chain.specs.Chained.{table_of, found}
 use Rattle.flume_chain.proofs.Tables.{item, found_none}
 use Rattle.flume_chain.proofs.Rings.{once_same}
@@ -59,3 +59,13 @@ returns-clause-fresh g c =
     ap (λ k. found c.args.self.now.items k) c.link_before-place.ensures.place
     ∙ ap (λ l. found l c.ready.new.self.free) (sym (kept_items c.self.inside.links c.self.inside.len c.args.self.now c.self.invariant c.self.view_is))
     ∙ found_none c.self.invariant.items c.ready.new.self.free (omega arith)
+
+pub returns-clause-fits : goal.returns-clause-fits
+returns-clause-fits g c =
+    let f = c.ready.ensures.ready c.if-not-ready.false c.self.invariant.items c.self.invariant.frees c.self.invariant.holds in
+    let new = ap length (returns-clause-pushed g c) in
+    let split = length-append c.args.self.now.items (item c.link_before-place.result c.args.element ∷ []) in
+    let old = ap length (kept_items c.self.inside.links c.self.inside.len c.args.self.now c.self.invariant c.self.view_is) in
+    let total = f.holds.total in
+    let fits = f.holds.fits in
+    omega arith
