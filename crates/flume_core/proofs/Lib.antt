@@ -10,7 +10,6 @@ mod Moves
 mod Receives
 mod Takes
 mod Drains
-mod Due
 mod Telling
 mod Answering
 mod AsTries

@@ -1,93 +1,104 @@
 -- The messages of a line under its methods.
-use Rattle.std.proofs.Common.{◌≡◌, ◌≢◌, ℕ, suc, ◌+◌, ◌<◌, Bool, false, eqb, List, [], ◌∷◌, ◌++◌, length, get_or, map, take, drop}
-use Rattle.std.proofs.Common.{Result, Ok, Err, Some, None, refl, sym, ap, ◌∙◌, arith, eqb-true}
+use Rattle.std.proofs.Common.{◌≡◌, ℕ, suc, ◌-◌, List, [], ◌∷◌, ◌++◌, length, Option, Some, None, Result, Ok, Err, refl, sym, ap, ◌∙◌, arith, length-append}
 use Rattle.std.specs.Result.{OnErr}
-use Rattle.std.specs.List.{All, position, remove}
-use Rattle.std.proofs.lemmas.Bool.{eqb-false}
-use Rattle.std.proofs.lemmas.List.{take-append-drop, get_or-take, drop_more}
-use Rattle.std.proofs.lemmas.List.{length-append, length-map, length-take, map-append}
-use Rattle.std.proofs.lemmas.List.Elements.{All-map}
-use Rattle.std.proofs.lemmas.List.Quantifiers.{position-Some}
-use Rattle.std.proofs.lemmas.List.Sums.{fails_before_first}
-use Rattle.flume_state.specs.Messages.{Blocked, Messages, TakesBack}
-use Rattle.flume_state.specs.LineEntry.{blocked_of, line_of}
-use Rattle.flume_state.specs.declared.line.LineEntry.{LineEntry}
+use Rattle.std.proofs.lemmas.List.{append-nil}
+use Rattle.flume_chain.specs.Chained.{Placed}
+use Rattle.flume_state.specs.declared.ticketed.Ticketed.{Ticketed}
+use Rattle.flume_state.specs.Messages.{Blocked, Messages}
+use Rattle.flume_state.specs.Lined.{queued_ahead, blocked_ahead, queued_of, blocked_of, line_of, Lined}
+
+module _ {T : Type 0} where
+  -- where none is queued, the first isn't, and it has a ticket
+  pub unqueued : (o : Option ℕ) (m : T) (ms : List T) → queued_ahead o m ms ≡ [] → (t : ℕ) × (o ≡ Some t) × (ms ≡ [])
+  unqueued None m ms h = absurd cc
+  unqueued (Some t) m ms h = (t, refl, h)
+
+  -- two rows of queued messages are joined
+  queued_ahead_append : (o : Option ℕ) (m : T) (ls ms ns : List T) → ls ≡ ms ++ ns → queued_ahead o m ls ≡ queued_ahead o m ms ++ ns
+  queued_ahead_append None m ls ms ns h = ap (λ (l : List T). m ∷ l) h
+  queued_ahead_append (Some t) m ls ms ns h = h
+
+  pub queued_append : (xs ys : List (Placed (Ticketed T))) → queued_of (xs ++ ys) ≡ queued_of xs ++ queued_of ys
+  queued_append [] ys = refl
+  queued_append (x ∷ xs) ys = queued_ahead_append x.element.ticket x.element.value _ _ _ (queued_append xs ys)
+
+  -- two rows of blocked messages are joined
+  blocked_ahead_append : (o : Option ℕ) (m : T) (ls ms ns : List (Blocked T)) → ls ≡ ms ++ ns → blocked_ahead o m ls ≡ blocked_ahead o m ms ++ ns
+  blocked_ahead_append None m ls ms ns h = h
+  blocked_ahead_append (Some t) m ls ms ns h = ap (λ (l : List (Blocked T)). record { ticket = t; message = m } ∷ l) h
+
+  pub blocked_append : (xs ys : List (Placed (Ticketed T))) → blocked_of (xs ++ ys) ≡ blocked_of xs ++ blocked_of ys
+  blocked_append [] ys = refl
+  blocked_append (x ∷ xs) ys = blocked_ahead_append x.element.ticket x.element.value _ _ _ (blocked_append xs ys)
+
+  -- where none is blocked, the first isn't, and it is queued
+  pub unblocked : (o : Option ℕ) (m : T) (ms : List T) (bs : List (Blocked T)) → blocked_ahead o m bs ≡ []
+      → (o ≡ None) × (bs ≡ []) × (queued_ahead o m ms ≡ m ∷ ms)
+  unblocked None m ms bs h = (refl, h, refl)
+  unblocked (Some t) m ms bs h = absurd cc
+
+  -- where none is blocked, all are queued
+  queued_count : (xs : List (Placed (Ticketed T))) → blocked_of xs ≡ [] → length (queued_of xs) ≡ length xs
+  queued_count [] h = refl
+  queued_count (x ∷ xs) h =
+      let first = unblocked x.element.ticket x.element.value (queued_of xs) (blocked_of xs) h in
+      ap length first.2 ∙ ap suc (queued_count xs first.1)
+
+  -- where none is queued, all are blocked
+  blocked_ahead_count : (o : Option ℕ) (m : T) (ms : List T) (bs : List (Blocked T)) → queued_ahead o m ms ≡ []
+      → (ms ≡ []) × (length (blocked_ahead o m bs) ≡ suc (length bs))
+  blocked_ahead_count None m ms bs h = absurd cc
+  blocked_ahead_count (Some t) m ms bs h = (h, refl)
+
+  blocked_count : (xs : List (Placed (Ticketed T))) → queued_of xs ≡ [] → length (blocked_of xs) ≡ length xs
+  blocked_count [] h = refl
+  blocked_count (x ∷ xs) h =
+      let first = blocked_ahead_count x.element.ticket x.element.value (queued_of xs) (blocked_of xs) h in
+      first.1 ∙ ap suc (blocked_count xs first.0)
+
+  -- what of two rows joined isn't queued isn't in either of them
+  pub none_queued_append : (xs ys : List (Placed (Ticketed T))) → queued_of (xs ++ ys) ≡ [] → (queued_of xs ≡ []) × (queued_of ys ≡ [])
+  none_queued_append [] ys h = (refl, h)
+  none_queued_append (x ∷ xs) ys h =
+      let both : queued_ahead x.element.ticket x.element.value (queued_of xs) ++ queued_of ys ≡ [] = sym (queued_append (x ∷ xs) ys) ∙ h in
+      nothing _ _ both
+    where
+      nothing : (ls ms : List T) → ls ++ ms ≡ [] → (ls ≡ []) × (ms ≡ [])
+      nothing [] ms h = (refl, h)
+      nothing (l ∷ ls) ms h = absurd cc
+
+  -- the line of queued elements and of blocked ones behind them
+  line_joined : (xs ys : List (Placed (Ticketed T))) → blocked_of xs ≡ [] → queued_of ys ≡ []
+      → line_of (xs ++ ys) ≡ record { queued = queued_of xs; blocked = blocked_of ys }
+  line_joined xs ys none_blocked none_queued =
+      let queued : queued_of (xs ++ ys) ≡ queued_of xs = queued_append xs ys ∙ ap (λ l. queued_of xs ++ l) none_queued ∙ append-nil (queued_of xs) in
+      let blocked : blocked_of (xs ++ ys) ≡ blocked_of ys = blocked_append xs ys ∙ ap (λ l. l ++ blocked_of ys) none_blocked in
+      λ i. record { queued = queued i; blocked = blocked i }
+
+  -- the line of elements that are laid out
+  pub laid : (items : List (Placed (Ticketed T))) (first : Option ℕ) (count : ℕ) (w : Lined items first count)
+      → line_of items ≡ record { queued = queued_of w.front; blocked = blocked_of w.back }
+  laid items first count w = ap line_of w.is ∙ line_joined w.front w.back w.none_blocked w.none_queued
+
+  -- how many are queued, and how many blocked
+  pub counts : (items : List (Placed (Ticketed T))) (first : Option ℕ) (count : ℕ) (line : Messages T) → Lined items first count → line_of items ≡ line
+      → (length items - count ≡ length line.queued) × (count ≡ length line.blocked)
+  counts items first count line w view =
+      let is = sym (laid items first count w) ∙ view in
+      let queued = sym (queued_count w.front w.none_blocked) ∙ ap (λ (m : Messages T). length m.queued) is in
+      let blocked = sym (blocked_count w.back w.none_queued) ∙ ap (λ (m : Messages T). length m.blocked) is in
+      let all = ap length w.is ∙ length-append w.front w.back in
+      let known = w.counted in
+      (omega arith, omega arith)
 
 -- what holds anyway holds on an error
 pub on_err : {X E : Type 0} (r : Result X E) (P : Type 0) → P → OnErr r P
 on_err (Ok x) P holds = tt
 on_err (Err e) P holds = holds
 
--- two lists that end alike begin alike
-push_inj : {X : Type 0} (xs ys : List X) (x y : X) → xs ++ x ∷ [] ≡ ys ++ y ∷ [] → (xs ≡ ys) × (x ≡ y)
-push_inj [] [] x y e = (refl, cc)
-push_inj [] (b ∷ ys) x y e = absurd (let long = ap length e in omega (arith, length-append ys (y ∷ []), long))
-push_inj (a ∷ xs) [] x y e = absurd (let long = ap length e in omega (arith, length-append xs (x ∷ []), long))
-push_inj (a ∷ xs) (b ∷ ys) x y e =
-    let rest = push_inj xs ys x y cc in
-    ((let first : a ≡ b = cc in cc), rest.1)
-
-module _ {X : Type 0} where
-  -- where no element is first to pass, each fails
-  fails_everywhere : (p : X → Bool) (xs : List X) → position p xs ≡ None → All (λ x. p x ≡ false) xs
-  fails_everywhere p xs none k d within = grind (arith, fails_before_first p xs k d)
-
-  -- a list around one of its elements
-  split_at : (xs : List X) (i : ℕ) (x : X) → i < length xs → get_or xs i x ≡ x → xs ≡ take i xs ++ x ∷ drop (i + 1) xs
-  split_at xs i x within is =
-      let rest : drop i xs ≡ x ∷ drop (i + 1) xs = drop_more xs i x within ∙ ap (λ (y : X). y ∷ drop (i + 1) xs) is in
-      rw (← rest) (sym (take-append-drop i xs))
-
-module _ {T : Type 0} where
-  -- where no entry has the ticket, no blocked message has it
-  pub none_has_ticket : (es : List (LineEntry T)) (ticket : ℕ) → position (λ e. eqb e.ticket ticket) es ≡ None
-      → All (λ b. b.ticket ≢ ticket) (map blocked_of es)
-  none_has_ticket es ticket none =
-      All-map (λ b. b.ticket ≢ ticket) blocked_of es
-      (λ k d within. eqb-false _ _ (fails_everywhere (λ e. eqb e.ticket ticket) es none k d within))
-
-  -- the entries before the first with the ticket have others
-  others_before : (es : List (LineEntry T)) (ticket i : ℕ) → ((k : ℕ) (d : LineEntry T) → k < i → eqb (get_or es k d).ticket ticket ≡ false)
-      → All (λ b. b.ticket ≢ ticket) (map blocked_of (take i es))
-  others_before es ticket i fails =
-      All-map (λ b. b.ticket ≢ ticket) blocked_of (take i es)
-      (λ k d within.
-      let low : k < i = omega (arith, length-take i es, length-map (take i es) blocked_of, within) in
-      rw (get_or-take i es k d low) (eqb-false _ _ (fails k d low)))
-
-  -- the first blocked entry with the ticket is removed
-  pub withdraws_remove : (queued : List T) (es : List (LineEntry T)) (i ticket : ℕ) (e : LineEntry T)
-      → position (λ x. eqb x.ticket ticket) es ≡ Some i → e ≡ get_or es i e
-      → TakesBack (line_of queued es) (line_of queued (remove es i)) ticket e.message
-  withdraws_remove queued es i ticket e found is =
-      let at = position-Some (λ x. eqb x.ticket ticket) es i e found in
-      let same : e.ticket ≡ ticket = eqb-true _ _ (rw (sym is) at at.1) in
-      let next : suc i ≡ i + 1 = omega arith in
-      record {
-        before = map blocked_of (take i es);
-        after = map blocked_of (drop (i + 1) es);
-        found = rw (← same) (ap (map blocked_of) (split_at es i e at.0 (sym is)) ∙ map-append blocked_of _ _);
-        first = others_before es ticket i (λ k d less. (position-Some (λ x. eqb x.ticket ticket) es i d found).2 k less);
-        rest = ap (λ (k : ℕ). map blocked_of (take i es ++ drop k es)) next ∙ map-append blocked_of (take i es) (drop (i + 1) es);
-        same = refl;
-      }
-
-  -- the last entry is the last blocked message
-  pub pops_blocked : (queued : List T) (all es : List (LineEntry T)) (e : LineEntry T) (line : Messages T)
-      (before : List (Blocked T)) (last : Blocked T)
-      → line_of queued all ≡ line → all ≡ es ++ e ∷ [] → line.blocked ≡ before ++ last ∷ []
-      → (Some e.message ≡ Some last.message) × (line_of queued es ≡ record line { blocked = before })
-  pops_blocked queued all es e line before last view split is =
-      let ends : map blocked_of es ++ blocked_of e ∷ [] ≡ before ++ last ∷ [] =
-      sym (ap (map blocked_of) split ∙ map-append blocked_of es (e ∷ [])) ∙ ap (λ (x : Messages T). x.blocked) view ∙ is in
-      let same = push_inj _ _ _ _ ends in
-      let left : line_of queued es ≡ record (line_of queued all) { blocked = before } =
-      ap (λ (b : List (Blocked T)). record (line_of queued all) { blocked = b }) same.0 in
-      (ap (λ (b : Blocked T). Some b.message) same.1, left ∙ ap (λ (x : Messages T). record x { blocked = before }) view)
-
-  -- a line with nothing queued
-  pub none_left : (line new : Messages T) (blocked : List (Blocked T)) → new ≡ line → line.queued ≡ [] → line.blocked ≡ blocked
-      → new ≡ record { queued = []; blocked = blocked }
-  none_left line new blocked same none is =
-      same ∙ ap (λ q. record line { queued = q }) none
-      ∙ ap (λ (b : List (Blocked T)). let left : Messages T = record { queued = []; blocked = b } in left) is
+-- a line with nothing queued
+pub none_left : {T : Type 0} (line new : Messages T) (blocked : List (Blocked T)) → new ≡ line → line.queued ≡ [] → line.blocked ≡ blocked
+    → new ≡ record { queued = []; blocked = blocked }
+none_left {T} line new blocked same none is =
+    same ∙ ap (λ q. record line { queued = q }) none
+    ∙ ap (λ (b : List (Blocked T)). let left : Messages T = record { queued = []; blocked = b } in left) is

@@ -1,9 +1,13 @@
+pub mod Places
+pub mod Ticketed
+pub mod TicketedLends
 pub mod Messages
-pub mod LineEntry
+pub mod Lined
 pub mod Notices
 pub mod Sends
-pub mod NearSend
+pub mod SendChain
 pub mod Receivers
+pub mod Parked
 pub mod State
 pub mod Effects
 pub mod Told

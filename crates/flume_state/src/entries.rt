@@ -1,23 +1,20 @@
 //! The parked receivers of a channel, the waiting ones in the order in which they began to wait.
-ghost use Rattle.std.specs.Prelude.{◌≡◌, length, ◌∷◌, [], ◌++◌, ◌==◌, true, false};
-ghost use Rattle.std.specs.Prelude.{Some, None, OnOk, OnErr, slice_get, slice_set, slice_index_or};
-ghost use Rattle.std.specs.Prelude.{IfSome, IfNone, OnSome, IsSome, ◌↔◌, ◌<◌};
-ghost use Rattle.std.specs.VecDeque.{deque_len};
-ghost use Rattle.std.specs.Option.{option_map, option_copied, ForSome};
-ghost use Rattle.std.specs.List.{position, remove};
+ghost use Rattle.std.specs.Prelude.{◌≡◌, ◌∷◌, [], ◌++◌, ◌==◌, true, false};
+ghost use Rattle.std.specs.Prelude.{Some, None, OnOk, OnErr, OnSome};
+ghost use Rattle.std.specs.Option.{option_map, option_copied};
 ghost use Rattle.flume_model.specs.Entries.{is_woken, some_wait, waiting_count, entry_of, held_by, held_in};
 ghost use Rattle.flume_model.specs.Entries.{without, again};
-ghost use Rattle.flume_model.specs.declared.entry.Mark.TheVariants.{Waiting, Woken, Filled};
 ghost use Rattle.flume_state.specs.Receivers.{begins, waits_on, noticed_receiver};
 ghost use Rattle.flume_state.specs.Receivers.{standing_as, standing_of};
+ghost use Rattle.flume_state.specs.Parked.{asked_again, off};
 
 mod wakes;
 
 use crate::notice::Notice;
-use flume_model::entry::{Entry, Mark};
+use crate::ticketed::TicketChain;
+use flume_model::entry::Mark;
 use flume_model::step::Kind;
 use std::alloc::{AllocError, Allocator};
-use std::collections::VecDeque;
 use std::marker::Model;
 
 /// What decides how a parked receiver is answered.
@@ -35,14 +32,25 @@ pub enum Standing {
     Woken,
 }
 
+// A parked receiver, beside its ticket.
+#[derive(Drop)]
+struct Parked<T, S> {
+    kind: Kind,
+    mark: Mark<T>,
+    notice: Notice<S>,
+}
+
 /// The parked receivers, the waiting ones in the order in which they began to wait.
 #[derive(Drop)]
 pub struct Entries<T, S, A: Allocator> {
-    entries: VecDeque<Entry<T, Notice<S>>, A>,
+    // First those that neither wait nor are due, then those that are due, then those that wait.
+    chain: TicketChain<Parked<T, S>, A>,
+    // The place of the first that is due or waits.
+    due: Option<u32>,
+    // The place of the first that waits.
+    waits: Option<u32>,
     // How many wait, so that a send needn't look.
     waiting: usize,
-    // No fewer than are due, so that `next_due` needn't look where it is 0.
-    due: usize,
 }
 
 impl Standing {
@@ -74,32 +82,48 @@ fn message_in<T: Drop>(mark: Mark<T>) -> Option<T>
     }
 }
 
-// Takes out the element at this place: the front one without a look at the others.
+impl<T: Drop, S: Drop> Parked<T, S> {
+    // It asks again, and waits on: it isn't due, and has another signal where one is given. A
+    // filled one stays as it is. Whether it was woken.
+    fn ask_again(&mut self, signal: Option<S>) -> bool
+        ensures asked { self.new ≡ asked_again signal self.old }
+        ensures woken { result ≡ is_woken self.old.mark }
+    {
+        let woken = match self.mark {
+            Mark::Filled(_) => return false,
+            Mark::Waiting => false,
+            Mark::Woken => true,
+        };
+        self.mark = Mark::Waiting;
+        self.notice.due = false;
+        if let Some(signal) = signal {
+            self.notice.signal = signal;
+        }
+        woken
+    }
+}
+
+// A boundary, off the element at a place, which has this one behind it.
 #[inline(always)]
-fn take_at<X, A: Allocator>(entries: &mut VecDeque<X, A>, place: usize) -> Option<X>
-    ensures value { IfSome result (λ y. y ≡ slice_index_or entries.old.items place y) }
-    ensures items { OnSome result (entries.new.items ≡ remove entries.old.items place) }
-    ensures variant { IsSome result ↔ (place < deque_len entries.old) }
-    ensures unchanged { IfNone result (entries.new.items ≡ entries.old.items) }
+fn moved_off(boundary: Option<u32>, place: u32, next: Option<u32>) -> Option<u32>
+    ensures off { result ≡ off boundary place next }
 {
-    if place == 0 {
-        entries.pop_front()
+    if boundary == Some(place) {
+        next
     } else {
-        entries.remove(place)
+        boundary
     }
 }
 
 impl<T, S, A: Allocator> Model for Entries<T, S, A> {
-    ghost use Rattle.std.specs.Prelude.{◌≡◌, ◌≤◌};
-    ghost use Rattle.flume_model.specs.Entries.{waiting_count};
-    ghost use Rattle.flume_state.specs.Receivers.{Entries as EntryList, due_count};
+    ghost use Rattle.flume_state.specs.Receivers.{Entries as EntryList};
+    ghost use Rattle.flume_state.specs.Parked.{entries_in, Sorted};
 
     ghost Value = { EntryList T S };
 
-    ghost view = { λ s. s.entries.items };
+    ghost view = { λ s. entries_in s.chain.items };
 
-    ghost invariant = { λ s. (s.waiting ≡ waiting_count s.entries.items)
-        × (due_count s.entries.items ≤ s.due) };
+    ghost invariant = { λ s. Sorted s.chain.items s.due s.waits s.waiting };
 }
 
 impl<T: Drop, S: Drop, A: Allocator + Copy> Entries<T, S, A> {
@@ -116,9 +140,10 @@ impl<T: Drop, S: Drop, A: Allocator + Copy> Entries<T, S, A> {
         ensures empty { result ≡ [] }
     {
         Entries {
-            entries: VecDeque::new(alloc),
+            chain: TicketChain::new(alloc),
+            due: None,
+            waits: None,
             waiting: 0,
-            due: 0,
         }
     }
 
@@ -139,35 +164,23 @@ impl<T: Drop, S: Drop, A: Allocator + Copy> Entries<T, S, A> {
     }
 
     /// Parks a receiver under this ticket, behind all others. It waits, and isn't due. All room for
-    /// what happens to it later is made here. With no memory left, nothing changes.
+    /// what happens to it later is made here. With no memory left, or under a ticket under which
+    /// one is parked, nothing changes.
     pub fn park(&mut self, ticket: u64, kind: Kind, signal: S) -> Result<(), AllocError>
         ensures parked { OnOk result (self.new ≡ self.old ++ begins ticket kind signal ∷ []) }
         ensures unchanged { OnErr result (self.new ≡ self.old) }
     {
         let notice = Notice { signal, due: false };
         let mark = Mark::Waiting;
-        let entry = Entry {
-            ticket,
-            kind,
-            mark,
-            notice,
-        };
-        match self.entries.push_back(entry) {
-            Ok(()) => {
+        let parked = Parked { kind, mark, notice };
+        match self.chain.insert_ticket(None, ticket, parked) {
+            Ok(place) => {
+                self.due = self.due.or(Some(place));
+                self.waits = self.waits.or(Some(place));
                 self.waiting += 1;
                 Ok(())
             }
-            Err(failed) => Err(AllocError::from(failed)),
-        }
-    }
-
-    // Where the first entry with this ticket stands.
-    fn place_of(&self, ticket: u64) -> Option<usize>
-        ensures first { result ≡ position (λ e. e.ticket == ticket) self.now }
-    {
-        match self.entries.front() {
-            Some(entry) if entry.ticket == ticket => Some(0),
-            _ => self.entries.iter().position(|entry| entry.ticket == ticket),
+            Err(_) => Err(AllocError),
         }
     }
 
@@ -175,9 +188,9 @@ impl<T: Drop, S: Drop, A: Allocator + Copy> Entries<T, S, A> {
     pub fn standing(&self, ticket: u64) -> Option<Standing>
         ensures standing { result ≡ option_map standing_of (entry_of ticket self.now) }
     {
-        let place = self.place_of(ticket)?;
-        let entry = self.entries.get(place)?;
-        Some(Standing::of(entry.kind, &entry.mark))
+        let place = self.chain.find(ticket)?;
+        let parked = self.chain.get(place)?;
+        Some(Standing::of(parked.kind, &parked.mark))
     }
 
     /// The signal that the receiver with this ticket left last. `None` where nobody is parked under
@@ -186,9 +199,9 @@ impl<T: Drop, S: Drop, A: Allocator + Copy> Entries<T, S, A> {
         ensures signal { option_copied result
             ≡ option_map (λ e. e.notice.signal) (entry_of ticket self.now) }
     {
-        let place = self.place_of(ticket)?;
-        let entry = self.entries.get(place)?;
-        Some(&entry.notice.signal)
+        let place = self.chain.find(ticket)?;
+        let parked = self.chain.get(place)?;
+        Some(&parked.notice.signal)
     }
 
     /// Removes the receiver with this ticket, and gives the message that it holds, if it does. The
@@ -197,8 +210,11 @@ impl<T: Drop, S: Drop, A: Allocator + Copy> Entries<T, S, A> {
         ensures held { result ≡ held_by (entry_of ticket self.old) }
         ensures removed { self.new ≡ without ticket self.old }
     {
-        let place = self.place_of(ticket)?;
-        let Entry { mark, .. } = take_at(&mut self.entries, place)?;
+        let place = self.chain.find(ticket)?;
+        let next = self.chain.next(place);
+        let Parked { mark, .. } = self.chain.remove(place)?;
+        self.due = moved_off(self.due, place, next);
+        self.waits = moved_off(self.waits, place, next);
         if let Mark::Waiting = mark {
             self.waiting -= 1;
         }
@@ -206,59 +222,36 @@ impl<T: Drop, S: Drop, A: Allocator + Copy> Entries<T, S, A> {
     }
 
     /// The receiver with this ticket waits on, or again behind all others where it was woken, and
-    /// is due no more; a signal given here replaces the one that it left. A filled one keeps its
-    /// message. Nothing changes where nobody is parked under it. Takes no memory.
+    /// is due no more; a signal given here replaces the one that it left. A filled one stays as it
+    /// is. Nothing changes where nobody is parked under the ticket. Takes no memory.
     pub fn wait_on(&mut self, ticket: u64, signal: Option<S>)
-        ensures waits { self.new
+        ensures waits { held_by (entry_of ticket self.old) ≡ None → self.new
             ≡ again ticket (noticed_receiver (waits_on signal) ticket self.old) }
+        ensures filled { OnSome (held_by (entry_of ticket self.old)) (self.new ≡ self.old) }
     {
-        let Some(place) = self.place_of(ticket) else {
+        let Some(place) = self.chain.find(ticket) else {
             return;
         };
-        if self.notice(place, signal) {
-            self.to_back(place);
-        }
-    }
-
-    // Changes the notice of the receiver at this place. Whether that stands woken.
-    fn notice(&mut self, place: usize, signal: Option<S>) -> bool
-        ensures noticed { ForSome (slice_get self.old place) (λ e.
-            self.new ≡ slice_set self.old place (record e { notice = waits_on signal e.notice })) }
-        ensures woken { ForSome (slice_get self.old place) (λ e. result ≡ is_woken e.mark) }
-    {
-        let Some(entry) = self.entries.get_mut(place) else {
-            return false;
+        let next = self.chain.next(place);
+        let Some(parked) = self.chain.get_mut(place) else {
+            return;
         };
-        entry.notice.due = false;
-        if let Some(signal) = signal {
-            entry.notice.signal = signal;
+        if !parked.ask_again(signal) {
+            return;
         }
-        match entry.mark {
-            Mark::Woken => true,
-            _ => false,
-        }
-    }
-
-    // The woken receiver at this place waits again, behind all others. There is room, since it
-    // leaves its place first.
-    fn to_back(&mut self, place: usize)
-        requires woken { ForSome (slice_get self.old place) (λ e. is_woken e.mark ≡ true) }
-        ensures moved { ForSome (slice_get self.old place) (λ e.
-            self.new ≡ remove self.old place ++ (record e { mark = Waiting }) ∷ []) }
-    {
-        if let Some(mut entry) = self.entries.remove(place) {
-            entry.mark = Mark::Waiting;
-            self.entries.push_back_reserved(entry);
-            self.waiting += 1;
-        }
+        self.chain.move_back(place);
+        self.due = moved_off(self.due, place, next).or(Some(place));
+        self.waits = moved_off(self.waits, place, next).or(Some(place));
+        self.waiting += 1;
     }
 
     /// Removes every receiver, with what it holds. Takes no memory.
     pub fn clear(&mut self)
         ensures empty { self.new ≡ [] }
     {
-        self.entries.clear();
+        self.chain.clear();
+        self.due = None;
+        self.waits = None;
         self.waiting = 0;
-        self.due = 0;
     }
 }

@@ -1,6 +1,7 @@
 //! The state of a channel: its messages (`line`), its parked receivers (`entries`), its live send
 //! tickets (`sends`) and what both leave to be told by (`notice`), and in `specs/` what a contract
-//! sees of all of them together, what steps leave of it, and who becomes due.
+//! sees of all of them together, what steps leave of it, and who becomes due. Each list is a chain
+//! of which some elements have a ticket (`ticketed`), found through a map to their places (`places`).
 //!
 //! The containers are the inside of `flume_core`, which alone calls them, and no promise to others:
 //! they may change whenever `flume_core` does. The definitions are cited by each contract that
@@ -10,4 +11,6 @@
 pub mod entries;
 pub mod line;
 pub mod notice;
+pub mod places;
 pub mod sends;
+pub mod ticketed;

@@ -4,14 +4,13 @@ ghost use Rattle.std.specs.Option.{option_map, option_copied};
 ghost use Rattle.std.specs.FinMap.{empty, get, insert, remove};
 ghost use Rattle.flume_state.specs.Notices.{due_now, told, resignalled};
 ghost use Rattle.flume_state.specs.Sends.{blocked, accepted_now, changed, noticed_send};
+ghost use Rattle.flume_state.specs.SendChain.{due_accepting};
 ghost use Rattle.flume_state.specs.Sends.{is_due_send, NoDueSend};
 
-mod tree;
-
 use crate::notice::Notice;
+use crate::ticketed::TicketChain;
 use std::alloc::{AllocError, Allocator};
 use std::marker::Model;
-use tree::SendTree;
 
 /// A send that blocked and hasn't asked yet how it ended.
 #[derive(Drop)]
@@ -22,36 +21,29 @@ pub struct LiveSend<S> {
     pub notice: Notice<S>,
 }
 
-// A live send that is found without the tree.
-#[derive(Drop)]
-struct NearSend<S> {
-    ticket: u64,
-    send: LiveSend<S>,
-}
-
 /// The live send of each live ticket.
 #[derive(Drop)]
 pub struct Sends<S, A: Allocator> {
-    // One that was alone when it blocked: so a sender that blocks by itself needs no tree.
-    near: Option<NearSend<S>>,
-    // The others.
-    tree: SendTree<S, A>,
+    // First those that aren't due, then those that are, in the order in which they became due.
+    chain: TicketChain<LiveSend<S>, A>,
+    // The place of the first that is due.
+    due: Option<u32>,
 }
 
 impl<S, A: Allocator> Model for Sends<S, A> {
     ghost use Rattle.flume_state.specs.Sends.{SendMap, send_map_code};
-    ghost use Rattle.flume_state.specs.NearSend.{with_near, IsApart};
+    ghost use Rattle.flume_state.specs.SendChain.{by_ticket, Lined};
 
     ghost Value = { SendMap S };
 
     ghost coded = { send_map_code S.code };
 
-    ghost view = { λ s. with_near s.near s.tree };
+    ghost view = { λ s. by_ticket s.chain.items };
 
-    ghost invariant = { λ s. IsApart s.near s.tree };
+    ghost invariant = { λ s. Lined s.chain.items s.due };
 }
 
-impl<S: Drop, A: Allocator + Clone> Sends<S, A> {
+impl<S: Drop, A: Allocator + Copy> Sends<S, A> {
     /// No ticket is live. Takes no memory.
     ///
     /// ```
@@ -66,32 +58,28 @@ impl<S: Drop, A: Allocator + Clone> Sends<S, A> {
         ensures empty { result ≡ empty }
     {
         Sends {
-            near: None,
-            tree: SendTree::new(alloc),
+            chain: TicketChain::new(alloc),
+            due: None,
         }
     }
 
-    /// Makes `ticket` live, with its message blocked and nothing due. A live send that had this
-    /// ticket is replaced, which needs no memory. All room for what happens to it later is made
-    /// here. With no memory left, nothing changes.
+    /// Makes `ticket` live, with its message blocked and nothing due. All room for what happens to
+    /// it later is made here. With no memory left, or a ticket that is live already, which no
+    /// caller gives, nothing changes.
     #[inline(always)]
     pub fn block(&mut self, ticket: u64, signal: S) -> Result<(), AllocError>
         ensures ok { OnOk result (self.new ≡ insert self.old ticket (blocked signal)) }
         ensures err { OnErr result (self.new ≡ self.old) }
-        ensures absent { OnErr result (get self.old ticket ≡ None) }
     {
-        match &self.near {
-            None if self.tree.is_empty() => {}
-            Some(near) if near.ticket == ticket => {}
-            _ => return self.tree.block(ticket, signal),
-        }
         let notice = Notice { signal, due: false };
         let send = LiveSend {
             accepted: false,
             notice,
         };
-        self.near = Some(NearSend { ticket, send });
-        Ok(())
+        match self.chain.insert_ticket(self.due, ticket, send) {
+            Ok(_) => Ok(()),
+            Err(_) => Err(AllocError),
+        }
     }
 
     /// Whether the message of a live ticket was accepted. `None` where the ticket isn't live.
@@ -99,10 +87,7 @@ impl<S: Drop, A: Allocator + Clone> Sends<S, A> {
     pub fn accepted(&self, ticket: u64) -> Option<bool>
         ensures value { result ≡ option_map (λ s. s.accepted) (get self.now ticket) }
     {
-        match &self.near {
-            Some(near) if near.ticket == ticket => Some(near.send.accepted),
-            _ => self.tree.accepted(ticket),
-        }
+        Some(self.get(ticket)?.accepted)
     }
 
     /// The signal that the sender of a live ticket left last. `None` where the ticket isn't live.
@@ -111,10 +96,15 @@ impl<S: Drop, A: Allocator + Clone> Sends<S, A> {
         ensures value { option_copied result
             ≡ option_map (λ s. s.notice.signal) (get self.now ticket) }
     {
-        match &self.near {
-            Some(near) if near.ticket == ticket => Some(&near.send.notice.signal),
-            _ => self.tree.signal(ticket),
-        }
+        Some(&self.get(ticket)?.notice.signal)
+    }
+
+    #[inline(always)]
+    fn get(&self, ticket: u64) -> Option<&LiveSend<S>>
+        ensures value { option_copied result ≡ get self.now ticket }
+    {
+        let place = self.chain.find(ticket)?;
+        self.chain.get(place)
     }
 
     /// Replaces the signal of a live ticket. Nothing changes where the ticket isn't live. Takes no
@@ -122,10 +112,13 @@ impl<S: Drop, A: Allocator + Clone> Sends<S, A> {
     pub fn set_signal(&mut self, ticket: u64, signal: S)
         ensures replaced { self.new ≡ noticed_send (resignalled (Some signal)) ticket self.old }
     {
-        match &mut self.near {
-            Some(near) if near.ticket == ticket => near.send.notice.signal = signal,
-            _ => self.tree.set_signal(ticket, signal),
-        }
+        let Some(place) = self.chain.find(ticket) else {
+            return;
+        };
+        let Some(send) = self.chain.get_mut(place) else {
+            return;
+        };
+        send.notice.signal = signal;
     }
 
     /// The message of a live ticket was taken into the queue: the ticket is accepted, and due.
@@ -134,13 +127,7 @@ impl<S: Drop, A: Allocator + Clone> Sends<S, A> {
     pub fn accept(&mut self, ticket: u64)
         ensures accepted { self.new ≡ changed self.old ticket accepted_now }
     {
-        match &mut self.near {
-            Some(near) if near.ticket == ticket => {
-                near.send.accepted = true;
-                near.send.notice.due = true;
-            }
-            _ => self.tree.accept(ticket),
-        }
+        self.line_up(ticket, true);
     }
 
     /// Makes a live ticket due, and leaves it accepted or not as it was. Nothing changes where the
@@ -148,9 +135,26 @@ impl<S: Drop, A: Allocator + Clone> Sends<S, A> {
     pub fn mark_due(&mut self, ticket: u64)
         ensures marked { self.new ≡ noticed_send due_now ticket self.old }
     {
-        match &mut self.near {
-            Some(near) if near.ticket == ticket => near.send.notice.due = true,
-            _ => self.tree.mark_due(ticket),
+        self.line_up(ticket, false);
+    }
+
+    // Makes a live ticket due, and accepted where `accepts`. One that wasn't due goes behind all
+    // others.
+    fn line_up(&mut self, ticket: u64, accepts: bool)
+        ensures due { self.new ≡ changed self.old ticket (due_accepting accepts) }
+    {
+        let Some(place) = self.chain.find(ticket) else {
+            return;
+        };
+        let Some(send) = self.chain.get_mut(place) else {
+            return;
+        };
+        let was_due = send.notice.due;
+        send.accepted = accepts | send.accepted;
+        send.notice.due = true;
+        if !was_due {
+            self.chain.move_back(place);
+            self.due = self.due.or(Some(place));
         }
     }
 
@@ -159,26 +163,25 @@ impl<S: Drop, A: Allocator + Clone> Sends<S, A> {
     pub fn spend(&mut self, ticket: u64)
         ensures spent { self.new ≡ remove self.old ticket }
     {
-        match &self.near {
-            Some(near) if near.ticket == ticket => self.near = None,
-            _ => self.tree.spend(ticket),
+        let Some(place) = self.chain.find(ticket) else {
+            return;
+        };
+        if self.due == Some(place) {
+            self.due = self.chain.next(place);
         }
+        self.chain.remove(place);
     }
 
-    /// Whether some ticket may be due. It reads two flags, whatever the length.
+    /// Whether some ticket may be due. It reads one place, whatever the length.
     #[inline(always)]
     pub fn may_be_due(&self) -> bool
         ensures none { result ≡ false → NoDueSend self.now }
     {
-        match &self.near {
-            Some(near) if near.send.notice.due => true,
-            _ => self.tree.may_be_due(),
-        }
+        self.due.is_some()
     }
 
     /// A live ticket that was due, and now isn't: it is named once. `None` where none is due, and
-    /// then nothing changes. It doesn't look through the tickets again until one is made due. Takes
-    /// no memory.
+    /// then nothing changes. It looks through no tickets, whatever the length. Takes no memory.
     #[inline(always)]
     pub fn next_due(&mut self) -> Option<u64>
         ensures was_due { IfSome result (λ t. is_due_send self.old t ≡ true) }
@@ -186,20 +189,19 @@ impl<S: Drop, A: Allocator + Clone> Sends<S, A> {
         ensures none_due { IfNone result (NoDueSend self.old) }
         ensures unchanged { IfNone result (self.new ≡ self.old) }
     {
-        match &mut self.near {
-            Some(near) if near.send.notice.due => {
-                near.send.notice.due = false;
-                Some(near.ticket)
-            }
-            _ => self.tree.next_due(),
-        }
+        let place = self.due?;
+        let ticket = self.chain.ticket(place)?;
+        let send = self.chain.get_mut(place)?;
+        send.notice.due = false;
+        self.due = self.chain.next(place);
+        Some(ticket)
     }
 
     /// Every ticket is live no more. Takes no memory.
     pub fn clear(&mut self)
         ensures empty { self.new ≡ empty }
     {
-        self.near = None;
-        self.tree.clear();
+        self.chain.clear();
+        self.due = None;
     }
 }

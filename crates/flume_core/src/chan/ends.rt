@@ -1,7 +1,7 @@
 //! The steps by which ends come and go.
 ghost use Rattle.std.specs.Prelude.{not, ◌≡◌, ◌+◌, ◌-◌, ◌<◌, ◌↔◌};
 ghost use Rattle.flume_model.specs.Limits.{is_closed, most};
-ghost use Rattle.flume_state.specs.Effects.{after_leaving, all_due};
+ghost use Rattle.flume_state.specs.Effects.{after_leaving};
 ghost use Rattle.flume_state.specs.State.{State};
 ghost use Rattle.flume_core.specs.StandsFor.{Extends, IsLedTo, IsRefusal};
 ghost use Rattle.flume_state.specs.Due.{BecomesDue};
@@ -9,8 +9,6 @@ ghost use Rattle.flume_core.specs.Comes.{Comes};
 
 use super::Chan;
 use flume_model::step::{Reply, Step};
-use flume_state::line::Line;
-use flume_state::sends::Sends;
 use std::alloc::Allocator;
 
 impl<T: Drop, S: Drop, A: Allocator + Copy> Chan<T, S, A> {
@@ -119,18 +117,7 @@ impl<T: Drop, S: Drop, A: Allocator + Copy> Chan<T, S, A> {
         }
         if was_open && !self.is_open() {
             self.entries.wake_all();
-            mark_blocked_due(&self.line, &mut self.sends);
-        }
-    }
-}
-
-// Marks the send of each blocked message due.
-fn mark_blocked_due<T, S: Drop, A: Allocator + Copy>(line: &Line<T, A>, sends: &mut Sends<S, A>)
-    ensures marked { sends.new ≡ all_due line.now.blocked sends.old }
-{
-    for place in 0..line.blocked_len() {
-        if let Some(ticket) = line.ticket_at(place) {
-            sends.mark_due(ticket);
+            self.line.mark_blocked(&mut self.sends);
         }
     }
 }

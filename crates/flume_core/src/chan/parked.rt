@@ -158,8 +158,9 @@ impl<T: Drop, S: Drop, A: Allocator + Copy> Chan<T, S, A> {
         }
     }
 
-    // The receiver waits on, or again.
+    // The receiver, which isn't filled, waits on, or again.
     fn wait_on(&mut self, ticket: u64, signal: Option<S>)
+        requires unfilled { held_by (entry_of ticket self.old.entries) ≡ None }
         ensures waits { self.new ≡ waiting_so
             (again ticket (noticed_receiver (waits_on signal) ticket self.old.entries)) self.old }
     {

@@ -1,42 +1,30 @@
-use Rattle.std.proofs.Common.{arith, refl, sym}
-use Rattle.flume_model.proofs.Places.{read_at}
-use Rattle.flume_state.proofs.EntryListLemmas.{fails_all, passes_first}
-use Rattle.flume_state.proofs.EntryKept.{counted_due, counts_none, kept_told, none_counted}
-use Rattle.flume_state.proofs.EntryRounds.{tells_at}
+use Rattle.std.proofs.Common.{◌≡◌, None, Some, ap, not, sym, ◌∙◌, subst}
+use Rattle.flume_state.specs.Parked.{ticket_or}
+use Rattle.flume_state.specs.Receivers.{NoDueReceiver}
+use Rattle.flume_state.specs.Ticketed.{ticket_in}
+use Rattle.flume_state.proofs.EntryParts.{read_value}
+use Rattle.flume_state.proofs.EntryTold.{dues_at, none_due, one_boundary, sorted_told, tells, two_boundaries}
 use Rattle.flume_state.proofs.entries.Entries.next_due.Goals as goal
 
-pub returns-then-self-eq0-clause-none_due : goal.returns-then-self-eq0-clause-none_due
-returns-then-self-eq0-clause-none_due g c =
-    rw (sym c.self.view_is) (none_counted c.self.inside.entries.items (omega (arith, c.self.invariant.1, c.if-self-eq0.true)))
+pub returns-then-eq-clause-none_due : goal.returns-then-eq-clause-none_due
+returns-then-eq-clause-none_due g c =
+    let same = one_boundary c.self.inside.due c.self.inside.waits (ap not (sym c.if-eq.ensures)) in
+    subst NoDueReceiver c.self.view_is (none_due _ _ _ _ c.self.invariant same)
 
-pub invariant_of-self : goal.invariant_of-self
-invariant_of-self g c = (
-  c.self.invariant.0,
-  counts_none c.self.inside.entries.items
-      (rw (c.self.view_is) (fails_all (λ e. e.notice.due) c.args.self.now (sym c.in_default.ensures.first))),
-)
-
-pub returns-in_default-clause-none_due : goal.returns-in_default-clause-none_due
-returns-in_default-clause-none_due g c = fails_all (λ e. e.notice.due) c.args.self.now (sym c.in_default.ensures.first)
-
-pub overflow_sub-self : goal.overflow_sub-self
-overflow_sub-self g c =
-    let e = c.in_ok-entry.ensures in
-    let at = read_at _ c.self.inside.entries.items _ _ _ (e.variant.0 refl) c.self.inside.entries.ok.0 e.value refl in
-    let here = read_at _ c.args.self.now _ _ _ (e.variant.0 refl) c.self.inside.entries.ok.0 e.value c.self.view_is in
-    let was = passes_first (λ x. x.notice.due) c.args.self.now _ _ (sym c.in-Some.ensures.first) here in
-    counted_due _ _ _ _ _ c.self.invariant at was
+pub returns-in_err-ticket-clause-none_due : goal.returns-in_err-ticket-clause-none_due
+returns-in_err-ticket-clause-none_due g c =
+    let d = dues_at _ _ _ _ _ c.self.invariant (two_boundaries _ _ (sym c.if-eq.ensures)) c.in_ok-place.was in
+    let none : None ≡ Some (ticket_or d.element.ticket) = c.in_err-ticket.ensures.ticket ∙ ap ticket_in d.here ∙ d.class.0 in
+    absurd cc
 
 pub invariant_of-self-2 : goal.invariant_of-self-2
 invariant_of-self-2 g c =
-    let e = c.in_ok-entry.ensures in
-    let at = read_at _ c.self.inside.entries.items _ _ _ (e.variant.0 refl) c.self.inside.entries.ok.0 e.value refl in
-    let here = read_at _ c.args.self.now _ _ _ (e.variant.0 refl) c.self.inside.entries.ok.0 e.value c.self.view_is in
-    let was = passes_first (λ x. x.notice.due) c.args.self.now _ _ (sym c.in-Some.ensures.first) here in
-    kept_told _ _ _ _ _ _ c.self.invariant at refl was refl
+    let d = dues_at _ _ _ _ _ c.self.invariant (two_boundaries _ _ (sym c.if-eq.ensures)) c.in_ok-place.was in
+    let value = read_value _ _ _ d.here c.in_ok-parked.ensures.value in
+    rw (value, c.next-next.ensures.next) (sorted_told _ _ _ _ _ c.self.invariant d)
 
 pub returns-clause-told : goal.returns-clause-told
 returns-clause-told g c =
-    let e = c.in_ok-entry.ensures in
-    let here = read_at _ c.args.self.now _ _ _ (e.variant.0 refl) c.self.inside.entries.ok.0 e.value c.self.view_is in
-    tells_at _ _ _ _ _ c.self.view_is (sym c.in-Some.ensures.first) here refl
+    let d = dues_at _ _ _ _ _ c.self.invariant (two_boundaries _ _ (sym c.if-eq.ensures)) c.in_ok-place.was in
+    let value = read_value _ _ _ d.here c.in_ok-parked.ensures.value in
+    rw value (tells _ _ _ _ _ _ _ c.self.invariant d c.self.view_is (sym (c.in_ok-ticket.ensures.ticket ∙ ap ticket_in d.here)))

@@ -1,15 +1,21 @@
-use Rattle.std.proofs.Common.{arith, refl}
-use Rattle.flume_state.proofs.EntryListLemmas.{count-le}
-use Rattle.flume_state.proofs.EntryKept.{kept_push}
+use Rattle.std.proofs.Common.{arith, refl, ap, ◌∙◌, ◌++◌, ◌∷◌, []}
+use Rattle.flume_state.specs.Receivers.{begins}
+use Rattle.flume_state.proofs.EntrySorted.{entries-append, sorted_push, waits_few}
 use Rattle.flume_state.proofs.entries.Entries.park.Goals as goal
+use Rattle.flume_state.proofs.entries.Entries.park.Goals.{in-Ok, in-Err}
 
 pub overflow_add-self : goal.overflow_add-self
-overflow_add-self g c =
-    let few = count-le c.self.inside.entries.items in
-    omega (arith, few, c.self.invariant.0, c.self.inside.entries.ok.0, c.self.inside.entries.small.0, c.self.inside.entries.small.1)
+overflow_add-self g c = omega (arith, waits_few _ _ _ _ c.self.invariant)
 
 pub invariant_of-self : goal.invariant_of-self
-invariant_of-self g c = rw c.in-Ok.ensures.items (kept_push _ _ _ _ c.self.invariant refl refl)
+invariant_of-self g c =
+    let e = c.in-Ok.ensures in
+    rw (e.inserted, c.or-self-inside.ensures, c.or-self-inside-in-Ok.ensures)
+    (sorted_push _ _ _ _ _ _ c.self.invariant e.fresh (refl, refl, refl) (rw e.inserted at e.fits))
 
-pub invariant_of-self-in-Err : goal.invariant_of-self-in-Err
-invariant_of-self-in-Err g c = rw c.in-Err.ensures.items c.self.invariant
+pub returns-clause-parked : goal.returns-clause-parked
+returns-clause-parked g c = elim c.match-insert_ticket.branch [
+  | in-Ok w ↦ rw (w.result-is, w.self-is, w.in-Ok.ensures.inserted)
+      (entries-append c.self.inside.chain.items _ ∙ ap (λ l. l ++ begins c.args.ticket c.args.kind c.args.signal ∷ []) c.self.view_is)
+  | in-Err w ↦ rw w.result-is tt
+]

@@ -1,9 +1,10 @@
 use Rattle.std.proofs.Common.{ap, ltb, ◌∙◌}
 use Rattle.flume_model.specs.Entries.{some_wait}
+use Rattle.flume_state.specs.Parked.{entries_in}
 use Rattle.flume_state.proofs.EntryListLemmas.{some_wait_counted}
 use Rattle.flume_state.proofs.entries.Entries.some_wait.Goals as goal
 
 pub returns : goal.returns
 returns g c = record {
-  some = ap (ltb 0) c.self.invariant.0 ∙ some_wait_counted c.self.inside.entries.items ∙ ap some_wait c.self.view_is;
+  some = ap (ltb 0) c.self.invariant.count ∙ some_wait_counted (entries_in c.self.inside.chain.items) ∙ ap some_wait c.self.view_is;
 }

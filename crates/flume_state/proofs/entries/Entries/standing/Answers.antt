@@ -1,18 +1,25 @@
-use Rattle.std.proofs.Common.{Some, ap, refl, sym, ◌∙◌}
-use Rattle.std.specs.Option.{option_map}
-use Rattle.flume_state.specs.Receivers.{standing_of}
-use Rattle.flume_model.proofs.Places.{read_at}
-use Rattle.flume_state.proofs.EntryListLemmas.{entry_absent, entry_first}
+use Rattle.std.proofs.Common.{Some, ap, sym, ◌∙◌, option_map}
+use Rattle.flume_model.specs.Entries.{entry_of}
+use Rattle.flume_state.specs.Receivers.{standing_as, standing_of}
+use Rattle.flume_state.proofs.EntryParts.{read_some, read_value}
+use Rattle.flume_state.proofs.EntrySeats.{nobody, seated}
 use Rattle.flume_state.proofs.entries.Entries.standing.Goals as goal
 
 pub returns-in_err-place : goal.returns-in_err-place
 returns-in_err-place g c =
-    let none = entry_absent c.args.ticket c.args.self.now (sym c.in_err-place.ensures.first) in
-    record { standing = c.from_residual.ensures ∙ sym (ap (option_map standing_of) none) }
+    let none = nobody _ _ _ _ c.args.ticket c.self.invariant (sym c.in_err-place.ensures.place) in
+    record { standing = c.from_residual.ensures ∙ sym (ap (option_map standing_of) (ap (entry_of c.args.ticket) (sym c.self.view_is) ∙ none)) }
+
+pub returns-in_err-parked : goal.returns-in_err-parked
+returns-in_err-parked g c =
+    let s = seated _ _ _ _ c.args.ticket _ c.self.invariant (sym c.in_ok-place.ensures.place) in
+    absurd (read_some _ _ s.here c.in_err-parked.ensures.found)
 
 pub returns : goal.returns
 returns g c =
-    let e = c.in_ok-entry.ensures in
-    let here = read_at _ c.args.self.now _ _ _ (e.variant.0 refl) c.self.inside.entries.ok.0 e.lookup c.self.view_is in
-    let found = entry_first c.args.ticket _ _ _ (sym c.in_ok-place.ensures.first) here in
-    record { standing = ap Some c.of.ensures.standing ∙ sym (ap (option_map standing_of) found) }
+    let s = seated _ _ _ _ c.args.ticket _ c.self.invariant (sym c.in_ok-place.ensures.place) in
+    let value = read_value _ _ _ s.here c.in_ok-parked.ensures.found in
+    record {
+      standing = ap Some c.of.ensures.standing ∙ ap (λ p. Some (standing_as p.kind p.mark)) value
+          ∙ sym (ap (option_map standing_of) (ap (entry_of c.args.ticket) (sym c.self.view_is) ∙ s.entry));
+    }

@@ -1,33 +1,71 @@
-use Rattle.std.proofs.Common.{sym, ◌∙◌}
+use Rattle.std.proofs.Common.{ap, arith, refl, sym, ◌∙◌}
+use Rattle.flume_model.specs.Entries.{entry_of, is_woken}
+use Rattle.flume_state.specs.Parked.{asked_again}
 use Rattle.flume_state.specs.Receivers.{waits_on}
-use Rattle.flume_state.proofs.EntryWaits.{found_entry, told_there, waits_absent, waits_other, waits_woken, woken_there}
+use Rattle.flume_state.proofs.EntryAsks.{again_entries, again_sorted, asks_entries, asks_filled, asks_none, asks_sorted, moved, woken_empty}
+use Rattle.flume_state.proofs.EntryParts.{read_some, read_value}
+use Rattle.flume_state.proofs.EntrySeats.{nobody, seated}
+use Rattle.flume_state.proofs.EntrySorted.{waits_few}
 use Rattle.flume_state.proofs.entries.Entries.wait_on.Goals as goal
 
-pub returns-in_default : goal.returns-in_default
-returns-in_default g c = record { waits = waits_absent (waits_on c.args.signal) _ _ (sym c.in_default.ensures.first) }
+pub returns-in_default-clause-waits : goal.returns-in_default-clause-waits
+returns-in_default-clause-waits g c free =
+    let none = nobody _ _ _ _ c.args.ticket c.self.invariant (sym c.find.ensures.place ∙ c.in_default.is) in
+    asks_none (waits_on c.args.signal) c.args.ticket c.args.self.now (ap (entry_of c.args.ticket) (sym c.self.view_is) ∙ none)
 
-pub to_back-requires : goal.to_back-requires
-to_back-requires g c =
-    let at = found_entry _ c.args.self.now c.in-Some.place (sym c.in-Some.ensures.first) in
-    let woken = sym (c.notice.ensures.woken at.0 at.1) ∙ c.if-notice.true in
-    record { woken = λ x there. woken_there (waits_on c.args.signal) _ _ _ _ _ at.1 woken (c.notice.ensures.noticed at.0 at.1) there }
+pub returns-in_default-get_mut-clause-waits : goal.returns-in_default-get_mut-clause-waits
+returns-in_default-get_mut-clause-waits g c =
+    let q = seated _ _ _ _ c.args.ticket _ c.self.invariant (sym c.find.ensures.place ∙ c.in-Some.is) in
+    absurd (read_some _ _ q.here c.in_default-get_mut.ensures.value)
 
-pub returns-then-notice : goal.returns-then-notice
-returns-then-notice g c =
-    let at = found_entry _ c.args.self.now c.in-Some.place (sym c.in-Some.ensures.first) in
-    let woken = sym (c.notice.ensures.woken at.0 at.1) ∙ c.if-notice.true in
-    let is = c.notice.ensures.noticed at.0 at.1 in
-    let there = told_there (waits_on c.args.signal) c.args.self.now _ c.in-Some.place at.0 at.1 is in
-    record {
-      waits =
-          waits_woken (waits_on c.args.signal) _ _ _ _ _ _ (sym c.in-Some.ensures.first) at.1 woken is
-          (c.to_back.ensures.moved _ there);
-    }
+pub invariant_of-self-then-not-ask_again : goal.invariant_of-self-then-not-ask_again
+invariant_of-self-then-not-ask_again g c =
+    let q = seated _ _ _ _ c.args.ticket _ c.self.invariant (sym c.find.ensures.place ∙ c.in-Some.is) in
+    let value = read_value _ _ _ q.here c.in-Some-get_mut.ensures.value in
+    let asked = c.ask_again.ensures.asked ∙ ap (asked_again c.args.signal) value in
+    let asleep = ap (λ p. is_woken p.mark) (sym value) ∙ sym c.ask_again.ensures.woken ∙ c.if-not-ask_again.true in
+    rw asked (asks_sorted _ _ _ _ _ _ c.args.signal _ c.self.invariant q refl asleep)
 
-pub returns-else-notice : goal.returns-else-notice
-returns-else-notice g c =
-    let at = found_entry _ c.args.self.now c.in-Some.place (sym c.in-Some.ensures.first) in
-    let other = sym (c.notice.ensures.woken at.0 at.1) ∙ c.if-notice.false in
-    record {
-      waits = waits_other (waits_on c.args.signal) _ _ _ _ _ (sym c.in-Some.ensures.first) at.1 other (c.notice.ensures.noticed at.0 at.1);
-    }
+pub returns-then-not-ask_again-clause-waits : goal.returns-then-not-ask_again-clause-waits
+returns-then-not-ask_again-clause-waits g c =
+    let q = seated _ _ _ _ c.args.ticket _ c.self.invariant (sym c.find.ensures.place ∙ c.in-Some.is) in
+    let value = read_value _ _ _ q.here c.in-Some-get_mut.ensures.value in
+    let asked = c.ask_again.ensures.asked ∙ ap (asked_again c.args.signal) value in
+    let asleep = ap (λ p. is_woken p.mark) (sym value) ∙ sym c.ask_again.ensures.woken ∙ c.if-not-ask_again.true in
+    rw asked (asks_entries _ _ _ c.args.signal _ _ q c.self.view_is refl asleep)
+
+pub returns-then-not-ask_again-clause-filled : goal.returns-then-not-ask_again-clause-filled
+returns-then-not-ask_again-clause-filled g c =
+    let q = seated _ _ _ _ c.args.ticket _ c.self.invariant (sym c.find.ensures.place ∙ c.in-Some.is) in
+    let value = read_value _ _ _ q.here c.in-Some-get_mut.ensures.value in
+    let asked = c.ask_again.ensures.asked ∙ ap (asked_again c.args.signal) value in
+    rw asked (asks_filled _ _ _ c.args.signal _ _ q c.self.view_is refl)
+
+pub overflow_add-self : goal.overflow_add-self
+overflow_add-self g c = omega (arith, waits_few _ _ _ _ c.self.invariant)
+
+pub invariant_of-self-2 : goal.invariant_of-self-2
+invariant_of-self-2 g c =
+    let q = seated _ _ _ _ c.args.ticket _ c.self.invariant (sym c.find.ensures.place ∙ c.in-Some.is) in
+    let value = read_value _ _ _ q.here c.in-Some-get_mut.ensures.value in
+    let asked = c.ask_again.ensures.asked ∙ ap (asked_again c.args.signal) value in
+    let woken = ap (λ p. is_woken p.mark) (sym value) ∙ sym c.ask_again.ensures.woken ∙ c.if-not-ask_again.false in
+    let back = moved _ _ _ _ _ _ q c.move_back.ensures.stood c.move_back.ensures.moved in
+    rw (back, c.or-self-inside.ensures, c.or-self-inside-2.ensures, c.moved_off.ensures.off, c.moved_off-2.ensures.off, asked)
+    (again_sorted _ _ _ _ _ _ _ c.args.signal _ c.self.invariant q refl woken c.next-next.ensures.next)
+
+pub returns-clause-waits : goal.returns-clause-waits
+returns-clause-waits g c free =
+    let q = seated _ _ _ _ c.args.ticket _ c.self.invariant (sym c.find.ensures.place ∙ c.in-Some.is) in
+    let value = read_value _ _ _ q.here c.in-Some-get_mut.ensures.value in
+    let asked = c.ask_again.ensures.asked ∙ ap (asked_again c.args.signal) value in
+    let woken = ap (λ p. is_woken p.mark) (sym value) ∙ sym c.ask_again.ensures.woken ∙ c.if-not-ask_again.false in
+    let back = moved _ _ _ _ _ _ q c.move_back.ensures.stood c.move_back.ensures.moved in
+    rw (back, asked) (again_entries _ _ _ c.args.signal _ _ q c.self.view_is refl woken)
+
+pub returns-clause-filled : goal.returns-clause-filled
+returns-clause-filled g c =
+    let q = seated _ _ _ _ c.args.ticket _ c.self.invariant (sym c.find.ensures.place ∙ c.in-Some.is) in
+    let value = read_value _ _ _ q.here c.in-Some-get_mut.ensures.value in
+    let woken = ap (λ p. is_woken p.mark) (sym value) ∙ sym c.ask_again.ensures.woken ∙ c.if-not-ask_again.false in
+    rw (woken_empty _ _ _ _ _ q c.self.view_is refl woken) tt

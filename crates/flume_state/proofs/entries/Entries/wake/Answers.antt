@@ -11,7 +11,7 @@ returns-then-self-eq0 g c =
     let woke : Woke due_now c.args.self.now c.args.line.now None c.args.self.now c.args.line.now = elim c.then-self-eq0.branch [
       | then-self-eq0-via-then-self-eq0 w ↦
           idle_by_count due_now c.args.self.now c.args.line.now
-          (ap waiting_count (sym c.self.view_is) ∙ sym c.self.invariant.0 ∙ w.if-self-eq0.true)
+          (ap waiting_count (sym c.self.view_is) ∙ sym c.self.invariant.count ∙ w.if-self-eq0.true)
       | then-self-eq0-via-else-self-eq0+then-queued_len-eq0 w ↦
           idle_by_queue due_now c.args.self.now c.args.line.now (sym w.queued_len.ensures.len ∙ w.if-queued_len-eq0.true)
     ] in

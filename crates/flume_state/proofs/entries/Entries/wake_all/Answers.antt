@@ -1,20 +1,22 @@
-use Rattle.std.proofs.Common.{arith, refl, sym, ap, length, ◌∙◌}
+use Rattle.std.proofs.Common.{◌≡◌, ap, arith, refl, sym, ◌∙◌}
+use Rattle.flume_model.specs.Entries.{all_woken, waiting_count}
 use Rattle.flume_state.specs.Notices.{due_now}
-use Rattle.flume_state.proofs.EntryRounds.{all_behind, all_over}
-use Rattle.flume_state.proofs.EntryWakes.{woken_at}
+use Rattle.flume_state.proofs.EntryRounds.{all_idle, all_on, fewer_of}
 use Rattle.flume_state.proofs.entries.Entries.wake_all.Goals as goal
 
-pub loop-place-init : goal.loop-place-init
-loop-place-init g c = (refl, sym (ap length c.self.view_is) ∙ sym (c.len-place-end.ensures ∙ c.self.inside.entries.ok.0))
+pub loop-self-init : goal.loop-self-init
+loop-self-init g c = refl
 
-pub loop-place-preserved : goal.loop-place-preserved
-loop-place-preserved g c =
-    let w = c.wake_at.ensures in
-    let a = woken_at due_now _ _ _ _ _ c.loop-place.invariant.1 c.loop-place-test.true w.woken w.kind in
-    let more = all_behind due_now _ _ _ _ a.at a.is in
-    (more.0 ∙ c.loop-place.invariant.0, more.1 ∙ c.loop-place.invariant.1)
+pub loop-self-smaller : goal.loop-self-smaller
+loop-self-smaller g c =
+    let count = c.self.invariant.count ∙ ap waiting_count c.self.view_is in
+    rw c.wake_next.ensures.woken (fewer_of due_now _ (rw (← count) c.loop-self-test.true))
+
+pub loop-self-preserved : goal.loop-self-preserved
+loop-self-preserved g c = ap (all_woken due_now) c.wake_next.ensures.woken ∙ all_on due_now c.loop-self.self ∙ c.loop-self.invariant
 
 pub returns : goal.returns
 returns g c =
-    let inv = c.loop-place.invariant in
-    record { woken = sym (all_over due_now _ c.loop-place.place (omega (arith, inv.1, c.loop-place-test.false))) ∙ inv.0 }
+    let none : waiting_count c.loop-self.self ≡ 0 =
+    omega (arith, c.self.invariant.count ∙ ap waiting_count c.self.view_is, c.loop-self-test.false) in
+    record { woken = sym (all_idle due_now c.loop-self.self none) ∙ c.loop-self.invariant }

@@ -1,57 +1,39 @@
-use Rattle.std.proofs.Common.{Some, ap, sym, length, ◌∙◌}
+use Rattle.std.proofs.Common.{Some, ap, sym, ◌∙◌}
 use Rattle.flume_state.specs.Notices.{due_now}
-use Rattle.flume_state.proofs.EntryWakes.{awake_at, wakes_awake, wakes_first, wakes_stream, woke_arm}
-use Rattle.flume_state.proofs.EntryWakes.{woke_block, woke_over, woke_plain, woken_at}
+use Rattle.flume_state.proofs.EntryRounds.{fewer_wait}
+use Rattle.flume_state.proofs.EntryWakes.{not_empty, wakes_first, wakes_stream, woke_block, woke_over, woke_plain}
 use Rattle.flume_state.proofs.entries.Entries.wake_round.Goals as goal
-use Rattle.flume_state.proofs.entries.Entries.wake_round.Goals.{in-None, in-Some-Stream}
 
-pub loop-place-init : goal.loop-place-init
-loop-place-init g c =
-    wakes_first due_now c.args.self.now c.args.line.now c.len-place-end.result
-    c.requires.queued
-    (sym (ap length c.self.view_is) ∙ sym (c.len-place-end.ensures ∙ c.self.inside.entries.ok.0))
+pub loop-ticket-init : goal.loop-ticket-init
+loop-ticket-init g c = wakes_first due_now _ _ c.requires.queued
 
-pub fill-requires : goal.fill-requires
-fill-requires g c =
-    let w = c.wake_at.ensures in
-    let a = woken_at due_now _ _ _ _ _ c.loop-place.invariant.reached.as_long c.loop-place-test.true w.woken w.kind in
-    record { awake = λ x at. awake_at due_now _ _ _ _ _ _ a (c.in-Some-Block.is ∙ ap Some c.in-Some-Block.field-0-is) at }
+pub loop-ticket-smaller : goal.loop-ticket-smaller
+loop-ticket-smaller g c =
+    rw c.wake_next.ensures.woken (fewer_wait due_now _ (c.in-Some.ticket, c.in-Some.kind) (sym c.next_waiting.ensures.first ∙ c.in-Some.is))
 
-pub returns-in-Some-Block : goal.returns-in-Some-Block
-returns-in-Some-Block g c =
-    let w = c.wake_at.ensures in
-    let a = woken_at due_now _ _ _ _ _ c.loop-place.invariant.reached.as_long c.loop-place-test.true w.woken w.kind in
-    let woke = woke_block due_now _ _ _ _ _ _ _ _ _ _ _ c.loop-place.invariant a
-    (c.in-Some-Block.is ∙ ap Some c.in-Some-Block.field-0-is) (record { does = c.fill.ensures.taken }) in
+pub loop-ticket-preserved : goal.loop-ticket-preserved
+loop-ticket-preserved g c =
+    wakes_stream due_now _ _ _ _ _ c.in-Some.ticket c.loop-ticket.invariant
+    (sym c.next_waiting.ensures.first ∙ c.in-Some.is ∙ ap (λ k. Some (c.in-Some.ticket, k)) c.in-Stream.is) c.wake_next.ensures.woken
+
+pub returns-in_err-front-in-Block : goal.returns-in_err-front-in-Block
+returns-in_err-front-in-Block g c =
+    absurd (not_empty due_now _ _ _ _ c.loop-ticket.invariant (c.in_err-front-in-Block.ensures.none_queued))
+
+pub returns-in-Block : goal.returns-in-Block
+returns-in-Block g c =
+    let woke = woke_block due_now _ _ _ _ _ _ c.in-Some.ticket c.in_ok-front-in-Block.front c.loop-ticket.invariant
+    (sym c.next_waiting.ensures.first ∙ c.in-Some.is ∙ ap (λ k. Some (c.in-Some.ticket, k)) c.in-Block.is)
+    c.in_ok-front-in-Block.ensures.taken c.wake_next-in-Block.ensures.woken in
     record { fills = woke.fills; woken = woke.woken; queue = woke.queue }
 
-pub returns-in-Some-Plain : goal.returns-in-Some-Plain
-returns-in-Some-Plain g c =
-    let w = c.wake_at.ensures in
-    let a = woken_at due_now _ _ _ _ _ c.loop-place.invariant.reached.as_long c.loop-place-test.true w.woken w.kind in
-    let woke = woke_plain due_now _ _ _ _ _ _ _ _ c.loop-place.invariant a
-    (c.in-Some-Plain.is ∙ ap Some c.in-Some-Plain.field-0-is) in
+pub returns-in-Plain : goal.returns-in-Plain
+returns-in-Plain g c =
+    let woke = woke_plain due_now _ _ _ _ _ c.in-Some.ticket c.in-Some.kind c.loop-ticket.invariant
+    (sym c.next_waiting.ensures.first ∙ c.in-Some.is) c.in-Plain.is c.wake_next-in-Plain.ensures.woken in
     record { fills = woke.fills; woken = woke.woken; queue = woke.queue }
-
-pub returns-in-Some-Arm : goal.returns-in-Some-Arm
-returns-in-Some-Arm g c =
-    let w = c.wake_at.ensures in
-    let a = woken_at due_now _ _ _ _ _ c.loop-place.invariant.reached.as_long c.loop-place-test.true w.woken w.kind in
-    let woke = woke_arm due_now _ _ _ _ _ _ _ _ c.loop-place.invariant a
-    (c.in-Some-Arm.is ∙ ap Some c.in-Some-Arm.field-0-is) in
-    record { fills = woke.fills; woken = woke.woken; queue = woke.queue }
-
-pub loop-place-preserved : goal.loop-place-preserved
-loop-place-preserved g c =
-    let w = c.wake_at.ensures in
-    let a = woken_at due_now _ _ _ _ _ c.loop-place.invariant.reached.as_long c.loop-place-test.true w.woken w.kind in
-    elim c.match-wake_at.branch [
-      | in-None w ↦ wakes_awake due_now _ _ _ _ _ _ _ _ c.loop-place.invariant a w.in-None.is
-      | in-Some-Stream w ↦
-          wakes_stream due_now _ _ _ _ _ _ _ _ c.loop-place.invariant a (w.in-Some-Stream.is ∙ ap Some w.in-Some-Stream.field-0-is)
-    ]
 
 pub returns : goal.returns
 returns g c =
-    let woke = woke_over due_now _ _ _ _ _ _ c.loop-place.invariant c.loop-place-test.false in
+    let woke = woke_over due_now _ _ _ _ c.loop-ticket.invariant (sym c.next_waiting.ensures.first ∙ c.in_default.is) in
     record { fills = woke.fills; woken = woke.woken; queue = woke.queue }

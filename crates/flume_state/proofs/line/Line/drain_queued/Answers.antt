@@ -5,16 +5,14 @@ use Rattle.flume_state.proofs.line.Line.drain_queued.Goals as goal
 
 pub returns-in_err-list-clause-none_queued : goal.returns-in_err-list-clause-none_queued
 returns-in_err-list-clause-none_queued g c =
-    let long : length c.args.self.now.queued ≡ c.len.result =
-    omega (arith, ap (λ m. length m.queued) c.self.view_is, c.self.inside.queued.ok.0, c.len.ensures) in
+    let long : length c.args.self.now.queued ≡ c.queued_len.result = sym c.queued_len.ensures.len in
     on_err c.from_residual.result _ (λ none.
     let failed : false ≡ true = c.in_err-list.ensures.succeeds (sym long ∙ ap length none) in let no_bit : ⊥ = cc in no_bit)
 
 pub loop-message-init : goal.loop-message-init
 loop-message-init g c =
     let e = c.in_ok-list.ensures in
-    let long : length c.args.self.now.queued ≡ c.len.result =
-    omega (arith, ap (λ m. length m.queued) c.self.view_is, c.self.inside.queued.ok.0, c.len.ensures) in
+    let long : length c.args.self.now.queued ≡ c.queued_len.result = sym c.queued_len.ensures.len in
     (rw e.items refl, refl, omega (arith, long, e.len, e.capacity))
 
 pub push_reserved-requires : goal.push_reserved-requires

@@ -1,35 +1,27 @@
-use Rattle.std.proofs.Common.{◌≡◌, Some, sym, ap, ◌∙◌}
+use Rattle.std.proofs.Common.{Some, refl, sym, ◌∙◌}
 use Rattle.flume_state.specs.Notices.{resignalled}
-use Rattle.flume_state.specs.Sends.{changed, with_notice}
-use Rattle.flume_state.proofs.NearLemmas.{IsAway, away_none, away_some, away_changed, apart_changed, here_changed}
+use Rattle.flume_state.specs.Sends.{with_notice}
+use Rattle.flume_state.proofs.ByTicket.{found_somewhere, stands}
+use Rattle.flume_state.proofs.SendSteps.{none_changed, written_kept, written_view}
 use Rattle.flume_state.proofs.sends.Sends.set_signal.Goals as goal
-use Rattle.flume_state.proofs.sends.Sends.set_signal.Goals.{in_default-via-in-Some+else-near-ticket, in_default-via-in_default}
-
-pub invariant_of-self-in_default : goal.invariant_of-self-in_default
-invariant_of-self-in_default g c =
-    let both : (c.in_default.self-inside ≡ c.self.inside) × IsAway c.self.inside.near c.args.ticket = elim c.in_default.branch [
-      | in_default-via-in-Some+else-near-ticket w ↦ (
-        w.self-inside-is ∙ ap (λ n. record { near = n; tree = c.self.inside.tree }) (sym w.in-Some.is),
-        away_some _ _ _ w.in-Some.is w.if-near-ticket.false,
-      )
-      | in_default-via-in_default w ↦ (w.self-inside-is, away_none _ _ w.in_default.is)
-    ] in
-    rw (c.set_signal.ensures.replaced, both.0) (apart_changed _ _ _ (with_notice (resignalled (Some c.args.signal))) both.1 c.self.invariant)
-
-pub returns-in-Some : goal.returns-in-Some
-returns-in-Some g c = record {
-  replaced = here_changed c.self.inside.near c.in-Some.near c.self.inside.tree _ _ (with_notice (resignalled (Some c.args.signal))) c.in-Some.is c.if-near-ticket.true c.self.view_is;
-}
 
 pub returns-in_default : goal.returns-in_default
-returns-in_default g c =
-    let both : (c.in_default.self-inside ≡ c.self.inside) × IsAway c.self.inside.near c.args.ticket = elim c.in_default.branch [
-      | in_default-via-in-Some+else-near-ticket w ↦ (
-        w.self-inside-is ∙ ap (λ n. record { near = n; tree = c.self.inside.tree }) (sym w.in-Some.is),
-        away_some _ _ _ w.in-Some.is w.if-near-ticket.false,
-      )
-      | in_default-via-in_default w ↦ (w.self-inside-is, away_none _ _ w.in_default.is)
-    ] in
+returns-in_default g c = record {
+  replaced = none_changed c.self.inside.chain.items _ _ _ c.self.view_is (sym c.find.ensures.place ∙ c.in_default.is);
+}
+
+pub returns-in_default-get_mut : goal.returns-in_default-get_mut
+returns-in_default-get_mut g c =
+    absurd (found_somewhere c.args.ticket c.in-Some.place _ (sym c.find.ensures.place ∙ c.in-Some.is) c.in_default-get_mut.ensures.value)
+
+pub invariant_of-self-2 : goal.invariant_of-self-2
+invariant_of-self-2 g c =
+    let s = stands _ _ _ _ (sym c.find.ensures.place ∙ c.in-Some.is) c.find.ensures.apart c.find.ensures.single c.in-Some-get_mut.ensures.value in
+    written_kept c.self.inside.chain.items _ _ _ _ _ refl s c.self.invariant
+
+pub returns : goal.returns
+returns g c =
+    let s = stands _ _ _ _ (sym c.find.ensures.place ∙ c.in-Some.is) c.find.ensures.apart c.find.ensures.single c.in-Some-get_mut.ensures.value in
     record {
-      replaced = rw (c.set_signal.ensures.replaced, both.0) (away_changed _ _ _ (with_notice (resignalled (Some c.args.signal))) both.1) ∙ ap (λ m. changed m c.args.ticket (with_notice (resignalled (Some c.args.signal)))) c.self.view_is;
+      replaced = written_view c.self.inside.chain.items _ _ _ _ (with_notice (resignalled (Some c.args.signal))) c.self.view_is s;
     }

@@ -1,28 +1,39 @@
-use Rattle.std.proofs.Common.{◌≡◌, ap, ◌∙◌}
-use Rattle.std.specs.FinMap.{remove}
-use Rattle.flume_state.proofs.NearLemmas.{IsAway, away_none, away_some, away_remove, apart_remove, here_remove}
+use Rattle.std.proofs.Common.{◌≡◌, sym, ap, ◌∙◌}
+use Rattle.flume_state.proofs.SendSteps.{none_removed, taken_is, taken_view, spent_first, spent_other, same_place, other_place}
 use Rattle.flume_state.proofs.sends.Sends.spend.Goals as goal
-use Rattle.flume_state.proofs.sends.Sends.spend.Goals.{in_default-via-in-Some+else-near-ticket, in_default-via-in_default}
-
-pub invariant_of-self-in_default : goal.invariant_of-self-in_default
-invariant_of-self-in_default g c =
-    let both : (c.in_default.self-inside ≡ c.self.inside) × IsAway c.self.inside.near c.args.ticket = elim c.in_default.branch [
-      | in_default-via-in-Some+else-near-ticket w ↦ (w.self-inside-is, away_some _ _ _ w.in-Some.is w.if-near-ticket.false)
-      | in_default-via-in_default w ↦ (w.self-inside-is, away_none _ _ w.in_default.is)
-    ] in
-    rw (c.spend.ensures.spent, both.0) (apart_remove _ _ _ both.1 c.self.invariant)
-
-pub returns-in-Some : goal.returns-in-Some
-returns-in-Some g c = record {
-  spent = here_remove c.self.inside.near c.in-Some.near c.self.inside.tree _ _ c.self.invariant c.in-Some.is c.if-near-ticket.true c.self.view_is;
-}
+use Rattle.flume_state.proofs.sends.Sends.spend.Goals.{then-eq, else-eq}
 
 pub returns-in_default : goal.returns-in_default
-returns-in_default g c =
-    let both : (c.in_default.self-inside ≡ c.self.inside) × IsAway c.self.inside.near c.args.ticket = elim c.in_default.branch [
-      | in_default-via-in-Some+else-near-ticket w ↦ (w.self-inside-is, away_some _ _ _ w.in-Some.is w.if-near-ticket.false)
-      | in_default-via-in_default w ↦ (w.self-inside-is, away_none _ _ w.in_default.is)
+returns-in_default g c = record {
+  spent = none_removed c.self.inside.chain.items _ _ c.self.view_is (sym c.find.ensures.place ∙ c.in_default.is);
+}
+
+pub invariant_of-self : goal.invariant_of-self
+invariant_of-self g c =
+    let items = c.self.inside.chain.items in
+    let same : c.if-eq.self-inside.chain ≡ c.self.inside.chain = elim c.if-eq.branch [
+      | then-eq w ↦ ap (λ i. i.chain) w.self-inside-is
+      | else-eq w ↦ ap (λ i. i.chain) w.self-inside-is
     ] in
+    let e = rw same at c.remove.ensures in
+    let taken = taken_is items _ c.args.ticket c.in-Some.place _ (sym c.find.ensures.place ∙ c.in-Some.is) e.found e.taken in
+    elim c.if-eq.branch [
+      | then-eq w ↦
+          rw (taken, w.self-inside-is, w.next-self-inside.ensures.next)
+          (spent_first items _ c.in-Some.place (same_place _ _ (sym c.eq.ensures ∙ w.if-eq.true)) c.find.ensures.apart c.self.invariant)
+      | else-eq w ↦
+          rw (taken, w.self-inside-is)
+          (spent_other items _ c.in-Some.place (other_place _ _ (sym c.eq.ensures ∙ w.if-eq.false)) c.self.invariant)
+    ]
+
+pub returns : goal.returns
+returns g c =
+    let same : c.if-eq.self-inside.chain ≡ c.self.inside.chain = elim c.if-eq.branch [
+      | then-eq w ↦ ap (λ i. i.chain) w.self-inside-is
+      | else-eq w ↦ ap (λ i. i.chain) w.self-inside-is
+    ] in
+    let e = rw same at c.remove.ensures in
     record {
-      spent = rw (c.spend.ensures.spent, both.0) (away_remove _ _ _ both.1) ∙ ap (λ m. remove m c.args.ticket) c.self.view_is;
+      spent = taken_view c.self.inside.chain.items _ _ _ c.in-Some.place _ c.self.view_is (sym c.find.ensures.place ∙ c.in-Some.is)
+          c.find.ensures.apart c.find.ensures.single e.found e.taken;
     }

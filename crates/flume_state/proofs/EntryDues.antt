@@ -1,0 +1,169 @@
+-- The first that waits and the first that is due, and what becomes of them.
+use Rattle.std.proofs.Common.{◌≡◌, ℕ, ◌-◌, ◌≤◌, Bool, [], ◌∷◌, ◌++◌, Option, Some, None, refl, sym, ap, ◌∙◌, arith, true, false, subst, append_assoc}
+use Rattle.flume_chain.specs.Chained.{times, places, found, first_place, place_after}
+use Rattle.flume_chain.proofs.Tables.{item, after_at}
+use Rattle.flume_model.specs.Entries.{is_waiting, waiting_count}
+use Rattle.flume_model.specs.declared.entry.Mark.{Mark}
+use Rattle.flume_state.specs.Notices.{due_now}
+use Rattle.flume_state.specs.Parked.{Each, Sorted, entries_in, entry_in, first_marked, first_waiting}
+use Rattle.flume_state.specs.Ticketed.{revalued}
+use Rattle.flume_state.specs.Receivers.{Entries}
+use Rattle.flume_state.specs.declared.entries.Parked.{Parked}
+use Rattle.flume_state.specs.declared.notice.Notice.{Notice}
+use Rattle.flume_state.specs.declared.ticketed.Ticketed.{Ticketed}
+use Rattle.flume_state.proofs.EntryListLemmas.{weight}
+use Rattle.flume_state.proofs.EntryParts.{Apart, alone, first_same, front_at, length-revalued, places-revalued, revalued_at, seat_found, with_value}
+use Rattle.flume_state.proofs.EntrySorted.{Is, Items, each-push, entries-append, waits-append}
+
+module _ {T S : Type 0} where
+  -- the entries where the element at a place has another value
+  pub revalued_entries : (items before after : Items T S) (k : ℕ) (e : Ticketed (Parked T S)) (v : Parked T S)
+      → items ≡ before ++ item k e ∷ after → times k (places before) ≡ 0 → times k (places after) ≡ 0
+      → entries_in (revalued k items v) ≡ entries_in before ++ entry_in (item k (with_value e v)) ∷ entries_in after
+  revalued_entries items before after k e v is clear behind =
+      ap (λ l. entries_in (revalued k l v)) is ∙ ap entries_in (revalued_at k before after e v clear behind)
+      ∙ entries-append before (item k (with_value e v) ∷ after)
+
+  -- where the first ones don't wait, another is the first that waits
+  waiting_skip : (d : Bool) (xs : Items T S) (es : Entries T S) → Each false d xs
+      → first_waiting (entries_in xs ++ es) ≡ first_waiting es
+  waiting_skip d [] es all = refl
+  waiting_skip d (x ∷ xs) es all = rw all.1 (waiting_skip d xs es all.3)
+
+  -- and that is marked
+  marked_skip : (d : Bool) (tell : Notice S → Notice S) (m : Mark T) (xs : Items T S) (es : Entries T S) → Each false d xs
+      → first_marked tell m (entries_in xs ++ es) ≡ entries_in xs ++ first_marked tell m es
+  marked_skip d tell m [] es all = refl
+  marked_skip d tell m (x ∷ xs) es all = rw all.1 (ap (λ l. entry_in x ∷ l) (marked_skip d tell m xs es all.3))
+
+  -- the entries of the three parts
+  three : (items : Items T S) (due waits : Option ℕ) (n : ℕ) (s : Sorted items due waits n)
+      → entries_in items ≡ entries_in s.quiet ++ (entries_in s.dues ++ entries_in s.last)
+  three items due waits n s = ap entries_in s.is ∙ entries-append s.quiet (s.dues ++ s.last)
+      ∙ ap (λ l. entries_in s.quiet ++ l) (entries-append s.dues s.last)
+
+  -- whoever waits first is the first of the last part
+  pub first_of_last : (items : Items T S) (due waits : Option ℕ) (n : ℕ) (s : Sorted items due waits n)
+      → first_waiting (entries_in items) ≡ first_waiting (entries_in s.last)
+  first_of_last items due waits n s = ap first_waiting (three items due waits n s)
+      ∙ waiting_skip false s.quiet (entries_in s.dues ++ entries_in s.last) s.are_quiet
+      ∙ waiting_skip true s.dues (entries_in s.last) s.are_due
+
+  -- and is marked there
+  mark_of_last : (tell : Notice S → Notice S) (m : Mark T) (items : Items T S) (due waits : Option ℕ) (n : ℕ) (s : Sorted items due waits n)
+      → first_marked tell m (entries_in items) ≡ entries_in s.quiet ++ (entries_in s.dues ++ first_marked tell m (entries_in s.last))
+  mark_of_last tell m items due waits n s = ap (first_marked tell m) (three items due waits n s)
+      ∙ marked_skip false tell m s.quiet (entries_in s.dues ++ entries_in s.last) s.are_quiet
+      ∙ ap (λ l. entries_in s.quiet ++ l) (marked_skip true tell m s.dues (entries_in s.last) s.are_due)
+
+  -- where the boundary names no place, nobody waits
+  none_last : (items : Items T S) (due waits : Option ℕ) (n : ℕ) (s : Sorted items due waits n) → waits ≡ None → s.last ≡ []
+  none_last items due waits n s none = empty s.last (sym none ∙ s.first_waits)
+    where
+      empty : (xs : Items T S) → None ≡ first_place xs → xs ≡ []
+      empty [] h = refl
+      empty (x ∷ xs) h = absurd (let some : ⊥ = cc in some)
+
+  pub nobody_waits : (items : Items T S) (due waits : Option ℕ) (n : ℕ) → Sorted items due waits n → waits ≡ None
+      → first_waiting (entries_in items) ≡ None
+  nobody_waits items due waits n s none =
+      first_of_last items due waits n s ∙ ap (λ l. first_waiting (entries_in l)) (none_last items due waits n s none)
+
+  pub nobody_marked : (tell : Notice S → Notice S) (m : Mark T) (items : Items T S) (due waits : Option ℕ) (n : ℕ) → Sorted items due waits n
+      → waits ≡ None → entries_in items ≡ first_marked tell m (entries_in items)
+  nobody_marked tell m items due waits n s none =
+      let same : first_marked tell m (entries_in s.last) ≡ entries_in s.last = rw (none_last items due waits n s none) refl in
+      three items due waits n s ∙ sym (mark_of_last tell m items due waits n s ∙ ap (λ l. entries_in s.quiet ++ (entries_in s.dues ++ l)) same)
+
+  -- the first that waits, at its place alone
+  pub record Waits (items : Items T S) (due waits : Option ℕ) (n : ℕ) (k : ℕ) (s : Sorted items due waits n) : Type 0 where
+    pub element : Ticketed (Parked T S)
+    pub after : Items T S
+    pub last : s.last ≡ item k element ∷ after
+    pub is : items ≡ (s.quiet ++ s.dues) ++ item k element ∷ after
+    pub clear : times k (places (s.quiet ++ s.dues)) ≡ 0
+    pub behind : times k (places after) ≡ 0
+    pub here : found items k ≡ Some element
+    pub class : Is true false element
+    pub others : Each true false after
+
+  pub waits_at : (items : Items T S) (due waits : Option ℕ) (n : ℕ) (k : ℕ) (s : Sorted items due waits n) → waits ≡ Some k
+      → Waits items due waits n k s
+  waits_at items due waits n k s h =
+      let f = front_at s.last k (sym h ∙ s.first_waits) in
+      let is : items ≡ (s.quiet ++ s.dues) ++ item k f.element ∷ f.rest =
+      s.is ∙ sym (append_assoc s.quiet s.dues s.last) ∙ ap (λ l. (s.quiet ++ s.dues) ++ l) f.is in
+      let a = alone (s.quiet ++ s.dues) f.rest k f.element (subst Apart is s.apart) in
+      let all : Each true false (item k f.element ∷ f.rest) = subst (Each true false) f.is s.wait in
+      record {
+        element = f.element;
+        after = f.rest;
+        last = f.is;
+        is = is;
+        clear = a.0;
+        behind = a.1;
+        here = ap (λ l. found l k) is ∙ seat_found (s.quiet ++ s.dues) f.rest k f.element a.0;
+        class = (all.0, all.1, all.2);
+        others = all.3;
+      }
+
+  -- its entry is the first that waits
+  pub waits_first : (items : Items T S) (due waits : Option ℕ) (n : ℕ) (k : ℕ) (s : Sorted items due waits n) (w : Waits items due waits n k s)
+      → first_waiting (entries_in items) ≡ Some (entry_in (item k w.element))
+  waits_first items due waits n k s w =
+      first_of_last items due waits n s ∙ ap (λ l. first_waiting (entries_in l)) w.last ∙ rw w.class.1 refl
+
+  -- the value of one that is woken or filled
+  abbrev pub woken_value : Mark T → Parked T S → Parked T S
+  woken_value m p = record p { mark = m; notice = due_now p.notice }
+
+  -- the first that waits is due from now on, and the boundary is behind it
+  pub sorted_woken : (items : Items T S) (due waits : Option ℕ) (n : ℕ) (k : ℕ) (m : Mark T) (s : Sorted items due waits n)
+      (w : Waits items due waits n k s) → is_waiting m ≡ false
+      → Sorted (revalued k items (woken_value m w.element.value)) due (place_after items k) (n - 1)
+  sorted_woken items due waits n k m s w awake =
+      let v = woken_value m w.element.value in
+      let x = item k w.element in
+      let y = item k (with_value w.element v) in
+      let now : revalued k items v ≡ (s.quiet ++ s.dues) ++ y ∷ w.after =
+      ap (λ l. revalued k l v) w.is ∙ revalued_at k (s.quiet ++ s.dues) w.after w.element v w.clear w.behind in
+      let joined : s.dues ++ y ∷ w.after ≡ (s.dues ++ y ∷ []) ++ w.after = sym (append_assoc s.dues (y ∷ []) w.after) in
+      let one : weight (entry_in x) ≡ 1 = rw w.class.1 refl in
+      let zero_weight : weight (entry_in y) ≡ 0 = rw awake refl in
+      let before = ap (λ l. waiting_count (entries_in l)) w.is ∙ waits-append (s.quiet ++ s.dues) (x ∷ w.after) in
+      let later = ap (λ l. waiting_count (entries_in l)) now ∙ waits-append (s.quiet ++ s.dues) (y ∷ w.after) in
+      record {
+        quiet = s.quiet;
+        dues = s.dues ++ y ∷ [];
+        last = w.after;
+        is = now ∙ append_assoc s.quiet s.dues (y ∷ w.after) ∙ ap (λ l. s.quiet ++ l) joined;
+        are_quiet = s.are_quiet;
+        are_due = each-push false true s.dues k (with_value w.element v) s.are_due (w.class.0, awake, refl);
+        wait = w.others;
+        first_due = s.first_due ∙ ap (λ l. first_place (s.dues ++ l)) w.last
+            ∙ first_same s.dues w.after k w.element (with_value w.element v) ∙ ap first_place joined;
+        first_waits = ap (λ l. place_after l k) w.is ∙ after_at (s.quiet ++ s.dues) w.after k w.element w.clear;
+        count = omega (arith, s.count, one, zero_weight, before, later);
+        apart = λ j. let same = ap (times j) (places-revalued k items v) in let most = s.apart j in omega arith;
+        fits = omega (arith, s.fits, length-revalued k items v);
+      }
+
+  -- and is marked among the entries
+  pub woken_entries : (items : Items T S) (due waits : Option ℕ) (n : ℕ) (k : ℕ) (m : Mark T) (s : Sorted items due waits n)
+      (w : Waits items due waits n k s)
+      → entries_in (revalued k items (woken_value m w.element.value)) ≡ first_marked due_now m (entries_in items)
+  woken_entries items due waits n k m s w =
+      let v = woken_value m w.element.value in
+      let here : first_marked due_now m (entries_in s.last) ≡ entry_in (item k (with_value w.element v)) ∷ entries_in w.after =
+      ap (λ l. first_marked due_now m (entries_in l)) w.last ∙ rw w.class.1 refl in
+      revalued_entries items (s.quiet ++ s.dues) w.after k w.element v w.is w.clear w.behind
+      ∙ ap (λ l. l ++ entry_in (item k (with_value w.element v)) ∷ entries_in w.after) (entries-append s.quiet s.dues)
+      ∙ append_assoc (entries_in s.quiet) (entries_in s.dues) (entry_in (item k (with_value w.element v)) ∷ entries_in w.after)
+      ∙ sym (mark_of_last due_now m items due waits n s ∙ ap (λ l. entries_in s.quiet ++ (entries_in s.dues ++ l)) here)
+
+  -- some wait where one does
+  pub waits_some : (items : Items T S) (due waits : Option ℕ) (n : ℕ) (k : ℕ) (s : Sorted items due waits n) → Waits items due waits n k s → 1 ≤ n
+  waits_some items due waits n k s w =
+      let one : weight (entry_in (item k w.element)) ≡ 1 = rw w.class.1 refl in
+      let sum = ap (λ l. waiting_count (entries_in l)) w.is ∙ waits-append (s.quiet ++ s.dues) (item k w.element ∷ w.after) in
+      omega (arith, s.count, one, sum)

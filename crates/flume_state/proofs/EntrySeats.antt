@@ -1,0 +1,182 @@
+-- The parked receiver that a ticket finds, in the chain and among the entries.
+use Rattle.std.proofs.Common.{◌≡◌, ℕ, ◌==◌, Bool, List, [], ◌∷◌, ◌++◌, Option, Some, None, refl, sym, ap, ◌∙◌, inl, inr, true, false, if◌then◌else◌, eq-eqb, subst}
+use Rattle.std.proofs.lemmas.Bool.{cases_Bool, eqb-true}
+use Rattle.std.specs.Prelude.{⊤}
+use Rattle.flume_chain.specs.Chained.{times, places, found, without}
+use Rattle.flume_chain.proofs.Tables.{item, without_at}
+use Rattle.flume_model.specs.Entries.{entry_of, without as without_ticket}
+use Rattle.flume_model.specs.declared.entry.Entry.{Entry}
+use Rattle.flume_model.proofs.EntryLists.{none_parts}
+use Rattle.flume_state.specs.Parked.{Each, Sorted, entries_in, entry_in, ticket_or}
+use Rattle.flume_state.specs.Ticketed.{is_ticket, place_of}
+use Rattle.flume_state.specs.Receivers.{Entries, noticed_receiver}
+use Rattle.flume_state.specs.declared.entries.Parked.{Parked}
+use Rattle.flume_state.specs.declared.notice.Notice.{Notice}
+use Rattle.flume_state.specs.declared.ticketed.Ticketed.{Ticketed}
+use Rattle.flume_state.proofs.EntryParts.{Apart, alone, seat_found}
+use Rattle.flume_state.proofs.EntrySorted.{Items, entries-append}
+
+-- a ticket that is there is another's or not as its number is
+ticket_same : (t : ℕ) (o : Option ℕ) → o ≡ Some (ticket_or o) → (ticket_or o == t) ≡ is_ticket t o
+ticket_same t None h = absurd (let none : ⊥ = cc in none)
+ticket_same t (Some u) h = refl
+
+-- which ticket is there
+ticket_is : (t : ℕ) (o : Option ℕ) → is_ticket t o ≡ true → o ≡ Some t
+ticket_is t None h = absurd (let none : ⊥ = cc in none)
+ticket_is t (Some u) h = ap Some (eqb-true u t h)
+
+module _ {T N : Type 0} where
+  -- the first entry with a ticket is the ticket's
+  pub entry_at : (t : ℕ) (xs ys : List (Entry T N)) (e : Entry T N) → entry_of t xs ≡ None → e.ticket ≡ t
+      → entry_of t (xs ++ e ∷ ys) ≡ Some e
+  entry_at t [] ys e none is = rw (eq-eqb e.ticket t is) refl
+  entry_at t (x ∷ xs) ys e none is =
+      let p = none_parts t x xs none in rw p.0 (entry_at t xs ys e p.1 is)
+
+  -- and the others are left where it leaves
+  pub without_entry : (t : ℕ) (xs ys : List (Entry T N)) (e : Entry T N) → entry_of t xs ≡ None → e.ticket ≡ t
+      → without_ticket t (xs ++ e ∷ ys) ≡ xs ++ ys
+  without_entry t [] ys e none is = rw (eq-eqb e.ticket t is) refl
+  without_entry t (x ∷ xs) ys e none is =
+      let p = none_parts t x xs none in rw p.0 (ap (λ l. x ∷ l) (without_entry t xs ys e p.1 is))
+
+  -- where nobody has the ticket, all are left
+  pub without_none_of : (t : ℕ) (xs : List (Entry T N)) → entry_of t xs ≡ None → without_ticket t xs ≡ xs
+  without_none_of t [] none = refl
+  without_none_of t (x ∷ xs) none =
+      let p = none_parts t x xs none in rw p.0 (ap (λ l. x ∷ l) (without_none_of t xs p.1))
+
+module _ {T S : Type 0} where
+  -- the notice of the first entry with a ticket is changed
+  pub noticed_at : (f : Notice S → Notice S) (t : ℕ) (xs ys : Entries T S) (e : Entry T (Notice S)) → entry_of t xs ≡ None
+      → e.ticket ≡ t → noticed_receiver f t (xs ++ e ∷ ys) ≡ xs ++ record e { notice = f e.notice } ∷ ys
+  noticed_at f t [] ys e none is = rw (eq-eqb e.ticket t is) refl
+  noticed_at f t (x ∷ xs) ys e none is =
+      let p = none_parts t x xs none in rw p.0 (ap (λ l. x ∷ l) (noticed_at f t xs ys e p.1 is))
+
+  -- where nobody has the ticket, no notice is changed
+  pub noticed_none_of : (f : Notice S → Notice S) (t : ℕ) (xs : Entries T S) → entry_of t xs ≡ None → noticed_receiver f t xs ≡ xs
+  noticed_none_of f t [] none = refl
+  noticed_none_of f t (x ∷ xs) none =
+      let p = none_parts t x xs none in rw p.0 (ap (λ l. x ∷ l) (noticed_none_of f t xs p.1))
+
+  -- each element has a ticket
+  abbrev Held : Items T S → Type 0
+  Held [] = ⊤
+  Held (x ∷ items) = (x.element.ticket ≡ Some (ticket_or x.element.ticket)) × Held items
+
+  held-each : (w d : Bool) (xs : Items T S) → Each w d xs → Held xs
+  held-each w d [] all = all
+  held-each w d (x ∷ xs) all = (all.0, held-each w d xs all.3)
+
+  held-append : (xs ys : Items T S) → Held xs → Held ys → Held (xs ++ ys)
+  held-append [] ys h g = g
+  held-append (x ∷ xs) ys h g = (h.0, held-append xs ys h.1 g)
+
+  held-sorted : (items : Items T S) (due waits : Option ℕ) (n : ℕ) → Sorted items due waits n → Held items
+  held-sorted items due waits n s = subst Held (sym s.is)
+      (held-append s.quiet (s.dues ++ s.last) (held-each false false s.quiet s.are_quiet)
+      (held-append s.dues s.last (held-each false true s.dues s.are_due) (held-each true false s.last s.wait)))
+
+  -- where no place is a ticket's, no entry is
+  absent : (t : ℕ) (items : Items T S) → Held items → place_of t items ≡ None → entry_of t (entries_in items) ≡ None
+  absent t [] held h = refl
+  absent t (x ∷ items) held h = elim (cases_Bool (is_ticket t x.element.ticket)) [
+    | inl m ↦ (
+        let none : Some x.place ≡ None = sym (ap (λ b. if b then Some x.place else place_of t items) m) ∙ h in
+        absurd cc
+        )
+    | inr m ↦ rw (ticket_same t x.element.ticket held.0 ∙ m)
+        (absent t items held.1 (sym (ap (λ b. if b then Some x.place else place_of t items) m) ∙ h))
+  ]
+
+  -- the first element with a ticket
+  record Owner (items : Items T S) (t k : ℕ) : Type 0 where
+    pub before : Items T S
+    pub element : Ticketed (Parked T S)
+    pub after : Items T S
+    pub is : items ≡ before ++ item k element ∷ after
+    pub ticket : element.ticket ≡ Some t
+    pub ahead : entry_of t (entries_in before) ≡ None
+
+  owner : (items : Items T S) (t k : ℕ) → Held items → place_of t items ≡ Some k → Owner items t k
+  owner [] t k held h = absurd (let none : ⊥ = cc in none)
+  owner (x ∷ items) t k held h = elim (cases_Bool (is_ticket t x.element.ticket)) [
+    | inl m ↦ (
+        let it : Some x.place ≡ Some k = sym (ap (λ b. if b then Some x.place else place_of t items) m) ∙ h in
+        let same : x.place ≡ k = cc in
+        record {
+          before = [];
+          element = x.element;
+          after = items;
+          is = ap (λ (p : ℕ). item p x.element ∷ items) same;
+          ticket = ticket_is t x.element.ticket m;
+          ahead = refl;
+        }
+        )
+    | inr m ↦ (
+        let r = owner items t k held.1 (sym (ap (λ b. if b then Some x.place else place_of t items) m) ∙ h) in
+        record {
+          before = x ∷ r.before;
+          element = r.element;
+          after = r.after;
+          is = ap (λ l. x ∷ l) r.is;
+          ticket = r.ticket;
+          ahead = rw (ticket_same t x.element.ticket held.0 ∙ m) r.ahead;
+        }
+        )
+  ]
+
+  -- the element with a ticket, at its place alone, and its entry
+  pub record Seated (items : Items T S) (t k : ℕ) : Type 0 where
+    pub before : Items T S
+    pub element : Ticketed (Parked T S)
+    pub after : Items T S
+    pub is : items ≡ before ++ item k element ∷ after
+    pub ticket : element.ticket ≡ Some t
+    pub number : ticket_or element.ticket ≡ t
+    pub ahead : entry_of t (entries_in before) ≡ None
+    pub clear : times k (places before) ≡ 0
+    pub behind : times k (places after) ≡ 0
+    pub here : found items k ≡ Some element
+    pub entries : entries_in items ≡ entries_in before ++ entry_in (item k element) ∷ entries_in after
+    pub entry : entry_of t (entries_in items) ≡ Some (entry_in (item k element))
+
+  -- what stands at the place that a ticket finds
+  pub seated : (items : Items T S) (due waits : Option ℕ) (n t k : ℕ) → Sorted items due waits n → place_of t items ≡ Some k
+      → Seated items t k
+  seated items due waits n t k s h =
+      let o = owner items t k (held-sorted items due waits n s) h in
+      let a = alone o.before o.after k o.element (subst Apart o.is s.apart) in
+      let number : ticket_or o.element.ticket ≡ t = ap ticket_or o.ticket in
+      let all = ap entries_in o.is ∙ entries-append o.before (item k o.element ∷ o.after) in
+      record {
+        before = o.before;
+        element = o.element;
+        after = o.after;
+        is = o.is;
+        ticket = o.ticket;
+        number = number;
+        ahead = o.ahead;
+        clear = a.0;
+        behind = a.1;
+        here = ap (λ l. found l k) o.is ∙ seat_found o.before o.after k o.element a.0;
+        entries = all;
+        entry = ap (entry_of t) all
+            ∙ entry_at t (entries_in o.before) (entries_in o.after) (entry_in (item k o.element)) o.ahead number;
+      }
+
+  -- where a ticket finds no place, nobody is parked under it
+  pub nobody : (items : Items T S) (due waits : Option ℕ) (n t : ℕ) → Sorted items due waits n → place_of t items ≡ None
+      → entry_of t (entries_in items) ≡ None
+  nobody items due waits n t s h = absent t items (held-sorted items due waits n s) h
+
+  -- the entries without it
+  pub seat_without : (items : Items T S) (t k : ℕ) → Seated items t k
+      → entries_in (without items k) ≡ without_ticket t (entries_in items)
+  seat_without items t k s =
+      ap (λ l. entries_in (without l k)) s.is ∙ ap entries_in (without_at s.before s.after k s.element s.clear s.behind)
+      ∙ entries-append s.before s.after
+      ∙ sym (ap (without_ticket t) s.entries
+      ∙ without_entry t (entries_in s.before) (entries_in s.after) (entry_in (item k s.element)) s.ahead s.number)

@@ -1,0 +1,169 @@
+-- The three parts of the parked receivers' chain, and their boundaries, under each step.
+use Rattle.std.proofs.Common.{◌≡◌, ℕ, suc, ◌+◌, ◌≤◌, ◌==◌, ◌⊎◌, Bool, List, [], ◌∷◌, ◌++◌, Option, Some, None, length, refl, sym, ap, ap₂, ◌∙◌, inl, inr, arith, true, false, cond, if◌then◌else◌, append_assoc, subst}
+use Rattle.std.proofs.lemmas.Bool.{cases_Bool}
+use Rattle.std.specs.Option.{option_or}
+use Rattle.flume_chain.specs.Chained.{times, Placed, places, found, without, first_place, place_after}
+use Rattle.flume_chain.proofs.Rings.{once_more}
+use Rattle.flume_chain.proofs.Tables.{item, without_at}
+use Rattle.flume_model.specs.Entries.{is_waiting, waiting_count}
+use Rattle.flume_state.specs.Parked.{Each, Sorted, entries_in, entry_in, off, ticket_or}
+use Rattle.flume_state.specs.declared.entries.Parked.{Parked}
+use Rattle.flume_state.specs.declared.ticketed.Ticketed.{Ticketed}
+use Rattle.flume_state.proofs.EntryListLemmas.{count-append, count-le, weight}
+use Rattle.flume_state.proofs.EntryParts.{Apart, counted, first-push, length-without, none_found, off_first, seat, times-without, without-append}
+
+-- the elements of the chain
+abbrev pub Items : Type 0 → Type 0 → Type 0
+Items T S = List (Placed (Ticketed (Parked T S)))
+
+module _ {T S : Type 0} where
+  -- an element is of the part where these say whether it waits, and whether it is due
+  abbrev pub Is : Bool → Bool → Ticketed (Parked T S) → Type 0
+  Is waits due e = (e.ticket ≡ Some (ticket_or e.ticket)) × (is_waiting e.value.mark ≡ waits) × (e.value.notice.due ≡ due)
+
+  -- the entries of two lists joined
+  pub entries-append : (xs ys : Items T S) → entries_in (xs ++ ys) ≡ entries_in xs ++ entries_in ys
+  entries-append [] ys = refl
+  entries-append (x ∷ xs) ys = ap (λ l. entry_in x ∷ l) (entries-append xs ys)
+
+  -- as many wait in two lists joined as in the one and in the other
+  pub waits-append : (xs ys : Items T S) → waiting_count (entries_in (xs ++ ys)) ≡ waiting_count (entries_in xs) + waiting_count (entries_in ys)
+  waits-append xs ys = ap waiting_count (entries-append xs ys) ∙ count-append (entries_in xs) (entries_in ys)
+
+  -- a part with one more behind it
+  pub each-push : (w d : Bool) (xs : Items T S) (k : ℕ) (e : Ticketed (Parked T S)) → Each w d xs → Is w d e → Each w d (xs ++ item k e ∷ [])
+  each-push w d [] k e h is = (is.0, is.1, is.2, h)
+  each-push w d (x ∷ xs) k e h is = (h.0, h.1, h.2, each-push w d xs k e h.3 is)
+
+  -- a part without a place
+  each-without : (w d : Bool) (xs : Items T S) (k : ℕ) → Each w d xs → Each w d (without xs k)
+  each-without w d [] k h = h
+  each-without w d (x ∷ xs) k h = elim (cases_Bool (x.place == k)) [
+    | inl t ↦ rw t (each-without w d xs k h.3)
+    | inr t ↦ rw t (h.0, h.1, h.2, each-without w d xs k h.3)
+  ]
+
+  -- one more that waits and isn't due stands behind all others
+  pub sorted_push : (items : Items T S) (due waits : Option ℕ) (n : ℕ) (k : ℕ) (e : Ticketed (Parked T S)) → Sorted items due waits n
+      → found items k ≡ None → Is true false e → length (items ++ item k e ∷ []) ≤ 4294967295
+      → Sorted (items ++ item k e ∷ []) (option_or due (Some k)) (option_or waits (Some k)) (n + 1)
+  sorted_push items due waits n k e s fresh is fits =
+      let x = item k e in
+      let joined : (s.dues ++ s.last) ++ x ∷ [] ≡ s.dues ++ (s.last ++ x ∷ []) = append_assoc s.dues s.last (x ∷ []) in
+      let one : weight (entry_in x) ≡ 1 = rw is.1 refl in
+      record {
+        quiet = s.quiet;
+        dues = s.dues;
+        last = s.last ++ x ∷ [];
+        is = ap (λ l. l ++ x ∷ []) s.is ∙ append_assoc s.quiet (s.dues ++ s.last) (x ∷ []) ∙ ap (λ l. s.quiet ++ l) joined;
+        are_quiet = s.are_quiet;
+        are_due = s.are_due;
+        wait = each-push true false s.last k e s.wait is;
+        first_due = ap (λ o. option_or o (Some k)) s.first_due ∙ sym (first-push (s.dues ++ s.last) x) ∙ ap first_place joined;
+        first_waits = ap (λ o. option_or o (Some k)) s.first_waits ∙ sym (first-push s.last x);
+        count = omega (arith, s.count, one, waits-append items (x ∷ []));
+        apart = λ j.
+            let sum = counted j items (x ∷ []) in
+            let most = once_more (λ i. times i (places items)) k j (none_found items k fresh) (s.apart j) in omega arith;
+        fits = fits;
+      }
+
+  -- those that wait, but for the one at a place
+  waits-without : (items : Items T S) (k : ℕ) (e : Ticketed (Parked T S)) → Apart items → found items k ≡ Some e
+      → waiting_count (entries_in (without items k)) + weight (entry_in (item k e)) ≡ waiting_count (entries_in items)
+  waits-without items k e apart h =
+      let at = seat items k e apart h in
+      let left : without items k ≡ at.before ++ at.after =
+      ap (λ l. without l k) at.is ∙ without_at at.before at.after k e at.ahead at.behind in
+      let with_it = ap (λ l. waiting_count (entries_in l)) at.is ∙ waits-append at.before (item k e ∷ at.after) in
+      let without_it = ap (λ l. waiting_count (entries_in l)) left ∙ waits-append at.before at.after in
+      omega arith
+
+  -- the others, where the one at a place leaves
+  pub sorted_without : (items : Items T S) (due waits next : Option ℕ) (n m : ℕ) (k : ℕ) (e : Ticketed (Parked T S)) → Sorted items due waits n
+      → found items k ≡ Some e → next ≡ place_after items k → m + cond (is_waiting e.value.mark) 1 0 ≡ n
+      → Sorted (without items k) (off due k next) (off waits k next) m
+  sorted_without items due waits next n m k e s here after less =
+      let inner = without-append s.dues s.last k in
+      let last_is : items ≡ (s.quiet ++ s.dues) ++ s.last = s.is ∙ sym (append_assoc s.quiet s.dues s.last) in
+      let next_due : next ≡ place_after (s.quiet ++ (s.dues ++ s.last)) k = after ∙ ap (λ l. place_after l k) s.is in
+      let next_waits : next ≡ place_after ((s.quiet ++ s.dues) ++ s.last) k = after ∙ ap (λ l. place_after l k) last_is in
+      record {
+        quiet = without s.quiet k;
+        dues = without s.dues k;
+        last = without s.last k;
+        is = ap (λ l. without l k) s.is ∙ without-append s.quiet (s.dues ++ s.last) k ∙ ap (λ l. without s.quiet k ++ l) inner;
+        are_quiet = each-without false false s.quiet k s.are_quiet;
+        are_due = each-without false true s.dues k s.are_due;
+        wait = each-without true false s.last k s.wait;
+        first_due = ap₂ (λ o x. off o k x) s.first_due next_due
+            ∙ sym (off_first s.quiet (s.dues ++ s.last) k (subst Apart s.is s.apart)) ∙ ap first_place inner;
+        first_waits = ap₂ (λ o x. off o k x) s.first_waits next_waits
+            ∙ sym (off_first (s.quiet ++ s.dues) s.last k (subst Apart last_is s.apart));
+        count = omega (arith, s.count, less, waits-without items k e s.apart here);
+        apart = λ j. let no_more = times-without j k items in let most = s.apart j in omega arith;
+        fits = omega (arith, s.fits, length-without k items);
+      }
+
+  -- there are as many entries as elements
+  length-entries : (items : Items T S) → length (entries_in items) ≡ length items
+  length-entries [] = refl
+  length-entries (x ∷ items) = ap suc (length-entries items)
+
+  -- fewer wait than a number of 64 bits can count
+  pub waits_few : (items : Items T S) (due waits : Option ℕ) (n : ℕ) → Sorted items due waits n → n ≤ 4294967295
+  waits_few items due waits n s = omega (arith, s.count, s.fits, count-le (entries_in items), length-entries items)
+
+  -- one that is found is of one of the three parts
+  pub found_class : (items : Items T S) (due waits : Option ℕ) (n : ℕ) (k : ℕ) (e : Ticketed (Parked T S)) → Sorted items due waits n
+      → found items k ≡ Some e → Is false false e ⊎ Is false true e ⊎ Is true false e
+  found_class items due waits n k e s h = elim (found_part s.quiet (s.dues ++ s.last) k e (ap (λ l. found l k) (sym s.is) ∙ h)) [
+    | inl q ↦ inl (each_found false false s.quiet k e s.are_quiet q)
+    | inr r ↦ elim (found_part s.dues s.last k e r) [
+      | inl d ↦ inr (inl (each_found false true s.dues k e s.are_due d))
+      | inr l ↦ inr (inr (each_found true false s.last k e s.wait l))
+    ]
+  ]
+    where
+      found_part : (xs ys : Items T S) (k : ℕ) (e : Ticketed (Parked T S)) → found (xs ++ ys) k ≡ Some e
+          → (found xs k ≡ Some e) ⊎ (found ys k ≡ Some e)
+      found_part [] ys k e h = inr h
+      found_part (x ∷ xs) ys k e h = elim (cases_Bool (k == x.place)) [
+        | inl t ↦ rw t (inl (sym (ap (λ b. if b then Some x.element else found (xs ++ ys) k) t) ∙ h))
+        | inr t ↦ rw t (found_part xs ys k e (sym (ap (λ b. if b then Some x.element else found (xs ++ ys) k) t) ∙ h))
+      ]
+
+      each_found : (w d : Bool) (xs : Items T S) (k : ℕ) (e : Ticketed (Parked T S)) → Each w d xs → found xs k ≡ Some e → Is w d e
+      each_found w d [] k e all h = absurd (let none : ⊥ = cc in none)
+      each_found w d (x ∷ xs) k e all h = elim (cases_Bool (k == x.place)) [
+        | inl t ↦ (
+            let it : Some x.element ≡ Some e = sym (ap (λ b. if b then Some x.element else found xs k) t) ∙ h in
+            let same : x.element ≡ e = cc in
+            subst (Is w d) same (all.0, all.1, all.2)
+            )
+        | inr t ↦ each_found w d xs k e all.3 (sym (ap (λ b. if b then Some x.element else found xs k) t) ∙ h)
+      ]
+
+  -- some wait where one that is found does
+  pub one_waits : (items : Items T S) (due waits : Option ℕ) (n : ℕ) (k : ℕ) (e : Ticketed (Parked T S)) → Sorted items due waits n
+      → found items k ≡ Some e → is_waiting e.value.mark ≡ true → 1 ≤ n
+  one_waits items due waits n k e s here waits_too =
+      let one : weight (entry_in (item k e)) ≡ 1 = rw waits_too refl in
+      omega (arith, s.count, one, waits-without items k e s.apart here)
+
+  -- nobody is parked
+  pub sorted_empty : (items : Items T S) → items ≡ [] → Sorted items None None 0
+  sorted_empty items none = record {
+    quiet = [];
+    dues = [];
+    last = [];
+    is = none;
+    are_quiet = tt;
+    are_due = tt;
+    wait = tt;
+    first_due = refl;
+    first_waits = refl;
+    count = rw none refl;
+    apart = λ j. rw none (omega arith);
+    fits = rw none (omega arith);
+  }

@@ -1,0 +1,155 @@
+-- The first that is due, and what becomes of it once it is named.
+use Rattle.std.proofs.Common.{◌≡◌, ◌≢◌, ℕ, Bool, [], ◌∷◌, ◌++◌, Option, Some, None, refl, sym, ap, ◌∙◌, arith, true, false, not, nat_eq, inl, inr, eq-eqb, subst, append_assoc}
+use Rattle.std.proofs.lemmas.Bool.{cases_Bool, eqb-true}
+use Rattle.std.specs.Option.{option_eq}
+use Rattle.std.proofs.lemmas.List.Elements.{All-append, All-cons, All-nil}
+use Rattle.flume_chain.specs.Chained.{times, places, found, first_place, place_after}
+use Rattle.flume_chain.proofs.Rings.{once_same}
+use Rattle.flume_chain.proofs.Tables.{item, after_at}
+use Rattle.flume_model.specs.Entries.{waiting_count}
+use Rattle.flume_model.specs.declared.entry.Entry.{Entry}
+use Rattle.flume_state.specs.Notices.{told}
+use Rattle.flume_state.specs.Parked.{Each, Sorted, entries_in, entry_in, ticket_or}
+use Rattle.flume_state.specs.Ticketed.{revalued}
+use Rattle.flume_state.specs.Receivers.{Entries, NoDueReceiver, Tells}
+use Rattle.flume_state.specs.declared.entries.Parked.{Parked}
+use Rattle.flume_state.specs.declared.notice.Notice.{Notice}
+use Rattle.flume_state.specs.declared.ticketed.Ticketed.{Ticketed}
+use Rattle.flume_state.proofs.EntryParts.{Apart, Front, alone, counted, front_at, length-revalued, places-revalued, revalued_at, seat_found, with_value}
+use Rattle.flume_state.proofs.EntrySorted.{Is, Items, each-push, entries-append, waits-append}
+use Rattle.flume_state.proofs.EntryDues.{revalued_entries}
+
+-- two boundaries that aren't said to be two are one
+pub one_boundary : (a b : Option ℕ) → not (option_eq nat_eq a b) ≡ false → a ≡ b
+one_boundary None None h = refl
+one_boundary None (Some k) h = absurd (let no : ⊥ = cc in no)
+one_boundary (Some j) None h = absurd (let no : ⊥ = cc in no)
+one_boundary (Some j) (Some k) h = elim (cases_Bool (nat_eq j k)) [
+  | inl t ↦ ap Some (eqb-true j k t)
+  | inr t ↦ absurd (let no : true ≡ false = ap not (sym t) ∙ h in let none : ⊥ = cc in none)
+]
+
+-- two boundaries that aren't said to be one are two
+pub two_boundaries : (a b : Option ℕ) → option_eq nat_eq a b ≡ false → a ≢ b
+two_boundaries None b h same = absurd (let no : true ≡ false = ap (option_eq nat_eq None) same ∙ h in let none : ⊥ = cc in none)
+two_boundaries (Some j) b h same =
+    let no : nat_eq j j ≡ false = ap (option_eq nat_eq (Some j)) same ∙ h in
+    let yes : nat_eq j j ≡ true = eq-eqb j j refl in
+    absurd (let none : ⊥ = cc in none)
+
+module _ {T S : Type 0} where
+  -- in a part of which none is due no receiver is due
+  no_due : (w : Bool) (xs : Items T S) → Each w false xs → NoDueReceiver (entries_in xs)
+  no_due w [] all = All-nil (λ (e : Entry T (Notice S)). e.notice.due ≡ false)
+  no_due w (x ∷ xs) all =
+      All-cons (λ (e : Entry T (Notice S)). e.notice.due ≡ false) (entry_in x) (entries_in xs) all.2 (no_due w xs all.3)
+
+  -- two boundaries at one place have nothing between them
+  nothing_between : (quiet dues last : Items T S) → Apart (quiet ++ (dues ++ last)) → first_place (dues ++ last) ≡ first_place last → dues ≡ []
+  nothing_between quiet [] last apart same = refl
+  nothing_between quiet (x ∷ xs) last apart same =
+      let f = front_at last x.place same in
+      let here = ap (λ l. times x.place (places l)) f.is in
+      let one = once_same x.place in
+      let outer = counted x.place quiet (x ∷ (xs ++ last)) in
+      let inner = counted x.place xs last in
+      let most = apart x.place in
+      absurd (omega arith)
+
+  -- where both boundaries are at one place no receiver is due
+  pub none_due : (items : Items T S) (due waits : Option ℕ) (n : ℕ) → Sorted items due waits n → due ≡ waits → NoDueReceiver (entries_in items)
+  none_due items due waits n s same =
+      let none = nothing_between s.quiet s.dues s.last (subst Apart s.is s.apart) (sym s.first_due ∙ same ∙ s.first_waits) in
+      let two : entries_in items ≡ entries_in s.quiet ++ entries_in s.last =
+      ap entries_in s.is ∙ ap (λ l. entries_in (s.quiet ++ (l ++ s.last))) none ∙ entries-append s.quiet s.last in
+      subst NoDueReceiver (sym two)
+      (All-append (λ (e : Entry T (Notice S)). e.notice.due ≡ false) (entries_in s.quiet) (entries_in s.last)
+      (no_due false s.quiet s.are_quiet) (no_due true s.last s.wait))
+
+  -- the first that is due, at its place alone
+  pub record Dues (items : Items T S) (due waits : Option ℕ) (n : ℕ) (k : ℕ) (s : Sorted items due waits n) : Type 0 where
+    pub element : Ticketed (Parked T S)
+    pub others : Items T S
+    pub dues : s.dues ≡ item k element ∷ others
+    pub is : items ≡ s.quiet ++ item k element ∷ (others ++ s.last)
+    pub clear : times k (places s.quiet) ≡ 0
+    pub behind : times k (places (others ++ s.last)) ≡ 0
+    pub here : found items k ≡ Some element
+    pub class : Is false true element
+    pub due_too : Each false true others
+
+  -- where the boundaries are two the first one names it
+  front_due : (dues last : Items T S) (k : ℕ) → first_place (dues ++ last) ≢ first_place last → Some k ≡ first_place (dues ++ last) → Front dues k
+  front_due [] last k other h = absurd (other refl)
+  front_due (x ∷ xs) last k other h = front_at (x ∷ xs) k h
+
+  pub dues_at : (items : Items T S) (due waits : Option ℕ) (n : ℕ) (k : ℕ) (s : Sorted items due waits n) → due ≢ waits → due ≡ Some k
+      → Dues items due waits n k s
+  dues_at items due waits n k s other h =
+      let f = front_due s.dues s.last k (λ same. other (s.first_due ∙ same ∙ sym s.first_waits)) (sym h ∙ s.first_due) in
+      let is : items ≡ s.quiet ++ item k f.element ∷ (f.rest ++ s.last) = s.is ∙ ap (λ l. s.quiet ++ (l ++ s.last)) f.is in
+      let a = alone s.quiet (f.rest ++ s.last) k f.element (subst Apart is s.apart) in
+      let all : Each false true (item k f.element ∷ f.rest) = subst (Each false true) f.is s.are_due in
+      record {
+        element = f.element;
+        others = f.rest;
+        dues = f.is;
+        is = is;
+        clear = a.0;
+        behind = a.1;
+        here = ap (λ l. found l k) is ∙ seat_found s.quiet (f.rest ++ s.last) k f.element a.0;
+        class = (all.0, all.1, all.2);
+        due_too = all.3;
+      }
+
+  -- where no boundary is named none is due
+  pub no_boundary : (items : Items T S) (due waits : Option ℕ) (n : ℕ) → Sorted items due waits n → due ≡ None → due ≡ waits
+  no_boundary items due waits n s none = none ∙ sym (empty s.dues s.last (sym none ∙ s.first_due)) ∙ sym s.first_waits
+    where
+      empty : (xs ys : Items T S) → None ≡ first_place (xs ++ ys) → first_place ys ≡ None
+      empty [] ys h = sym h
+      empty (x ∷ xs) ys h = absurd (let some : ⊥ = cc in some)
+
+  -- the value of one that was named
+  abbrev pub told_value : Parked T S → Parked T S
+  told_value p = record p { notice = told p.notice }
+
+  -- the first that was due is due no more, and the boundary is behind it
+  pub sorted_told : (items : Items T S) (due waits : Option ℕ) (n : ℕ) (k : ℕ) (s : Sorted items due waits n) (d : Dues items due waits n k s)
+      → Sorted (revalued k items (told_value d.element.value)) (place_after items k) waits n
+  sorted_told items due waits n k s d =
+      let v = told_value d.element.value in
+      let x = item k d.element in
+      let y = item k (with_value d.element v) in
+      let now : revalued k items v ≡ s.quiet ++ y ∷ (d.others ++ s.last) =
+      ap (λ l. revalued k l v) d.is ∙ revalued_at k s.quiet (d.others ++ s.last) d.element v d.clear d.behind in
+      let before = ap (λ l. waiting_count (entries_in l)) d.is ∙ waits-append s.quiet (x ∷ (d.others ++ s.last)) in
+      let later = ap (λ l. waiting_count (entries_in l)) now ∙ waits-append s.quiet (y ∷ (d.others ++ s.last)) in
+      record {
+        quiet = s.quiet ++ y ∷ [];
+        dues = d.others;
+        last = s.last;
+        is = now ∙ sym (append_assoc s.quiet (y ∷ []) (d.others ++ s.last));
+        are_quiet = each-push false false s.quiet k (with_value d.element v) s.are_quiet (d.class.0, d.class.1, refl);
+        are_due = d.due_too;
+        wait = s.wait;
+        first_due = ap (λ l. place_after l k) d.is ∙ after_at s.quiet (d.others ++ s.last) k d.element d.clear;
+        first_waits = s.first_waits;
+        count = omega (arith, s.count, before, later);
+        apart = λ j. let same = ap (times j) (places-revalued k items v) in let most = s.apart j in omega arith;
+        fits = omega (arith, s.fits, length-revalued k items v);
+      }
+
+  -- and it was told
+  pub tells : (items : Items T S) (due waits : Option ℕ) (n : ℕ) (k t : ℕ) (es : Entries T S) (s : Sorted items due waits n)
+      (d : Dues items due waits n k s) → entries_in items ≡ es → d.element.ticket ≡ Some t
+      → Tells es (entries_in (revalued k items (told_value d.element.value))) t
+  tells items due waits n k t es s d view ticket = record {
+    before = entries_in s.quiet;
+    entry = entry_in (item k d.element);
+    later = entries_in (d.others ++ s.last);
+    found = sym view ∙ ap entries_in d.is ∙ entries-append s.quiet (item k d.element ∷ (d.others ++ s.last));
+    is_it = ap ticket_or ticket;
+    was_due = d.class.2;
+    told = revalued_entries items s.quiet (d.others ++ s.last) k d.element (told_value d.element.value) d.is d.clear d.behind;
+  }

@@ -1,0 +1,182 @@
+-- The chain of the live sends stays one of those that aren't due and then those that are.
+use Rattle.std.proofs.Common.{◌≡◌, ℕ, ◌+◌, ◌≤◌, ◌==◌, Bool, true, false, List, [], ◌∷◌, ◌++◌, Option, Some, refl, sym, if◌then◌else◌, ap, ap₂, subst, ◌∙◌, inl, inr, arith}
+use Rattle.std.proofs.lemmas.Bool.{cases_Bool}
+use Rattle.std.proofs.lemmas.List.{append-nil, append_assoc, map-append}
+use Rattle.std.specs.Option.{option_or}
+use Rattle.flume_chain.specs.Chained.{times, places, without, first_place}
+use Rattle.flume_chain.proofs.Rings.{times-append, once_same}
+use Rattle.flume_chain.proofs.Tables.{item, put_before_at}
+use Rattle.flume_state.specs.declared.sends.LiveSend.{LiveSend}
+use Rattle.flume_state.specs.declared.ticketed.Ticketed.{Ticketed}
+use Rattle.flume_state.specs.SendChain.{Element, AllLined, Lined}
+use Rattle.flume_state.specs.Ticketed.{ticket_times, put_ahead}
+use Rattle.flume_state.proofs.ByTicket.{under}
+
+module _ {S : Type 0} where
+  -- how often a place is in two lists joined
+  pub times_both : (k : ℕ) (xs ys : List (Element S)) → times k (places (xs ++ ys)) ≡ times k (places xs) + times k (places ys)
+  times_both k xs ys =
+      ap (times k) (map-append (λ (x : Element S). x.place) xs ys) ∙ times-append k (places xs) (places ys)
+
+  -- how many of two lists joined have a ticket
+  pub tickets_both : (t : ℕ) (xs ys : List (Element S)) → ticket_times t (xs ++ ys) ≡ ticket_times t xs + ticket_times t ys
+  tickets_both t [] ys = omega arith
+  tickets_both t (x ∷ xs) ys = let rest = tickets_both t xs ys in omega arith
+
+  pub lined_append : (due : Bool) (xs ys : List (Element S)) → AllLined due xs → AllLined due ys → AllLined due (xs ++ ys)
+  lined_append due [] ys h k = k
+  lined_append due (x ∷ xs) ys h k = (h.0, h.1, lined_append due xs ys h.2 k)
+
+  lined_back : (due : Bool) (xs ys : List (Element S)) → AllLined due (xs ++ ys) → AllLined due ys
+  lined_back due [] ys h = h
+  lined_back due (x ∷ xs) ys h = lined_back due xs ys h.2
+
+  -- one between others is replaced
+  lined_put : (due : Bool) (xs ys : List (Element S)) (x : Element S) (p t : ℕ) (w : LiveSend S) → w.notice.due ≡ due
+      → AllLined due (xs ++ x ∷ ys) → AllLined due (xs ++ item p (under t w) ∷ ys)
+  lined_put due [] ys x p t w e h = (refl, e, h.2)
+  lined_put due (y ∷ xs) ys x p t w e h = (h.0, h.1, lined_put due xs ys x p t w e h.2)
+
+  -- one between others is left out
+  lined_cut : (due : Bool) (xs ys : List (Element S)) (x : Element S) → AllLined due (xs ++ x ∷ ys) → AllLined due (xs ++ ys)
+  lined_cut due [] ys x h = h.2
+  lined_cut due (y ∷ xs) ys x h = (h.0, h.1, lined_cut due xs ys x h.2)
+
+  pub lined_without : (due : Bool) (xs : List (Element S)) (p : ℕ) → AllLined due xs → AllLined due (without xs p)
+  lined_without due [] p h = h
+  lined_without due (x ∷ xs) p h =
+      elim (x.place == p) as (λ b. AllLined due (if b then without xs p else x ∷ without xs p)) [
+        | true ↦ lined_without due xs p h.2
+        | false ↦ (h.0, h.1, lined_without due xs p h.2)
+      ]
+
+  -- one that isn't due stands among those that aren't
+  record QuietSide (before after quiet late : List (Element S)) (x : Element S) : Type 0 where
+    pub between : List (Element S)
+    pub ahead : quiet ≡ before ++ x ∷ between
+    pub behind : after ≡ between ++ late
+
+  quiet_side : (before after quiet late : List (Element S)) (x : Element S) → before ++ x ∷ after ≡ quiet ++ late
+      → AllLined true late → x.element.value.notice.due ≡ false → QuietSide before after quiet late x
+  quiet_side before after [] late x is all due =
+      let here : AllLined true (x ∷ after) = lined_back true before (x ∷ after) (subst (AllLined true) (sym is) all) in
+      let there : x.element.value.notice.due ≡ true = here.1 in
+      absurd (let no : ⊥ = cc in no)
+  quiet_side [] after (q ∷ quiet) late x is all due =
+      let head : q ≡ x = cc in
+      let tail : after ≡ quiet ++ late = cc in
+      record { between = quiet; ahead = ap (λ (y : Element S). y ∷ quiet) head; behind = tail }
+  quiet_side (b ∷ before) after (q ∷ quiet) late x is all due =
+      let head : q ≡ b = cc in
+      let tail : before ++ x ∷ after ≡ quiet ++ late = cc in
+      let r = quiet_side before after quiet late x tail all due in
+      record {
+        between = r.between;
+        ahead = ap₂ (λ (y : Element S) (ys : List (Element S)). y ∷ ys) head r.ahead;
+        behind = r.behind;
+      }
+
+  -- one that is due stands among those that are
+  record DueSide (before after quiet late : List (Element S)) (x : Element S) : Type 0 where
+    pub between : List (Element S)
+    pub ahead : before ≡ quiet ++ between
+    pub behind : late ≡ between ++ x ∷ after
+
+  due_side : (before after quiet late : List (Element S)) (x : Element S) → before ++ x ∷ after ≡ quiet ++ late
+      → AllLined false quiet → x.element.value.notice.due ≡ true → DueSide before after quiet late x
+  due_side before after [] late x is none due = record { between = before; ahead = refl; behind = sym is }
+  due_side [] after (q ∷ quiet) late x is none due =
+      let head : q ≡ x = cc in
+      let there : x.element.value.notice.due ≡ false = ap (λ (y : Element S). y.element.value.notice.due) (sym head) ∙ none.1 in
+      absurd (let no : ⊥ = cc in no)
+  due_side (b ∷ before) after (q ∷ quiet) late x is none due =
+      let head : b ≡ q = cc in
+      let tail : before ++ x ∷ after ≡ quiet ++ late = cc in
+      let r = due_side before after quiet late x tail none.2 due in
+      record {
+        between = r.between;
+        ahead = ap₂ (λ (y : Element S) (ys : List (Element S)). y ∷ ys) head r.ahead;
+        behind = r.behind;
+      }
+
+  first_same : (xs ys : List (Element S)) (p : ℕ) (e f : Ticketed (LiveSend S)) → first_place (xs ++ item p e ∷ ys) ≡ first_place (xs ++ item p f ∷ ys)
+  first_same [] ys p e f = refl
+  first_same (x ∷ xs) ys p e f = refl
+
+  -- a send is written, and is due where it was
+  pub written_lined : (before after : List (Element S)) (p t : ℕ) (v w : LiveSend S) (d : Option ℕ) → w.notice.due ≡ v.notice.due
+      → Lined (before ++ item p (under t v) ∷ after) d → Lined (before ++ item p (under t w) ∷ after) d
+  written_lined before after p t v w d same l = elim (cases_Bool v.notice.due) [
+    | inl due ↦ (
+        let r = due_side before after l.quiet l.late (item p (under t v)) l.parts l.none_due due in
+        record {
+          quiet = l.quiet;
+          late = r.between ++ item p (under t w) ∷ after;
+          parts = ap (λ (xs : List (Element S)). xs ++ item p (under t w) ∷ after) r.ahead ∙ append_assoc l.quiet r.between (item p (under t w) ∷ after);
+          none_due = l.none_due;
+          all_due = lined_put true r.between after (item p (under t v)) p t w (same ∙ due) (subst (AllLined true) r.behind l.all_due);
+          first = l.first ∙ ap first_place r.behind ∙ first_same r.between after p (under t v) (under t w);
+        }
+        )
+    | inr due ↦ (
+        let r = quiet_side before after l.quiet l.late (item p (under t v)) l.parts l.all_due due in
+        record {
+          quiet = before ++ item p (under t w) ∷ r.between;
+          late = l.late;
+          parts = ap (λ (xs : List (Element S)). before ++ item p (under t w) ∷ xs) r.behind ∙ sym (append_assoc before (item p (under t w) ∷ r.between) l.late);
+          none_due = lined_put false before r.between (item p (under t v)) p t w (same ∙ due) (subst (AllLined false) r.ahead l.none_due);
+          all_due = l.all_due;
+          first = l.first;
+        }
+        )
+  ]
+
+  first_or : (xs : List (Element S)) (p : ℕ) (e : Ticketed (LiveSend S)) → option_or (first_place xs) (Some p) ≡ first_place (xs ++ item p e ∷ [])
+  first_or [] p e = refl
+  first_or (x ∷ xs) p e = refl
+
+  -- a send that wasn't due is, behind all others
+  pub moved_lined : (before after : List (Element S)) (p t : ℕ) (v w : LiveSend S) (d : Option ℕ) → v.notice.due ≡ false → w.notice.due ≡ true
+      → Lined (before ++ item p (under t v) ∷ after) d → Lined ((before ++ after) ++ item p (under t w) ∷ []) (option_or d (Some p))
+  moved_lined before after p t v w d was is l =
+      let r = quiet_side before after l.quiet l.late (item p (under t v)) l.parts l.all_due was in
+      let last : List (Element S) = item p (under t w) ∷ [] in
+      record {
+        quiet = before ++ r.between;
+        late = l.late ++ last;
+        parts =
+            ap (λ (xs : List (Element S)). (before ++ xs) ++ last) r.behind
+            ∙ ap (λ (xs : List (Element S)). xs ++ last) (sym (append_assoc before r.between l.late))
+            ∙ append_assoc (before ++ r.between) l.late last;
+        none_due = lined_cut false before r.between (item p (under t v)) (subst (AllLined false) r.ahead l.none_due);
+        all_due = lined_append true l.late last l.all_due (refl, is, tt);
+        first = ap (λ o. option_or o (Some p)) l.first ∙ first_or l.late p (under t w);
+      }
+
+  -- one more that isn't due stands ahead of the first that is
+  put_parts : (quiet late : List (Element S)) (x : Element S) → ((k : ℕ) → times k (places (quiet ++ late)) ≤ 1)
+      → put_ahead (quiet ++ late) (first_place late) x ≡ quiet ++ x ∷ late
+  put_parts quiet [] x apart = ap (λ (xs : List (Element S)). xs ++ x ∷ []) (append-nil quiet)
+  put_parts quiet (y ∷ late) x apart =
+      let here = once_same y.place in
+      let most = apart y.place in
+      let both = times_both y.place quiet (y ∷ late) in
+      put_before_at quiet late y.place y.element x (omega arith)
+
+  pub put_is : (items : List (Element S)) (d : Option ℕ) (x : Element S) (l : Lined items d)
+      → ((k : ℕ) → times k (places items) ≤ 1) → put_ahead items d x ≡ l.quiet ++ x ∷ l.late
+  put_is items d x l apart =
+      ap₂ (λ (xs : List (Element S)) (o : Option ℕ). put_ahead xs o x) l.parts l.first
+      ∙ put_parts l.quiet l.late x (subst (λ (xs : List (Element S)). (k : ℕ) → times k (places xs) ≤ 1) l.parts apart)
+
+  -- and the chain is one of such sends again
+  pub put_lined : (items : List (Element S)) (d : Option ℕ) (p t : ℕ) (w : LiveSend S) → w.notice.due ≡ false → Lined items d
+      → ((k : ℕ) → times k (places items) ≤ 1) → Lined (put_ahead items d (item p (under t w))) d
+  put_lined items d p t w e l apart = record {
+    quiet = l.quiet ++ item p (under t w) ∷ [];
+    late = l.late;
+    parts = put_is items d (item p (under t w)) l apart ∙ sym (append_assoc l.quiet (item p (under t w) ∷ []) l.late);
+    none_due = lined_append false l.quiet (item p (under t w) ∷ []) l.none_due (refl, e, tt);
+    all_due = l.all_due;
+    first = l.first;
+  }

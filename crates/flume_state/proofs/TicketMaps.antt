@@ -1,0 +1,37 @@
+-- The map from tickets to places, where a ticket is put in ahead of its place, or moved.
+use Rattle.std.proofs.Common.{◌≡◌, ℕ, Option, Some, None, refl, sym, ap, ◌∙◌}
+use Rattle.std.specs.Prelude.{false, is_some, is_err, Ok, Err, OnOk, OnErr}
+use Rattle.std.specs.declared.result.Result.{Result}
+use Rattle.std.specs.FinMap.{get, insert, remove}
+use Rattle.flume_state.specs.Places.{PlaceMap}
+use Rattle.flume_state.proofs.SendsLaws.{same_by, get-insert_same, get-insert_other, get-remove_other}
+
+-- a ticket put in twice has its last place
+insert_twice : (m : PlaceMap) (t a b : ℕ) → insert (insert m t a) t b ≡ insert m t b
+insert_twice m t a b =
+    same_by _ _ t (get-insert_same (insert m t a) t b ∙ sym (get-insert_same m t b))
+    (λ u ne. get-insert_other (insert m t a) t b u ne ∙ get-insert_other m t a u ne ∙ sym (get-insert_other m t b u ne))
+
+-- a ticket removed, and put in again with its place, leaves the map
+pub insert-remove : (m : PlaceMap) (t a : ℕ) → get m t ≡ Some a → insert (remove m t) t a ≡ m
+insert-remove m t a is =
+    same_by _ _ t (get-insert_same (remove m t) t a ∙ sym is)
+    (λ u ne. get-insert_other (remove m t) t a u ne ∙ get-remove_other m t u ne)
+
+-- a place is written over another, whatever memory is left
+pub written_over : {X Y : Type 0} (r : Result X Y) (m n o : PlaceMap) (t a b : ℕ) → n ≡ insert m t a
+    → OnOk r (o ≡ insert n t b) → OnErr r (get n t ≡ None) → o ≡ insert m t b
+written_over (Ok x) m n o t a b first second absent = second ∙ ap (λ k. insert k t b) first ∙ insert_twice m t a b
+written_over (Err x) m n o t a b first second absent =
+    let none : Some a ≡ None = sym (get-insert_same m t a) ∙ ap (λ k. get k t) (sym first) ∙ absent in
+    absurd (let no : ⊥ = cc in no)
+
+-- what was not refused was put in
+pub stored : {X Y : Type 0} (r : Result X Y) (m n : PlaceMap) (t a : ℕ) → false ≡ is_err r → OnOk r (n ≡ insert m t a) → n ≡ insert m t a
+stored (Ok x) m n t a taken is = is
+stored (Err x) m n t a taken is = absurd (let no : ⊥ = cc in no)
+
+-- a place that isn't there
+pub no_place : (o : Option ℕ) → false ≡ is_some o → o ≡ None
+no_place None h = refl
+no_place (Some x) h = absurd (let no : ⊥ = cc in no)

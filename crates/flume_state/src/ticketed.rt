@@ -1,0 +1,326 @@
+//! Elements in order, of which some have a ticket, by which each is found at the same cost.
+ghost use Rattle.std.specs.Prelude.{◌≡◌, ◌<◌, ◌+◌, ◌≤◌, ◌++◌, ◌∷◌, [], ℕ, Some, None, length};
+ghost use Rattle.std.specs.Prelude.{true, false};
+ghost use Rattle.std.specs.Prelude.{IsOk, IsSome, IfOk, IfErr, OnOk, OnErr, IfSome, IfNone, OnSome};
+ghost use Rattle.std.specs.Prelude.{option_copied, ◌↔◌};
+ghost use Rattle.std.specs.Option.{option_map, option_copied_mut};
+ghost use Rattle.flume_chain.specs.Chained.{Placed, found, without, first_place};
+ghost use Rattle.flume_chain.specs.Chained.{last_place, place_after, first_element, behind_first};
+ghost use Rattle.flume_chain.specs.Chained.{times, places};
+ghost use Rattle.flume_state.specs.Ticketed.{place_of, ticket_times, put_ahead, released, ticket_in};
+ghost use Rattle.flume_state.specs.declared.ticketed.Ticketed.{Ticketed};
+ghost use Rattle.std.specs.Borrow.{sem};
+ghost use Rattle.flume_state.specs.TicketedLends.{lends_value};
+
+use crate::places::Places;
+use flume_chain::chain::Chain;
+use std::alloc::Allocator;
+use std::marker::Model;
+
+/// A value, and the ticket by which it is found, if it has one.
+#[derive(Drop)]
+pub struct Ticketed<E> {
+    /// The ticket: no two elements of a chain have the same.
+    pub ticket: Option<u64>,
+    /// What stands under it.
+    pub value: E,
+}
+
+/// Elements in order. Each has a place, and some have a ticket.
+#[derive(Drop)]
+pub struct TicketChain<E, A: Allocator> {
+    chain: Chain<Ticketed<E>, A>,
+    // Where each ticket stands.
+    places: Places<A>,
+}
+
+impl<E, A: Allocator> Model for TicketChain<E, A> {
+    ghost use Rattle.flume_chain.specs.Chained.{Chained};
+    ghost use Rattle.flume_state.specs.declared.ticketed.Ticketed.{Ticketed};
+    ghost use Rattle.flume_state.specs.Ticketed.{Agrees};
+
+    ghost Value = { Chained (Ticketed E) };
+
+    ghost view = { λ s. s.chain };
+
+    ghost invariant = { λ s. Agrees s.chain.items s.places };
+}
+
+impl<E: Drop, A: Allocator + Copy> TicketChain<E, A> {
+    /// No elements. Takes no memory.
+    ///
+    /// ```
+    /// let mut chain = TicketChain::new(alloc);
+    /// chain.insert_ticket(None, 7, 'a'); // Ok(0)
+    /// chain.insert_before(Some(0), 'b'); // Ok(1), ahead of 'a'
+    /// chain.find(7);                     // Some(0)
+    /// chain.first();                     // Some(1)
+    /// ```
+    pub fn new(alloc: A) -> Self
+        ensures empty { result.items ≡ [] }
+        ensures room { result.room ≡ 0 }
+    {
+        TicketChain {
+            chain: Chain::new(alloc),
+            places: Places::new(alloc),
+        }
+    }
+
+    /// How many elements stand. It reads a count, whatever the length.
+    #[inline(always)]
+    pub fn len(&self) -> usize
+        ensures len { result ≡ length self.now.items }
+    {
+        self.chain.len()
+    }
+
+    /// How many more elements without a ticket may stand before more memory is wanted.
+    #[inline(always)]
+    pub fn room(&self) -> usize
+        ensures room { result ≡ self.now.room }
+    {
+        self.chain.room()
+    }
+
+    /// The allocator that memory is taken from.
+    #[inline(always)]
+    pub fn allocator(&self) -> &A {
+        self.chain.allocator()
+    }
+
+    /// The place of the element with a ticket. `None` where none has it.
+    #[inline(always)]
+    pub fn find(&self, ticket: u64) -> Option<u32>
+        ensures place { result ≡ place_of ticket self.now.items }
+        ensures single { (t : ℕ) → ticket_times t self.now.items ≤ 1 }
+        ensures apart { (k : ℕ) → times k (places self.now.items) ≤ 1 }
+    {
+        self.places.get(ticket)
+    }
+
+    /// The value at a place. `None` where none stands there.
+    #[inline(always)]
+    pub fn get(&self, place: u32) -> Option<&E>
+        ensures found { option_copied result
+            ≡ option_map (λ e. e.value) (found self.now.items place) }
+        ensures apart { (k : ℕ) → times k (places self.now.items) ≤ 1 }
+    {
+        Some(&self.chain.get(place)?.value)
+    }
+
+    /// The ticket of the element at a place. `None` where none stands there, or it has none.
+    #[inline(always)]
+    pub fn ticket(&self, place: u32) -> Option<u64>
+        ensures ticket { result ≡ ticket_in (found self.now.items place) }
+        ensures single { (t : ℕ) → ticket_times t self.now.items ≤ 1 }
+        ensures apart { (k : ℕ) → times k (places self.now.items) ≤ 1 }
+    {
+        self.chain.get(place)?.ticket
+    }
+
+    /// The value at a place, to be written. `None` where none stands there.
+    #[inline(always)]
+    pub fn get_mut(&mut self, place: u32) -> Option<&mut E>
+        ensures* writes_back { sem 𝓛 (lends_value E.row A.row A.Allocator self.entry place result) }
+        ensures value { option_copied_mut result
+            ≡ option_map (λ e. e.value) (found self.old.items place) }
+    {
+        match self.chain.get_mut(place) {
+            Some(element) => Some(&mut element.value),
+            None => None,
+        }
+    }
+
+    /// The place of the first element. `None` where none stands.
+    #[inline(always)]
+    pub fn first(&self) -> Option<u32>
+        ensures first { result ≡ first_place self.now.items }
+        ensures single { (t : ℕ) → ticket_times t self.now.items ≤ 1 }
+        ensures apart { (k : ℕ) → times k (places self.now.items) ≤ 1 }
+    {
+        self.chain.first()
+    }
+
+    /// The place of the last element. `None` where none stands.
+    #[inline(always)]
+    pub fn last(&self) -> Option<u32>
+        ensures last { result ≡ last_place self.now.items }
+        ensures single { (t : ℕ) → ticket_times t self.now.items ≤ 1 }
+        ensures apart { (k : ℕ) → times k (places self.now.items) ≤ 1 }
+    {
+        self.chain.last()
+    }
+
+    /// The place of the element behind that at a place. `None` where none stands at the place, or
+    /// none behind it.
+    #[inline(always)]
+    pub fn next(&self, place: u32) -> Option<u32>
+        ensures next { result ≡ place_after self.now.items place }
+        ensures single { (t : ℕ) → ticket_times t self.now.items ≤ 1 }
+        ensures apart { (k : ℕ) → times k (places self.now.items) ≤ 1 }
+    {
+        self.chain.next(place)
+    }
+
+    /// Puts a value without a ticket ahead of that at a place, or behind all others where no place
+    /// is given or none stands there, and returns its own place, which no other has. With no memory
+    /// left, or 4,294,967,295 elements standing, the value comes back, and the chain stays as it
+    /// was.
+    #[inline(always)]
+    pub fn insert_before(&mut self, next: Option<u32>, value: E) -> Result<u32, E>
+        ensures inserted { IfOk result (λ place. self.new.items ≡ put_ahead self.old.items next
+            (record { place = place; element = record { ticket = None; value = value } })) }
+        ensures fresh { IfOk result (λ place. found self.old.items place ≡ None) }
+        ensures room { OnOk result (0 < self.old.room → self.new.room + 1 ≡ self.old.room) }
+        ensures succeeds { 0 < self.old.room → IsOk result }
+        ensures returned { IfErr result (λ back. back ≡ value) }
+        ensures unchanged { OnErr result (self.new ≡ self.old) }
+        ensures single { (t : ℕ) → ticket_times t self.old.items ≤ 1 }
+        ensures apart { (k : ℕ) → times k (places self.old.items) ≤ 1 }
+    {
+        let element = Ticketed {
+            ticket: None,
+            value,
+        };
+        match push(&mut self.chain, next, element) {
+            Ok(place) => Ok(place),
+            Err(back) => Err(back.value),
+        }
+    }
+
+    /// Puts a value with a ticket ahead of that at a place, or behind all others where no place is
+    /// given or none stands there, and returns its own place, which no other has. With no memory
+    /// left, a ticket that an element has, or 4,294,967,295 elements standing, the value comes back,
+    /// and the chain stays as it was.
+    pub fn insert_ticket(&mut self, next: Option<u32>, ticket: u64, value: E) -> Result<u32, E>
+        ensures inserted { IfOk result (λ place. self.new.items ≡ put_ahead self.old.items next
+            (record { place = place; element = record { ticket = Some ticket; value = value } })) }
+        ensures fresh { IfOk result (λ place. found self.old.items place ≡ None) }
+        ensures new_ticket { OnOk result (place_of ticket self.old.items ≡ None) }
+        ensures fits { OnOk result (length self.new.items ≤ 4294967295) }
+        ensures room { OnOk result (0 < self.old.room → self.new.room + 1 ≡ self.old.room) }
+        ensures returned { IfErr result (λ back. back ≡ value) }
+        ensures unchanged { OnErr result (self.new ≡ self.old) }
+        ensures single { (t : ℕ) → ticket_times t self.old.items ≤ 1 }
+        ensures apart { (k : ℕ) → times k (places self.old.items) ≤ 1 }
+    {
+        if self.places.get(ticket).is_some() || self.places.insert(ticket, 0).is_err() {
+            return Err(value);
+        }
+        let element = Ticketed {
+            ticket: Some(ticket),
+            value,
+        };
+        match push(&mut self.chain, next, element) {
+            Ok(place) => {
+                let _ = self.places.insert(ticket, place);
+                Ok(place)
+            }
+            Err(back) => {
+                self.places.remove(ticket);
+                Err(back.value)
+            }
+        }
+    }
+
+    /// The element at a place goes behind all others, and keeps its place and its ticket. False
+    /// where none stands there, and then nothing changes. Takes no memory.
+    #[inline(always)]
+    pub fn move_back(&mut self, place: u32) -> bool
+        ensures moved { result ≡ true → (e : Ticketed E) → found self.old.items place ≡ Some e
+            → self.new.items ≡ without self.old.items place
+            ++ record { place = place; element = e } ∷ [] }
+        ensures stood { result ≡ true ↔ IsSome (found self.old.items place) }
+        ensures room { self.new.room ≡ self.old.room }
+        ensures unchanged { result ≡ false → self.new ≡ self.old }
+        ensures single { (t : ℕ) → ticket_times t self.old.items ≤ 1 }
+        ensures apart { (k : ℕ) → times k (places self.old.items) ≤ 1 }
+    {
+        self.chain.move_back(place)
+    }
+
+    /// The element at a place has no ticket any more. The ticket that it had. `None` where none
+    /// stands there, or it had none, and then nothing changes. Takes no memory.
+    #[inline(always)]
+    pub fn release(&mut self, place: u32) -> Option<u64>
+        ensures ticket { result ≡ ticket_in (found self.old.items place) }
+        ensures released { self.new.items ≡ released place self.old.items }
+        ensures room { self.new.room ≡ self.old.room }
+        ensures unchanged { IfNone result (self.new ≡ self.old) }
+        ensures single { (t : ℕ) → ticket_times t self.old.items ≤ 1 }
+        ensures apart { (k : ℕ) → times k (places self.old.items) ≤ 1 }
+    {
+        let element = self.chain.get_mut(place)?;
+        let ticket = element.ticket.take()?;
+        self.places.remove(ticket);
+        Some(ticket)
+    }
+
+    /// Takes out the element at a place, which then names none, and its ticket finds none. The
+    /// others keep their order and their places. `None` where none stands there, and then nothing
+    /// changes. Takes no memory.
+    #[inline(always)]
+    pub fn remove(&mut self, place: u32) -> Option<E>
+        ensures found { result ≡ option_map (λ e. e.value) (found self.old.items place) }
+        ensures taken { OnSome result (self.new.items ≡ without self.old.items place) }
+        ensures room { OnSome result (self.new.room ≡ self.old.room + 1) }
+        ensures unchanged { IfNone result (self.new ≡ self.old) }
+        ensures single { (t : ℕ) → ticket_times t self.old.items ≤ 1 }
+        ensures apart { (k : ℕ) → times k (places self.old.items) ≤ 1 }
+    {
+        let element = self.chain.remove(place)?;
+        if let Some(ticket) = element.ticket {
+            self.places.remove(ticket);
+        }
+        Some(element.value)
+    }
+
+    /// Takes out the first element. The others keep their order and their places. `None` where
+    /// none stands, and then nothing changes. Takes no memory.
+    #[inline(always)]
+    pub fn pop_front(&mut self) -> Option<E>
+        ensures first { result ≡ option_map (λ e. e.value) (first_element self.old.items) }
+        ensures taken { self.new.items ≡ behind_first self.old.items }
+        ensures room { OnSome result (self.new.room ≡ self.old.room + 1) }
+        ensures unchanged { IfNone result (self.new ≡ self.old) }
+        ensures single { (t : ℕ) → ticket_times t self.old.items ≤ 1 }
+        ensures apart { (k : ℕ) → times k (places self.old.items) ≤ 1 }
+    {
+        let element = self.chain.pop_front()?;
+        if let Some(ticket) = element.ticket {
+            self.places.remove(ticket);
+        }
+        Some(element.value)
+    }
+
+    /// Takes out all elements. Takes no memory.
+    pub fn clear(&mut self)
+        ensures empty { self.new.items ≡ [] }
+    {
+        self.chain.clear();
+        self.places.clear();
+    }
+}
+
+// Puts an element ahead of that at a place, or behind all others where no place is given or none
+// stands there.
+#[inline(always)]
+fn push<E: Drop, A: Allocator>(
+    chain: &mut Chain<Ticketed<E>, A>,
+    next: Option<u32>,
+    element: Ticketed<E>,
+) -> Result<u32, Ticketed<E>>
+    ensures inserted { IfOk result (λ place. chain.new.items
+        ≡ put_ahead chain.old.items next (record { place = place; element = element })) }
+    ensures fresh { IfOk result (λ place. found chain.old.items place ≡ None) }
+    ensures fits { OnOk result (length chain.new.items ≤ 4294967295) }
+    ensures room { OnOk result (0 < chain.old.room → chain.new.room + 1 ≡ chain.old.room) }
+    ensures succeeds { 0 < chain.old.room → IsOk result }
+    ensures returned { IfErr result (λ back. back ≡ element) }
+    ensures unchanged { OnErr result (chain.new ≡ chain.old) }
+{
+    match next {
+        Some(next) => chain.insert_before(next, element),
+        None => chain.push_back(element),
+    }
+}
