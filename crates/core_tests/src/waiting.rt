@@ -117,8 +117,8 @@ fn a_send_that_is_accepted_or_due_is_named_once(rt: HostRuntime) -> Result<(), F
     sends.block(7, 70u32)?;
     sends.block(8, 80)?;
     is(&rt, sends.next_due(), None);
-    sends.accept(8);
     sends.mark_due(7);
+    sends.accept(8);
     sends.mark_due(9);
     is(
         &rt,
