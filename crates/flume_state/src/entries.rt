@@ -164,8 +164,8 @@ impl<T: Drop, S: Drop, A: Allocator + Copy> Entries<T, S, A> {
     }
 
     /// Parks a receiver under this ticket, behind all others. It waits, and isn't due. All room for
-    /// what happens to it later is made here. With no memory left, or under a ticket under which
-    /// one is parked, nothing changes.
+    /// what happens to it later is made here. With no memory left, under a ticket under which one
+    /// is parked, or under the greatest number, which is no ticket, nothing changes.
     pub fn park(&mut self, ticket: u64, kind: Kind, signal: S) -> Result<(), AllocError>
         ensures parked { OnOk result (self.new ≡ self.old ++ begins ticket kind signal ∷ []) }
         ensures unchanged { OnErr result (self.new ≡ self.old) }

@@ -100,8 +100,8 @@ impl<T: Drop, A: Allocator + Copy> Line<T, A> {
     }
 
     /// Puts a message behind all others, as one that blocks under this ticket. With no memory
-    /// left, or a ticket under which one blocks already, the message comes back, and the line stays
-    /// as it was.
+    /// left, a ticket under which one blocks already, or the greatest number, which is no ticket,
+    /// the message comes back, and the line stays as it was.
     pub fn push_blocked(&mut self, ticket: u64, message: T) -> Result<(), T>
         ensures pushed { OnOk result (self.new ≡ record self.old {
           blocked = self.old.blocked ++ record { ticket = ticket; message = message } ∷ [];

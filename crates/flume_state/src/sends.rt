@@ -64,8 +64,8 @@ impl<S: Drop, A: Allocator + Copy> Sends<S, A> {
     }
 
     /// Makes `ticket` live, with its message blocked and nothing due. All room for what happens to
-    /// it later is made here. With no memory left, or a ticket that is live already, which no
-    /// caller gives, nothing changes.
+    /// it later is made here. With no memory left, a ticket that is live already, or the greatest
+    /// number, which is no ticket, nothing changes. No caller gives either of these.
     #[inline(always)]
     pub fn block(&mut self, ticket: u64, signal: S) -> Result<(), AllocError>
         ensures ok { OnOk result (self.new ≡ insert self.old ticket (blocked signal)) }

@@ -12,6 +12,7 @@ ghost use Rattle.flume_state.specs.declared.ticketed.Ticketed.{Ticketed};
 ghost use Rattle.std.specs.Borrow.{sem};
 ghost use Rattle.flume_state.specs.TicketedLends.{lends_value};
 
+use crate::maybe_ticket::MaybeTicket;
 use crate::places::Places;
 use flume_chain::chain::Chain;
 use std::alloc::Allocator;
@@ -21,7 +22,7 @@ use std::marker::Model;
 #[derive(Drop)]
 pub struct Ticketed<E> {
     /// The ticket: no two elements of a chain have the same.
-    pub ticket: Option<u64>,
+    pub ticket: MaybeTicket,
     /// What stands under it.
     pub value: E,
 }
@@ -115,7 +116,7 @@ impl<E: Drop, A: Allocator + Copy> TicketChain<E, A> {
         ensures single { (t : ℕ) → ticket_times t self.now.items ≤ 1 }
         ensures apart { (k : ℕ) → times k (places self.now.items) ≤ 1 }
     {
-        self.chain.get(place)?.ticket
+        self.chain.get(place)?.ticket.get()
     }
 
     /// The value at a place, to be written. `None` where none stands there.
@@ -179,7 +180,7 @@ impl<E: Drop, A: Allocator + Copy> TicketChain<E, A> {
         ensures apart { (k : ℕ) → times k (places self.old.items) ≤ 1 }
     {
         let element = Ticketed {
-            ticket: None,
+            ticket: MaybeTicket::none(),
             value,
         };
         match push(&mut self.chain, next, element) {
@@ -190,8 +191,8 @@ impl<E: Drop, A: Allocator + Copy> TicketChain<E, A> {
 
     /// Puts a value with a ticket ahead of that at a place, or behind all others where no place is
     /// given or none stands there, and returns its own place, which no other has. With no memory
-    /// left, a ticket that an element has, or 4,294,967,295 elements standing, the value comes back,
-    /// and the chain stays as it was.
+    /// left, a ticket that an element has, the greatest number, which is no ticket, or 4,294,967,295
+    /// elements standing, the value comes back, and the chain stays as it was.
     pub fn insert_ticket(&mut self, next: Option<u32>, ticket: u64, value: E) -> Result<u32, E>
         ensures inserted { IfOk result (λ place. self.new.items ≡ put_ahead self.old.items next
             (record { place = place; element = record { ticket = Some ticket; value = value } })) }
@@ -204,11 +205,17 @@ impl<E: Drop, A: Allocator + Copy> TicketChain<E, A> {
         ensures single { (t : ℕ) → ticket_times t self.old.items ≤ 1 }
         ensures apart { (k : ℕ) → times k (places self.old.items) ≤ 1 }
     {
-        if self.places.get(ticket).is_some() || self.places.insert(ticket, 0).is_err() {
+        if self.places.get(ticket).is_some() {
+            return Err(value);
+        }
+        let Some(held) = MaybeTicket::of(ticket) else {
+            return Err(value);
+        };
+        if self.places.insert(ticket, 0).is_err() {
             return Err(value);
         }
         let element = Ticketed {
-            ticket: Some(ticket),
+            ticket: held,
             value,
         };
         match push(&mut self.chain, next, element) {
@@ -269,7 +276,7 @@ impl<E: Drop, A: Allocator + Copy> TicketChain<E, A> {
         ensures apart { (k : ℕ) → times k (places self.old.items) ≤ 1 }
     {
         let element = self.chain.remove(place)?;
-        if let Some(ticket) = element.ticket {
+        if let Some(ticket) = element.ticket.get() {
             self.places.remove(ticket);
         }
         Some(element.value)
@@ -287,7 +294,7 @@ impl<E: Drop, A: Allocator + Copy> TicketChain<E, A> {
         ensures apart { (k : ℕ) → times k (places self.old.items) ≤ 1 }
     {
         let element = self.chain.pop_front()?;
-        if let Some(ticket) = element.ticket {
+        if let Some(ticket) = element.ticket.get() {
             self.places.remove(ticket);
         }
         Some(element.value)

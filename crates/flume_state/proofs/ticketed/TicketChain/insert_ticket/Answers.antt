@@ -1,4 +1,4 @@
-use Rattle.std.proofs.Common.{◌≡◌, None, refl, sym, ap, ◌∙◌}
+use Rattle.std.proofs.Common.{◌≡◌, None, sym, ap, ◌∙◌}
 use Rattle.std.specs.FinMap.{get, remove}
 use Rattle.flume_chain.proofs.ChainLaws.{none_placed}
 use Rattle.flume_state.proofs.TicketLemmas.{put_amid, ticketed_in}
@@ -13,7 +13,7 @@ invariant_of-self-in-Ok g c =
     let held = stored _ _ _ _ _ c.if-is_err.ensures.value c.insert.ensures.inserted in
     let placed = written_over _ _ _ _ _ _ _ held c.insert-in-Ok.ensures.inserted c.insert-in-Ok.ensures.absent in
     rw (c.in-Ok.ensures.inserted) (rw placed
-    (ticketed_in _ _ _ _ (put_amid c.self.inside.chain.items c.args.next _) c.args.ticket refl
+    (ticketed_in _ _ _ _ (put_amid c.self.inside.chain.items c.args.next _) c.args.ticket c.in-Some.ensures.ticket
     (sym (c.self.invariant.found c.args.ticket) ∙ new) (none_placed _ _ c.in-Ok.ensures.fresh) c.self.invariant))
 
 pub invariant_of-self-in-Err : goal.invariant_of-self-in-Err
