@@ -1,4 +1,4 @@
-//! Tests of the chain: drawn calls beside a plain queue.
+//! Tests of the chains, without and with tickets: drawn calls beside a plain queue.
 #![tactic(auto)]
 
 #[cfg(test)]
@@ -7,3 +7,5 @@ mod answers;
 mod chains;
 #[cfg(test)]
 mod draws;
+#[cfg(test)]
+mod ticket_chains;
