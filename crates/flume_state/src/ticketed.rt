@@ -191,8 +191,8 @@ impl<E: Drop, A: Allocator + Copy> TicketChain<E, A> {
 
     /// Puts a value with a ticket ahead of that at a place, or behind all others where no place is
     /// given or none stands there, and returns its own place, which no other has. With no memory
-    /// left, a ticket that an element has, the greatest number, which is no ticket, or 4,294,967,295
-    /// elements standing, the value comes back, and the chain stays as it was.
+    /// left, a ticket that an element has, the greatest number, which is no ticket, or
+    /// 4,294,967,295 elements standing, the value comes back, and the chain stays as it was.
     pub fn insert_ticket(&mut self, next: Option<u32>, ticket: u64, value: E) -> Result<u32, E>
         ensures inserted { IfOk result (λ place. self.new.items ≡ put_ahead self.old.items next
             (record { place = place; element = record { ticket = Some ticket; value = value } })) }

@@ -9,4 +9,5 @@ invariant_of-self-in-Some g c =
 
 pub invariant_of-self-in_default : goal.invariant_of-self-in_default
 invariant_of-self-in_default g c =
-    rw (c.pop_front.ensures.taken) (first_plain _ _ _ c.in_ok-element.ensures.first (sym c.get.ensures.ticket ∙ c.in_default.is) c.self.invariant)
+    rw (c.pop_front.ensures.taken) (first_plain _ _ _ c.in_ok-element.ensures.first
+    (sym c.get.ensures.ticket ∙ c.in_default.is) c.self.invariant)
