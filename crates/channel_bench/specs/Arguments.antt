@@ -12,6 +12,9 @@ use Rattle.channel_bench.specs.declared.arguments.Shape.TheVariants.{PollRecvPar
 use Rattle.channel_bench.specs.declared.arguments.Shape.TheVariants.{AsyncPair, AsyncJoin, AsyncPing}
 use Rattle.channel_bench.specs.declared.arguments.Shape.TheVariants.{Pending, PendingDrop}
 use Rattle.channel_bench.specs.declared.arguments.Shape.TheVariants.{SelectSeq, SelectRx}
+use Rattle.channel_bench.specs.declared.arguments.Shape.TheVariants.{CrowdPoll, CrowdDraw}
+use Rattle.channel_bench.specs.declared.arguments.Shape.TheVariants.{CrowdWithdraw, CrowdCancel}
+use Rattle.channel_bench.specs.declared.arguments.Shape.TheVariants.{CrowdSend, CrowdFutures}
 
 -- the word of a shape
 abbrev pub shape_word : Shape → List ℕ
@@ -36,6 +39,12 @@ shape_word Pending = codes "pending"
 shape_word PendingDrop = codes "pending_drop"
 shape_word SelectSeq = codes "select_seq"
 shape_word SelectRx = codes "select_rx"
+shape_word CrowdPoll = codes "crowd_poll"
+shape_word CrowdDraw = codes "crowd_draw"
+shape_word CrowdWithdraw = codes "crowd_withdraw"
+shape_word CrowdCancel = codes "crowd_cancel"
+shape_word CrowdSend = codes "crowd_send"
+shape_word CrowdFutures = codes "crowd_futures"
 
 -- the word names this shape
 abbrev pub IsShapeWord : List ℕ → Shape → Type 0
@@ -80,7 +89,8 @@ IsNoCall words = (call : Arguments) → ¬ IsCall words call
 
 -- the shape can be timed at this capacity: one thread that sends all, and then receives all, would
 -- wait for ever at a number of messages, one that sends a message and then receives it at 0, and
--- a channel of no number is never full, nor is one of 0 messages ever made room in by a receive
+-- a channel of no number is never full, nor is one of 0 messages ever made room in by a receive;
+-- the number of a crowd is how many stand in it, and a crowd of none has nobody to ask
 abbrev pub CanBeTimed : Shape → Capacity → Type 0
 CanBeTimed Seq (Of _) = ⊥
 CanBeTimed Oneshot (Of capacity) = 0 < capacity
@@ -95,4 +105,22 @@ CanBeTimed PollSendPark Big = ⊥
 CanBeTimed PollSendPark (Of capacity) = 0 < capacity
 CanBeTimed AsyncPair (Of capacity) = 0 < capacity
 CanBeTimed SelectSeq (Of capacity) = 0 < capacity
+CanBeTimed CrowdPoll Unbounded = ⊥
+CanBeTimed CrowdPoll Big = ⊥
+CanBeTimed CrowdPoll (Of standing) = 0 < standing
+CanBeTimed CrowdDraw Unbounded = ⊥
+CanBeTimed CrowdDraw Big = ⊥
+CanBeTimed CrowdDraw (Of standing) = 0 < standing
+CanBeTimed CrowdWithdraw Unbounded = ⊥
+CanBeTimed CrowdWithdraw Big = ⊥
+CanBeTimed CrowdWithdraw (Of standing) = 0 < standing
+CanBeTimed CrowdCancel Unbounded = ⊥
+CanBeTimed CrowdCancel Big = ⊥
+CanBeTimed CrowdCancel (Of standing) = 0 < standing
+CanBeTimed CrowdSend Unbounded = ⊥
+CanBeTimed CrowdSend Big = ⊥
+CanBeTimed CrowdSend (Of standing) = 0 < standing
+CanBeTimed CrowdFutures Unbounded = ⊥
+CanBeTimed CrowdFutures Big = ⊥
+CanBeTimed CrowdFutures (Of standing) = 0 < standing
 CanBeTimed _ _ = ⊤

@@ -33,6 +33,12 @@ pub enum Shape {
     PendingDrop,
     SelectSeq,
     SelectRx,
+    CrowdPoll,
+    CrowdDraw,
+    CrowdWithdraw,
+    CrowdCancel,
+    CrowdSend,
+    CrowdFutures,
 }
 
 impl Shape {
@@ -61,6 +67,12 @@ impl Shape {
             "pending_drop" => Some(Shape::PendingDrop),
             "select_seq" => Some(Shape::SelectSeq),
             "select_rx" => Some(Shape::SelectRx),
+            "crowd_poll" => Some(Shape::CrowdPoll),
+            "crowd_draw" => Some(Shape::CrowdDraw),
+            "crowd_withdraw" => Some(Shape::CrowdWithdraw),
+            "crowd_cancel" => Some(Shape::CrowdCancel),
+            "crowd_send" => Some(Shape::CrowdSend),
+            "crowd_futures" => Some(Shape::CrowdFutures),
             _ => None,
         }
     }
@@ -139,7 +151,13 @@ impl Arguments {
         match self.shape {
             Shape::Seq => !matches!(self.capacity, Capacity::Of(_)),
             Shape::TryFull => matches!(self.capacity, Capacity::Of(_)),
-            Shape::PollSendPark => matches!(self.capacity, Capacity::Of(1..)),
+            Shape::PollSendPark
+            | Shape::CrowdPoll
+            | Shape::CrowdDraw
+            | Shape::CrowdWithdraw
+            | Shape::CrowdCancel
+            | Shape::CrowdSend
+            | Shape::CrowdFutures => matches!(self.capacity, Capacity::Of(1..)),
             Shape::Oneshot
             | Shape::Inout
             | Shape::TryPair

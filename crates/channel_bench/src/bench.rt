@@ -127,7 +127,13 @@ impl<R: Waits + Threads + RandomSource + AllocGlobal + Send + Sync> Bench<R> {
             | Shape::PollRecvPark
             | Shape::PollSendPark
             | Shape::Pending
-            | Shape::PendingDrop => self.by_hand(shape),
+            | Shape::PendingDrop
+            | Shape::CrowdFutures => self.by_hand(shape),
+            Shape::CrowdPoll
+            | Shape::CrowdDraw
+            | Shape::CrowdWithdraw
+            | Shape::CrowdCancel
+            | Shape::CrowdSend => self.crowd(shape),
         }
     }
 }

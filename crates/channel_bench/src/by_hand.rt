@@ -33,6 +33,7 @@ impl<R: Waits> Bench<R> {
         match shape {
             Shape::Pending => return self.fill_each(tx, rx, cx),
             Shape::PendingDrop => return self.drop_each(rx, cx),
+            Shape::CrowdFutures => return self.renew_each(tx, rx, cx),
             // The channel is full first.
             Shape::PollSendPark => send_each(tx, self.capacity.unwrap_or(0)),
             _ => {}

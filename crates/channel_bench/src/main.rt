@@ -5,6 +5,7 @@ mod arguments;
 mod audited;
 mod bench;
 mod by_hand;
+mod crowds;
 mod loops;
 mod one_thread;
 mod pending;
@@ -48,7 +49,18 @@ pending_drop    so many receives wait, and each is dropped, the newest first
 select_seq      a message sent into one of four channels in turn, and received by a selection over
                 the four; not at 0
 select_rx       four threads send, each into a channel of its own, and one receives by selections
-                over the four";
+                over the four
+
+SHAPE of a crowd: CAPACITY is a number above 0, and says how many stand on one channel all along;
+MESSAGES says how many operations are timed, and gathering the crowd isn't
+crowd_poll      a parked receiver in the middle asks again, and waits on
+crowd_draw      a parked receiver asks again, and waits on: now one here, now one there
+crowd_withdraw  a parked receiver in the middle leaves, and another parks
+crowd_cancel    a blocked send in the middle is withdrawn, and another blocks
+crowd_send      a message is sent, the receiver that it fills is told and takes it, and another
+                parks
+crowd_futures   a message is sent, the receive that waited longest is polled and takes it, and
+                another receive is polled, which waits";
 
 fn main(rt: HostRuntime) -> io::Result<ExitCode> {
     let mut words = Vec::new(rt.alloc());

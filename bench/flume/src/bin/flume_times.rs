@@ -9,6 +9,7 @@ use futures::task::noop_waker;
 use std::env;
 use std::fmt;
 use std::future::Future;
+use std::mem;
 use std::pin::Pin;
 use std::process::ExitCode;
 use std::task::{Context, Poll};
@@ -45,7 +46,12 @@ pending_drop    so many receives wait, and each is dropped, the newest first
 select_seq      a message sent into one of four channels in turn, and received by a selection over
                 the four; not at 0
 select_rx       four threads send, each into a channel of its own, and one receives by selections
-                over the four";
+                over the four
+
+SHAPE of a crowd: CAPACITY is a number above 0, and says how many stand on one channel all along;
+MESSAGES says how many operations are timed, and gathering the crowd isn't
+crowd_futures   a message is sent, the receive that waited longest is polled and takes it, and
+                another receive is polled, which waits";
 
 /// How many threads send, and how many receive, where several do.
 const SEVERAL: usize = 4;
@@ -91,7 +97,9 @@ impl Asked {
         match self.shape.as_str() {
             "seq" | "plain" => Some(!matches!(self.capacity, Capacity::Of(_))),
             "try_full" => Some(matches!(self.capacity, Capacity::Of(_))),
-            "poll_send_park" => Some(matches!(self.capacity, Capacity::Of(1..))),
+            "poll_send_park" | "crowd_futures" => {
+                Some(matches!(self.capacity, Capacity::Of(1..)))
+            }
             "oneshot" | "inout" | "try_pair" | "poll_pair" | "async_pair" | "select_seq" => {
                 Some(self.capacity != Capacity::Of(0))
             }
@@ -129,6 +137,7 @@ impl Asked {
             "async_ping" => self.async_ping(),
             "pending" => self.pending(),
             "pending_drop" => self.pending_drop(),
+            "crowd_futures" => self.crowd_futures(),
             "select_seq" => self.select_seq(),
             "select_rx" => self.select_rx(),
             _ => self.try_full(),
@@ -392,7 +401,7 @@ impl Asked {
         let (sender, receiver) = self.open();
         let waker = noop_waker();
         let mut context = Context::from_waker(&waker);
-        let mut receives = self.wait_each(&receiver, &mut context);
+        let mut receives = self.wait_each(self.messages, &receiver, &mut context);
         let start = Instant::now();
         let mut sum = 0usize;
         for (message, receive) in receives.iter_mut().enumerate() {
@@ -411,7 +420,7 @@ impl Asked {
         let (_sender, receiver) = self.open();
         let waker = noop_waker();
         let mut context = Context::from_waker(&waker);
-        let mut receives = self.wait_each(&receiver, &mut context);
+        let mut receives = self.wait_each(self.messages, &receiver, &mut context);
         let start = Instant::now();
         let mut sum = 0usize;
         for message in 0..self.messages {
@@ -422,14 +431,45 @@ impl Asked {
         (start.elapsed(), sum, 1)
     }
 
-    /// As many receives as there are messages, each of which was polled once and waits.
+    /// For each message the receive that waits longest takes it, and another begins to wait: so as
+    /// many wait all along as the channel's capacity says.
+    fn crowd_futures(&self) -> (Duration, usize, usize) {
+        let (sender, receiver) = self.open();
+        let waker = noop_waker();
+        let mut context = Context::from_waker(&waker);
+        let standing = sender.capacity().unwrap_or(0);
+        let mut receives = self.wait_each(standing, &receiver, &mut context);
+        let start = Instant::now();
+        let mut sum = 0usize;
+        for message in 0..self.messages {
+            let receive = &mut receives[message % standing];
+            if sender.try_send(message).is_err() {
+                break;
+            }
+            let Poll::Ready(Ok(message)) = Pin::new(&mut *receive).poll(&mut context) else {
+                break;
+            };
+            *receive = receiver.recv_async();
+            if Pin::new(receive).poll(&mut context).is_ready() {
+                break;
+            }
+            sum = sum.wrapping_add(message);
+        }
+        let time = start.elapsed();
+        // To drop them takes flume as long as to pass each by for each: a minute for 100,000.
+        mem::forget(receives);
+        (time, sum, 1)
+    }
+
+    /// So many receives, each of which was polled once and waits.
     fn wait_each<'a>(
         &self,
+        standing: usize,
         receiver: &'a Receiver<usize>,
         context: &mut Context<'_>,
     ) -> Vec<RecvFut<'a, usize>> {
         let mut receives = Vec::new();
-        for _ in 0..self.messages {
+        for _ in 0..standing {
             let mut receive = receiver.recv_async();
             if Pin::new(&mut receive).poll(context).is_pending() {
                 receives.push(receive);
