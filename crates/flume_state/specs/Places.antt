@@ -1,5 +1,5 @@
 -- The places of tickets as a finite map, and how they lie: one of them near, and the others in a
--- tree. Of this module a contract sees the map alone.
+-- table. Of this module a contract sees the map alone.
 use Rattle.std.specs.Prelude.{◌≡◌, ℕ, ⊤, Option, Some, None}
 use Rattle.std.specs.FinMap.{FinMap, get, insert}
 use Rattle.std.specs.Ordering.{nat_cmp}

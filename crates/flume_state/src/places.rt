@@ -2,13 +2,13 @@
 ghost use Rattle.std.specs.Prelude.{◌≡◌, None, OnOk, OnErr};
 ghost use Rattle.std.specs.FinMap.{empty, get, insert, remove};
 
-mod tree;
+mod table;
 
 use std::alloc::{AllocError, Allocator};
 use std::marker::Model;
-use tree::PlaceTree;
+use table::PlaceTable;
 
-// A place that is found without the tree.
+// A place that is found without the table.
 #[derive(Drop)]
 struct NearPlace {
     ticket: u64,
@@ -18,10 +18,10 @@ struct NearPlace {
 /// The place of each of some tickets.
 #[derive(Drop)]
 pub struct Places<A: Allocator> {
-    // That of a ticket that was alone when it came: so one that comes by itself needs no tree.
+    // That of a ticket that was alone when it came: so one that comes by itself needs no table.
     near: Option<NearPlace>,
     // The others.
-    tree: PlaceTree<A>,
+    table: PlaceTable<A>,
 }
 
 impl<A: Allocator> Model for Places<A> {
@@ -33,9 +33,9 @@ impl<A: Allocator> Model for Places<A> {
 
     ghost coded = { code coded_ℕ coded_ℕ };
 
-    ghost view = { λ s. with_near s.near s.tree };
+    ghost view = { λ s. with_near s.near s.table };
 
-    ghost invariant = { λ s. IsApart s.near s.tree };
+    ghost invariant = { λ s. IsApart s.near s.table };
 }
 
 impl<A: Allocator + Clone> Places<A> {
@@ -55,7 +55,7 @@ impl<A: Allocator + Clone> Places<A> {
     {
         Places {
             near: None,
-            tree: PlaceTree::new(alloc),
+            table: PlaceTable::new(alloc),
         }
     }
 
@@ -66,7 +66,7 @@ impl<A: Allocator + Clone> Places<A> {
     {
         match &self.near {
             Some(near) if near.ticket == ticket => Some(near.place),
-            _ => self.tree.get(ticket),
+            _ => self.table.get(ticket),
         }
     }
 
@@ -79,9 +79,9 @@ impl<A: Allocator + Clone> Places<A> {
         ensures absent { OnErr result (get self.old ticket ≡ None) }
     {
         match &self.near {
-            None if self.tree.is_empty() => {}
+            None if self.table.is_empty() => {}
             Some(near) if near.ticket == ticket => {}
-            _ => return self.tree.insert(ticket, place),
+            _ => return self.table.insert(ticket, place),
         }
         self.near = Some(NearPlace { ticket, place });
         Ok(())
@@ -94,7 +94,7 @@ impl<A: Allocator + Clone> Places<A> {
     {
         match &self.near {
             Some(near) if near.ticket == ticket => self.near = None,
-            _ => self.tree.remove(ticket),
+            _ => self.table.remove(ticket),
         }
     }
 
@@ -103,6 +103,6 @@ impl<A: Allocator + Clone> Places<A> {
         ensures empty { self.new ≡ empty }
     {
         self.near = None;
-        self.tree.clear();
+        self.table.clear();
     }
 }

@@ -36,19 +36,19 @@ returns-in_default-clause-absent g c =
 pub invariant_of-self-2 : goal.invariant_of-self-2
 invariant_of-self-2 g c = elim c.match-self.branch [
   | in-None w ↦
-      ap (λ i. get i.tree c.args.ticket) w.self-inside-is
+      ap (λ i. get i.table c.args.ticket) w.self-inside-is
       ∙ ap (λ m. get m c.args.ticket) (w.is_empty.ensures.empty w.if-is_empty.true) ∙ get-empty nat_cmp c.args.ticket
   | in-Some w ↦
-      ap (λ i. get i.tree c.args.ticket) w.self-inside-is
+      ap (λ i. get i.table c.args.ticket) w.self-inside-is
       ∙ here_absent _ _ _ _ c.self.invariant w.in-Some.is w.if-near-ticket.true
 ]
 
 pub returns-clause-inserted : goal.returns-clause-inserted
 returns-clause-inserted g c = elim c.match-self.branch [
   | in-None w ↦
-      ap (λ i. insert i.tree c.args.ticket c.args.place) w.self-inside-is
+      ap (λ i. insert i.table c.args.ticket c.args.place) w.self-inside-is
       ∙ ap (λ m. insert m c.args.ticket c.args.place) (none_view _ _ _ w.in-None.is c.self.view_is)
   | in-Some w ↦
-      ap (λ i. insert i.tree c.args.ticket c.args.place) w.self-inside-is
+      ap (λ i. insert i.table c.args.ticket c.args.place) w.self-inside-is
       ∙ here_insert _ _ _ _ _ c.args.place w.in-Some.is w.if-near-ticket.true c.self.view_is
 ]

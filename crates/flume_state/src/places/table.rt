@@ -1,18 +1,19 @@
-//! The places of tickets in a tree.
+//! The places of tickets in a table.
 ghost use Rattle.std.specs.Prelude.{◌≡◌, true, None, OnOk, OnErr};
 ghost use Rattle.std.specs.FinMap.{empty, get, insert, remove};
 
 use std::alloc::{AllocError, Allocator};
-use std::collections::BTreeMap;
+use std::collections::HashMap;
+use std::hash::{BuildHasherDefault, FoldHasher};
 use std::marker::Model;
 
-/// The place of each of some tickets, found in a balanced tree.
+/// The place of each of some tickets, found by its hash.
 #[derive(Drop)]
-pub(super) struct PlaceTree<A: Allocator> {
-    table: BTreeMap<u64, u32, A>,
+pub(super) struct PlaceTable<A: Allocator> {
+    table: HashMap<u64, u32, BuildHasherDefault<FoldHasher>, A>,
 }
 
-impl<A: Allocator> Model for PlaceTree<A> {
+impl<A: Allocator> Model for PlaceTable<A> {
     ghost use Rattle.std.specs.Coded.{coded_ℕ};
     ghost use Rattle.std.specs.FinMap.{code, from_entries};
     ghost use Rattle.flume_state.specs.Places.{PlaceMap};
@@ -24,11 +25,11 @@ impl<A: Allocator> Model for PlaceTree<A> {
     ghost view = { λ a. from_entries a.table.entries };
 }
 
-impl<A: Allocator + Clone> PlaceTree<A> {
+impl<A: Allocator + Clone> PlaceTable<A> {
     /// No ticket has a place. Takes no memory.
     ///
     /// ```
-    /// let mut places = PlaceTree::new(alloc);
+    /// let mut places = PlaceTable::new(alloc);
     /// places.insert(7, 2);               // Ok(())
     /// places.get(7);                     // Some(2)
     /// places.is_empty();                 // false
@@ -36,8 +37,8 @@ impl<A: Allocator + Clone> PlaceTree<A> {
     pub fn new(alloc: A) -> Self
         ensures empty { result ≡ empty }
     {
-        PlaceTree {
-            table: BTreeMap::new(alloc),
+        PlaceTable {
+            table: HashMap::new(alloc),
         }
     }
 
@@ -50,7 +51,7 @@ impl<A: Allocator + Clone> PlaceTree<A> {
     }
 
     /// The place of `ticket`, and `None` where it has none.
-    #[tactic(auto, using(crate::proofs::TreeLemmas::get_of_tree))]
+    #[tactic(auto, using(crate::proofs::TableLemmas::get_of_table))]
     #[inline(never)]
     pub fn get(&self, ticket: u64) -> Option<u32>
         ensures place { result ≡ get self.now ticket }
@@ -60,7 +61,7 @@ impl<A: Allocator + Clone> PlaceTree<A> {
 
     /// Gives `ticket` a place. One that it had is replaced, which needs no memory. With no memory
     /// left, nothing changes.
-    #[tactic(auto, using(crate::proofs::TreeLemmas::inserts))]
+    #[tactic(auto, using(crate::proofs::TableLemmas::inserts))]
     #[inline(never)]
     pub fn insert(&mut self, ticket: u64, place: u32) -> Result<(), AllocError>
         ensures inserted { OnOk result (self.new ≡ insert self.old ticket place) }
@@ -72,7 +73,7 @@ impl<A: Allocator + Clone> PlaceTree<A> {
     }
 
     /// The ticket has no place any more. Nothing changes where it had none. Takes no memory.
-    #[tactic(auto, using(crate::proofs::TreeLemmas::removed))]
+    #[tactic(auto, using(crate::proofs::TableLemmas::removed))]
     #[inline(never)]
     pub fn remove(&mut self, ticket: u64)
         ensures removed { self.new ≡ remove self.old ticket }

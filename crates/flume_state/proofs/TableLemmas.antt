@@ -1,0 +1,49 @@
+-- How a `HashMap` from tickets is seen as a finite map.
+use Rattle.std.proofs.Common.{◌≡◌, ℕ, cond, nat_eq, List, [], ◌∷◌, Option, Some, None, refl, sym, ap, ◌∙◌}
+use Rattle.std.specs.HashMap as table
+use Rattle.std.specs.HashMap.{HashMap}
+use Rattle.std.specs.Cmp.{nat_cmp_total, eq_by_cmp_equiv, unsigned_tied}
+use Rattle.std.specs.FinMap.{FinMap, from_entries, find, get, insert, remove, get-insert, get-remove, get-from_entries}
+use Rattle.std.specs.Map.{lookup}
+use Rattle.std.specs.Ordering.{nat_cmp, eq_by_cmp}
+use Rattle.flume_state.proofs.MapLaws.{same}
+
+-- the finite map of some entries
+abbrev pub seen : {X : Type 0} → List (ℕ × X) → FinMap nat_cmp X
+seen es = from_entries es
+
+module _ {X : Type 0} where
+  -- a scan and a look-up find the same value
+  find-lookup : (q : ℕ) (es : List (ℕ × X)) → find nat_cmp q es ≡ lookup (nat_eq q) es
+  find-lookup q [] = refl
+  find-lookup q (e ∷ es) =
+      ap (cond (eq_by_cmp nat_cmp q e.0) (Some e.1)) (find-lookup q es)
+      ∙ ap (λ b. cond b (Some e.1) (lookup (nat_eq q) es)) (unsigned_tied q e.0)
+
+module _ {X S : Type 0} where
+  -- the finite map of a table's entries has what the table has
+  pub get_of_table : (m : HashMap ℕ X S) (s : FinMap nat_cmp X) → seen m.entries ≡ s → (q : ℕ) → get s q ≡ table.get nat_eq m q
+  get_of_table m s is q = ap (λ n. get n q) (sym is) ∙ get-from_entries nat_cmp_total m.entries q ∙ find-lookup q m.entries
+
+  -- what an update of the table leaves at each key
+  updated : (m n : HashMap ℕ X S) (k : ℕ) (w : Option X) → table.Updates nat_eq m n k w
+      → (q : ℕ) → get (seen n.entries) q ≡ cond (eq_by_cmp nat_cmp q k) w (get (seen m.entries) q)
+  updated m n k w u q =
+      get_of_table n _ refl q ∙ u.0 q
+      ∙ ap (λ b. cond b w (table.get nat_eq m q)) (sym (unsigned_tied k q) ∙ (eq_by_cmp_equiv nat_cmp_total).symm k q)
+      ∙ ap (cond (eq_by_cmp nat_cmp q k) w) (sym (get_of_table m _ refl q))
+
+  -- to insert into the table is to insert into its finite map
+  pub inserted : (m n : HashMap ℕ X S) (s : FinMap nat_cmp X) (k : ℕ) (v : X) → seen m.entries ≡ s
+      → table.Updates nat_eq m n k (Some v) → seen n.entries ≡ insert s k v
+  inserted m n s k v is u =
+      same _ _ (λ q. updated m n k (Some v) u q ∙ sym (get-insert nat_cmp_total _ k v q)) ∙ ap (λ t. insert t k v) is
+
+  -- to remove from the table is to remove from its finite map
+  pub removed : (m n : HashMap ℕ X S) (s : FinMap nat_cmp X) (k : ℕ) → seen m.entries ≡ s
+      → table.Updates nat_eq m n k None → seen n.entries ≡ remove s k
+  removed m n s k is u =
+      same _ _ (λ q. updated m n k None u q ∙ sym (get-remove nat_cmp_total _ k q)) ∙ ap (λ t. remove t k) is
+
+-- what an insertion into the table needs
+pub ruleset inserts = (inserted, get_of_table)
