@@ -106,10 +106,11 @@ module _ {T S : Type 0} where
       ap (entry_signal t) tells.told ∙ signal_kept tells.before tells.entry tells.later t ∙ sym (ap (entry_signal t) tells.found) in
       λ i. signal_or (option_map (λ send. send.notice.signal) (get (sends i) t)) (kept i)
 
-  -- the signal that one has after it was named is the one that it left
-  pub same_signal : (old new : State T S) (t : ℕ) (signal : S) → Names old new t
-      → Some signal ≡ signal_of new t → signal_of old t ≡ Some signal
-  same_signal old new t signal named is = sym (named_keeps old new t named) ∙ sym is
+  -- its signal is the one that it left, before and after
+  pub left_signal : (old new : State T S) (t : ℕ) → Names old new t
+      → (signal : S) × (signal_of old t ≡ Some signal) × (signal_of new t ≡ Some signal)
+  left_signal old new t named =
+      let left = named_signal old new t named in (left.0, left.1, named_keeps old new t named ∙ left.1)
 
   -- one that was named has a signal
   pub still_signal : (old new : State T S) (t : ℕ) → Names old new t → signal_of new t ≢ None

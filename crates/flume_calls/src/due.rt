@@ -1,7 +1,8 @@
 //! Telling those who are due.
-ghost use Rattle.std.specs.Prelude.{ℕ};
+ghost use Rattle.std.specs.Prelude.{◌≡◌, ◌≢◌, ℕ, Some, None};
 ghost use Rattle.flume_state.specs.Sends.{NoDueSend};
 ghost use Rattle.flume_state.specs.Receivers.{NoDueReceiver};
+ghost use Rattle.flume_state.specs.Told.{signal_of};
 ghost use Rattle.flume_core.specs.StandsFor.{Keeps};
 ghost use Rattle.flume_calls.specs.Due.{Rings, AllTold};
 
@@ -40,24 +41,24 @@ pub fn fire_due<T: Drop, S: Drop, A: Allocator + Copy, B: Bell<S>>(
     ensures told { AllTold chan.old chan.new }
     ensures stands { Keeps A chan.old chan.new }
 {
-    if chan.may_be_due() {
-        ring_each(chan, bell);
+    while let Some(ticket) = chan.next_due() {
+        ring_for(chan, ticket, bell);
     }
 }
 
-// The rings, where some ticket may be due.
+// One ring for a live ticket, with the signal that it left last.
 #[inline(never)]
-fn ring_each<T: Drop, S: Drop, A: Allocator + Copy, B: Bell<S>>(
-    chan: &mut Chan<T, S, A>,
+fn ring_for<T: Drop, S: Drop, A: Allocator + Copy, B: Bell<S>>(
+    chan: &Chan<T, S, A>,
+    ticket: u64,
     bell: &mut B,
 )
-    ensures rings { Rings B.rings chan.old bell.old chan.new bell.new }
-    ensures stands { Keeps A chan.old chan.new }
+    requires live { signal_of chan.now ticket ≢ None }
+    ensures rung { (signal : S) → signal_of chan.now ticket ≡ Some signal
+        → B.rings bell.old ticket signal bell.new }
 {
-    while let Some(ticket) = chan.next_due() {
-        let Some(signal) = chan.signal(ticket) else {
-            unreachable!();
-        };
-        bell.ring(ticket, signal);
-    }
+    let Some(signal) = chan.signal(ticket) else {
+        unreachable!();
+    };
+    bell.ring(ticket, signal);
 }

@@ -100,17 +100,24 @@ impl<T: Drop, S: Drop, A: Allocator + Copy> Entries<T, S, A> {
         }
     }
 
-    /// Whether some receiver is due. It reads two places, whatever the length.
+    /// The ticket of a receiver that was due, and now isn't: it is named once. `None` where none is
+    /// due, and then nothing changes, and it only reads two places. It looks at no other receiver.
+    /// Takes no memory.
     #[inline(always)]
-    pub fn may_be_due(&self) -> bool
-        ensures none { result ≡ false → NoDueReceiver self.now }
+    pub fn next_due(&mut self) -> Option<u64>
+        ensures told { IfSome result (λ ticket. Tells self.old self.new ticket) }
+        ensures none_due { IfNone result (NoDueReceiver self.old) }
+        ensures unchanged { IfNone result (self.new ≡ self.old) }
     {
-        self.due != self.waits
+        if self.due == self.waits {
+            return None;
+        }
+        self.tell_first()
     }
 
-    /// The ticket of a receiver that was due, and now isn't: it is named once. `None` where none is
-    /// due, and then nothing changes. It looks at no other receiver. Takes no memory.
-    pub fn next_due(&mut self) -> Option<u64>
+    // The same, out of line.
+    #[inline(never)]
+    fn tell_first(&mut self) -> Option<u64>
         ensures told { IfSome result (λ ticket. Tells self.old self.new ticket) }
         ensures none_due { IfNone result (NoDueReceiver self.old) }
         ensures unchanged { IfNone result (self.new ≡ self.old) }

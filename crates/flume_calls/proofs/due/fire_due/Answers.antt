@@ -1,22 +1,45 @@
--- What the rings leave.
-use Rattle.std.proofs.Common.{refl}
-use Rattle.flume_calls.specs.Due.{Over}
-use Rattle.flume_calls.proofs.Ringing.{none_left, all_told}
+-- One ring for each that is due, and what the rings leave.
+use Rattle.flume_calls.specs.Due.{Rings, Over, Rung}
+use Rattle.flume_calls.proofs.DueCounts.{fewer_due, still_due_before}
+use Rattle.flume_calls.proofs.Ringing.{still_signal, left_signal, none_left, all_told}
 use Rattle.flume_calls.proofs.due.fire_due.Goals as goal
 
-pub returns-then-may_be_due-clause-sends : goal.returns-then-may_be_due-clause-sends
-returns-then-may_be_due-clause-sends g c = (none_left g.B.Bell.rings c.ring_each.ensures.rings).0
+pub ring_for-requires : goal.ring_for-requires
+ring_for-requires g c = record {
+  live = still_signal c.loop-ticket.chan c.next_due.new.self c.in-Some.ticket c.in-Some.ensures.named;
+}
 
-pub returns-then-may_be_due-clause-receivers : goal.returns-then-may_be_due-clause-receivers
-returns-then-may_be_due-clause-receivers g c = (none_left g.B.Bell.rings c.ring_each.ensures.rings).1
+pub loop-ticket-smaller : goal.loop-ticket-smaller
+loop-ticket-smaller g c =
+    fewer_due c.args.chan.now c.loop-ticket.chan c.next_due.new.self c.in-Some.ticket c.in-Some.ensures.named c.loop-ticket.invariant.before
 
-pub returns-then-may_be_due-clause-told : goal.returns-then-may_be_due-clause-told
-returns-then-may_be_due-clause-told g c = all_told g.B.Bell.rings c.ring_each.ensures.rings
+pub loop-ticket-preserved : goal.loop-ticket-preserved
+loop-ticket-preserved g c =
+    let old = c.loop-ticket.chan in
+    let named = c.in-Some.ensures.named in
+    let left = left_signal old c.next_due.new.self c.in-Some.ticket named in
+    record {
+      from_here = λ new end rest. c.loop-ticket.invariant.from_here new end (Rung named left.1 (c.ring_for.ensures.rung left.0 left.2) rest);
+      stands = λ o log h. c.in-Some.ensures.stands o log (c.loop-ticket.invariant.stands o log h);
+      before = still_due_before c.args.chan.now old c.next_due.new.self c.in-Some.ticket named c.loop-ticket.invariant.before;
+    }
 
-pub returns-else-may_be_due-clause-rings : goal.returns-else-may_be_due-clause-rings
-returns-else-may_be_due-clause-rings g c =
-    let none = c.if-may_be_due.ensures.none refl in
-    Over none.0 none.1
+pub returns-clause-rings : goal.returns-clause-rings
+returns-clause-rings g c =
+    let none = c.in_default.ensures.none in
+    let same = c.in_default.ensures.unchanged in
+    let over : Rings g.B.Bell.rings c.loop-ticket.chan c.loop-ticket.bell c.next_due.new.self c.loop-ticket.bell =
+    rw same (Over none.0 none.1) in
+    c.loop-ticket.invariant.from_here _ _ over
 
-pub returns-else-may_be_due-clause-told : goal.returns-else-may_be_due-clause-told
-returns-else-may_be_due-clause-told g c = all_told g.B.Bell.rings (returns-else-may_be_due-clause-rings g c)
+pub returns-clause-sends : goal.returns-clause-sends
+returns-clause-sends g c = (none_left g.B.Bell.rings (returns-clause-rings g c)).0
+
+pub returns-clause-receivers : goal.returns-clause-receivers
+returns-clause-receivers g c = (none_left g.B.Bell.rings (returns-clause-rings g c)).1
+
+pub returns-clause-told : goal.returns-clause-told
+returns-clause-told g c = all_told g.B.Bell.rings (returns-clause-rings g c)
+
+pub returns-clause-stands : goal.returns-clause-stands
+returns-clause-stands g c o log h = c.in_default.ensures.stands o log (c.loop-ticket.invariant.stands o log h)

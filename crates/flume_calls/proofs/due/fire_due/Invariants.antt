@@ -3,7 +3,7 @@ use Rattle.std.specs.FinMap.{keys}
 use Rattle.flume_core.specs.StandsFor.{Keeps}
 use Rattle.flume_calls.specs.Due.{Rings}
 use Rattle.flume_calls.proofs.DueCounts.{DueIn, due_sends, due_entries}
-use Rattle.flume_calls.proofs.due.ring_each.Given as goal
+use Rattle.flume_calls.proofs.due.fire_due.Given as goal
 
 -- every round of rings from here is the end of a round of the call
 abbrev pub invariant-loop-ticket : goal.invariant-loop-ticket
