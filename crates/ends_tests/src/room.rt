@@ -1,4 +1,4 @@
-//! Sends that block and receivers that park where there is room, while memory is refused.
+//! What finds room while memory is refused: sends, with those that block, and receivers that park.
 use crate::calls::Heap;
 use crate::counting::Counting;
 use crate::fixtures::{Parcel, is};
@@ -15,13 +15,40 @@ fn ticket_of<T: Drop, A: Allocator>(reply: Reply<T, A>) -> Option<u64> {
     }
 }
 
-// The message that comes back.
+// The message that is received, or comes back.
 fn message_of<T: Drop, A: Allocator>(reply: Reply<T, A>) -> Option<T> {
     match reply {
         Reply::NoMemory(back) => back,
-        Reply::Returned { message, .. } => Some(message),
+        Reply::Got(message) | Reply::Returned { message, .. } => Some(message),
         _ => None,
     }
+}
+
+#[test]
+fn a_send_takes_the_room_of_a_message_that_was_received(rt: HostRuntime) -> Result<(), Fail> {
+    let heap = Counting::new(rt.alloc());
+    let mut chan: Chan<Parcel, u32, Heap<'_>> = Chan::new(&heap, None);
+    assert!(rt; chan.room() == 0);
+    assert!(rt; matches!(chan.try_send(Parcel(1)), Reply::Sent { .. }));
+    is(&rt, message_of(chan.try_recv()), Some(Parcel(1)));
+    heap.refuse(true);
+    assert!(rt; chan.room() > 0);
+    assert!(rt; matches!(chan.try_send(Parcel(2)), Reply::Sent { .. }));
+    is(&rt, message_of(chan.try_recv()), Some(Parcel(2)));
+    Ok(())
+}
+
+#[test]
+fn a_blocked_message_moves_in_while_memory_is_refused(rt: HostRuntime) -> Result<(), Fail> {
+    let heap = Counting::new(rt.alloc());
+    let mut chan: Chan<Parcel, u32, Heap<'_>> = Chan::new(&heap, Some(1));
+    assert!(rt; matches!(chan.send(Parcel(1), 10), Reply::Sent { .. }));
+    is(&rt, ticket_of(chan.send(Parcel(2), 20)), Some(1));
+    heap.refuse(true);
+    is(&rt, message_of(chan.try_recv()), Some(Parcel(1)));
+    assert!(rt; matches!(chan.poll_send(1, None), Reply::Accepted));
+    is(&rt, message_of(chan.try_recv()), Some(Parcel(2)));
+    Ok(())
 }
 
 #[test]

@@ -33,6 +33,7 @@ module _ {T S : Type 0} where
     pub waits : (ticket : ℕ) → next ≡ Park ticket → FindsNoRoom old
     pub parked : next ≡ Park old.next → new ≡ record old {
       blocked = old.blocked ++ record { ticket = old.next; message = message } ∷ [];
+      space = new.space;
       sends = insert old.sends old.next (blocked signal);
       next = old.next + 1;
     }

@@ -7,6 +7,7 @@ mod Stands
 mod Marks
 mod Keeping
 mod Moves
+mod Spaces
 mod Receives
 mod Takes
 mod Drains

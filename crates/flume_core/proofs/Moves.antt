@@ -52,11 +52,11 @@ module _ {T A S : Type 0} where
       by_case false none = none_blocked h (room_at_state h (takes.1 (waiting_at_log h ∙ none)))
 
   -- a message is queued, and a wake round follows
-  pub queues : (o : Opening) (past : Log T A) (p : Step T × Reply T A) (old new : State T S) (m : T) (filled : Option ℕ)
+  pub queues : (o : Opening) (past : Log T A) (p : Step T × Reply T A) (old new : State T S) (m : T) (filled : Option ℕ) (space : ℕ)
       → StandsFor o past old → IsReply (channel o past) p.0 p.1 → change past p.0 p.1 ≡ Queues m filled
       → filled ≡ round_for_fills (old.queue ++ m ∷ []) old.entries
-      → new ≡ rounded (record old { queue = old.queue ++ m ∷ [] }) → StandsFor o (p ∷ past) new
-  queues o past p old new m filled h reply e fills is =
+      → new ≡ rounded (record old { queue = old.queue ++ m ∷ []; space = space }) → StandsFor o (p ∷ past) new
+  queues o past p old new m filled space h reply e fills is =
       let x : Offer T = record { message = m; ticket = None } in
       let fit = fits_as o past p (Queues m filled) h.run reply e in
       let open_ : is_over past ≡ false = open_not_over past (let is_open = fit.0.0 in omega arith) in
@@ -86,15 +86,16 @@ module _ {T A S : Type 0} where
       })
 
   -- a message is blocked
-  pub blocks : (o : Opening) (past : Log T A) (p : Step T × Reply T A) (old new : State T S) (m : T) (signal : S) → StandsFor o past old
-      → IsReply (channel o past) p.0 p.1 → change past p.0 p.1 ≡ Blocks m old.next
+  pub blocks : (o : Opening) (past : Log T A) (p : Step T × Reply T A) (old new : State T S) (m : T) (signal : S) (space : ℕ)
+      → StandsFor o past old → IsReply (channel o past) p.0 p.1 → change past p.0 p.1 ≡ Blocks m old.next
       → new ≡ record old {
         blocked = old.blocked ++ record { ticket = old.next; message = m } ∷ [];
+        space = space;
         sends = insert old.sends old.next (blocked_send signal);
         next = old.next + 1;
       }
       → StandsFor o (p ∷ past) new
-  blocks o past p old new m signal h reply e is =
+  blocks o past p old new m signal space h reply e is =
       let b : Blocked T = record { ticket = old.next; message = m } in
       let fit = fits_as o past p (Blocks m old.next) h.run reply e in
       let open_ : is_over past ≡ false = open_not_over past (let is_open = fit.0.0 in omega arith) in

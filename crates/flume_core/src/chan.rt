@@ -1,5 +1,5 @@
 //! The state of a channel, and the steps that change it.
-ghost use Rattle.std.specs.Prelude.{◌≡◌, [], length, IsTrue, ◌↔◌};
+ghost use Rattle.std.specs.Prelude.{◌≡◌, ◌≤◌, [], length, IsTrue, ◌↔◌};
 ghost use Rattle.flume_model.specs.Log.{opens};
 ghost use Rattle.flume_model.specs.Limits.{IsOpen, HasRoom};
 ghost use Rattle.flume_state.specs.State.{State, opened};
@@ -47,6 +47,7 @@ impl<T, S, A: Allocator> Model for Chan<T, S, A> {
       capacity = chan.capacity;
       queue = chan.line.queued;
       blocked = chan.line.blocked;
+      space = chan.line.space;
       sends = chan.sends;
       entries = chan.entries;
       next = chan.next;
@@ -125,6 +126,7 @@ impl<T: Drop, A: Allocator + Copy> Chan<T, (), A> {
         ensures step { Extends self.old step result self.new }
         ensures dues { IsLedTo A self.old → BecomesDue self.old step result self.new }
         ensures comes { Comes step result }
+        ensures space { self.old.space ≤ self.new.space }
         ensures unchanged { ChangesNothing step result → self.new ≡ self.old }
     {
         match step {

@@ -5,7 +5,7 @@ use Rattle.flume_model.specs.declared.entry.Mark.TheVariants.{Woken, Filled}
 use Rattle.flume_model.specs.declared.step.Kind.{Kind}
 use Rattle.flume_model.specs.declared.step.Kind.TheVariants.{Block, Plain, Stream, Arm}
 use Rattle.flume_model.specs.Entries.{waiting_count, round, round_fills, round_for, round_for_fills}
-use Rattle.flume_state.specs.Messages.{Blocked, Messages}
+use Rattle.flume_state.specs.Messages.{Messages}
 use Rattle.flume_state.specs.Parked.{first_waiting, first_marked}
 use Rattle.flume_state.specs.Receivers.{unfilled}
 use Rattle.flume_state.proofs.EntryRounds.{named, round_on, fills_on, round_ends, fills_end, none_wait, round_idle, fills_idle}
@@ -22,11 +22,9 @@ module _ {T : Type 0} where
   same_line line queue is = ap (λ q. record line { queued = q }) is
 
   -- the line that is left once its front was taken
-  line_left : (line new : Messages T) (rest : List T) → new.queued ≡ rest → new.blocked ≡ line.blocked
+  line_left : (line new : Messages T) (rest : List T) → new.queued ≡ rest → new.blocked ≡ line.blocked → new.space ≡ line.space
       → new ≡ record line { queued = rest }
-  line_left line new rest queue blocks =
-      ap (λ q. record new { queued = q }) queue
-      ∙ ap (λ (b : List (Blocked T)). let left : Messages T = record { queued = rest; blocked = b } in left) blocks
+  line_left line new rest queue blocks space = λ i. record { queued = queue i; blocked = blocks i; space = space i }
 
 module _ {T N : Type 0} where
   -- what a wake round leaves: the receivers, the ticket that it filled, and the line
@@ -127,7 +125,7 @@ module _ {T N : Type 0} where
       record {
         fills = rw w.queue fills;
         woken = rw w.queue (woken ∙ ap (λ m. first_marked tell (Filled m) old) first ∙ ends ∙ w.leaves);
-        queue = rw w.queue (rw (← fills) (line_left line line_new w.rest others (ap (λ (l : Messages T). l.blocked) was)));
+        queue = rw w.queue (rw (← fills) (line_left line line_new w.rest others (ap (λ (l : Messages T). l.blocked) was) (ap (λ (l : Messages T). l.space) was)));
       }
 
   -- the queue has a front all the while

@@ -1,6 +1,7 @@
 pub mod PlacedLemmas
 pub mod LineLemmas
 pub mod LineSteps
+pub mod LineSpace
 pub mod Withdrawals
 pub mod LineMarks
 pub mod EntryParts
@@ -14,7 +15,7 @@ pub mod EntryRounds
 pub mod EntryWakes
 pub mod SendsLaws
 pub mod MapLaws
-pub mod TreeLemmas
+pub mod TableLemmas
 pub mod PlaceLemmas
 pub mod TicketLemmas
 pub mod TicketMaps

@@ -68,23 +68,23 @@ module _ {T : Type 0} where
       nothing (l ∷ ls) ms h = absurd cc
 
   -- the line of queued elements and of blocked ones behind them
-  line_joined : (xs ys : List (Placed (Ticketed T))) → blocked_of xs ≡ [] → queued_of ys ≡ []
-      → line_of (xs ++ ys) ≡ record { queued = queued_of xs; blocked = blocked_of ys }
-  line_joined xs ys none_blocked none_queued =
+  line_joined : (xs ys : List (Placed (Ticketed T))) (space : ℕ) → blocked_of xs ≡ [] → queued_of ys ≡ []
+      → line_of (xs ++ ys) space ≡ record { queued = queued_of xs; blocked = blocked_of ys; space = space }
+  line_joined xs ys space none_blocked none_queued =
       let queued : queued_of (xs ++ ys) ≡ queued_of xs = queued_append xs ys ∙ ap (λ l. queued_of xs ++ l) none_queued ∙ append-nil (queued_of xs) in
       let blocked : blocked_of (xs ++ ys) ≡ blocked_of ys = blocked_append xs ys ∙ ap (λ l. l ++ blocked_of ys) none_blocked in
-      λ i. record { queued = queued i; blocked = blocked i }
+      λ i. record { queued = queued i; blocked = blocked i; space = space }
 
   -- the line of elements that are laid out
-  pub laid : (items : List (Placed (Ticketed T))) (first : Option ℕ) (count : ℕ) (w : Lined items first count)
-      → line_of items ≡ record { queued = queued_of w.front; blocked = blocked_of w.back }
-  laid items first count w = ap line_of w.is ∙ line_joined w.front w.back w.none_blocked w.none_queued
+  pub laid : (items : List (Placed (Ticketed T))) (first : Option ℕ) (count space : ℕ) (w : Lined items first count)
+      → line_of items space ≡ record { queued = queued_of w.front; blocked = blocked_of w.back; space = space }
+  laid items first count space w = ap (λ l. line_of l space) w.is ∙ line_joined w.front w.back space w.none_blocked w.none_queued
 
   -- how many are queued, and how many blocked
-  pub counts : (items : List (Placed (Ticketed T))) (first : Option ℕ) (count : ℕ) (line : Messages T) → Lined items first count → line_of items ≡ line
-      → (length items - count ≡ length line.queued) × (count ≡ length line.blocked)
-  counts items first count line w view =
-      let is = sym (laid items first count w) ∙ view in
+  pub counts : (items : List (Placed (Ticketed T))) (first : Option ℕ) (count space : ℕ) (line : Messages T) → Lined items first count
+      → line_of items space ≡ line → (length items - count ≡ length line.queued) × (count ≡ length line.blocked)
+  counts items first count space line w view =
+      let is = sym (laid items first count space w) ∙ view in
       let queued = sym (queued_count w.front w.none_blocked) ∙ ap (λ (m : Messages T). length m.queued) is in
       let blocked = sym (blocked_count w.back w.none_queued) ∙ ap (λ (m : Messages T). length m.blocked) is in
       let all = ap length w.is ∙ length-append w.front w.back in
@@ -97,8 +97,7 @@ on_err (Ok x) P holds = tt
 on_err (Err e) P holds = holds
 
 -- a line with nothing queued
-pub none_left : {T : Type 0} (line new : Messages T) (blocked : List (Blocked T)) → new ≡ line → line.queued ≡ [] → line.blocked ≡ blocked
-    → new ≡ record { queued = []; blocked = blocked }
-none_left {T} line new blocked same none is =
-    same ∙ ap (λ q. record line { queued = q }) none
-    ∙ ap (λ (b : List (Blocked T)). let left : Messages T = record { queued = []; blocked = b } in left) is
+pub none_left : {T : Type 0} (first line new : Messages T) → new ≡ line → line.queued ≡ [] → line.blocked ≡ first.blocked → line.space ≡ first.space
+    → new ≡ record first { queued = [] }
+none_left {T} first line new same none blocked space =
+    same ∙ (λ i. record { queued = none i; blocked = blocked i; space = space i })

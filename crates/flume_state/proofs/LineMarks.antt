@@ -49,14 +49,14 @@ module _ {T S : Type 0} where
     pub marks : all_due (blocked_of rest) sends ≡ done
 
   -- it begins at the first blocked one
-  pub walk_begins : (items : List (Placed (Ticketed T))) (first : Option ℕ) (count : ℕ) (line : Messages T) (sends : SendMap S)
-      → Lined items first count → line_of items ≡ line → Walks items first sends (all_due line.blocked sends)
-  walk_begins items first count line sends w view = record {
+  pub walk_begins : (items : List (Placed (Ticketed T))) (first : Option ℕ) (count space : ℕ) (line : Messages T) (sends : SendMap S)
+      → Lined items first count → line_of items space ≡ line → Walks items first sends (all_due line.blocked sends)
+  walk_begins items first count space line sends w view = record {
     before = w.front;
     rest = w.back;
     is = w.is;
     here = w.boundary;
-    marks = ap (λ (l : Messages T). all_due l.blocked sends) (sym (laid items first count w) ∙ view);
+    marks = ap (λ (l : Messages T). all_due l.blocked sends) (sym (laid items first count space w) ∙ view);
   }
 
   -- it is over where no place is left

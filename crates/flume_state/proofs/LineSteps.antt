@@ -2,30 +2,20 @@
 use Rattle.std.proofs.Common.{◌≡◌, ◌≢◌, ℕ, ◌-◌, List, [], ◌∷◌, ◌++◌, length, Option, Some, None, refl, sym, ap, ap₂, subst, ◌∙◌, arith, length-append}
 use Rattle.std.specs.Prelude.{OnSome}
 use Rattle.std.specs.Option.{option_or, option_map}
-use Rattle.std.proofs.lemmas.List.{append_assoc, append-nil}
-use Rattle.flume_chain.specs.Chained.{Placed, first_place, last_place, found, without, behind_first, first_element, place_after}
+use Rattle.std.proofs.lemmas.List.{append_assoc}
+use Rattle.flume_chain.specs.Chained.{Placed, first_place, found, without, behind_first, first_element, place_after}
 use Rattle.flume_state.specs.declared.ticketed.Ticketed.{Ticketed}
 use Rattle.flume_state.specs.Ticketed.{put_ahead, released, ticket_in}
 use Rattle.flume_state.specs.Messages.{Blocked, Messages, Admits}
 use Rattle.flume_state.specs.Lined.{blocked_ahead, queued_of, blocked_of, line_of, Lined}
 use Rattle.flume_state.proofs.PlacedLemmas.{Apart, ahead_none, found_here, without_here, after_here, put_ahead_between, unticketed, released_here}
-use Rattle.flume_chain.proofs.ChainLaws.{last_place-push}
-use Rattle.flume_state.proofs.PlacedLemmas.{headed, ended, first_left}
+use Rattle.flume_state.proofs.PlacedLemmas.{headed, first_left}
 use Rattle.flume_state.proofs.LineLemmas.{queued_append, blocked_append, none_queued_append, unqueued, unblocked, laid, counts}
-
--- two lists that end alike begin alike
-push_inj : {X : Type 0} (xs ys : List X) (x y : X) → xs ++ x ∷ [] ≡ ys ++ y ∷ [] → (xs ≡ ys) × (x ≡ y)
-push_inj [] [] x y e = (refl, cc)
-push_inj [] (b ∷ ys) x y e = absurd (let long = ap length e in omega (arith, length-append ys (y ∷ []), long))
-push_inj (a ∷ xs) [] x y e = absurd (let long = ap length e in omega (arith, length-append xs (x ∷ []), long))
-push_inj (a ∷ xs) (b ∷ ys) x y e =
-    let rest = push_inj xs ys x y cc in
-    ((let first : a ≡ b = cc in cc), rest.1)
 
 -- elements laid out so, which are this line
 pub record Lays {T : Type 0} (items : List (Placed (Ticketed T))) (first : Option ℕ) (count : ℕ) (line : Messages T) : Type 0 where
   pub lined : Lined items first count
-  pub view : line_of items ≡ line
+  pub view : line_of items line.space ≡ line
 
 module _ {T : Type 0} where
   -- a message without a ticket, and one with a ticket
@@ -36,10 +26,10 @@ module _ {T : Type 0} where
   blocked_at place t m = record { place = place; element = record { ticket = Some t; value = m } }
 
   -- a message that joins the queue stands between both parts
-  pub queues : (items new : List (Placed (Ticketed T))) (first : Option ℕ) (count place : ℕ) (m : T) (line : Messages T)
-      → Lined items first count → line_of items ≡ line → Apart items → new ≡ put_ahead items first (queued_at place m)
-      → Lays new first count (record line { queued = line.queued ++ m ∷ [] })
-  queues items new first count place m line w view apart is =
+  pub queues : (items new : List (Placed (Ticketed T))) (first : Option ℕ) (count place space more : ℕ) (m : T) (line : Messages T)
+      → Lined items first count → line_of items space ≡ line → Apart items → new ≡ put_ahead items first (queued_at place m)
+      → Lays new first count (record line { queued = line.queued ++ m ∷ []; space = more })
+  queues items new first count place space more m line w view apart is =
       let x = queued_at place m in
       let joined : new ≡ w.front ++ x ∷ [] ++ w.back =
       is ∙ ap₂ (λ (l : List (Placed (Ticketed T))) (o : Option ℕ). put_ahead l o x) w.is w.boundary
@@ -55,9 +45,9 @@ module _ {T : Type 0} where
       } in
       record {
         lined = made;
-        view = laid new first count made
-            ∙ ap (λ (q : List T). let l : Messages T = record { queued = q; blocked = blocked_of w.back } in l) (queued_append w.front (x ∷ []))
-            ∙ ap (λ (l : Messages T). record l { queued = l.queued ++ m ∷ [] }) (sym (laid items first count w) ∙ view);
+        view = laid new first count more made
+            ∙ ap (λ (q : List T). let l : Messages T = record { queued = q; blocked = blocked_of w.back; space = more } in l) (queued_append w.front (x ∷ []))
+            ∙ ap (λ (l : Messages T). record l { queued = l.queued ++ m ∷ []; space = more }) (sym (laid items first count space w) ∙ view);
       }
 
   -- the first of some with one more behind them
@@ -66,11 +56,12 @@ module _ {T : Type 0} where
   first_push (y ∷ xs) x = refl
 
   -- a message that blocks stands behind all others
-  pub blocks : (items new : List (Placed (Ticketed T))) (first : Option ℕ) (count place t queued all : ℕ) (m : T) (line : Messages T)
-      → Lined items first count → line_of items ≡ line → new ≡ items ++ blocked_at place t m ∷ []
+  pub blocks : (items new : List (Placed (Ticketed T))) (first : Option ℕ) (count place space more t queued all : ℕ) (m : T) (line : Messages T)
+      → Lined items first count → line_of items space ≡ line → new ≡ items ++ blocked_at place t m ∷ []
       → queued ≡ length line.queued → all ≡ length new
-      → Lays new (option_or first (Some place)) (all - queued) (record line { blocked = line.blocked ++ record { ticket = t; message = m } ∷ [] })
-  blocks items new first count place t queued all m line w view is are total =
+      → Lays new (option_or first (Some place)) (all - queued)
+      (record line { blocked = line.blocked ++ record { ticket = t; message = m } ∷ []; space = more })
+  blocks items new first count place space more t queued all m line w view is are total =
       let x = blocked_at place t m in
       let joined : new ≡ w.front ++ (w.back ++ x ∷ []) = is ∙ ap (λ (l : List (Placed (Ticketed T))). l ++ x ∷ []) w.is ∙ append_assoc w.front w.back (x ∷ []) in
       let made : Lined new (option_or first (Some place)) (all - queued) = record {
@@ -81,7 +72,7 @@ module _ {T : Type 0} where
         none_queued = queued_append w.back (x ∷ []) ∙ ap (λ (l : List T). l ++ []) w.none_queued;
         boundary = ap (λ o. option_or o (Some place)) w.boundary ∙ first_push w.back x;
         counted =
-            let known = (counts items first count line w view).0 in
+            let known = (counts items first count space line w view).0 in
             let before = ap length w.is ∙ length-append w.front w.back in
             let after = ap length joined ∙ length-append w.front (w.back ++ x ∷ []) in
             let more = length-append w.back (x ∷ []) in
@@ -90,9 +81,10 @@ module _ {T : Type 0} where
       } in
       record {
         lined = made;
-        view = laid new _ _ made
-            ∙ ap (λ (b : List (Blocked T)). let l : Messages T = record { queued = queued_of w.front; blocked = b } in l) (blocked_append w.back (x ∷ []))
-            ∙ ap (λ (l : Messages T). record l { blocked = l.blocked ++ record { ticket = t; message = m } ∷ [] }) (sym (laid items first count w) ∙ view);
+        view = laid new _ _ more made
+            ∙ ap (λ (b : List (Blocked T)). let l : Messages T = record { queued = queued_of w.front; blocked = b; space = more } in l) (blocked_append w.back (x ∷ []))
+            ∙ ap (λ (l : Messages T). record l { blocked = l.blocked ++ record { ticket = t; message = m } ∷ []; space = more })
+            (sym (laid items first count space w) ∙ view);
       }
 
   -- the front message leaves the queue
@@ -100,14 +92,14 @@ module _ {T : Type 0} where
     pub message : T
     pub is_first : option_map (λ e. e.value) (first_element items) ≡ Some message
     pub lined : Lined new first count
-    pub view : line ≡ record (line_of new) { queued = message ∷ queued_of new }
+    pub view : line ≡ record (line_of new line.space) { queued = message ∷ queued_of new }
 
-  takes_from : (front back : List (Placed (Ticketed T))) (items new : List (Placed (Ticketed T))) (first : Option ℕ) (count : ℕ) (line : Messages T)
+  takes_from : (front back : List (Placed (Ticketed T))) (items new : List (Placed (Ticketed T))) (first : Option ℕ) (count space : ℕ) (line : Messages T)
       → items ≡ front ++ back → blocked_of front ≡ [] → queued_of back ≡ [] → first ≡ first_place back → count ≡ length back
-      → line_of items ≡ line → length line.queued ≢ 0 → new ≡ behind_first items → Takes items new first count line
-  takes_from [] back items new first count line is none_blocked none_queued boundary counted view some rest =
-      absurd (some (ap (λ (m : Messages T). length m.queued) (sym view ∙ ap line_of is) ∙ ap length none_queued))
-  takes_from (x ∷ front) back items new first count line is none_blocked none_queued boundary counted view some rest =
+      → line_of items space ≡ line → length line.queued ≢ 0 → new ≡ behind_first items → Takes items new first count line
+  takes_from [] back items new first count space line is none_blocked none_queued boundary counted view some rest =
+      absurd (some (ap (λ (m : Messages T). length m.queued) (sym view ∙ ap (λ l. line_of l space) is) ∙ ap length none_queued))
+  takes_from (x ∷ front) back items new first count space line is none_blocked none_queued boundary counted view some rest =
       let head = unblocked x.element.ticket x.element.value (queued_of (front ++ back)) (blocked_of front) none_blocked in
       let same : blocked_of (x ∷ (front ++ back)) ≡ blocked_of (front ++ back) =
       ap (λ o. blocked_ahead o x.element.value (blocked_of (front ++ back))) head.0 in
@@ -124,15 +116,16 @@ module _ {T : Type 0} where
           boundary = boundary;
           counted = counted;
         };
-        view = sym view ∙ ap line_of is
-            ∙ (λ i. record { queued = head.2 i; blocked = same i })
-            ∙ ap (λ (l : List (Placed (Ticketed T))). record (line_of l) { queued = x.element.value ∷ queued_of l }) (sym left);
+        view = sym view ∙ ap (λ l. line_of l space) is
+            ∙ (λ i. record { queued = head.2 i; blocked = same i; space = space })
+            ∙ ap (λ (l : List (Placed (Ticketed T))). record (line_of l space) { queued = x.element.value ∷ queued_of l }) (sym left)
+            ∙ ap (λ (n : ℕ). record (line_of new n) { queued = x.element.value ∷ queued_of new }) (ap (λ (l : Messages T). l.space) view);
       }
 
-  pub takes : (items new : List (Placed (Ticketed T))) (first : Option ℕ) (count : ℕ) (line : Messages T)
-      → Lined items first count → line_of items ≡ line → length line.queued ≢ 0 → new ≡ behind_first items → Takes items new first count line
-  takes items new first count line w view some rest =
-      takes_from w.front w.back items new first count line w.is w.none_blocked w.none_queued w.boundary w.counted view some rest
+  pub takes : (items new : List (Placed (Ticketed T))) (first : Option ℕ) (count space : ℕ) (line : Messages T)
+      → Lined items first count → line_of items space ≡ line → length line.queued ≢ 0 → new ≡ behind_first items → Takes items new first count line
+  takes items new first count space line w view some rest =
+      takes_from w.front w.back items new first count space line w.is w.none_blocked w.none_queued w.boundary w.counted view some rest
 
   -- one of the blocked messages, with its ticket, among all others
   pub record Stands (items : List (Placed (Ticketed T))) (line : Messages T) (front before after : List (Placed (Ticketed T)))
@@ -143,16 +136,16 @@ module _ {T : Type 0} where
     pub all : line.blocked ≡ blocked_of before ++ record { ticket = ticket; message = x.element.value } ∷ blocked_of after
     pub others : queued_of (before ++ after) ≡ []
 
-  pub stands : (items before after : List (Placed (Ticketed T))) (first : Option ℕ) (count : ℕ) (x : Placed (Ticketed T)) (line : Messages T)
-      → (w : Lined items first count) → line_of items ≡ line → w.back ≡ before ++ x ∷ after → Stands items line w.front before after x
-  stands items before after first count x line w view split =
+  pub stands : (items before after : List (Placed (Ticketed T))) (first : Option ℕ) (count space : ℕ) (x : Placed (Ticketed T)) (line : Messages T)
+      → (w : Lined items first count) → line_of items space ≡ line → w.back ≡ before ++ x ∷ after → Stands items line w.front before after x
+  stands items before after first count space x line w view split =
       let none = none_queued_append before (x ∷ after) (ap queued_of (sym split) ∙ w.none_queued) in
       let own = unqueued x.element.ticket x.element.value (queued_of after) none.1 in
       record {
         among = w.is ∙ ap (λ (l : List (Placed (Ticketed T))). w.front ++ l) split ∙ sym (append_assoc w.front before (x ∷ after));
         ticket = own.0;
         has = own.1;
-        all = ap (λ (l : Messages T). l.blocked) (sym view ∙ laid items first count w)
+        all = ap (λ (l : Messages T). l.blocked) (sym view ∙ laid items first count space w)
             ∙ ap blocked_of split ∙ blocked_append before (x ∷ after)
             ∙ ap (λ o. blocked_of before ++ blocked_ahead o x.element.value (blocked_of after)) own.1;
         others = queued_append before after ∙ ap₂ (λ (l m : List T). l ++ m) none.0 own.2;
@@ -176,11 +169,11 @@ module _ {T : Type 0} where
       (result ≡ option_map (λ e. e.value) (found items place)) × OnSome result (new ≡ without items place)
 
   -- one of the blocked messages leaves
-  pub leaves : (items new before after : List (Placed (Ticketed T))) (first next : Option ℕ) (count place : ℕ) (x : Placed (Ticketed T))
-      (line : Messages T) (result : Option T) (w : Lined items first count) → Stands items line w.front before after x → line_of items ≡ line
+  pub leaves : (items new before after : List (Placed (Ticketed T))) (first next : Option ℕ) (count space place : ℕ) (x : Placed (Ticketed T))
+      (line : Messages T) (result : Option T) (w : Lined items first count) → Stands items line w.front before after x → line_of items space ≡ line
       → w.back ≡ before ++ x ∷ after → Apart items → place ≡ x.place → FirstWithout items first next place → TakenOut items new place result
       → Lays new next (count - 1) (record line { blocked = blocked_of before ++ blocked_of after })
-  leaves items new before after first next count place x line result w s view split apart here firsts out =
+  leaves items new before after first next count space place x line result w s view split apart here firsts out =
       let there = out.0 ∙ value_at items w.front before after x line place s apart here in
       let is : new ≡ without items place = subst (λ o. OnSome o (new ≡ without items place)) there out.1 in
       let made : Lined new next (count - 1) = record {
@@ -199,75 +192,24 @@ module _ {T : Type 0} where
       } in
       record {
         lined = made;
-        view = laid new next (count - 1) made
-            ∙ ap (λ (b : List (Blocked T)). let l : Messages T = record { queued = queued_of w.front; blocked = b } in l) (blocked_append before after)
-            ∙ ap (λ (l : Messages T). record l { blocked = blocked_of before ++ blocked_of after }) (sym (laid items first count w) ∙ view);
+        view = laid new next (count - 1) line.space made
+            ∙ ap (λ (b : List (Blocked T)). let l : Messages T = record { queued = queued_of w.front; blocked = b; space = line.space } in l) (blocked_append before after)
+            ∙ ap (λ (l : Messages T). record l { blocked = blocked_of before ++ blocked_of after; space = line.space }) (sym (laid items first count space w) ∙ view);
       }
-
-  -- the last blocked message leaves
-  pub record Pops (new : List (Placed (Ticketed T))) (next : Option ℕ) (left : ℕ) (line : Messages T) (result : Option T) : Type 0 where
-    pub before : List (Blocked T)
-    pub last : Blocked T
-    pub is : result ≡ Some last.message
-    pub all : line.blocked ≡ before ++ last ∷ []
-    pub lays : Lays new next left (record line { blocked = before ++ [] })
-
-  pub pops : (items new : List (Placed (Ticketed T))) (first next : Option ℕ) (count f place : ℕ) (line : Messages T) (result : Option T)
-      → Lined items first count → line_of items ≡ line → Apart items → first ≡ Some f → Some place ≡ last_place items
-      → FirstWithout items first next place → TakenOut items new place result → Pops new next (count - 1) line result
-  pops items new first next count f place line result w view apart some at firsts out =
-      let h = headed w.back f (sym some ∙ w.boundary) in
-      let r = ended h.head h.tail in
-      let s = stands items r.before [] first count r.last line w view (h.is ∙ r.is) in
-      let here : place ≡ r.last.place = let e = at ∙ ap last_place s.among ∙ last_place-push (w.front ++ r.before) r.last in cc in
-      record {
-        before = blocked_of r.before;
-        last = record { ticket = s.ticket; message = r.last.element.value };
-        is = out.0 ∙ value_at items w.front r.before [] r.last line place s apart here;
-        all = s.all;
-        lays = leaves items new r.before [] first next count place r.last line result w s view (h.is ∙ r.is) apart here firsts out;
-      }
-
-  -- it is the last one, however the blocked ones are split
-  pub popped : (new : List (Placed (Ticketed T))) (next : Option ℕ) (left : ℕ) (line : Messages T) (result : Option T)
-      (before : List (Blocked T)) (last : Blocked T) → Pops new next left line result → line.blocked ≡ before ++ last ∷ []
-      → (result ≡ Some last.message) × (line_of new ≡ record line { blocked = before })
-  popped new next left line result before last p split =
-      let same = push_inj p.before before p.last last (sym p.all ∙ split) in (
-        p.is ∙ ap (λ (b : Blocked T). Some b.message) same.1,
-        p.lays.view ∙ ap (λ (b : List (Blocked T)). record line { blocked = b }) (append-nil p.before ∙ same.0),
-      )
-
-  -- where the last one leaves, one was blocked
-  pub some_popped : (new : List (Placed (Ticketed T))) (next : Option ℕ) (left : ℕ) (line : Messages T) (result : Option T)
-      → Pops new next left line result → line.blocked ≡ [] → ⊥
-  some_popped new next left line result p none =
-      let long = ap length (sym none ∙ p.all) in
-      omega (arith, length-append p.before (p.last ∷ []), long)
-
-  -- a blocked message is the last of all or stands ahead of it
-  pub some_last : (items : List (Placed (Ticketed T))) (first : Option ℕ) (count f : ℕ) → Lined items first count → first ≡ Some f → last_place items ≡ None → ⊥
-  some_last items first count f w some none =
-      let h = headed w.back f (sym some ∙ w.boundary) in
-      let r = ended h.head h.tail in
-      let among : items ≡ w.front ++ r.before ++ r.last ∷ [] =
-      w.is ∙ ap (λ (l : List (Placed (Ticketed T))). w.front ++ l) (h.is ∙ r.is) ∙ sym (append_assoc w.front r.before (r.last ∷ [])) in
-      let e : Some r.last.place ≡ None = sym (last_place-push (w.front ++ r.before) r.last) ∙ ap last_place (sym among) ∙ none in
-      cc
 
   -- the first blocked message joins the queue
   pub record Admitted (items new : List (Placed (Ticketed T))) (next : Option ℕ) (left place : ℕ) (line : Messages T) : Type 0 where
     pub ticket : ℕ
     pub is_first : ticket_in (found items place) ≡ Some ticket
     pub lined : Lined new next left
-    pub admits : Admits line (line_of new) ticket
+    pub admits : Admits line (line_of new line.space) ticket
 
-  pub admitted : (items new : List (Placed (Ticketed T))) (first next : Option ℕ) (count place : ℕ) (line : Messages T)
-      → Lined items first count → line_of items ≡ line → Apart items → first ≡ Some place → new ≡ released place items
+  pub admitted : (items new : List (Placed (Ticketed T))) (first next : Option ℕ) (count space place : ℕ) (line : Messages T)
+      → Lined items first count → line_of items space ≡ line → Apart items → first ≡ Some place → new ≡ released place items
       → next ≡ place_after new place → Admitted items new next (count - 1) place line
-  admitted items new first next count place line w view apart some is behind =
+  admitted items new first next count space place line w view apart some is behind =
       let h = headed w.back place (sym some ∙ w.boundary) in
-      let s = stands items [] h.tail first count h.head line w view h.is in
+      let s = stands items [] h.tail first count space h.head line w view h.is in
       let among : items ≡ w.front ++ h.head ∷ h.tail = w.is ∙ ap (λ (l : List (Placed (Ticketed T))). w.front ++ l) h.is in
       let one = subst Apart among apart in
       let y = unticketed h.head in
@@ -287,8 +229,9 @@ module _ {T : Type 0} where
         lined = made;
         admits = record {
           message = h.head.element.value;
-          leaves = s.all ∙ ap (λ (l : Messages T). record { ticket = s.ticket; message = h.head.element.value } ∷ l.blocked) (sym (laid new next (count - 1) made));
-          joins = ap (λ (l : Messages T). l.queued) (laid new next (count - 1) made) ∙ queued_append w.front (y ∷ [])
-              ∙ ap (λ (l : Messages T). l.queued ++ h.head.element.value ∷ []) (sym (laid items first count w) ∙ view);
+          leaves = s.all ∙ ap (λ (l : Messages T). record { ticket = s.ticket; message = h.head.element.value } ∷ l.blocked) (sym (laid new next (count - 1) line.space made));
+          joins = ap (λ (l : Messages T). l.queued) (laid new next (count - 1) line.space made) ∙ queued_append w.front (y ∷ [])
+              ∙ ap (λ (l : Messages T). l.queued ++ h.head.element.value ∷ []) (sym (laid items first count space w) ∙ view);
+          same_space = refl;
         };
       }

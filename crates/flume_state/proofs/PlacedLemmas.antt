@@ -125,18 +125,6 @@ module _ {E : Type 0} where
   headed [] place h = absurd cc
   headed (x ∷ xs) place h = record { head = x; tail = xs; is = refl; here = cc }
 
-  -- some elements that have a last
-  pub record Ended (xs : List (Placed E)) : Type 0 where
-    pub before : List (Placed E)
-    pub last : Placed E
-    pub is : xs ≡ before ++ last ∷ []
-
-  pub ended : (x : Placed E) (xs : List (Placed E)) → Ended (x ∷ xs)
-  ended x [] = record { before = []; last = x; is = refl }
-  ended x (y ∷ ys) =
-      let r = ended y ys in
-      record { before = x ∷ r.before; last = r.last; is = ap (λ (l : List (Placed E)). x ∷ l) r.is }
-
   -- the first place of some that stand last, once an element of them is out: the next one's if it was the first
   pub first_left : (items front before after : List (Placed E)) (x : Placed E) (first next : Option ℕ) → Apart items
       → items ≡ front ++ before ++ x ∷ after → first ≡ first_place (before ++ x ∷ after)

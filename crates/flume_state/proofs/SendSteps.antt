@@ -192,6 +192,12 @@ module _ {S : Type 0} where
   block_view old new m d t p w (Ok q) view l apart put none is = ap by_ticket put ∙ put_view old.items m d t q w view l apart none
   block_view old new m d t p w (Err v) view l apart put none is = absurd (let no : ⊥ = cc in no)
 
+  -- before, the ticket stood nowhere
+  pub block_absent : {V : Type 0} (items : List (Element S)) (m : SendMap S) (t p : ℕ) (r : Result ℕ V) → by_ticket items ≡ m
+      → OnOk r (place_of t items ≡ None) → r ≡ Ok p → get m t ≡ None
+  block_absent items m t p (Ok q) view none is = ap (λ n. get n t) (sym view) ∙ get_none items t none
+  block_absent items m t p (Err v) view none is = absurd (let no : ⊥ = cc in no)
+
   -- what `remove` leaves where a ticket stands
   pub taken_is : (items new : List (Element S)) (t p : ℕ) (r : Option (LiveSend S)) → place_of t items ≡ Some p
       → r ≡ option_map (λ e. e.value) (found items p) → OnSome r (new ≡ without items p) → new ≡ without items p
@@ -219,7 +225,3 @@ other_place d p e = λ is.
 -- where a ticket stands nowhere its removal changes nothing
 pub none_removed : {S : Type 0} (items : List (Element S)) (m : SendMap S) (t : ℕ) → by_ticket items ≡ m → place_of t items ≡ None → m ≡ remove m t
 none_removed items m t view is = sym (remove_absent m t (ap (λ n. get n t) (sym view) ∙ get_none items t is))
-
-pub is_none : (d : Option ℕ) → is_some d ≡ false → d ≡ None
-is_none None e = refl
-is_none (Some k) e = absurd (let no : ⊥ = cc in no)

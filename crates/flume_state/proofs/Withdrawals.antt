@@ -52,9 +52,9 @@ module _ {T : Type 0} where
       omega (arith, w.counted, ap length h.is, length-append h.before (h.holder ∷ h.after))
 
   -- where none has the ticket, no message blocks under it
-  pub absent : (items : List (Placed (Ticketed T))) (first : Option ℕ) (count t : ℕ) (line : Messages T) → Lined items first count
-      → line_of items ≡ line → None ≡ place_of t items → All (λ b. b.ticket ≢ t) line.blocked
-  absent items first count t line w view none =
+  pub absent : (items : List (Placed (Ticketed T))) (first : Option ℕ) (count space t : ℕ) (line : Messages T) → Lined items first count
+      → line_of items space ≡ line → None ≡ place_of t items → All (λ b. b.ticket ≢ t) line.blocked
+  absent items first count space t line w view none =
       subst (λ (l : Messages T). All (λ b. b.ticket ≢ t) l.blocked) view (none_has t items (sym none))
 
   -- the message with a ticket leaves
@@ -62,15 +62,15 @@ module _ {T : Type 0} where
     pub message : T
     pub is : result ≡ Some message
     pub lined : Lined new next left
-    pub takes : TakesBack line (line_of new) t message
+    pub takes : TakesBack line (line_of new line.space) t message
 
-  pub withdraws : (items new : List (Placed (Ticketed T))) (first next : Option ℕ) (count t place : ℕ) (line : Messages T) (result : Option T)
-      → Lined items first count → line_of items ≡ line → Apart items → Some place ≡ place_of t items
+  pub withdraws : (items new : List (Placed (Ticketed T))) (first next : Option ℕ) (count space t place : ℕ) (line : Messages T) (result : Option T)
+      → Lined items first count → line_of items space ≡ line → Apart items → Some place ≡ place_of t items
       → FirstWithout items first next place → TakenOut items new place result → Withdrawn new next (count - 1) t line result
-  withdraws items new first next count t place line result w view apart found firsts out =
+  withdraws items new first next count space t place line result w view apart found firsts out =
       let h = holds items first count t place w found in
-      let s = stands items h.before h.after first count h.holder line w view h.is in
-      let l = leaves items new h.before h.after first next count place h.holder line result w s view h.is apart (sym h.here) firsts out in
+      let s = stands items h.before h.after first count space h.holder line w view h.is in
+      let l = leaves items new h.before h.after first next count space place h.holder line result w s view h.is apart (sym h.here) firsts out in
       let both : Some s.ticket ≡ Some t = sym s.has ∙ h.ticket in
       let same : s.ticket ≡ t = cc in
       record {
@@ -84,5 +84,6 @@ module _ {T : Type 0} where
           first = none_has t h.before h.first;
           rest = ap (λ (m : Messages T). m.blocked) l.view;
           same = ap (λ (m : Messages T). m.queued) l.view;
+          same_space = refl;
         };
       }

@@ -114,7 +114,10 @@ module _ {T S : Type 0} where
   -- a message joins the queue, and a wake round follows, which fills this receiver, if it fills one
   pub record Joins (old new : State T S) (message : T) (filled : Option ℕ) : Type 0 where
     pub fills : filled ≡ round_for_fills (old.queue ++ message ∷ []) old.entries
-    pub becomes : new ≡ rounded (record old { queue = old.queue ++ message ∷ [] })
+    pub becomes : new ≡ rounded (record old {
+      queue = old.queue ++ message ∷ [];
+      space = new.space;
+    })
 
   -- the blocked message with this ticket comes back, and the ticket is spent
   pub record Returns (old new : State T S) (ticket : ℕ) (message : T) (closed : Bool) : Type 0 where

@@ -1,6 +1,6 @@
 -- How a line lays out its messages. No clause of its methods cites this module.
-use Rattle.std.specs.Prelude.{◌≡◌, ℕ, List, [], ◌∷◌, ◌++◌, Option, Some, None, length}
-use Rattle.flume_chain.specs.Chained.{Placed, first_place}
+use Rattle.std.specs.Prelude.{◌≡◌, ◌+◌, ℕ, List, [], ◌∷◌, ◌++◌, Option, Some, None, length}
+use Rattle.flume_chain.specs.Chained.{Chained, Placed, first_place}
 use Rattle.flume_state.specs.Messages.{Messages, Blocked}
 use Rattle.flume_state.specs.declared.ticketed.Ticketed.{Ticketed}
 
@@ -25,9 +25,17 @@ module _ {T : Type 0} where
   blocked_of [] = []
   blocked_of (x ∷ items) = blocked_ahead x.element.ticket x.element.value (blocked_of items)
 
-  -- the line of these elements
-  abbrev pub line_of : List (Placed (Ticketed T)) → Messages T
-  line_of items = record { queued = queued_of items; blocked = blocked_of items }
+  -- the line of these elements, where so many may stand
+  abbrev pub line_of : List (Placed (Ticketed T)) → ℕ → Messages T
+  line_of items space = record {
+    queued = queued_of items;
+    blocked = blocked_of items;
+    space = space;
+  }
+
+  -- how many elements may stand: those that do, and as many as there is room for
+  abbrev pub space_of : Chained (Ticketed T) → ℕ
+  space_of chain = chain.room + length chain.items
 
   -- the elements are the queued ones and behind them the blocked ones, as many as are counted, of
   -- which the first has this place

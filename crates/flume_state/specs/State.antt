@@ -1,5 +1,5 @@
 -- What a contract sees of a `Chan`: its state.
-use Rattle.std.specs.Prelude.{ℕ, Bool, List, [], map, Option, Some}
+use Rattle.std.specs.Prelude.{ℕ, ◌+◌, Bool, List, [], map, length, Option, Some}
 use Rattle.std.specs.Option.{option_map}
 use Rattle.std.specs.FinMap.{empty, get}
 use Rattle.flume_model.specs.Log.{Opening, Offer}
@@ -16,6 +16,8 @@ pub record State (T S : Type 0) : Type 0 where
   -- the queued messages, the front first, and the blocked ones behind them
   pub queue : List T
   pub blocked : List (Blocked T)
+  -- how many messages may stand before memory is wanted for one more, those that stand included
+  pub space : ℕ
   -- the live send tickets, the parked receivers, and the next ticket
   pub sends : SendMap S
   pub entries : Entries T S
@@ -32,6 +34,7 @@ module _ {T S : Type 0} where
     capacity = opening.capacity;
     queue = [];
     blocked = [];
+    space = 0;
     sends = empty;
     entries = [];
     next = opening.first;
@@ -43,6 +46,10 @@ module _ {T S : Type 0} where
   -- no message and no ticket is left
   abbrev pub emptied : State T S → State T S
   emptied s = record s { queue = []; blocked = []; sends = empty; entries = [] }
+
+  -- how many messages stand, queued and blocked
+  abbrev pub message_count : State T S → ℕ
+  message_count s = length s.queue + length s.blocked
 
   -- how a send ticket stands: none where it isn't live, else whether its message was accepted
   abbrev pub accepted_at : State T S → ℕ → Option Bool

@@ -1,9 +1,9 @@
 //! The line of a channel: its queued messages, and behind them those whose senders block.
-ghost use Rattle.std.specs.Prelude.{◌≡◌, ◌≢◌, List, [], ◌∷◌, ◌++◌, length, Some, None};
-ghost use Rattle.std.specs.Prelude.{IfNone, IfSome, IfOk, IfErr, OnOk, OnErr};
+ghost use Rattle.std.specs.Prelude.{◌≡◌, ◌≢◌, ◌<◌, ◌≤◌, ◌+◌, [], ◌∷◌, ◌++◌, length, Some, None};
+ghost use Rattle.std.specs.Prelude.{IfNone, IfSome, IfOk, IfErr, OnOk, OnErr, IsOk};
 ghost use Rattle.std.specs.List.{All};
 ghost use Rattle.flume_chain.specs.Chained.{place_after};
-ghost use Rattle.flume_state.specs.Messages.{Admits, Blocked, TakesBack};
+ghost use Rattle.flume_state.specs.Messages.{Admits, TakesBack, count};
 ghost use Rattle.flume_state.specs.Effects.{all_due};
 
 use crate::sends::Sends;
@@ -28,9 +28,9 @@ impl<T, A: Allocator> Model for Line<T, A> {
 
     ghost Value = { Messages T };
 
-    ghost use Rattle.flume_state.specs.Lined.{line_of, Lined};
+    ghost use Rattle.flume_state.specs.Lined.{line_of, space_of, Lined};
 
-    ghost view = { λ s. line_of s.chain.items };
+    ghost view = { λ s. line_of s.chain.items (space_of s.chain) };
 
     ghost invariant = { λ s. Lined s.chain.items s.blocked s.blocked_len };
 }
@@ -61,7 +61,7 @@ impl<T: Drop, A: Allocator + Copy> Line<T, A> {
     /// line.take_queued();                // None: 8 is blocked
     /// ```
     pub fn new(alloc: A) -> Self
-        ensures empty { result ≡ record { queued = []; blocked = [] } }
+        ensures empty { result ≡ record { queued = []; blocked = []; space = 0 } }
     {
         Line {
             chain: TicketChain::new(alloc),
@@ -86,12 +86,25 @@ impl<T: Drop, A: Allocator + Copy> Line<T, A> {
         self.blocked_len
     }
 
+    /// How many more messages may stand before more memory is wanted for one.
+    #[inline(always)]
+    pub fn room(&self) -> usize
+        ensures room { result + count self.now ≡ self.now.space }
+    {
+        self.chain.room()
+    }
+
     /// Queues a message behind the other queued ones, and before the blocked ones. With no memory
-    /// left, the message comes back, and the line stays as it was.
+    /// left, the message comes back, and the line stays as it was. While there is room, it isn't
+    /// refused.
     #[inline(always)]
     pub fn push_queued(&mut self, message: T) -> Result<(), T>
-        ensures pushed { OnOk result (self.new
-            ≡ record self.old { queued = self.old.queued ++ message ∷ [] }) }
+        ensures pushed { OnOk result (self.new ≡ record self.old {
+          queued = self.old.queued ++ message ∷ [];
+          space = self.new.space;
+        }) }
+        ensures space { self.old.space ≤ self.new.space }
+        ensures succeeds { count self.old < self.old.space → IsOk result }
         ensures returned { IfErr result (λ back. back ≡ message) }
         ensures unchanged { OnErr result (self.new ≡ self.old) }
     {
@@ -105,7 +118,9 @@ impl<T: Drop, A: Allocator + Copy> Line<T, A> {
     pub fn push_blocked(&mut self, ticket: u64, message: T) -> Result<(), T>
         ensures pushed { OnOk result (self.new ≡ record self.old {
           blocked = self.old.blocked ++ record { ticket = ticket; message = message } ∷ [];
+          space = self.new.space;
         }) }
+        ensures space { self.old.space ≤ self.new.space }
         ensures returned { IfErr result (λ back. back ≡ message) }
         ensures unchanged { OnErr result (self.new ≡ self.old) }
     {
@@ -114,22 +129,6 @@ impl<T: Drop, A: Allocator + Copy> Line<T, A> {
         self.blocked = self.blocked.or(Some(place));
         self.blocked_len = self.chain.len() - queued;
         Ok(())
-    }
-
-    /// Takes the last blocked message back, as after a `push_blocked` that is to be undone. `None`
-    /// where no message is blocked, and then nothing changes. Takes no memory.
-    pub fn pop_blocked(&mut self) -> Option<T>
-        ensures popped { (before : List (Blocked T)) (last : Blocked T)
-            → self.old.blocked ≡ before ++ last ∷ []
-            → (result ≡ Some last.message) × (self.new ≡ record self.old { blocked = before }) }
-        ensures none_blocked { self.old.blocked ≡ [] → result ≡ None }
-        ensures unchanged { IfNone result (self.new ≡ self.old) }
-    {
-        self.blocked?;
-        let place = self.chain.last()?;
-        self.blocked = first_without(&self.chain, self.blocked, place);
-        self.blocked_len -= 1;
-        self.chain.remove(place)
     }
 
     /// Lets the first blocked message into the queue, behind all queued ones, and returns its
@@ -206,7 +205,7 @@ impl<T: Drop, A: Allocator + Copy> Line<T, A> {
 
     /// Drops every message, queued and blocked. Takes no memory.
     pub fn clear(&mut self)
-        ensures empty { self.new ≡ record { queued = []; blocked = [] } }
+        ensures empty { self.new ≡ record self.old { queued = []; blocked = [] } }
     {
         self.chain.clear();
         self.blocked = None;

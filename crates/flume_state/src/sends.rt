@@ -69,6 +69,7 @@ impl<S: Drop, A: Allocator + Copy> Sends<S, A> {
     #[inline(always)]
     pub fn block(&mut self, ticket: u64, signal: S) -> Result<(), AllocError>
         ensures ok { OnOk result (self.new ≡ insert self.old ticket (blocked signal)) }
+        ensures absent { OnOk result (get self.old ticket ≡ None) }
         ensures err { OnErr result (self.new ≡ self.old) }
     {
         let notice = Notice { signal, due: false };
@@ -172,18 +173,25 @@ impl<S: Drop, A: Allocator + Copy> Sends<S, A> {
         self.chain.remove(place);
     }
 
-    /// Whether some ticket may be due. It reads one place, whatever the length.
-    #[inline(always)]
-    pub fn may_be_due(&self) -> bool
-        ensures none { result ≡ false → NoDueSend self.now }
-    {
-        self.due.is_some()
-    }
-
     /// A live ticket that was due, and now isn't: it is named once. `None` where none is due, and
-    /// then nothing changes. It looks through no tickets, whatever the length. Takes no memory.
+    /// then nothing changes, and it only reads one place. It looks through no tickets, whatever the
+    /// length. Takes no memory.
     #[inline(always)]
     pub fn next_due(&mut self) -> Option<u64>
+        ensures was_due { IfSome result (λ t. is_due_send self.old t ≡ true) }
+        ensures taken { IfSome result (λ t. self.new ≡ noticed_send told t self.old) }
+        ensures none_due { IfNone result (NoDueSend self.old) }
+        ensures unchanged { IfNone result (self.new ≡ self.old) }
+    {
+        match self.due {
+            Some(_) => self.tell_first(),
+            None => None,
+        }
+    }
+
+    // The same, out of line.
+    #[inline(never)]
+    fn tell_first(&mut self) -> Option<u64>
         ensures was_due { IfSome result (λ t. is_due_send self.old t ≡ true) }
         ensures taken { IfSome result (λ t. self.new ≡ noticed_send told t self.old) }
         ensures none_due { IfNone result (NoDueSend self.old) }

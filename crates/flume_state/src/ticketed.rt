@@ -5,7 +5,7 @@ ghost use Rattle.std.specs.Prelude.{IsOk, IsSome, IfOk, IfErr, OnOk, OnErr, IfSo
 ghost use Rattle.std.specs.Prelude.{option_copied, ◌↔◌};
 ghost use Rattle.std.specs.Option.{option_map, option_copied_mut};
 ghost use Rattle.flume_chain.specs.Chained.{Placed, found, without, first_place};
-ghost use Rattle.flume_chain.specs.Chained.{last_place, place_after, first_element, behind_first};
+ghost use Rattle.flume_chain.specs.Chained.{place_after, first_element, behind_first};
 ghost use Rattle.flume_chain.specs.Chained.{times, places};
 ghost use Rattle.flume_state.specs.Ticketed.{place_of, ticket_times, put_ahead, released, ticket_in};
 ghost use Rattle.flume_state.specs.declared.ticketed.Ticketed.{Ticketed};
@@ -140,16 +140,6 @@ impl<E: Drop, A: Allocator + Copy> TicketChain<E, A> {
         ensures apart { (k : ℕ) → times k (places self.now.items) ≤ 1 }
     {
         self.chain.first()
-    }
-
-    /// The place of the last element. `None` where none stands.
-    #[inline(always)]
-    pub fn last(&self) -> Option<u32>
-        ensures last { result ≡ last_place self.now.items }
-        ensures single { (t : ℕ) → ticket_times t self.now.items ≤ 1 }
-        ensures apart { (k : ℕ) → times k (places self.now.items) ≤ 1 }
-    {
-        self.chain.last()
     }
 
     /// The place of the element behind that at a place. `None` where none stands at the place, or
@@ -303,6 +293,7 @@ impl<E: Drop, A: Allocator + Copy> TicketChain<E, A> {
     /// Takes out all elements. Takes no memory.
     pub fn clear(&mut self)
         ensures empty { self.new.items ≡ [] }
+        ensures room { self.new.room ≡ self.old.room + length self.old.items }
     {
         self.chain.clear();
         self.places.clear();

@@ -81,22 +81,23 @@ module _ {T S A : Type 0} where
       spent old new step reply t (returns.before ++ returns.later) idle returns.becomes) either
 
   -- a send blocks
-  pub blocks : (old new : State T S) (step : Step T) (reply : Reply T A) (message : Blocked T) (signal : S) → NoneWaits step reply
-      → IsLedTo A old
+  pub blocks : (old new : State T S) (step : Step T) (reply : Reply T A) (message : Blocked T) (signal : S) (space : ℕ)
+      → NoneWaits step reply → IsLedTo A old
       → new ≡ record old {
         blocked = old.blocked ++ message ∷ [];
+        space = space;
         sends = insert old.sends old.next (blocked signal);
         next = old.next + 1;
       }
       → BecomesDue old step reply new
-  blocks old new step reply message signal idle led is =
+  blocks old new step reply message signal space idle led is =
       by_sides old _ new step reply is refl refl idle (new_sends old.sends old.next signal (tickets_of old led).new_send)
       (λ u. receiver_kept (entry_of u old.entries))
 
   -- a wake round
-  pub woken : (old new : State T S) (step : Step T) (reply : Reply T A) (queue : List T) → NoneWaits step reply
-      → new ≡ rounded (record old { queue = queue }) → BecomesDue old step reply new
-  woken old new step reply queue idle is =
+  pub woken : (old new : State T S) (step : Step T) (reply : Reply T A) (queue : List T) (space : ℕ) → NoneWaits step reply
+      → new ≡ rounded (record old { queue = queue; space = space }) → BecomesDue old step reply new
+  woken old new step reply queue space idle is =
       by_sides old _ new step reply is refl refl idle (λ t. send_kept (get old.sends t)) (λ u. round_for_due u queue old.entries)
 
   -- messages move in

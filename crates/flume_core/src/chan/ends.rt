@@ -1,5 +1,5 @@
 //! The steps by which ends come and go.
-ghost use Rattle.std.specs.Prelude.{not, ◌≡◌, ◌+◌, ◌-◌, ◌<◌, ◌↔◌};
+ghost use Rattle.std.specs.Prelude.{not, ◌≤◌, ◌≡◌, ◌+◌, ◌-◌, ◌<◌, ◌↔◌};
 ghost use Rattle.flume_model.specs.Limits.{is_closed, most};
 ghost use Rattle.flume_state.specs.Effects.{after_leaving};
 ghost use Rattle.flume_state.specs.State.{State};
@@ -18,6 +18,7 @@ impl<T: Drop, S: Drop, A: Allocator + Copy> Chan<T, S, A> {
         ensures step { Extends self.old Step.CloneSender result self.new }
         ensures dues { IsLedTo A self.old → BecomesDue self.old Step.CloneSender result self.new }
         ensures comes { Comes Step.CloneSender result }
+        ensures space { self.old.space ≤ self.new.space }
         ensures no_end { (result ≡ Reply.NoEnd) ↔ (self.old.senders ≡ 0) }
         ensures count_full { (result ≡ Reply.CountFull) ↔ (self.old.senders ≡ most) }
         ensures done { (result ≡ Reply.Done)
@@ -41,6 +42,7 @@ impl<T: Drop, S: Drop, A: Allocator + Copy> Chan<T, S, A> {
         ensures step { Extends self.old Step.CloneReceiver result self.new }
         ensures dues { IsLedTo A self.old → BecomesDue self.old Step.CloneReceiver result self.new }
         ensures comes { Comes Step.CloneReceiver result }
+        ensures space { self.old.space ≤ self.new.space }
         ensures no_end { (result ≡ Reply.NoEnd) ↔ (self.old.receivers ≡ 0) }
         ensures count_full { (result ≡ Reply.CountFull) ↔ (self.old.receivers ≡ most) }
         ensures done { (result ≡ Reply.Done)
@@ -67,6 +69,7 @@ impl<T: Drop, S: Drop, A: Allocator + Copy> Chan<T, S, A> {
         ensures step { Extends self.old Step.DropSender result self.new }
         ensures dues { IsLedTo A self.old → BecomesDue self.old Step.DropSender result self.new }
         ensures comes { Comes Step.DropSender result }
+        ensures space { self.old.space ≤ self.new.space }
         ensures done { (result ≡ Reply.Done) ↔ (0 < self.old.senders) }
         ensures no_end { (result ≡ Reply.NoEnd) ↔ (self.old.senders ≡ 0) }
         ensures becomes { 0 < self.old.senders → self.new
@@ -88,6 +91,7 @@ impl<T: Drop, S: Drop, A: Allocator + Copy> Chan<T, S, A> {
         ensures step { Extends self.old Step.DropReceiver result self.new }
         ensures dues { IsLedTo A self.old → BecomesDue self.old Step.DropReceiver result self.new }
         ensures comes { Comes Step.DropReceiver result }
+        ensures space { self.old.space ≤ self.new.space }
         ensures done { (result ≡ Reply.Done) ↔ (0 < self.old.receivers) }
         ensures no_end { (result ≡ Reply.NoEnd) ↔ (self.old.receivers ≡ 0) }
         ensures becomes { 0 < self.old.receivers → self.new

@@ -1,5 +1,5 @@
 //! The steps of parked receivers, and wake rounds.
-ghost use Rattle.std.specs.Prelude.{◌≡◌, ◌↔◌, ◌⊎◌, ℕ, Bool, true, List, [], ◌∷◌, Option, Some};
+ghost use Rattle.std.specs.Prelude.{◌≡◌, ◌≤◌, ◌↔◌, ◌⊎◌, ℕ, Bool, true, List, [], ◌∷◌, Option, Some};
 ghost use Rattle.std.specs.Prelude.{None};
 ghost use Rattle.flume_model.specs.Limits.{IsOpen, IsClosed, is_closed};
 ghost use Rattle.flume_model.specs.Entries.{entry_of, again, passes_on, leave_fills};
@@ -37,6 +37,7 @@ impl<T: Drop, S: Drop, A: Allocator + Copy> Chan<T, S, A> {
         ensures step { Extends self.old (Step.Poll ticket) result self.new }
         ensures dues { IsLedTo A self.old → BecomesDue self.old (Step.Poll ticket) result self.new }
         ensures comes { Comes (Step.Poll ticket) result }
+        ensures space { self.old.space ≤ self.new.space }
         ensures no_ticket { (result ≡ Reply.NoTicket)
             ↔ (entry_of ticket self.old.entries ≡ None) }
         ensures collected { (message : T)
@@ -97,6 +98,7 @@ impl<T: Drop, S: Drop, A: Allocator + Copy> Chan<T, S, A> {
         ensures dues { IsLedTo A self.old
             → BecomesDue self.old (Step.Withdraw ticket) result self.new }
         ensures comes { Comes (Step.Withdraw ticket) result }
+        ensures space { self.old.space ≤ self.new.space }
         ensures no_ticket { (result ≡ Reply.NoTicket)
             ↔ (entry_of ticket self.old.entries ≡ None) }
         ensures collected { (message : T)

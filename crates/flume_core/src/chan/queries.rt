@@ -1,11 +1,11 @@
 //! The queries, each a step that changes nothing, and what is due.
-ghost use Rattle.std.specs.Prelude.{◌≡◌, ◌==◌, length, IfNone, IfSome, false};
+ghost use Rattle.std.specs.Prelude.{◌≡◌, ◌==◌, ◌+◌, length, IfNone, IfSome, false};
 ghost use Rattle.std.specs.Option.{option_copied};
 ghost use Rattle.flume_model.specs.Limits.{is_closed, is_full};
 ghost use Rattle.flume_state.specs.Sends.{NoDueSend};
 ghost use Rattle.flume_state.specs.Receivers.{NoDueReceiver};
 ghost use Rattle.flume_state.specs.Told.{Names, signal_of};
-ghost use Rattle.flume_state.specs.State.{State};
+ghost use Rattle.flume_state.specs.State.{State, message_count};
 ghost use Rattle.flume_core.specs.StandsFor.{Extends, Keeps};
 ghost use Rattle.flume_state.specs.Due.{BecomesDue};
 ghost use Rattle.flume_core.specs.Comes.{Comes};
@@ -86,23 +86,30 @@ impl<T: Drop, S: Drop, A: Allocator + Copy> Chan<T, S, A> {
         Reply::Truth(!self.is_open())
     }
 
-    /// Whether some ticket may be due: false only where `next_due` has none to name. It reads flags
-    /// and a count, whatever is parked.
+    /// How many more messages can be stored before a send needs memory for one. It is 0 at first. A
+    /// step leaves at least as much room, with one more for each message that left the line, queued
+    /// or blocked, and one less for each that joined it: with the messages that stand, the room is
+    /// never less than before, which each step says as its clause `space`. No step of its own, and
+    /// no memory.
     ///
     /// ```
-    /// chan.may_be_due();                 // false of a channel where nobody parked
+    /// let mut chan: Chan<u64, ()> = Chan::new(alloc, None);
+    /// chan.room();                       // 0
+    /// chan.try_send(1);
+    /// chan.try_recv();
+    /// chan.room();                       // 1 or more
     /// ```
-    #[inline(always)]
-    pub fn may_be_due(&self) -> bool
-        ensures none { result ≡ false → NoDueSend self.now.sends × NoDueReceiver self.now.entries }
+    pub fn room(&self) -> usize
+        ensures room { result + message_count self.now ≡ self.now.space }
     {
-        self.sends.may_be_due() || self.entries.may_be_due()
+        self.line.room()
     }
 
     /// A ticket that is due: its send was accepted, or found blocked by the step that closed the
     /// channel, or its receiver was woken or filled, and it wasn't named since. It isn't due then;
-    /// all else is as it was. `None` exactly where no ticket is due. No step of its own, and no
-    /// memory.
+    /// all else is as it was. `None` exactly where no ticket is due. It costs the same whatever is
+    /// parked. No step of its own, and no memory.
+    #[inline(always)]
     pub fn next_due(&mut self) -> Option<u64>
         ensures named { IfSome result (λ ticket. Names self.old self.new ticket) }
         ensures none { IfNone result (NoDueSend self.old.sends × NoDueReceiver self.old.entries) }

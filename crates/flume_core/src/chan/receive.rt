@@ -29,6 +29,7 @@ impl<T: Drop, S: Drop, A: Allocator + Copy> Chan<T, S, A> {
         ensures step { Extends self.old Step.TryRecv result self.new }
         ensures dues { IsLedTo A self.old → BecomesDue self.old Step.TryRecv result self.new }
         ensures comes { Comes Step.TryRecv result }
+        ensures space { self.old.space ≤ self.new.space }
         ensures got { (message : T) (rest : List T) → (fronted self.old).queue ≡ message ∷ rest
             → (result ≡ Reply.Got message)
             × (self.new ≡ taken rest self.old) }
@@ -60,6 +61,7 @@ impl<T: Drop, S: Drop, A: Allocator + Copy> Chan<T, S, A> {
         ensures step { Extends self.old (Step.Recv kind) result self.new }
         ensures dues { IsLedTo A self.old → BecomesDue self.old (Step.Recv kind) result self.new }
         ensures comes { Comes (Step.Recv kind) result }
+        ensures space { self.old.space ≤ self.new.space }
         ensures got { (message : T) (rest : List T) → (fronted self.old).queue ≡ message ∷ rest
             → (result ≡ Reply.Got message) × (self.new ≡ taken rest self.old) }
         ensures ended { (result ≡ Reply.Ended)
@@ -103,6 +105,7 @@ impl<T: Drop, S: Drop, A: Allocator + Copy> Chan<T, S, A> {
         ensures step { Extends self.old Step.Drain result self.new }
         ensures dues { IsLedTo A self.old → BecomesDue self.old Step.Drain result self.new }
         ensures comes { Comes Step.Drain result }
+        ensures space { self.old.space ≤ self.new.space }
         ensures drained { (list : Vec T A) → result ≡ Reply.Drained list
             → (list.items ≡ self.old.queue)
             × (self.new ≡ filled_up (record self.old { queue = [] })) }

@@ -8,7 +8,7 @@ ghost use Rattle.flume_state.specs.Sends.{blocked, noticed_send};
 ghost use Rattle.flume_model.specs.Entries.{some_wait};
 ghost use Rattle.flume_state.specs.Effects.{Joins, Returns};
 ghost use Rattle.std.specs.List.{All};
-ghost use Rattle.flume_state.specs.State.{State, accepted_at};
+ghost use Rattle.flume_state.specs.State.{State, accepted_at, message_count};
 ghost use Rattle.flume_core.specs.StandsFor.{Extends, IsLedTo, IsRefusal};
 ghost use Rattle.flume_state.specs.Due.{BecomesDue};
 ghost use Rattle.flume_core.specs.Comes.{Comes};
@@ -23,8 +23,9 @@ impl<T: Drop, S: Drop, A: Allocator + Copy> Chan<T, S, A> {
     /// where a receiver waits, and then a wake round follows: it wakes streams up to the first
     /// receiver that is none, and wakes that one, or where it blocks hands it the front of the
     /// queue and names its ticket. `Full`: no receiver waits, and the queue is at its capacity.
-    /// `Closed`: all senders or all receivers are gone. `NoMemory`: the queue couldn't grow. The
-    /// last three hand the message back and leave the channel as it was.
+    /// `Closed`: all senders or all receivers are gone. `NoMemory`: there was no room for the
+    /// message (`room`), and no memory for more. The last three hand the message back and leave the
+    /// channel as it was.
     ///
     /// ```
     /// chan.try_send(7);                  // Sent { filled: None }
@@ -37,6 +38,7 @@ impl<T: Drop, S: Drop, A: Allocator + Copy> Chan<T, S, A> {
         ensures dues { IsLedTo A self.old
             → BecomesDue self.old (Step.TrySend message) result self.new }
         ensures comes { Comes (Step.TrySend message) result }
+        ensures space { self.old.space ≤ self.new.space }
         ensures closed { (result ≡ Reply.Closed message)
             ↔ IsClosed self.old.senders self.old.receivers }
         ensures full { (result ≡ Reply.Full message)
@@ -44,6 +46,8 @@ impl<T: Drop, S: Drop, A: Allocator + Copy> Chan<T, S, A> {
             × IsAtCapacity self.old.capacity (length self.old.queue) }
         ensures sent { (filled : Option ℕ) → result ≡ Reply.Sent filled
             → Joins self.old self.new message filled }
+        ensures succeeds { message_count self.old < self.old.space
+            → result ≢ Reply.NoMemory (Some message) }
         ensures unchanged { IsRefusal result → self.new ≡ self.old }
     {
         if !self.is_open() {
@@ -61,8 +65,9 @@ impl<T: Drop, S: Drop, A: Allocator + Copy> Chan<T, S, A> {
 
     /// Offers a message, and blocks where the queue is at its capacity. `Sent` as `try_send`.
     /// `Pending`: the message stands behind the queue under this ticket, with the signal. `Closed`
-    /// as `try_send`. `Spent`: the greatest ticket was reached. `NoMemory`: no room for message or
-    /// ticket. The last three hand the message back and leave the channel as it was.
+    /// as `try_send`. `Spent`: the greatest ticket was reached. `NoMemory`: as `try_send`, or no
+    /// room for the ticket of a message that would block. The last three hand the message back and
+    /// leave the channel as it was.
     ///
     /// ```
     /// let mut chan: Chan<u64, u32> = Chan::new(alloc, Some(0));
@@ -75,6 +80,7 @@ impl<T: Drop, S: Drop, A: Allocator + Copy> Chan<T, S, A> {
         ensures dues { IsLedTo A self.old
             → BecomesDue self.old (Step.Send message) result self.new }
         ensures comes { Comes (Step.Send message) result }
+        ensures space { self.old.space ≤ self.new.space }
         ensures closed { (result ≡ Reply.Closed message)
             ↔ IsClosed self.old.senders self.old.receivers }
         ensures spent { (result ≡ Reply.Spent (Some message))
@@ -83,9 +89,12 @@ impl<T: Drop, S: Drop, A: Allocator + Copy> Chan<T, S, A> {
         ensures sent { (filled : Option ℕ) → result ≡ Reply.Sent filled
             → Joins self.old self.new message filled }
         ensures waits { (ticket : ℕ) → result ≡ Reply.Pending ticket → FindsNoRoom self.old }
+        ensures refused { result ≡ Reply.NoMemory (Some message)
+            → message_count self.old < self.old.space → FindsNoRoom self.old }
         ensures pending { result ≡ Reply.Pending self.old.next → self.new ≡ record self.old {
           blocked = self.old.blocked
               ++ record { ticket = self.old.next; message = message } ∷ [];
+          space = self.new.space;
           sends = insert self.old.sends self.old.next (blocked signal);
           next = self.old.next + 1;
         } }
@@ -99,11 +108,12 @@ impl<T: Drop, S: Drop, A: Allocator + Copy> Chan<T, S, A> {
         if ticket == u64::MAX {
             return Reply::Spent(Some(message));
         }
+        let Ok(()) = self.sends.block(ticket, signal) else {
+            return Reply::NoMemory(Some(message));
+        };
         if let Err(back) = self.line.push_blocked(ticket, message) {
+            self.sends.spend(ticket);
             return Reply::NoMemory(Some(back));
-        }
-        if self.sends.block(ticket, signal).is_err() {
-            return Reply::NoMemory(self.line.pop_blocked());
         }
         self.next = ticket + 1;
         Reply::Pending(ticket)
@@ -121,6 +131,7 @@ impl<T: Drop, S: Drop, A: Allocator + Copy> Chan<T, S, A> {
         ensures dues { IsLedTo A self.old
             → BecomesDue self.old (Step.PollSend ticket) result self.new }
         ensures comes { Comes (Step.PollSend ticket) result }
+        ensures space { self.old.space ≤ self.new.space }
         ensures no_ticket { get self.old.sends ticket ≡ None → result ≡ Reply.NoTicket }
         ensures accepted { (result ≡ Reply.Accepted)
             ↔ (accepted_at self.old ticket ≡ Some true) }
@@ -155,6 +166,7 @@ impl<T: Drop, S: Drop, A: Allocator + Copy> Chan<T, S, A> {
         ensures dues { IsLedTo A self.old
             → BecomesDue self.old (Step.WithdrawSend ticket) result self.new }
         ensures comes { Comes (Step.WithdrawSend ticket) result }
+        ensures space { self.old.space ≤ self.new.space }
         ensures no_ticket { get self.old.sends ticket ≡ None → result ≡ Reply.NoTicket }
         ensures accepted { (result ≡ Reply.Accepted)
             ↔ (accepted_at self.old ticket ≡ Some true) }
@@ -195,6 +207,7 @@ impl<T: Drop, S: Drop, A: Allocator + Copy> Chan<T, S, A> {
             → All (λ b. b.ticket ≢ ticket) self.old.blocked }
         ensures either { (result ≡ Reply.NoTicket)
             ⊎ ((message : T) × (closed : Bool) × (result ≡ Reply.Returned message closed)) }
+        ensures space { self.new.space ≡ self.old.space }
         ensures unchanged { IsRefusal result → self.new ≡ self.old }
     {
         let closed = !self.is_open();

@@ -1,8 +1,11 @@
 -- All queued messages are handed out, and blocked ones move in.
-use Rattle.std.proofs.Common.{◌≡◌, refl, ◌∙◌, sym, rules}
+use Rattle.std.proofs.Common.{◌≡◌, [], refl, ◌∙◌, sym, arith, rules}
 use Rattle.flume_core.proofs.Views.{queue_at_log, some_queued}
 use Rattle.flume_core.proofs.Keeping.{still}
 use Rattle.flume_core.proofs.Drains.{drains}
+use Rattle.flume_state.specs.Effects.{filled_up}
+use Rattle.flume_state.specs.State.{State}
+use Rattle.flume_core.proofs.Spaces.{space_filled_up}
 use Rattle.flume_core.proofs.dues.AfterStep.{unchanged, drained}
 use Rattle.flume_core.proofs.chan.Chan.drain.Goals as goal
 
@@ -13,6 +16,13 @@ pub returns-clause-step : goal.returns-clause-step
 returns-clause-step g c o log h =
     let list : c.in-Ok.list.items ≡ c.args.self.now.queue = search rules in
     drains o log _ c.args.self.now _ c.in-Ok.list.items h (list ∙ sym (queue_at_log h)) refl (search rules)
+
+pub returns-clause-space : goal.returns-clause-space
+returns-clause-space g c =
+    let rest : State g.row.T.Denot g.row.S.Denot = record c.args.self.now { queue = [] } in
+    let is : c.fill_up.new.self ≡ filled_up rest = search rules in
+    let same = space_filled_up rest c.fill_up.new.self is in
+    omega (arith, same)
 
 pub returns-in_default-clause-dues : goal.returns-in_default-clause-dues
 returns-in_default-clause-dues g c = λ led. unchanged _ _ _ _ (λ t. refl) (search rules)

@@ -31,6 +31,7 @@ returns-in-Some-take_front g c =
           (search rules);
       dues = λ led. took_parked c.args.self.now _ _ _ front.0 c.args.ticket (λ t. refl) led (search rules);
       comes = tt;
+      space = search rules;
       no_ticket = search (rules, is);
       collected = search (rules, is, looking);
       got = search (rules, is, front);
@@ -53,6 +54,7 @@ returns-then-is_open g c =
           (search rules);
       dues = λ led. waits c.args.self.now _ c.args.ticket c.args.signal led (search rules);
       comes = tt;
+      space = search rules;
       no_ticket = search (rules, is);
       collected = search (rules, is, looking);
       got = search (rules, none);
@@ -74,6 +76,7 @@ returns g c =
       step = λ o log h. poll_ends o log c.args.self.now _ c.args.ticket st h is looking none closed (search rules);
       dues = λ led. left c.args.self.now _ _ _ c.args.ticket (λ t. refl) led (search rules);
       comes = tt;
+      space = search rules;
       no_ticket = search (rules, is);
       collected = search (rules, is, looking);
       got = search (rules, none);

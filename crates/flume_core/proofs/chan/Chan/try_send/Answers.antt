@@ -22,7 +22,7 @@ pub returns-clause-step : goal.returns-clause-step
 returns-clause-step g c o log h =
     let fills : c.wake-filled.result ≡ round_for_fills
     (c.args.self.now.queue ++ c.args.message ∷ []) c.args.self.now.entries = search rules in
-    queues o log _ _ _ c.args.message c.wake-filled.result h
+    queues o log _ _ _ c.args.message c.wake-filled.result c.push_queued.new.self.space h
     (takes_in h (search rules) (search rules), fills ∙ fills_at_log h c.args.message) refl fills
     (search rules)
 
@@ -37,4 +37,4 @@ returns-in-Err-clause-dues g c = λ led. unchanged _ _ _ _ (λ t. refl) (search 
 
 pub returns-clause-dues : goal.returns-clause-dues
 returns-clause-dues g c = λ led.
-    woken c.args.self.now _ _ _ (c.args.self.now.queue ++ c.args.message ∷ []) (λ t. refl) (search rules)
+    woken c.args.self.now _ _ _ (c.args.self.now.queue ++ c.args.message ∷ []) c.push_queued.new.self.space (λ t. refl) (search rules)

@@ -13,13 +13,13 @@ pub loop-message-init : goal.loop-message-init
 loop-message-init g c =
     let e = c.in_ok-list.ensures in
     let long : length c.args.self.now.queued ≡ c.queued_len.result = sym c.queued_len.ensures.len in
-    (rw e.items refl, refl, omega (arith, long, e.len, e.capacity))
+    (rw e.items refl, refl, refl, omega (arith, long, e.len, e.capacity))
 
 pub push_reserved-requires : goal.push_reserved-requires
 push_reserved-requires g c =
     let less : length c.loop-message.self.queued ≡ suc (length c.take_queued.new.self.queued) =
     ap (λ m. length m.queued) c.in-Some.ensures.taken in
-    omega (arith, less, c.loop-message.invariant.2)
+    omega (arith, less, c.loop-message.invariant.3)
 
 pub loop-message-smaller : goal.loop-message-smaller
 loop-message-smaller g c =
@@ -38,7 +38,8 @@ loop-message-preserved g c =
     append_assoc list (c.in-Some.message ∷ []) rest ∙ ap (λ m. list ++ m.queued) (sym c.in-Some.ensures.taken) in (
       rw pushed.items (moved ∙ c.loop-message.invariant.0),
       ap (λ m. m.blocked) (sym c.in-Some.ensures.taken) ∙ c.loop-message.invariant.1,
-      omega (arith, less, c.loop-message.invariant.2, pushed.len, pushed.capacity),
+      ap (λ m. m.space) (sym c.in-Some.ensures.taken) ∙ c.loop-message.invariant.2,
+      omega (arith, less, c.loop-message.invariant.3, pushed.len, pushed.capacity),
     )
 
 pub returns-clause-drained : goal.returns-clause-drained
@@ -48,5 +49,5 @@ returns-clause-drained g c =
 
 pub returns-clause-becomes : goal.returns-clause-becomes
 returns-clause-becomes g c =
-    none_left c.loop-message.self c.take_queued.new.self c.args.self.now.blocked c.in_default.ensures.unchanged
-    c.in_default.ensures.none_queued c.loop-message.invariant.1
+    none_left c.args.self.now c.loop-message.self c.take_queued.new.self c.in_default.ensures.unchanged
+    c.in_default.ensures.none_queued c.loop-message.invariant.1 c.loop-message.invariant.2

@@ -5,6 +5,7 @@ use Rattle.flume_state.proofs.line.Line.drain_queued.Given as goal
 abbrev pub invariant-loop-message : goal.invariant-loop-message
 invariant-loop-message g l =
     (l.list.items ++ l.self.queued ≡ l.initial.self.queued) × (l.self.blocked ≡ l.initial.self.blocked)
+    × (l.self.space ≡ l.initial.self.space)
     × (vec_len l.list + length l.self.queued ≤ vec_capacity l.list)
 
 abbrev pub decreases-loop-message : goal.decreases-loop-message

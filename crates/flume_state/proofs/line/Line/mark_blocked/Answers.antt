@@ -10,7 +10,7 @@ use Rattle.flume_state.proofs.line.Line.mark_blocked.Goals.{in-Some-ticket, in_d
 
 pub loop-next-init : goal.loop-next-init
 loop-next-init g c =
-    walk_begins c.self.inside.chain.items c.self.inside.blocked c.self.inside.blocked_len c.args.self.now c.args.sends.now
+    walk_begins c.self.inside.chain.items c.self.inside.blocked c.self.inside.blocked_len _ c.args.self.now c.args.sends.now
     c.self.invariant c.self.view_is
 
 -- where the walk is, one more is marked
