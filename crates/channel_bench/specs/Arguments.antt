@@ -11,7 +11,6 @@ use Rattle.channel_bench.specs.declared.arguments.Shape.TheVariants.{AuditPair, 
 use Rattle.channel_bench.specs.declared.arguments.Shape.TheVariants.{PollRecvPark, PollSendPark}
 use Rattle.channel_bench.specs.declared.arguments.Shape.TheVariants.{AsyncPair, AsyncJoin, AsyncPing}
 use Rattle.channel_bench.specs.declared.arguments.Shape.TheVariants.{Pending, PendingDrop}
-use Rattle.channel_bench.specs.declared.arguments.Shape.TheVariants.{SelectSeq, SelectRx}
 use Rattle.channel_bench.specs.declared.arguments.Shape.TheVariants.{CrowdPoll, CrowdDraw}
 use Rattle.channel_bench.specs.declared.arguments.Shape.TheVariants.{CrowdWithdraw, CrowdCancel}
 use Rattle.channel_bench.specs.declared.arguments.Shape.TheVariants.{CrowdSend, CrowdFutures}
@@ -37,8 +36,6 @@ shape_word AsyncJoin = codes "async_join"
 shape_word AsyncPing = codes "async_ping"
 shape_word Pending = codes "pending"
 shape_word PendingDrop = codes "pending_drop"
-shape_word SelectSeq = codes "select_seq"
-shape_word SelectRx = codes "select_rx"
 shape_word CrowdPoll = codes "crowd_poll"
 shape_word CrowdDraw = codes "crowd_draw"
 shape_word CrowdWithdraw = codes "crowd_withdraw"
@@ -104,7 +101,6 @@ CanBeTimed PollSendPark Unbounded = ⊥
 CanBeTimed PollSendPark Big = ⊥
 CanBeTimed PollSendPark (Of capacity) = 0 < capacity
 CanBeTimed AsyncPair (Of capacity) = 0 < capacity
-CanBeTimed SelectSeq (Of capacity) = 0 < capacity
 CanBeTimed CrowdPoll Unbounded = ⊥
 CanBeTimed CrowdPoll Big = ⊥
 CanBeTimed CrowdPoll (Of standing) = 0 < standing

@@ -31,8 +31,6 @@ pub enum Shape {
     AsyncPing,
     Pending,
     PendingDrop,
-    SelectSeq,
-    SelectRx,
     CrowdPoll,
     CrowdDraw,
     CrowdWithdraw,
@@ -65,8 +63,6 @@ impl Shape {
             "async_ping" => Some(Shape::AsyncPing),
             "pending" => Some(Shape::Pending),
             "pending_drop" => Some(Shape::PendingDrop),
-            "select_seq" => Some(Shape::SelectSeq),
-            "select_rx" => Some(Shape::SelectRx),
             "crowd_poll" => Some(Shape::CrowdPoll),
             "crowd_draw" => Some(Shape::CrowdDraw),
             "crowd_withdraw" => Some(Shape::CrowdWithdraw),
@@ -163,8 +159,7 @@ impl Arguments {
             | Shape::TryPair
             | Shape::AuditPair
             | Shape::PollPair
-            | Shape::AsyncPair
-            | Shape::SelectSeq => !matches!(self.capacity, Capacity::Of(0)),
+            | Shape::AsyncPair => !matches!(self.capacity, Capacity::Of(0)),
             _ => true,
         }
     }

@@ -121,8 +121,6 @@ impl<R: Waits + Threads + RandomSource + AllocGlobal + Send + Sync> Bench<R> {
             Shape::AsyncPair => self.async_pair(),
             Shape::AsyncJoin => self.async_join(),
             Shape::AsyncPing => self.async_ping(),
-            Shape::SelectSeq => self.select_seq(),
-            Shape::SelectRx => self.select_rx(),
             Shape::PollPair
             | Shape::PollRecvPark
             | Shape::PollSendPark

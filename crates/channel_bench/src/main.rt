@@ -10,7 +10,6 @@ mod loops;
 mod one_thread;
 mod pending;
 mod polled;
-mod select;
 mod threads;
 
 use crate::arguments::Arguments;
@@ -46,10 +45,6 @@ async_join      a future that sends all, joined in one task with one that receiv
 async_ping      two threads, a task each, send half of the messages to and fro over two channels
 pending         so many receives wait; then a message for each is sent, and it polled again
 pending_drop    so many receives wait, and each is dropped, the newest first
-select_seq      a message sent into one of four channels in turn, and received by a selection over
-                the four; not at 0
-select_rx       four threads send, each into a channel of its own, and one receives by selections
-                over the four
 
 SHAPE of a crowd: CAPACITY is a number above 0, and says how many stand on one channel all along;
 MESSAGES says how many operations are timed, and gathering the crowd isn't
