@@ -61,6 +61,7 @@ impl Draws {
             13 => Step::DropSender,
             14 => Step::DropReceiver,
             15 => Step::Len,
+            16 => Step::SetCapacity(self.below(5) as usize),
             _ => self.query(),
         }
     }

@@ -4,10 +4,13 @@ use flume_core::step::{Kind, Step};
 /// What steps are drawn from: a state of 64 bits that each draw multiplies, the last message that
 /// was drawn, and how many tickets were issued.
 #[derive(Drop)]
-pub(crate) struct Draws {
-    pub(crate) state: u64,
-    pub(crate) message: u64,
-    pub(crate) issued: u64,
+pub struct Draws {
+    /// The state of 64 bits.
+    pub state: u64,
+    /// The last message that was drawn.
+    pub message: u64,
+    /// How many tickets were issued.
+    pub issued: u64,
 }
 
 impl Draws {
@@ -19,7 +22,8 @@ impl Draws {
         (self.state >> 33).checked_rem(bound).unwrap_or(0)
     }
 
-    pub(crate) fn capacity(&mut self) -> Option<usize> {
+    /// A capacity, or none.
+    pub fn capacity(&mut self) -> Option<usize> {
         match self.below(5) {
             0 => None,
             1 => Some(0),
@@ -49,7 +53,8 @@ impl Draws {
         }
     }
 
-    pub(crate) fn step(&mut self) -> Step<u64> {
+    /// A step.
+    pub fn step(&mut self) -> Step<u64> {
         match self.below(12) {
             0 => Step::TrySend(self.message()),
             1 | 2 => Step::Send(self.message()),
@@ -71,6 +76,7 @@ impl Draws {
             13 => Step::DropSender,
             14 => Step::DropReceiver,
             15 => Step::Len,
+            16 => Step::SetCapacity(self.below(5) as usize),
             _ => self.query(),
         }
     }

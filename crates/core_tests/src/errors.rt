@@ -1,8 +1,8 @@
 //! Tests of the errors: their texts, conversions and equality.
 use crate::answers::is;
 use flume_core::error::{
-    NoMemory, RecvError, RecvTimeoutError, SelectError, SendError, SendTimeoutError, TryRecvError,
-    TrySendError,
+    CapacityError, NoMemory, RecvError, RecvTimeoutError, SelectError, SendError, SendTimeoutError,
+    TryRecvError, TrySendError,
 };
 use std::alloc::{AllocError, Global};
 use std::error::Error;
@@ -92,6 +92,14 @@ const SELECT: &[(SelectError, &str)] = &[
     (SelectError::NoMemory, "out of memory"),
 ];
 
+const CAPACITY: &[(CapacityError, &str)] = &[
+    (CapacityError::Unbounded, "channel has no capacity"),
+    (
+        CapacityError::Disconnected,
+        "changing the capacity of a closed channel",
+    ),
+];
+
 const NO_MEMORY: &[(NoMemory, &str)] = &[(NoMemory, "out of memory")];
 
 #[test]
@@ -104,6 +112,7 @@ fn each_error_displays_its_text_padded_and_cut(rt: HostRuntime) -> Result<(), Fa
     display(&rt, alloc, TRY_RECV)?;
     display(&rt, alloc, RECV_TIMEOUT)?;
     display(&rt, alloc, SELECT)?;
+    display(&rt, alloc, CAPACITY)?;
     display(&rt, alloc, NO_MEMORY)?;
     let shown = padded(alloc, &NoMemory)?;
     let wanted =

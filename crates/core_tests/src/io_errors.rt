@@ -1,8 +1,8 @@
 //! Tests of what each error becomes as std's io error: its kind, and its text.
 use crate::answers::is;
 use flume_core::error::{
-    NoMemory, RecvError, RecvTimeoutError, SelectError, SendError, SendTimeoutError, TryRecvError,
-    TrySendError,
+    CapacityError, NoMemory, RecvError, RecvTimeoutError, SelectError, SendError, SendTimeoutError,
+    TryRecvError, TrySendError,
 };
 use std::alloc::{AllocError, Global};
 use std::io;
@@ -131,6 +131,19 @@ const SELECT: &[(SelectError, ErrorKind, &str)] = &[
     ),
 ];
 
+const CAPACITY: &[(CapacityError, ErrorKind, &str)] = &[
+    (
+        CapacityError::Unbounded,
+        ErrorKind::Unsupported,
+        "channel has no capacity",
+    ),
+    (
+        CapacityError::Disconnected,
+        ErrorKind::BrokenPipe,
+        "changing the capacity of a closed channel",
+    ),
+];
+
 const NO_MEMORY: &[(NoMemory, ErrorKind, &str)] = &[(
     NoMemory,
     ErrorKind::OutOfMemory,
@@ -147,6 +160,7 @@ fn each_error_becomes_an_io_error_of_its_kind_with_its_text(rt: HostRuntime) -> 
     becomes(&rt, alloc, TRY_RECV)?;
     becomes(&rt, alloc, RECV_TIMEOUT)?;
     becomes(&rt, alloc, SELECT)?;
+    becomes(&rt, alloc, CAPACITY)?;
     becomes(&rt, alloc, NO_MEMORY)?;
     is(&rt, AllocError::from(NoMemory), AllocError);
     Ok(())

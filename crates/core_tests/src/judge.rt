@@ -33,12 +33,14 @@ struct Ticket {
 
 /// What the replies of one script told, and how many of them can't be.
 #[derive(Drop)]
-pub(crate) struct Told {
+pub struct Told {
     offers: Vec<Offer>,
     hand_outs: Vec<HandOut>,
     tickets: Vec<Ticket>,
-    pub(crate) issued: u64,
-    pub(crate) fills: u64,
+    /// How many tickets were issued.
+    pub issued: u64,
+    /// How many receivers were filled.
+    pub fills: u64,
     faults: u64,
     senders: usize,
     receivers: usize,
@@ -46,7 +48,7 @@ pub(crate) struct Told {
 
 impl Told {
     /// Of a new channel nothing is told.
-    pub(crate) fn nothing(alloc: Global) -> Told {
+    pub fn nothing(alloc: Global) -> Told {
         Told {
             offers: Vec::new(alloc),
             hand_outs: Vec::new(alloc),
@@ -60,7 +62,7 @@ impl Told {
     }
 
     /// Keeps what the reply to this step tells.
-    pub(crate) fn add(&mut self, step: &Step<u64>, reply: &Reply<u64>) -> Result<(), Fail> {
+    pub fn add(&mut self, step: &Step<u64>, reply: &Reply<u64>) -> Result<(), Fail> {
         match step {
             Step::TrySend(message) => self.offered(*message, reply)?,
             Step::Send(message) => self.offered(*message, reply)?,
@@ -267,7 +269,7 @@ impl Told {
 
     /// Each reply can be; the j-th hand-out is the j-th offer that was kept; and unless both ends
     /// are gone, none is left, and each that filled a receiver was collected.
-    pub(crate) fn is_right(&self, alloc: Global) -> Result<bool, Fail> {
+    pub fn is_right(&self, alloc: Global) -> Result<bool, Fail> {
         let kept = self.kept(alloc)?;
         if self.faults > 0 || !self.is_over() && self.hand_outs.len() != kept.len() {
             return Ok(false);

@@ -11,16 +11,14 @@ mod answers;
 mod calls;
 #[cfg(test)]
 mod chan_calls;
-#[cfg(test)]
-mod draws;
+pub mod draws;
 #[cfg(test)]
 mod errors;
 #[cfg(test)]
 mod gates;
 #[cfg(test)]
 mod io_errors;
-#[cfg(test)]
-mod judge;
+pub mod judge;
 #[cfg(test)]
 mod leak_rows;
 #[cfg(test)]

@@ -75,6 +75,7 @@ fn with_text(alloc: Global, step: &Step<u64>) -> Result<Step<String>, Fail> {
         Step::CloneReceiver => Step::CloneReceiver,
         Step::DropSender => Step::DropSender,
         Step::DropReceiver => Step::DropReceiver,
+        Step::SetCapacity(capacity) => Step::SetCapacity(capacity),
         Step::Len => Step::Len,
         Step::IsEmpty => Step::IsEmpty,
         Step::IsFull => Step::IsFull,

@@ -82,6 +82,11 @@ const READINGS: &[(&[u8], usize, usize)] = &[
     (b"unbounded\nwithdraw -5\n", 2, 0),
     (b"unbounded\ndrain 5\n", 2, 0),
     (b"unbounded\nlen\ntry_recv plain\n", 3, 0),
+    (b"bounded 1\nset_capacity 18446744073709551615\n", 0, 1),
+    (b"bounded 1\nset_capacity 007\r\nset_capacity 0", 0, 2),
+    (b"bounded 1\nset_capacity\n", 2, 0),
+    (b"bounded 1\nset_capacity none\n", 2, 0),
+    (b"bounded 1\nset_capacity 18446744073709551616\n", 2, 0),
 ];
 
 // The capacity and the steps of a right script, or the number of the first wrong line.
@@ -130,6 +135,7 @@ const EACH_STEP: &[Step<u64>] = &[
     Step::CloneReceiver,
     Step::DropSender,
     Step::DropReceiver,
+    Step::SetCapacity(7),
     Step::Len,
     Step::IsEmpty,
     Step::IsFull,
@@ -148,8 +154,8 @@ fn reads_values_and_each_step(rt: HostRuntime) -> Result<(), Fail> {
     is(&rt, read(rt.alloc(), input)?, Ok(wanted));
     let input = b"unbounded\ntry_send 1\nsend 2\npoll_send 3\nwithdraw_send 4\ntry_recv\n\
         recv block\nrecv plain\nrecv stream\nrecv arm\npoll 5\nwithdraw 6\ndrain\n\
-        clone_sender\nclone_receiver\ndrop_sender\ndrop_receiver\nlen\nis_empty\nis_full\n\
-        capacity\nsender_count\nreceiver_count\nis_disconnected\n";
+        clone_sender\nclone_receiver\ndrop_sender\ndrop_receiver\nset_capacity 7\nlen\n\
+        is_empty\nis_full\ncapacity\nsender_count\nreceiver_count\nis_disconnected\n";
     let wanted = (None, EACH_STEP.to_vec(rt.alloc())?);
     is(&rt, read(rt.alloc(), input)?, Ok(wanted));
     Ok(())
@@ -189,10 +195,11 @@ fn writes(rt: HostRuntime) -> Result<(), Fail> {
         Reply::Truth(false),
         Reply::Capacity(None),
         Reply::Capacity(Some(2)),
+        Reply::Unbounded,
     ]?;
     let wanted = "sent\nsent filled 3\nfull 10\nclosed 18446744073709551615\nnomemory\n\
         nomemory 0\nspent\nspent 7\npending 3\naccepted\nwaiting\nreturned 4\nreturned 4 closed\n\
-        noticket\ngot 12\nempty\nended\ndone\nnoend\ncountfull\n200\ntrue\nfalse\nnone\n2\n";
+        noticket\ngot 12\nempty\nended\ndone\nnoend\ncountfull\n200\ntrue\nfalse\nnone\n2\nunbounded\n";
     replies_are(&rt, rt.alloc(), "each reply", &replies, wanted)?;
     let text = write_wrong(rt.alloc(), 120)?;
     text_is(&rt, "a wrong line", &text, "line 120: not a step\n");

@@ -140,6 +140,38 @@ const ENDS_AND_QUERIES: &[Row] = &[
     },
 ];
 
+// Scripts in which the capacity is set.
+const CAPACITIES: &[Row] = &[
+    Row {
+        title: "a raised capacity lets blocked messages in, and a lowered one moves nothing",
+        script: "bounded 1\nsend 1\nsend 2\nsend 3\nset_capacity 2\nlen\npoll_send 1\n\
+                poll_send 2\nset_capacity 0\ntry_recv\nlen\n",
+        printed: "sent\npending 1\npending 2\ndone\n2\naccepted\nwaiting\ndone\ngot 1\n1\n",
+    },
+    Row {
+        title: "an unbounded channel has no capacity to set",
+        script: "unbounded\nset_capacity 3\ncapacity\n",
+        printed: "unbounded\nnone\n",
+    },
+    Row {
+        title: "the capacity of a closed channel stays as it was",
+        script: "bounded 1\nsend 1\nsend 2\ndrop_receiver\nset_capacity 5\npoll_send 1\ncapacity\n",
+        printed: "sent\npending 1\ndone\nended\nreturned 2 closed\n1\n",
+    },
+    Row {
+        title: "a queue past a lowered capacity is full until enough was taken",
+        script: "bounded 3\nsend 1\nsend 2\nsend 3\nset_capacity 1\nis_full\ntry_recv\n\
+                try_send 4\nsend 5\ntry_recv\ntry_recv\npoll_send 1\nlen\n",
+        printed: "sent\nsent\nsent\ndone\ntrue\ngot 1\nfull 4\npending 1\ngot 2\ngot 3\naccepted\n\
+                1\n",
+    },
+    Row {
+        title: "a closed unbounded channel still answers that it has no capacity",
+        script: "unbounded\ndrop_receiver\nset_capacity 3\n",
+        printed: "done\nunbounded\n",
+    },
+];
+
 // Scripts in which receivers park.
 const PARKED: &[Row] = &[
     Row {
@@ -317,6 +349,7 @@ fn a_right_script_prints_its_replies(rt: HostRuntime) -> Result<(), Fail> {
     replay(&rt, rt.alloc(), RIGHT, 0)?;
     replay(&rt, rt.alloc(), BLOCKED, 0)?;
     replay(&rt, rt.alloc(), ENDS_AND_QUERIES, 0)?;
+    replay(&rt, rt.alloc(), CAPACITIES, 0)?;
     replay(&rt, rt.alloc(), PARKED, 0)?;
     replay(&rt, rt.alloc(), WAKES, 0)
 }

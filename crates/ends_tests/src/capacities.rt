@@ -1,7 +1,7 @@
 //! The plain calls and the queries, at each capacity.
 use crate::fixtures::{is, opened};
 use crate::works::{SendOne, started};
-use flume::error::{RecvTimeoutError, TryRecvError, TrySendError};
+use flume::error::{CapacityError, RecvTimeoutError, TryRecvError, TrySendError};
 use flume::{Receiver, Sender, Waits};
 use std::alloc::AllocError;
 use std::process::Abort;
@@ -114,5 +114,40 @@ fn a_clone_is_of_the_same_channel_at_each_capacity(rt: HostRuntime) -> Result<()
         let (tx, rx) = opened(rt, rt.alloc(), capacity)?;
         assert!(rt; know_their_clones(&tx, &rx)?);
     }
+    Ok(())
+}
+
+#[test]
+fn a_capacity_that_an_end_sets_is_in_force_at_once(rt: HostRuntime) -> Result<(), Fail> {
+    let (tx, rx) = opened(rt, rt.alloc(), Some(1))?;
+    is(&rt, tx.try_send(1), Ok(()));
+    is(&rt, tx.set_capacity(2), Ok(()));
+    is(&rt, tx.try_send(2), Ok(()));
+    is(&rt, rx.set_capacity(0), Ok(()));
+    both_hold(rt, (&tx, &rx), 2, Some(0));
+    both_are(rt, (&tx, &rx), false, true);
+    is(&rt, tx.try_send(3), Err(TrySendError::Full(3)));
+    is(&rt, rx.try_recv(), Ok(1));
+    is(&rt, rx.set_capacity(2), Ok(()));
+    is(&rt, tx.try_send(3), Ok(()));
+    both_hold(rt, (&tx, &rx), 2, Some(2));
+    Ok(())
+}
+
+#[test]
+fn the_capacity_of_a_closed_or_an_unbounded_channel_stays(rt: HostRuntime) -> Result<(), Fail> {
+    let (tx, rx) = opened::<u64, _>(rt, rt.alloc(), Some(1))?;
+    drop(rx);
+    is(&rt, tx.set_capacity(5), Err(CapacityError::Disconnected));
+    is(&rt, tx.capacity(), Some(1));
+    let (tx, rx) = opened::<u64, _>(rt, rt.alloc(), Some(1))?;
+    drop(tx);
+    is(&rt, rx.set_capacity(5), Err(CapacityError::Disconnected));
+    is(&rt, rx.capacity(), Some(1));
+    let (tx, rx) = opened::<u64, _>(rt, rt.alloc(), None)?;
+    is(&rt, rx.set_capacity(1), Err(CapacityError::Unbounded));
+    drop(rx);
+    is(&rt, tx.set_capacity(1), Err(CapacityError::Unbounded));
+    is(&rt, tx.capacity(), None);
     Ok(())
 }

@@ -1,18 +1,28 @@
 //! An allocator that counts the blocks that are out, and refuses requests where it is told to.
 use std::alloc::{AllocError, Allocator};
-use std::sync::atomic::{AtomicBool, AtomicU64, Ordering};
+use std::sync::atomic::{AtomicU64, Ordering};
 
-// How many blocks are out, and whether requests are refused.
+// How many blocks are out; how many were asked for, and how many of these were refused, since the
+// range was set; the range of those that are refused, counted from 1; and one in how many is refused
+// beside them, where that isn't 0.
 struct Blocks {
     live: AtomicU64,
-    refuses: AtomicBool,
+    asked: AtomicU64,
+    refusals: AtomicU64,
+    first: AtomicU64,
+    last: AtomicU64,
+    one_in: AtomicU64,
 }
 
 impl Drop for Blocks {
     fn drop(self) {
         let Self {
             live: _,
-            refuses: _,
+            asked: _,
+            refusals: _,
+            first: _,
+            last: _,
+            one_in: _,
         } = self;
     }
 }
@@ -31,7 +41,11 @@ impl<B: Allocator> Counting<B> {
             inner,
             blocks: Blocks {
                 live: AtomicU64::new(0),
-                refuses: AtomicBool::new(false),
+                asked: AtomicU64::new(0),
+                refusals: AtomicU64::new(0),
+                first: AtomicU64::new(1),
+                last: AtomicU64::new(0),
+                one_in: AtomicU64::new(0),
             },
         }
     }
@@ -43,7 +57,33 @@ impl<B: Allocator> Counting<B> {
 
     /// From now on it refuses each request, or none.
     pub fn refuse(&self, refuses: bool) {
-        self.blocks.refuses.store(refuses, Ordering::SeqCst);
+        self.blocks.first.store(0, Ordering::SeqCst);
+        let last = if refuses { u64::MAX } else { 0 };
+        self.blocks.last.store(last, Ordering::SeqCst);
+    }
+
+    /// It refuses the requests from the first to the last of these, counted from 1 from now on, and
+    /// no other.
+    pub fn refuse_between(&self, first: u64, last: u64) {
+        self.blocks.asked.store(0, Ordering::SeqCst);
+        self.blocks.refusals.store(0, Ordering::SeqCst);
+        self.blocks.first.store(first, Ordering::SeqCst);
+        self.blocks.last.store(last, Ordering::SeqCst);
+    }
+
+    /// From now on it refuses one request in so many, drawn by the request's number.
+    pub fn refuse_one_in(&self, requests: u64) {
+        self.blocks.one_in.store(requests, Ordering::SeqCst);
+    }
+
+    /// How many requests there were since the last `refuse_between`, or from the first on.
+    pub fn asked(&self) -> u64 {
+        self.blocks.asked.load(Ordering::SeqCst)
+    }
+
+    /// How many of these were refused.
+    pub fn refusals(&self) -> u64 {
+        self.blocks.refusals.load(Ordering::SeqCst)
     }
 }
 
@@ -56,9 +96,24 @@ impl<B: Allocator> Drop for Counting<B> {
     }
 }
 
+// Whether the request of this number is drawn to be refused.
+fn is_drawn(blocks: &Blocks, number: u64) -> bool {
+    let drawn = number
+        .wrapping_mul(6_364_136_223_846_793_005)
+        .wrapping_add(1_442_695_040_888_963_407)
+        >> 33;
+    drawn.checked_rem(blocks.one_in.load(Ordering::SeqCst)) == Some(0)
+}
+
 // Whether a request is refused. Of one that isn't, one more block is out.
 fn refused(blocks: &Blocks) -> bool {
-    if blocks.refuses.load(Ordering::SeqCst) {
+    let number = blocks.asked.fetch_add(1, Ordering::SeqCst).wrapping_add(1);
+    let (first, last) = (
+        blocks.first.load(Ordering::SeqCst),
+        blocks.last.load(Ordering::SeqCst),
+    );
+    if first <= number && number <= last || is_drawn(blocks, number) {
+        blocks.refusals.fetch_add(1, Ordering::SeqCst);
         return true;
     }
     blocks.live.fetch_add(1, Ordering::SeqCst);

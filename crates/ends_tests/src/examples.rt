@@ -181,3 +181,18 @@ fn a_builder_opens_channels_as_in_its_examples(rt: HostRuntime) -> Result<(), Fa
     is(&rt, !first.same_channel(&second), true);
     Ok(())
 }
+
+#[test]
+fn an_end_sets_the_capacity_as_in_its_example(rt: HostRuntime) -> Result<(), Fail> {
+    let (tx, _rx) = flume::on(rt).bounded(1)?;
+    is(&rt, tx.try_send(1), Ok(()));
+    is(&rt, tx.set_capacity(2), Ok(()));
+    is(&rt, tx.try_send(2), Ok(()));
+    is(&rt, tx.capacity(), Some(2));
+    let (tx, rx) = flume::on(rt).bounded(1)?;
+    is(&rt, tx.try_send(1), Ok(()));
+    is(&rt, rx.set_capacity(2), Ok(()));
+    is(&rt, tx.try_send(2), Ok(()));
+    is(&rt, tx.capacity(), Some(2));
+    Ok(())
+}

@@ -7,6 +7,7 @@ mod builder;
 mod calls;
 #[cfg(test)]
 mod capacities;
+pub mod changes;
 #[cfg(test)]
 mod clocks;
 pub mod counting;

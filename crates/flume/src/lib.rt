@@ -35,8 +35,8 @@ pub use drain::Drain;
 pub use flume_audit::{audit, book, closed, differs, receipt, seat, weigh};
 pub use flume_calls::{calls, due, gates};
 pub use flume_core::error::{
-    RecvError, RecvTimeoutError, SelectError, SendError, SendTimeoutError, TryRecvError,
-    TrySendError,
+    CapacityError, RecvError, RecvTimeoutError, SelectError, SendError, SendTimeoutError,
+    TryRecvError, TrySendError,
 };
 pub use flume_core::{chan, error, facts, run, step};
 pub use flume_script::{Script, run_script};

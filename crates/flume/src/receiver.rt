@@ -10,7 +10,7 @@ use crate::shared::{Shared, Waits};
 use flume_calls::calls::FirstReceive;
 use flume_calls::gates::recv_over;
 use flume_calls::single::{AskCapacity, AskNumber, AskTruth, Single};
-use flume_core::error::{NoMemory, RecvError, RecvTimeoutError, TryRecvError};
+use flume_core::error::{CapacityError, NoMemory, RecvError, RecvTimeoutError, TryRecvError};
 use flume_core::step::Reply;
 use flume_deadline::Deadline;
 use std::alloc::{AllocError, Allocator, Global};
@@ -181,6 +181,25 @@ impl<T: Drop, R: Waits, A: Allocator + Copy> Receiver<T, R, A> {
     /// How many messages the channel holds; `None` of an unbounded one.
     pub fn capacity(&self) -> Option<usize> {
         self.shared.make(AskCapacity)
+    }
+
+    /// Sets how many messages the channel holds from now on. Raised, it lets blocked sends in, as
+    /// far as there is room, and their calls go on. Lowered, it moves nothing: what is queued is
+    /// still received, and sends wait until fewer messages are queued than the channel holds. No
+    /// receiver is woken, and no memory is wanted. At 0 a send waits for a receiver.
+    ///
+    /// `Unbounded`: the channel holds any number of messages, and that can't be changed.
+    /// `Disconnected`: all receivers, or all senders, are gone. Both leave the channel as it was.
+    ///
+    /// ```
+    /// let (tx, rx) = flume::on(rt).bounded(1)?;
+    /// assert_eq!(rt; tx.try_send(1), Ok(()));
+    /// assert_eq!(rt; rx.set_capacity(2), Ok(()));
+    /// assert_eq!(rt; tx.try_send(2), Ok(()));
+    /// assert_eq!(rt; tx.capacity(), Some(2));
+    /// ```
+    pub fn set_capacity(&self, capacity: usize) -> Result<(), CapacityError> {
+        self.shared.set_capacity(capacity)
     }
 
     /// How many senders live.

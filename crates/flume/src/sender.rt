@@ -8,7 +8,7 @@ use crate::weak::WeakSender;
 use flume_calls::calls::FirstSend;
 use flume_calls::gates::send_over;
 use flume_calls::single::{AskCapacity, AskNumber, AskTruth, Single};
-use flume_core::error::{NoMemory, SendError, SendTimeoutError, TrySendError};
+use flume_core::error::{CapacityError, NoMemory, SendError, SendTimeoutError, TrySendError};
 use flume_core::step::Reply;
 use flume_deadline::Deadline;
 use std::alloc::{AllocError, Allocator, Global};
@@ -138,6 +138,25 @@ impl<T: Drop, R: Waits, A: Allocator + Copy> Sender<T, R, A> {
     /// How many messages the channel holds; `None` of an unbounded one.
     pub fn capacity(&self) -> Option<usize> {
         self.shared.make(AskCapacity)
+    }
+
+    /// Sets how many messages the channel holds from now on. Raised, it lets blocked sends in, as
+    /// far as there is room, and their calls go on. Lowered, it moves nothing: what is queued is
+    /// still received, and sends wait until fewer messages are queued than the channel holds. No
+    /// receiver is woken, and no memory is wanted. At 0 a send waits for a receiver.
+    ///
+    /// `Unbounded`: the channel holds any number of messages, and that can't be changed.
+    /// `Disconnected`: all receivers, or all senders, are gone. Both leave the channel as it was.
+    ///
+    /// ```
+    /// let (tx, _rx) = flume::on(rt).bounded(1)?;
+    /// assert_eq!(rt; tx.try_send(1), Ok(()));
+    /// assert_eq!(rt; tx.set_capacity(2), Ok(()));
+    /// assert_eq!(rt; tx.try_send(2), Ok(()));
+    /// assert_eq!(rt; tx.capacity(), Some(2));
+    /// ```
+    pub fn set_capacity(&self, capacity: usize) -> Result<(), CapacityError> {
+        self.shared.set_capacity(capacity)
     }
 
     /// How many senders live.

@@ -8,10 +8,13 @@ use crate::task::Task;
 use flume_calls::due::Bell;
 use flume_calls::locked::Locked;
 use flume_calls::polled::Polled;
+use flume_calls::single::SetCapacity;
 use flume_calls::turn::Turn;
+use flume_core::error::CapacityError;
 use futures::task::Context;
 use std::alloc::{Allocator, Global};
 use std::hint::spin_loop;
+use std::sync::atomic::{AtomicU64, Ordering};
 use std::sync::{Arc, Mutex, MutexGuard, Wait};
 use std::time::Clock;
 
@@ -22,7 +25,10 @@ pub trait Waits: Wait + Clock + Copy {}
 impl<R: Wait + Clock + Copy> Waits for R {}
 
 // The most messages that count as few.
-const FEW: usize = 4;
+const FEW: u64 = 4;
+
+// What an unbounded channel holds, as a number: more than any bounded one.
+const ANY: u64 = u64::MAX;
 
 // How often a call checks for its wake, at the most.
 const CHECKS: u32 = 2000;
@@ -44,24 +50,15 @@ impl Backoff {
     // Where the channel holds few messages each call meets another one, so it parks and checks.
     // Where it holds many, it lets them gather, or go, before it asks again. Where it holds any
     // number neither served.
-    fn at(capacity: Option<usize>) -> Backoff {
-        let Some(capacity) = capacity else {
-            return Backoff {
-                pauses: 0,
-                checks: 0,
-            };
-        };
-        if capacity <= FEW {
-            Backoff {
-                pauses: 0,
-                checks: CHECKS,
-            }
+    fn of(holds: u64) -> Backoff {
+        let (pauses, checks) = if holds <= FEW {
+            (0, CHECKS)
+        } else if holds < ANY {
+            (PAUSES, 0)
         } else {
-            Backoff {
-                pauses: PAUSES,
-                checks: 0,
-            }
-        }
+            (0, 0)
+        };
+        Backoff { pauses, checks }
     }
 }
 
@@ -101,7 +98,9 @@ pub(crate) struct Shared<T, R: Waits, A: Allocator + Copy = Global> {
     pub(crate) id: u64,
     pub(crate) rt: R,
     pub(crate) alloc: A,
-    backoff: Backoff,
+    // How many messages the channel holds now. Written under its lock, and read without: how a call
+    // spends its first moments goes by it.
+    holds: AtomicU64,
 }
 
 impl<T: Drop, R: Waits, A: Allocator + Copy> Shared<T, R, A> {
@@ -114,7 +113,7 @@ impl<T: Drop, R: Waits, A: Allocator + Copy> Shared<T, R, A> {
             id,
             rt,
             alloc,
-            backoff: Backoff::at(capacity),
+            holds: AtomicU64::new(capacity.map_or(ANY, |capacity| capacity as u64)),
         }
     }
 
@@ -122,15 +121,32 @@ impl<T: Drop, R: Waits, A: Allocator + Copy> Shared<T, R, A> {
     /// outside the lock, and then the call pauses. `None`: there was no memory for them.
     #[inline(never)]
     pub(crate) fn new_parker(&self) -> Option<(Arc<Parker, A>, Signal<A>)> {
-        let parker = Arc::new(self.alloc, Parker::new(self.backoff.checks)).ok()?;
+        let backoff = self.backoff();
+        let parker = Arc::new(self.alloc, Parker::new(backoff.checks)).ok()?;
         let copy = Arc::try_clone(&parker).ok()?;
-        pause(self.backoff.pauses);
+        pause(backoff.pauses);
         Some((parker, Signal::Parker(copy)))
     }
 
     /// How often a call checks for its wake before it sleeps.
     pub(crate) fn checks(&self) -> u32 {
-        self.backoff.checks
+        self.backoff().checks
+    }
+
+    // How a call spends its first moments, by the capacity in force.
+    fn backoff(&self) -> Backoff {
+        Backoff::of(self.holds.load(Ordering::SeqCst))
+    }
+
+    /// Sets the capacity of the channel, which the calls that are to wait go by from then on.
+    #[inline(never)]
+    pub(crate) fn set_capacity(&self, capacity: usize) -> Result<(), CapacityError> {
+        let mut locked = self.lock();
+        let answer = locked.make(SetCapacity { capacity }, &mut Firing { rt: self.rt });
+        if answer.is_ok() {
+            self.holds.store(capacity as u64, Ordering::SeqCst);
+        }
+        answer
     }
 
     /// The channel, locked. Where nobody has the lock it is taken without a call.

@@ -36,6 +36,7 @@ pub(crate) fn copied<T: Copy, A: Allocator>(reply: &Reply<T, A>, room: Vec<T, A>
         Reply::Number(number) => Reply::Number(number),
         Reply::Truth(truth) => Reply::Truth(truth),
         Reply::Capacity(capacity) => Reply::Capacity(capacity),
+        Reply::Unbounded => Reply::Unbounded,
     }
 }
 

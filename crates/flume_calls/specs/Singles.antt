@@ -1,6 +1,11 @@
--- Which step each turn makes that is a call of its own.
+-- Which step each turn makes that is a call of its own, and what a change of the capacity answers.
+use Rattle.std.specs.Prelude.{◌≡◌, Result, Ok, Err}
 use Rattle.flume_model.specs.declared.step.Step.{Step}
 use Rattle.flume_model.specs.declared.step.Step.TheVariants as step
+use Rattle.flume_model.specs.declared.step.Reply.{Reply}
+use Rattle.flume_model.specs.declared.step.Reply.TheVariants as reply
+use Rattle.flume_core.specs.declared.error.CapacityError.{CapacityError}
+use Rattle.flume_core.specs.declared.error.CapacityError.TheVariants as error
 use Rattle.flume_calls.specs.declared.single.Single.{Single}
 use Rattle.flume_calls.specs.declared.single.Single.TheVariants as single
 use Rattle.flume_calls.specs.declared.single.AskNumber.{AskNumber}
@@ -28,3 +33,11 @@ module _ {T : Type 0} where
   step_for_truth truth.IsEmpty = step.IsEmpty
   step_for_truth truth.IsFull = step.IsFull
   step_for_truth truth.IsDisconnected = step.IsDisconnected
+
+module _ {T A : Type 0} where
+  -- what a change of the capacity answers to the step's reply; no other reply comes
+  abbrev pub after_set_capacity : Reply T A → Result (Unit {0}) CapacityError → Type 0
+  after_set_capacity reply.Done answer = answer ≡ Ok tt
+  after_set_capacity reply.Unbounded answer = answer ≡ Err error.Unbounded
+  after_set_capacity reply.Ended answer = answer ≡ Err error.Disconnected
+  after_set_capacity _ answer = ⊥

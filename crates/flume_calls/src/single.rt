@@ -2,6 +2,7 @@
 
 use crate::turn::Turn;
 use flume_core::chan::Chan;
+use flume_core::error::CapacityError;
 use flume_core::step::{Reply, Step};
 use std::alloc::Allocator;
 
@@ -147,6 +148,39 @@ impl<T: Drop, S: Drop, A: Allocator + Copy> Turn<T, S, A> for AskCapacity {
     fn make(self, chan: &mut Chan<T, S, A>) -> Option<usize> {
         match chan.capacity() {
             Reply::Capacity(capacity) => capacity,
+            _ => unreachable!(),
+        }
+    }
+}
+
+/// Sets the capacity. `Unbounded`: the channel has none. `Disconnected`: it has one, and is closed.
+/// Both leave it as it was.
+#[derive(Clone, Copy, Drop)]
+pub struct SetCapacity {
+    /// What the capacity is to be.
+    pub capacity: usize,
+}
+
+impl<T: Drop, S: Drop, A: Allocator + Copy> Turn<T, S, A> for SetCapacity {
+    ghost use Rattle.std.specs.Prelude.{◌≡◌, OnErr};
+    ghost use Rattle.flume_model.specs.declared.step.Step.TheVariants as step;
+    ghost use Rattle.flume_calls.specs.Singles.{after_set_capacity};
+
+    type Answer = Result<(), CapacityError>;
+
+    ghost step = { λ turn. step.SetCapacity turn.capacity };
+
+    ghost table = { λ _. after_set_capacity };
+
+    ghost answers = { λ _ _. Unit {0} };
+
+    ghost outcome = { λ _ old new answer. OnErr answer (new ≡ old) };
+
+    fn make(self, chan: &mut Chan<T, S, A>) -> Result<(), CapacityError> {
+        match chan.set_capacity(self.capacity) {
+            Reply::Done => Ok(()),
+            Reply::Unbounded => Err(CapacityError::Unbounded),
+            Reply::Ended => Err(CapacityError::Disconnected),
             _ => unreachable!(),
         }
     }

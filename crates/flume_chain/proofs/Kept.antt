@@ -5,12 +5,12 @@ use Rattle.std.specs.Vec.{vec_len}
 use Rattle.std.proofs.lemmas.List.{map-append, get_or_past}
 use Rattle.flume_chain.specs.declared.chain.links.Node.{Node}
 use Rattle.flume_chain.specs.declared.chain.links.Links.{Links}
-use Rattle.flume_chain.specs.Links.{end, no_node, with, next_at, previous_at, element_at, Linked, Grown}
-use Rattle.flume_chain.specs.Chained.{once, times, Placed, Chained, Table, Holds, HasFree, Kept, places, without, put_before, walk, table_of, chain_of, first_place, behind_first, place_after}
+use Rattle.flume_chain.specs.Links.{end, no_node, with, next_at, previous_at, element_at, Linked, Same}
+use Rattle.flume_chain.specs.Chained.{once, times, Placed, Chained, Table, Holds, Kept, places, without, put_before, walk, table_of, chain_of, first_place, behind_first, place_after}
 use Rattle.flume_chain.proofs.Rings.{Ring, times-append, once_same}
 use Rattle.flume_chain.proofs.Splices.{around}
 use Rattle.flume_chain.proofs.Tables.{item, walk_is, Split, found_some, without_at, without_first, put_before_at, after_at, heads, ring_of}
-use Rattle.flume_chain.proofs.Steps.{linked_table, grown, emptied, bypassed, first_free, none_free, ring_below, grows, puts, puts_last, takes}
+use Rattle.flume_chain.proofs.Steps.{linked_table, emptied, bypassed, none_free, ring_below, takes}
 
 module _ {X : Type 0} where
   -- what stands at a place already may be written there
@@ -84,10 +84,6 @@ module _ {E : Type 0} where
       }
 
 module _ {E Z : Type 0} where
-  -- links that were written as they were
-  abbrev pub Same : Links E Z → Links E Z → Type 0
-  Same old new = Linked old new (next_at old) (previous_at old) (element_at old) old.free
-
   -- where there was none, to take an element changes nothing
   pub none_taken : (old new : Links E Z) (c : ℕ)
       → Linked old new (next_at old) (previous_at old) (with (element_at old) c None) old.free → None ≡ element_at old c → Same old new
@@ -130,65 +126,10 @@ module _ {E Z : Type 0} where
   pub kept_items : (s : Links E Z) (n : ℕ) (v : Chained E) (k : Kept s n) → chain_of s n ≡ v → k.items ≡ v.items
   kept_items s n v k is = sym (walked s n k.items k.frees k.holds k.count) ∙ ap (λ (x : Chained E). x.items) is
 
-  -- links with one more node hold one more free place
-  pub grown_free : (old new : Links E Z) (items : List (Placed E)) (frees : List ℕ) → Grown old new → vec_len old.nodes < end
-      → Holds (table_of old) items frees → HasFree new items
-  grown_free old new items frees g lt h =
-      let is : table_of new ≡ grown (table_of old) = λ i. record {
-        size = g.size i;
-        next = λ k. g.nexts k i;
-        previous = λ k. g.previouses k i;
-        element = λ k. g.elements k i;
-        free = g.frees i;
-      } in
-      record {
-        rest = frees;
-        holds = subst (λ t. Holds t items (t.free ∷ frees)) (sym is) (grows (table_of old) items frees h lt);
-      }
-
-  -- links with a first free place have one
-  pub has_free : (s : Links E Z) (items : List (Placed E)) (frees : List ℕ) → s.free ≢ end → Holds (table_of s) items frees → HasFree s items
-  has_free s items frees ne h =
-      let r = first_free (table_of s) items frees h ne in
-      record { rest = r.rest; holds = subst (λ (l : List ℕ). Holds (table_of s) items l) r.is h }
-
   -- how many more elements may stand where no place is free
   pub full_room : (s : Links E Z) (items : List (Placed E)) (frees : List ℕ) → s.free ≡ end → Holds (table_of s) items frees
       → vec_len s.nodes ≡ length items
   full_room s items frees e h = let n = none_free (table_of s) items frees h e in let w = h.total in omega arith
-
-  -- what is written to put an element behind all others
-  abbrev pub PutLast : Links E Z → Links E Z → E → Type 0
-  PutLast old new e = Linked old new
-      (with (with (next_at old) old.free end) (previous_at old end) old.free)
-      (with (with (previous_at old) old.free (previous_at old end)) end old.free)
-      (with (element_at old) old.free (Some e))
-      (next_at old old.free)
-
-  -- links with an element put behind all others
-  pub put_holds : (old new : Links E Z) (items : List (Placed E)) (e : E) (f : HasFree old items) → PutLast old new e
-      → Holds (table_of new) (items ++ item old.free e ∷ []) f.rest
-  put_holds old new items e f h =
-      subst (λ t. Holds t (items ++ item old.free e ∷ []) f.rest)
-      (sym (linked_table old new _ _ _ _ h)) (puts_last (table_of old) items f.rest e f.holds)
-
-  -- what is written to put an element before a place
-  abbrev pub PutBefore : Links E Z → Links E Z → ℕ → E → Type 0
-  PutBefore old new c e = Linked old new
-      (with (with (next_at old) old.free c) (previous_at old c) old.free)
-      (with (with (previous_at old) old.free (previous_at old c)) c old.free)
-      (with (element_at old) old.free (Some e))
-      (next_at old old.free)
-
-  -- links with an element put before that at a place
-  pub put_before_holds : (old new : Links E Z) (items : List (Placed E)) (c : ℕ) (x e : E) (r : Split items c x) (f : HasFree old items)
-      → PutBefore old new c e → Holds (table_of new) (r.before ++ item old.free e ∷ item c x ∷ r.after) f.rest
-  put_before_holds old new items c x e r f h =
-      let held : Holds (table_of old) (r.before ++ item c x ∷ r.after) (old.free ∷ f.rest) =
-      subst (λ (l : List (Placed E)). Holds (table_of old) l (old.free ∷ f.rest)) r.is f.holds in
-      subst (λ t. Holds t (r.before ++ item old.free e ∷ item c x ∷ r.after) f.rest)
-      (sym (linked_table old new _ _ _ _ h))
-      (puts (table_of old) r.before (item c x ∷ r.after) f.rest e c (places r.after ++ end ∷ []) held refl)
 
   -- with one more before a place, the elements are those ahead of it, it, and those behind it
   pub put_items : (s : Links E Z) (items : List (Placed E)) (frees : List ℕ) (c : ℕ) (x : E) (y : Placed E) (r : Split items c x)

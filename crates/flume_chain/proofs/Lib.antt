@@ -3,6 +3,8 @@ pub mod Splices
 pub mod Tables
 pub mod Steps
 pub mod Kept
+pub mod Puts
+pub mod Firsts
 pub mod Edits
 pub mod Writes
 pub mod ChainLaws

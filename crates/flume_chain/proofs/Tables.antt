@@ -1,9 +1,8 @@
 -- What the elements of a chain are at their places, and that the walk through its links is them.
-use Rattle.std.proofs.Common.{◌≡◌, ◌≢◌, ℕ, suc, ◌≤◌, ◌==◌, List, [], ◌∷◌, ◌++◌, false, Option, Some, None, map, length, refl, sym, ap, ap₂, subst, ◌∙◌, inl, inr, arith, if◌then◌else◌, eq-eqb}
+use Rattle.std.proofs.Common.{◌≡◌, ◌≢◌, ℕ, suc, ◌≤◌, ◌==◌, List, [], ◌∷◌, ◌++◌, false, Option, Some, None, map, length, refl, sym, ap, ap₂, ◌∙◌, inl, inr, arith, if◌then◌else◌, eq-eqb}
 use Rattle.std.proofs.lemmas.Bool.{cases_Bool, cases_lt, eqb-true}
-use Rattle.std.specs.Prelude.{OnSome}
 use Rattle.flume_chain.specs.Links.{end, with}
-use Rattle.flume_chain.specs.Chained.{once, times, Placed, Table, Holds, places, found, without, put_before, first_place, first_element, behind_first, place_after, listed, walk}
+use Rattle.flume_chain.specs.Chained.{once, times, Placed, Table, Holds, places, found, without, put_before, first_place, behind_first, place_after, listed, walk}
 use Rattle.flume_chain.proofs.Rings.{Ring, once_same, once_none, once_back, once_more, with_same, with_other, map_with}
 
 module _ {X : Type 0} where
@@ -194,15 +193,3 @@ module _ {E : Type 0} where
         none = λ is. absurd (let same = once_same end in let at = ap (λ k. once k end) (name ∙ is) in omega arith);
         some = λ ne. ap Some (sym name);
       }
-
-  -- at the place of the first element it is found
-  pub found_first : (xs : List (Placed E)) (c : ℕ) → Some c ≡ first_place xs → found xs c ≡ first_element xs
-  found_first [] c h = absurd cc
-  found_first (x ∷ xs) c h =
-      let name : c ≡ x.place = cc in
-      ap (λ b. if b then Some x.element else found xs c) (eq-eqb c x.place name)
-
-  -- what holds where something is found at the place of the first element
-  pub found_there : (xs : List (Placed E)) (c : ℕ) (r : Option E) (P : Type 0) → Some c ≡ first_place xs → r ≡ found xs c → OnSome r P → P
-  found_there [] c r P h is p = absurd cc
-  found_there (x ∷ xs) c r P h is p = subst (λ o. OnSome o P) (is ∙ found_first (x ∷ xs) c h) p

@@ -134,11 +134,6 @@ module _ {E Z : Type 0} where
   abbrev pub chain_of : Links E Z → ℕ → Chained E
   chain_of s n = record { items = walk (table_of s) s.first n; room = room_of s n }
 
-  -- these links are of these elements, and a place is free
-  pub record HasFree (s : Links E Z) (items : List (Placed E)) : Type 0 where
-    pub rest : List ℕ
-    pub holds : Holds (table_of s) items (s.free ∷ rest)
-
   -- these links are of n elements and of the free places
   pub record Kept (s : Links E Z) (n : ℕ) : Type 0 where
     pub items : List (Placed E)

@@ -1,5 +1,5 @@
 -- What the contracts of a chain's links cite: what stands at a place, by look-ups.
-use Rattle.std.specs.Prelude.{◌≡◌, ◌≢◌, ℕ, suc, ◌<◌, ◌==◌, Option, Some, None, if◌then◌else◌}
+use Rattle.std.specs.Prelude.{◌≡◌, ◌≢◌, ℕ, suc, ◌<◌, ◌≤◌, ◌==◌, Option, Some, None, if◌then◌else◌}
 use Rattle.std.specs.Prelude.{slice_index_or}
 use Rattle.std.specs.Vec.{vec_len, vec_capacity, with_item}
 use Rattle.flume_chain.specs.declared.chain.links.Node.{Node}
@@ -53,10 +53,36 @@ module _ {E Z : Type 0} where
     pub elements : (k : ℕ) → element_at new k ≡ element k
     pub frees : new.free ≡ free
 
-  -- new has one more node than old, which is free
-  pub record Grown (old new : Links E Z) : Type 0 where
+  -- new is as old was
+  abbrev pub Same : Links E Z → Links E Z → Type 0
+  Same old new = Linked old new (next_at old) (previous_at old) (element_at old) old.free
+
+  -- the place is the free one of old, and the one after it is free in new
+  pub record Reused (old new : Links E Z) (place : ℕ) : Type 0 where
+    pub at : place ≡ old.free
+    pub size : vec_len new.nodes ≡ vec_len old.nodes
+    pub capacity : vec_capacity new.nodes ≡ vec_capacity old.nodes
+    pub frees : new.free ≡ next_at old old.free
+
+  -- the place is that of one more node, and none is free in new
+  pub record Made (old new : Links E Z) (place : ℕ) : Type 0 where
+    pub at : place ≡ vec_len old.nodes
+    pub below : vec_len old.nodes < end
     pub size : vec_len new.nodes ≡ suc (vec_len old.nodes)
-    pub nexts : (k : ℕ) → next_at new k ≡ with (next_at old) (vec_len old.nodes) old.free k
-    pub previouses : (k : ℕ) → previous_at new k ≡ with (previous_at old) (vec_len old.nodes) end k
-    pub elements : (k : ℕ) → element_at new k ≡ with (element_at old) (vec_len old.nodes) None k
-    pub frees : new.free ≡ vec_len old.nodes
+    pub capacity : vec_len old.nodes < vec_capacity old.nodes
+        → vec_capacity new.nodes ≡ vec_capacity old.nodes
+    pub frees : new.free ≡ end
+
+  -- new has the place, which in old was free or of no node, and at each place what these say
+  pub record Put (old new : Links E Z) (place : ℕ) (next previous : ℕ → ℕ)
+      (element : ℕ → Option E) : Type 0 where
+    pub nexts : (k : ℕ) → next_at new k ≡ next k
+    pub previouses : (k : ℕ) → previous_at new k ≡ previous k
+    pub elements : (k : ℕ) → element_at new k ≡ element k
+    pub reused : old.free ≢ end → Reused old new place
+    pub made : old.free ≡ end → Made old new place
+
+  -- no node is free, and none is made with no more memory
+  pub record Full (s : Links E Z) : Type 0 where
+    pub frees : s.free ≡ end
+    pub size : vec_len s.nodes < vec_capacity s.nodes → end ≤ vec_len s.nodes

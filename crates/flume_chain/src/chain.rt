@@ -177,10 +177,7 @@ impl<E: Drop, A: Allocator> Chain<E, A> {
         ensures returned { IfErr result (λ back. back ≡ element) }
         ensures unchanged { OnErr result (self.new ≡ self.old) }
     {
-        if !self.links.ready() {
-            return Err(element);
-        }
-        let place = self.links.link_before(END, element);
+        let place = self.links.link_before(END, element)?;
         self.len += 1;
         Ok(place)
     }
@@ -202,10 +199,7 @@ impl<E: Drop, A: Allocator> Chain<E, A> {
         let Some(_) = self.links.get(next) else {
             return self.push_back(element);
         };
-        if !self.links.ready() {
-            return Err(element);
-        }
-        let place = self.links.link_before(next, element);
+        let place = self.links.link_before(next, element)?;
         self.len += 1;
         Ok(place)
     }
@@ -219,11 +213,11 @@ impl<E: Drop, A: Allocator> Chain<E, A> {
         ensures room { self.new.room ≡ self.old.room }
         ensures unchanged { result ≡ false → self.new ≡ self.old }
     {
-        let Some(element) = self.links.take(place) else {
+        let Some(_) = self.links.get(place) else {
             return false;
         };
-        self.links.bypass(place);
-        self.links.link_before(END, element);
+        self.links.unlink(place);
+        self.links.link_last(place);
         true
     }
 
@@ -253,12 +247,11 @@ impl<E: Drop, A: Allocator> Chain<E, A> {
         ensures room { OnSome result (self.new.room ≡ self.old.room + 1) }
         ensures unchanged { IfNone result (self.new ≡ self.old) }
     {
-        let place = self.first()?;
-        let element = self.links.take(place)?;
-        self.links.bypass_first(place);
+        let element = self.links.take_first()?;
         self.len -= 1;
         Some(element)
     }
+
     /// Takes out all elements, and drops them. Gives back no memory, and takes none.
     pub fn clear(&mut self)
         ensures empty { self.new.items ≡ [] }

@@ -20,7 +20,8 @@ module _ {T A S : Type 0} where
       → IsReply (channel o log) q.0 q.1 → StandsFor o (p ∷ log) s → StandsFor o (q ∷ log) s
   stands_by o log p q s e reply h = record {
     run = (reply, h.run.1);
-    capacity_is = h.capacity_is;
+    capacity_is = rw e h.capacity_is;
+    greatest_is = rw e h.greatest_is;
     queued = h.queued;
     line_is = rw e h.line_is;
     queue_is = h.queue_is;

@@ -7,10 +7,10 @@ use Rattle.std.proofs.Math.Seq.{drop-nil}
 use Rattle.std.proofs.lemmas.Bool.{or_cases, or_from, or_left, or_right, and_from, cond-true, cond-false}
 use Rattle.std.proofs.lemmas.List.{drop-append-le, drop_at, length-map, length-drop}
 use Rattle.flume_model.specs.Log.{Log, Opening, Offer, Change, Queues, Blocks, Accepts, Withdraws, Takes, Drains, Parks, Asks, Collects}
-use Rattle.flume_model.specs.Log.{Leaves, SenderJoins, ReceiverJoins, SenderLeaves, ReceiverLeaves, Stays, capped, change}
+use Rattle.flume_model.specs.Log.{Leaves, SenderJoins, ReceiverJoins, SenderLeaves, ReceiverLeaves, Resizes, Stays, capped, change}
 use Rattle.flume_model.specs.Offers.{kept, handed_out}
 use Rattle.flume_model.specs.Counts.{is_over}
-use Rattle.flume_model.specs.Line.{line, boundary, boundary_after, blocked, issues, spends, is_live, how_many, next_ticket}
+use Rattle.flume_model.specs.Line.{line, capacity, capacity_after, boundary, boundary_after, blocked, issues, spends, is_live, how_many, next_ticket}
 use Rattle.flume_model.specs.Entries.{some_wait}
 use Rattle.flume_model.specs.Parked.{entries}
 use Rattle.flume_model.specs.Channel.{IsFront, channel, has_ticket}
@@ -60,7 +60,7 @@ module _ {T A : Type 0} where
   -- the offers blocked after a change
   abbrev blocked_by : Opening → Log T A → Change T → List (Offer T)
   blocked_by o past done =
-      drop (boundary_after o.capacity (length (line_by past done)) (boundary o past) done) (line_by past done)
+      drop (boundary_after (capacity_after (capacity o past) done) (length (line_by past done)) (boundary o past) done) (line_by past done)
 
   -- a change that leaves the line leaves the blocked messages
   left_same : (o : Opening) (past : Log T A) (done : Change T) (t : ℕ) → is_over past ≡ false → keeps_line done ≡ true
@@ -74,7 +74,7 @@ module _ {T A : Type 0} where
   left_taken o past m receiver run h open_ t is =
       let front = front_at (line past) m h.0 h.1 in
       let left = line_by past (Takes m receiver) in
-      let k = max (boundary o past - 1) (capped o.capacity (length left)) in
+      let k = max (boundary o past - 1) (capped (capacity o past) (length left)) in
       let same : left ≡ drop 1 (line past) =
       line_front past m receiver front.0 front.1 (sym (line_is_open past open_) ∙ front.2) ∙ sym (ap (drop 1) front.2) in
       let all : drop k left ≡ drop (1 + k) (line past) = ap (drop k) same ∙ drop-drop k 1 (line past) in
@@ -90,7 +90,7 @@ module _ {T A : Type 0} where
       let none : blocked_by o past (Queues m filled) ≡ [] =
       nil_by (blocked_by o past (Queues m filled)) (λ more.
       let cut = length-drop (boundary o past + 1 - how_many filled) (line_by past (Queues m filled)) in
-      room_or_full o.capacity (boundary o past)
+      room_or_full (capacity o past) (boundary o past)
       (h.0.1 (unlike_true (some_wait (entries o past)) (λ some. omega (arith, shape.waits some)))) (shape.full (omega arith))) in
       let no : has_ticket t (blocked_by o past (Queues m filled)) ≡ false = ap (has_ticket t) none in
       absurd (let none : ⊥ = cc in none)
@@ -137,7 +137,7 @@ module _ {T A : Type 0} where
       let many : length list ≡ boundary o past =
       ap length h ∙ length-map (take (boundary o past) (line past)) (λ x. x.message)
       ∙ length-take-le (boundary o past) (line past) shape.within in
-      let k = capped o.capacity (length left) in
+      let k = capped (capacity o past) (length left) in
       let all : blocked_by o past (Drains list) ≡ drop (length list + k) (line past) =
       ap (drop k) (line_drained past list ∙ ap (drop (length list)) (sym (line_is_open past open_)))
       ∙ drop-drop k (length list) (line past) in
@@ -163,6 +163,10 @@ module _ {T A : Type 0} where
   left_by o past ReceiverJoins run h open_ t is = inr (left_same o past ReceiverJoins t open_ refl is, refl)
   left_by o past SenderLeaves run h open_ t is = inr (left_same o past SenderLeaves t open_ refl is, refl)
   left_by o past ReceiverLeaves run h open_ t is = inr (left_same o past ReceiverLeaves t open_ refl is, refl)
+  left_by o past (Resizes new) run h open_ t is =
+      let same : line_by past (Resizes new) ≡ line past = line_same past (Resizes new) refl ∙ sym (line_is_open past open_) in
+      let k = max (boundary o past) (capped (Some new) (length (line_by past (Resizes new)))) in
+      inr (has_behind t (boundary o past) k (line past) (omega arith) (sym (ap (λ l. has_ticket t (drop k l)) same) ∙ is), refl)
   left_by o past Stays run h open_ t is = inr (left_same o past Stays t open_ refl is, refl)
 
   -- the ticket of each blocked message is live
@@ -189,11 +193,11 @@ module _ {T A : Type 0} where
       by_case false open_ rest =
           let told = told_filled o past run.1 in
           let same : line (p ∷ past) ≡ line_by past done = line_is_open (p ∷ past) open_ in
-          let queued : boundary o (p ∷ past) ≡ boundary_after o.capacity (length (line (p ∷ past))) (boundary o past) done =
+          let queued : boundary o (p ∷ past) ≡ boundary_after (capacity o (p ∷ past)) (length (line (p ∷ past))) (boundary o past) done =
           cond-false (is_over (p ∷ past)) 0 _ open_ in
           let all : blocked o (p ∷ past) ≡ blocked_by o past done =
           ap (λ n. drop n (line (p ∷ past))) queued
-          ∙ ap (λ l. drop (boundary_after o.capacity (length l) (boundary o past) done) l) same in
+          ∙ ap (λ l. drop (boundary_after (capacity o (p ∷ past)) (length l) (boundary o past) done) l) same in
           let left = left_by o past done run.1 (fits o past p.0 p.1 told run.0) (not_over_yet o past p told run open_) t
           (sym (ap (has_ticket t) all) ∙ is) in
           ap (λ b. not b && (issues done t || (is_live past t && not (spends done t)))) open_ ∙ go rest left

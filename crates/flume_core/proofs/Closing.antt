@@ -81,7 +81,7 @@ module _ {T A S : Type 0} where
       go : (b c : Bool) → eqb (n + m) 0 ≡ b → closes ≡ c → StandsFor o (p ∷ log) new
       go true c over closed =
           let left = rw over at is in
-          counts_over o log p done old new h reply e (leaving_issues done ends) left (eqb-true (n + m) 0 over)
+          counts_over o log p done old new h reply e (leaving_moves done ends) (leaving_issues done ends) left (eqb-true (n + m) 0 over)
       go false true over closed =
           let left = rw (over, closed) at is in
           counts_open o log p done old new (all_due old.blocked old.sends) (all_woken due_now old.entries) h reply e

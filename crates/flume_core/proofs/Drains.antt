@@ -18,7 +18,7 @@ use Rattle.flume_state.specs.State.{State, offers_of}
 use Rattle.flume_core.specs.StandsFor.{StandsFor}
 use Rattle.flume_state.specs.Effects.{filled_up, filled_up_from}
 use Rattle.flume_model.proofs.order.LineSteps.{line_drains, apart_in_line, line_over}
-use Rattle.flume_core.proofs.Views.{mark, status, status_is, queued_length, queue_at_log, offered_messages, line_length, nil_by}
+use Rattle.flume_core.proofs.Views.{mark, status, status_is, greatest_kept, queued_length, queue_at_log, offered_messages, line_length, nil_by}
 use Rattle.flume_core.proofs.Marks.{marks_moved_in}
 use Rattle.flume_core.proofs.Stands.{stands_as, stands_open, stands_over, fits_as, over_same, none_live}
 use Rattle.flume_core.proofs.Stands.{peak_kept, none_parked}
@@ -59,20 +59,20 @@ module _ {T S : Type 0} where
   accepted_all (b ∷ moved) sends = accepted_all moved (changed sends b.ticket accepted_now)
 
   -- what stands once blocked messages moved in while there was room
-  record MovedIn (xs : List (Blocked T)) (s new : State T S) : Type 0 where
-    moved : List (Blocked T)
-    later : List (Blocked T)
-    parts : xs ≡ moved ++ later
-    state : new ≡ record s {
+  pub record MovedIn (xs : List (Blocked T)) (s new : State T S) : Type 0 where
+    pub moved : List (Blocked T)
+    pub later : List (Blocked T)
+    pub parts : xs ≡ moved ++ later
+    pub state : new ≡ record s {
       queue = s.queue ++ map (λ b. b.message) moved;
       blocked = later;
       sends = accepted_all moved s.sends;
     }
-    in_capacity : IsInCapacity s.capacity (length s.queue + length moved)
-    enough : IsAtCapacity s.capacity (length s.queue + length moved) ⊎ (later ≡ [])
+    pub in_capacity : IsInCapacity s.capacity (length s.queue + length moved)
+    pub enough : IsAtCapacity s.capacity (length s.queue + length moved) ⊎ (later ≡ [])
 
   -- blocked messages move in while there is room
-  moves_in : (xs : List (Blocked T)) (s : State T S) → s.blocked ≡ xs → IsInCapacity s.capacity (length s.queue)
+  pub moves_in : (xs : List (Blocked T)) (s : State T S) → s.blocked ≡ xs → IsInCapacity s.capacity (length s.queue)
       → MovedIn xs s (filled_up_from xs s)
   moves_in [] s at in_ = record {
     moved = [];
@@ -114,7 +114,7 @@ module _ {T S : Type 0} where
           }
 
   -- how each ticket stands once the first of them have moved in
-  marks_all : (moved later : List (Blocked T)) (sends : SendMap S) (live : ℕ → Bool)
+  pub marks_all : (moved later : List (Blocked T)) (sends : SendMap S) (live : ℕ → Bool)
       → ((q : ℕ) → mark sends q ≡ status (live q) (has_ticket q (offers_of (moved ++ later)))) → ApartFrom (moved ++ later)
       → (q : ℕ) → mark (accepted_all moved sends) q ≡ status (live q) (has_ticket q (offers_of later))
   marks_all [] later sends live marks apart q = marks q
@@ -133,7 +133,7 @@ module _ {T S : Type 0} where
 
 module _ {T A S : Type 0} where
   -- the blocked messages of a state have tickets apart
-  apart_blocked : {o : Opening} {log : Log T A} {s : State T S} → StandsFor o log s → ApartFrom s.blocked
+  pub apart_blocked : {o : Opening} {log : Log T A} {s : State T S} → StandsFor o log s → ApartFrom s.blocked
   apart_blocked {o} {log} {s} h before b later e =
       (apart_in_line o log h.run h.queued (offers_of before) (offers_of later) b.ticket b.message
       (h.line_is ∙ ap (λ l. h.queued ++ l) (ap offers_of e ∙ map-append _ before (b ∷ later)))).1
@@ -167,12 +167,13 @@ module _ {T A S : Type 0} where
           let none_later : IsAtCapacity old.capacity n ⊎ (length at.later ≡ 0) =
           ⊎_elim (λ full. inl (rw (← zero_more) full)) (λ none. inr (ap length none)) at.enough in
           stands_as o (p ∷ past) new _ (is ∙ at.state) (stands_open o past p (Drains list) old _ h reply e still_open record {
-            capacity_kept = refl;
+            capacity_is = refl;
+            greatest_is = greatest_kept h;
             queued = offers_of at.moved;
             line_is = left;
             queue_is = sym (offered_messages at.moved);
             length_is = length-map at.moved _ ∙ capped_is old.capacity n (length at.later) (rw (← zero_more) at.in_capacity) none_later
-                ∙ ap₂ capped h.capacity_is (sym many);
+                ∙ ap (capped old.capacity) (sym many);
             marks = λ q. marks_all at.moved at.later old.sends (is_live past)
                 (λ k. status_is h k ∙ ap (λ l. status (is_live past k) (has_ticket k (offers_of l))) at.parts)
                 (λ before b later found. apart_blocked h before b later (at.parts ∙ found)) q
@@ -188,6 +189,6 @@ module _ {T A S : Type 0} where
           let none_blocked : old.blocked ≡ [] = nil_by old.blocked (λ some. omega arith) in
           let same : new ≡ record old { queue = [] } = is ∙ ap (λ xs. filled_up_from xs (record old { queue = [] })) none_blocked in
           stands_as o (p ∷ past) new _ same (stands_over o past p (Drains list) old _ h reply e
-          (over_same past p (Drains list) e refl ∙ over) refl refl none_blocked
+          (over_same past p (Drains list) e refl ∙ over) (λ c. refl) refl refl refl none_blocked
           (λ t. status_is h t ∙ ap (λ b. status b (has_ticket t (offers_of old.blocked))) (none_live past t over))
           (none_parked h over) refl (omega arith) refl refl)

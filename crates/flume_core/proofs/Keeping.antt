@@ -5,9 +5,9 @@ use Rattle.std.specs.FinMap.{get-empty}
 use Rattle.flume_model.specs.declared.step.Step.{Step}
 use Rattle.flume_model.specs.declared.step.Reply.{Reply}
 use Rattle.flume_model.specs.Log.{Log, Opening, Change, Queues, Blocks, Accepts, Withdraws, Takes, Drains, Parks, Asks, Collects}
-use Rattle.flume_model.specs.Log.{Leaves, SenderJoins, ReceiverJoins, SenderLeaves, ReceiverLeaves, Stays, change}
+use Rattle.flume_model.specs.Log.{Leaves, SenderJoins, ReceiverJoins, SenderLeaves, ReceiverLeaves, Resizes, Stays, change}
 use Rattle.flume_model.specs.Counts.{senders, receivers, senders_after, receivers_after, is_over}
-use Rattle.flume_model.specs.Line.{boundary_after, issued, issues, spends, is_live}
+use Rattle.flume_model.specs.Line.{boundary_after, capacity_after, issued, issues, spends, is_live}
 use Rattle.flume_model.specs.Channel.{channel, has_ticket}
 use Rattle.flume_model.specs.Replies.{IsReply}
 use Rattle.flume_model.specs.Entries.{waiting_count}
@@ -20,7 +20,7 @@ use Rattle.flume_model.proofs.EntryShape.{told_filled}
 use Rattle.flume_model.proofs.Fits.{not_over_yet}
 use Rattle.flume_model.proofs.order.Kept.{keeps_line}
 use Rattle.flume_model.proofs.order.LineSteps.{line_stays, line_over}
-use Rattle.flume_core.proofs.Views.{SameMarks, status, status_is, line_length, nil_by}
+use Rattle.flume_core.proofs.Views.{SameMarks, status, status_is, greatest_kept, line_length, nil_by}
 use Rattle.flume_core.proofs.Stands.{peak_kept, none_parked, stands_as, stands_open, stands_over, open_not_over, none_live, over_same}
 use Rattle.flume_core.proofs.Stands.{still_live}
 
@@ -42,6 +42,7 @@ record KeepsAll {T : Type 0} (done : Change T) : Type 0 where
   issues_no : (t : ℕ) → issues done t ≡ false
   spends_no : (t : ℕ) → spends done t ≡ false
   queued_same : (capacity : Option ℕ) (long n : ℕ) → boundary_after capacity long n done ≡ n
+  capacity_same : (capacity : Option ℕ) → capacity_after capacity done ≡ capacity
 
 -- such a change does
 keeps_all : {T : Type 0} (done : Change T) → moves_none done ≡ true → KeepsAll done
@@ -52,8 +53,15 @@ keeps_all (Withdraws t) none = absurd (let never : ⊥ = cc in never)
 keeps_all (Takes m receiver) none = absurd (let never : ⊥ = cc in never)
 keeps_all (Drains list) none = absurd (let never : ⊥ = cc in never)
 keeps_all (Leaves t filled) none = absurd (let never : ⊥ = cc in never)
+keeps_all (Resizes new) none = absurd (let never : ⊥ = cc in never)
 keeps_all _ none =
-    record { keeps = refl; issues_no = λ t. refl; spends_no = λ t. refl; queued_same = λ capacity long n. refl }
+    record {
+      keeps = refl;
+      issues_no = λ t. refl;
+      spends_no = λ t. refl;
+      queued_same = λ capacity long n. refl;
+      capacity_same = λ capacity. refl;
+    }
 
 module _ {T A S : Type 0} where
   -- such a change leaves this state, while the channel isn't over
@@ -76,11 +84,12 @@ module _ {T A S : Type 0} where
       let all = keeps_all done none in
       let before : is_over past ≡ false = not_over_yet o past p (told_filled o past h.run) (reply, h.run) open_ in
       stands_as o (p ∷ past) new _ is (stands_open o past p done old _ h reply e open_ record {
-        capacity_kept = refl;
+        capacity_is = sym (all.capacity_same old.capacity);
+        greatest_is = greatest_kept h;
         queued = h.queued;
         line_is = line_stays o past p h.run (ap keeps_line e ∙ all.keeps) before open_ ∙ h.line_is;
         queue_is = h.queue_is;
-        length_is = sym (all.queued_same o.capacity _ (length old.queue));
+        length_is = sym (all.queued_same old.capacity _ (length old.queue));
         marks = λ t. marks t ∙ status_is h t
             ∙ sym (ap (λ b. status b (has_ticket t (offers_of old.blocked)))
             (still_live _ (is_live past t) _ (all.issues_no t) (all.spends_no t)));
@@ -103,7 +112,7 @@ module _ {T A S : Type 0} where
           (over_same past p Stays e refl ∙ open_) is marks refl (peak_kept h old.entries (omega arith)) (omega arith)
       by_case true over =
           let none : length old.queue + length old.blocked ≡ 0 = sym (line_length h) ∙ ap length (line_over past over) in
-          stands_as o (p ∷ past) new _ is (stands_over o past p Stays old _ h reply e (over_same past p Stays e refl ∙ over) refl
+          stands_as o (p ∷ past) new _ is (stands_over o past p Stays old _ h reply e (over_same past p Stays e refl ∙ over) (λ c. refl) refl refl
           (nil_by old.queue (λ some. omega arith)) (nil_by old.blocked (λ some. omega arith))
           (λ t. marks t ∙ status_is h t ∙ ap (λ b. status b (has_ticket t (offers_of old.blocked))) (none_live past t over))
           (none_parked h over) refl (omega arith) refl refl)
@@ -136,14 +145,14 @@ module _ {T A S : Type 0} where
 
   -- an end leaves, and none is left
   pub counts_over : (o : Opening) (past : Log T A) (p : Step T × Reply T A) (done : Change T) (old new : State T S)
-      → StandsFor o past old → IsReply (channel o past) p.0 p.1 → change past p.0 p.1 ≡ done → issued done ≡ 0
-      → new ≡ emptied (record old { senders = senders_after old.senders done; receivers = receivers_after old.receivers done })
+      → StandsFor o past old → IsReply (channel o past) p.0 p.1 → change past p.0 p.1 ≡ done → moves_none done ≡ true
+      → issued done ≡ 0 → new ≡ emptied (record old { senders = senders_after old.senders done; receivers = receivers_after old.receivers done })
       → senders_after old.senders done + receivers_after old.receivers done ≡ 0 → StandsFor o (p ∷ past) new
-  counts_over o past p done old new h reply e issued_ is none =
+  counts_over o past p done old new h reply e moves issued_ is none =
       let a : senders_after old.senders done ≡ senders (p ∷ past) =
       ap (λ n. senders_after n done) h.senders_are ∙ sym (ap (senders_after (senders past)) e) in
       let b : receivers_after old.receivers done ≡ receivers (p ∷ past) =
       ap (λ n. receivers_after n done) h.receivers_are ∙ sym (ap (receivers_after (receivers past)) e) in
       let over : is_over (p ∷ past) ≡ true = eq-eqb _ 0 (let gone : senders (p ∷ past) + receivers (p ∷ past) ≡ 0 = omega arith in gone) in
       stands_as o (p ∷ past) new _ is
-      (stands_over o past p done old _ h reply e over refl refl refl (λ t. rw get-empty refl) refl refl (omega arith) refl refl)
+      (stands_over o past p done old _ h reply e over (keeps_all done moves).capacity_same refl refl refl refl (λ t. rw get-empty refl) refl refl (omega arith) refl refl)

@@ -11,6 +11,7 @@ mod Spaces
 mod Receives
 mod Takes
 mod Drains
+mod Resizes
 mod Telling
 mod Answering
 mod AsTries

@@ -25,7 +25,7 @@ use Rattle.flume_model.proofs.order.Parts.{at_most}
 use Rattle.flume_model.proofs.order.LineSteps.{line_queues, line_blocks, line_withdraws, line_stays}
 use Rattle.flume_model.proofs.WaitingCounts.{fewer_rounded}
 use Rattle.flume_core.proofs.Bare.{bare_round_for}
-use Rattle.flume_core.proofs.Views.{status, status_is, room_at_state, none_blocked, none_blocked_waiting}
+use Rattle.flume_core.proofs.Views.{status, status_is, greatest_kept, room_at_state, none_blocked, none_blocked_waiting}
 use Rattle.flume_core.proofs.Views.{waiting_at_log}
 use Rattle.flume_core.proofs.Marks.{has_without, marks_inserted, marks_removed}
 use Rattle.flume_core.proofs.Stands.{peak_kept, stands_as, stands_open, fits_as, open_not_over, live_not_over, over_same}
@@ -68,7 +68,8 @@ module _ {T A S : Type 0} where
       let left : unfilled (round_for_fills (old.queue ++ m ∷ []) old.entries) (old.queue ++ m ∷ []) ≡ drop n (old.queue ++ m ∷ []) =
       ap (λ f. unfilled f (old.queue ++ m ∷ [])) (sym fills) ∙ unfilled_is filled (old.queue ++ m ∷ []) in
       stands_as o (p ∷ past) new _ is (stands_open o past p (Queues m filled) old _ h reply e still_open record {
-        capacity_kept = refl;
+        capacity_is = refl;
+        greatest_is = greatest_kept h;
         queued = drop n (h.queued ++ x ∷ []);
         line_is = line_queues o past p m filled h.run e open_
             ∙ ap (drop n) (ap (λ l. l ++ x ∷ []) h.line_is ∙ push_front h.queued (offers_of old.blocked) x (ap offers_of none))
@@ -101,7 +102,8 @@ module _ {T A S : Type 0} where
       let open_ : is_over past ≡ false = open_not_over past (let is_open = fit.0.0 in omega arith) in
       let still_open = over_same past p (Blocks m old.next) e refl ∙ open_ in
       stands_as o (p ∷ past) new _ is (stands_open o past p (Blocks m old.next) old _ h reply e still_open record {
-        capacity_kept = refl;
+        capacity_is = refl;
+        greatest_is = greatest_kept h;
         queued = h.queued;
         line_is = line_blocks o past p m old.next h.run e h.next_is open_
             ∙ ap (λ l. l ++ record { message = m; ticket = Some old.next } ∷ []) h.line_is
@@ -125,7 +127,8 @@ module _ {T A S : Type 0} where
       let open_ : is_over past ≡ false = live_not_over past t fit.0 in
       let still_open = over_same past p (Accepts t) e refl ∙ open_ in
       stands_as o (p ∷ past) new _ is (stands_open o past p (Accepts t) old _ h reply e still_open record {
-        capacity_kept = refl;
+        capacity_is = refl;
+        greatest_is = greatest_kept h;
         queued = h.queued;
         line_is = line_stays o past p h.run (ap keeps_line e) open_ still_open ∙ h.line_is;
         queue_is = h.queue_is;
@@ -151,7 +154,8 @@ module _ {T A S : Type 0} where
       h.line_is ∙ ap (λ l. h.queued ++ l) (ap offers_of at ∙ map-append _ before _) in
       let still_open = over_same past p (Withdraws t) e refl ∙ open_ in
       stands_as o (p ∷ past) new _ is (stands_open o past p (Withdraws t) old _ h reply e still_open record {
-        capacity_kept = refl;
+        capacity_is = refl;
+        greatest_is = greatest_kept h;
         queued = h.queued;
         line_is = line_withdraws o past p t m h.queued (offers_of before) (offers_of later) h.run e open_ place
             ∙ ap (λ l. h.queued ++ l) (sym (map-append _ before later));

@@ -25,7 +25,7 @@ use Rattle.flume_model.proofs.order.LineSteps.{line_leaves}
 use Rattle.flume_model.proofs.waits.WaitingOpen.{nothing_once_over}
 use Rattle.flume_model.proofs.WaitingCounts.{fewer_without, fewer_after_leave}
 use Rattle.flume_core.proofs.Bare.{bare_without, bare_again, bare_noticed, bare_after_leave}
-use Rattle.flume_core.proofs.Views.{status, status_is, queued_length}
+use Rattle.flume_core.proofs.Views.{status, status_is, greatest_kept, queued_length}
 use Rattle.flume_core.proofs.Stands.{stands_as, stands_open, fits_as, open_not_over, over_same, still_live}
 use Rattle.flume_model.proofs.order.Parts.{at_most}
 use Rattle.flume_core.proofs.Stands.{peak_kept}
@@ -139,7 +139,8 @@ module _ {T A S : Type 0} where
       let rest : unfilled (leave_fills t old.queue old.entries) old.queue ≡ drop n old.queue =
       ap (λ f. unfilled f old.queue) (sym fills) ∙ unfilled_is filled old.queue in
       stands_as o (p ∷ past) new _ (is ∙ departed_is t old) (stands_open o past p (Leaves t filled) old _ h reply e still_open record {
-        capacity_kept = refl;
+        capacity_is = refl;
+        greatest_is = greatest_kept h;
         queued = drop n h.queued;
         line_is = line_leaves o past p t filled h.run e open_ ∙ ap (drop n) h.line_is
             ∙ drop-append-le n h.queued (offers_of old.blocked) few;

@@ -1,6 +1,6 @@
 -- What a step has to leave of a state for it to stand for the log with that step added.
 use Rattle.std.proofs.Common.{◌≡◌, ℕ, ◌+◌, ◌<◌, ◌≤◌, Bool, true, false, not, ◌&&◌, ◌||◌, eqb, List, [], ◌∷◌, ◌++◌, length, drop, map, max}
-use Rattle.std.proofs.Common.{None, refl, sym, ◌∙◌, ap, ap₂, subst, arith, ne_eqb}
+use Rattle.std.proofs.Common.{Option, None, refl, sym, ◌∙◌, ap, ap₂, subst, arith, ne_eqb}
 use Rattle.std.proofs.Math.Bool.{and-true}
 use Rattle.std.proofs.lemmas.Bool.{cond-true, cond-false}
 use Rattle.std.proofs.lemmas.List.{drop_at, length-map}
@@ -8,7 +8,7 @@ use Rattle.flume_model.specs.declared.step.Step.{Step}
 use Rattle.flume_model.specs.declared.step.Reply.{Reply}
 use Rattle.flume_model.specs.Log.{Log, Opening, Offer, Change, change}
 use Rattle.flume_model.specs.Counts.{senders, receivers, senders_after, receivers_after, is_over}
-use Rattle.flume_model.specs.Line.{line, boundary, queue, boundary_after, blocked, messages, issued, next_ticket, issues, spends, is_live}
+use Rattle.flume_model.specs.Line.{line, boundary, queue, boundary_after, capacity, capacity_after, greater, blocked, messages, issued, next_ticket, issues, spends, is_live}
 use Rattle.flume_model.specs.Channel.{channel, has_ticket}
 use Rattle.flume_model.specs.Replies.{IsReply, IsRun}
 use Rattle.flume_model.specs.Entries.{waiting_count}
@@ -21,7 +21,7 @@ use Rattle.flume_core.specs.StandsFor.{StandsFor}
 use Rattle.flume_model.proofs.Fits.{Fits, fits}
 use Rattle.flume_model.proofs.order.LineSteps.{line_over}
 use Rattle.flume_model.proofs.waits.WaitingOpen.{nothing_once_over}
-use Rattle.flume_core.proofs.Views.{mark, status, queue_at_log, waiting_within, nil_mapped}
+use Rattle.flume_core.proofs.Views.{mark, status, queue_at_log, waiting_within, greatest_kept, nil_mapped}
 
 -- what a ticket is, after a change that neither issues nor spends it
 pub still_live : (issued_ live spent : Bool) → issued_ ≡ false → spent ≡ false → (issued_ || (live && not spent)) ≡ live
@@ -78,11 +78,12 @@ module _ {T A : Type 0} where
 -- what a step has to leave of a state for it to stand for the longer log, while the channel isn't over
 pub record LeftBy {T A S : Type 0} (o : Opening) (past : Log T A) (p : Step T × Reply T A) (done : Change T)
     (old new : State T S) : Type 0 where
-  pub capacity_kept : new.capacity ≡ old.capacity
+  pub capacity_is : new.capacity ≡ capacity_after old.capacity done
+  pub greatest_is : new.greatest ≡ greater old.greatest new.capacity
   pub queued : List (Offer T)
   pub line_is : line (p ∷ past) ≡ queued ++ offers_of new.blocked
   pub queue_is : new.queue ≡ messages queued
-  pub length_is : length new.queue ≡ boundary_after o.capacity (length (line (p ∷ past))) (length old.queue) done
+  pub length_is : length new.queue ≡ boundary_after new.capacity (length (line (p ∷ past))) (length old.queue) done
   pub marks : (t : ℕ) → mark new.sends t
       ≡ status (issues done t || (is_live past t && not (spends done t))) (has_ticket t (offers_of new.blocked))
   pub entries_are : map bare new.entries
@@ -103,9 +104,12 @@ module _ {T A S : Type 0} where
       → StandsFor o (p ∷ past) new
   stands_open o past p done old new h reply e open_ by =
       let closes = not (is_shut past) && is_shut (p ∷ past) in
+      let in_force : new.capacity ≡ capacity o (p ∷ past) =
+      by.capacity_is ∙ ap (λ c. capacity_after c done) h.capacity_is ∙ sym (ap (capacity_after (capacity o past)) e) in
       let counted : length new.queue ≡ boundary o (p ∷ past) =
-      by.length_is ∙ ap (λ n. boundary_after o.capacity (length (line (p ∷ past))) n done) h.boundary_is
-      ∙ sym (cond-false (is_over (p ∷ past)) 0 _ open_ ∙ ap (boundary_after o.capacity (length (line (p ∷ past))) (boundary o past)) e) in
+      by.length_is ∙ ap₂ (λ c n. boundary_after c (length (line (p ∷ past))) n done) in_force h.boundary_is
+      ∙ sym (cond-false (is_over (p ∷ past)) 0 _ open_
+      ∙ ap (boundary_after (capacity o (p ∷ past)) (length (line (p ∷ past))) (boundary o past)) e) in
       let waiting : blocked o (p ∷ past) ≡ offers_of new.blocked =
       ap (drop (boundary o (p ∷ past))) by.line_is
       ∙ drop_at by.queued (offers_of new.blocked) (boundary o (p ∷ past))
@@ -116,7 +120,8 @@ module _ {T A S : Type 0} where
       ∙ ap₂ (λ q es. entries_after q closes es done) (queue_at_log h) (sym h.entries_are)) in
       record {
         run = (reply, h.run);
-        capacity_is = by.capacity_kept ∙ h.capacity_is;
+        capacity_is = in_force;
+        greatest_is = by.greatest_is ∙ ap₂ greater h.greatest_is in_force;
         queued = by.queued;
         line_is = by.line_is;
         queue_is = by.queue_is;
@@ -135,16 +140,20 @@ module _ {T A S : Type 0} where
   -- once over, what has no message and no ticket left stands for the log
   pub stands_over : (o : Opening) (past : Log T A) (p : Step T × Reply T A) (done : Change T) (old new : State T S) → StandsFor o past old
       → IsReply (channel o past) p.0 p.1 → change past p.0 p.1 ≡ done → is_over (p ∷ past) ≡ true
-      → new.capacity ≡ old.capacity → new.queue ≡ [] → new.blocked ≡ []
+      → ((c : Option ℕ) → capacity_after c done ≡ c)
+      → new.capacity ≡ old.capacity → new.greatest ≡ old.greatest → new.queue ≡ [] → new.blocked ≡ []
       → ((t : ℕ) → mark new.sends t ≡ None) → new.entries ≡ [] → new.peak ≡ old.peak
       → new.next ≡ old.next + issued done → new.senders ≡ senders_after old.senders done
       → new.receivers ≡ receivers_after old.receivers done
       → StandsFor o (p ∷ past) new
-  stands_over o past p done old new h reply e over same_capacity no_queue no_blocked no_sends no_entries same_peak next senders_
+  stands_over o past p done old new h reply e over keeps same_capacity same_greatest no_queue no_blocked no_sends no_entries same_peak next senders_
       receivers_ =
+      let in_force : new.capacity ≡ capacity o (p ∷ past) =
+      same_capacity ∙ h.capacity_is ∙ sym (ap (capacity_after (capacity o past)) e ∙ keeps (capacity o past)) in
       record {
         run = (reply, h.run);
-        capacity_is = same_capacity ∙ h.capacity_is;
+        capacity_is = in_force;
+        greatest_is = same_greatest ∙ greatest_kept h ∙ ap₂ greater h.greatest_is (sym same_capacity ∙ in_force);
         queued = [];
         line_is = line_over (p ∷ past) over ∙ sym (ap offers_of no_blocked);
         queue_is = no_queue;

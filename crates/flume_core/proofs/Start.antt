@@ -13,6 +13,7 @@ module _ {T A S : Type 0} where
       subst P (sym e) record {
         run = tt;
         capacity_is = refl;
+        greatest_is = refl;
         queued = [];
         line_is = refl;
         queue_is = refl;

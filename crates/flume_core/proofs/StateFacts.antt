@@ -90,7 +90,7 @@ module _ {T A S : Type 0} where
   queued_bounded o log s h =
       let waiting : waiting_count (entries o log) ≡ waiting_count s.entries =
       sym (ap waiting_count h.entries_are) ∙ bare_waiting s.entries in
-      rw (h.capacity_is, h.peak_is, h.boundary_is, sym waiting) (bounded o log h.run)
+      rw (h.greatest_is, h.peak_is, h.boundary_is, sym waiting) (bounded o log h.run)
 
   -- the tickets of parked receivers are apart
   pub receivers_apart : (o : Opening) (log : Log T A) (s : State T S) → StandsFor o log s → ReceiverTicketsApart s

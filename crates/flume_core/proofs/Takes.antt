@@ -9,7 +9,7 @@ use Rattle.flume_model.specs.declared.step.Step.{Step}
 use Rattle.flume_model.specs.declared.step.Reply.{Reply}
 use Rattle.flume_model.specs.Log.{Log, Opening, Offer, Takes, capped, change}
 use Rattle.flume_model.specs.Counts.{is_over}
-use Rattle.flume_model.specs.Line.{line, messages, is_live}
+use Rattle.flume_model.specs.Line.{line, greater, messages, is_live}
 use Rattle.flume_model.specs.Channel.{channel, has_ticket}
 use Rattle.flume_model.specs.Replies.{IsReply}
 use Rattle.flume_model.specs.Limits.{HasRoom, IsAtCapacity, is_full}
@@ -26,7 +26,7 @@ use Rattle.flume_model.proofs.WaitingCounts.{fewer_without}
 use Rattle.flume_core.proofs.Stands.{peak_kept}
 use Rattle.flume_model.proofs.order.Parts.{front_at, open_at}
 use Rattle.flume_model.proofs.order.LineSteps.{line_takes}
-use Rattle.flume_core.proofs.Views.{mark, status, status_is, queued_length, at_capacity, nil_by}
+use Rattle.flume_core.proofs.Views.{mark, status, status_is, greatest_kept, queued_length, at_capacity, nil_by}
 use Rattle.flume_core.proofs.Marks.{marks_admitted}
 use Rattle.flume_core.proofs.Stands.{stands_as, stands_open, over_same}
 
@@ -86,9 +86,9 @@ module _ {T A S : Type 0} where
       → line past ≡ x ∷ (queued ++ offers_of new.blocked) → new.queue ≡ messages queued
       → length new.queue ≡ max (length old.queue - 1) (capped old.capacity (length queued + length new.blocked))
       → ((t : ℕ) → mark new.sends t ≡ status (is_live past t && true) (has_ticket t (offers_of new.blocked)))
-      → new.capacity ≡ old.capacity → new.next ≡ old.next → new.senders ≡ old.senders → new.receivers ≡ old.receivers
+      → new.capacity ≡ old.capacity → new.greatest ≡ old.greatest → new.next ≡ old.next → new.senders ≡ old.senders → new.receivers ≡ old.receivers
       → new.entries ≡ released receiver old.entries → new.peak ≡ old.peak → StandsFor o (p ∷ past) new
-  taken o past p old new m receiver x queued h reply e at queue long marks same_capacity same_next same_senders same_receivers left_parked
+  taken o past p old new m receiver x queued h reply e at queue long marks same_capacity same_greatest same_next same_senders same_receivers left_parked
       same_peak =
       let open_ : is_over past ≡ false = open_at past [] (queued ++ offers_of new.blocked) x at in
       let left : line (p ∷ past) ≡ queued ++ offers_of new.blocked =
@@ -96,12 +96,13 @@ module _ {T A S : Type 0} where
       let many : length (line (p ∷ past)) ≡ length queued + length new.blocked =
       ap length left ∙ length-append queued _ ∙ ap (λ n. length queued + n) (length-map new.blocked _) in
       stands_open o past p (Takes m receiver) old new h reply e (over_same past p (Takes m receiver) e refl ∙ open_) record {
-        capacity_kept = same_capacity;
+        capacity_is = same_capacity;
+        greatest_is = same_greatest ∙ greatest_kept h ∙ ap (greater old.greatest) (sym same_capacity);
         queued = queued;
         line_is = left;
         queue_is = queue;
-        length_is = long ∙ ap (λ c. max (length old.queue - 1) (capped c (length queued + length new.blocked))) h.capacity_is
-            ∙ ap (λ n. max (length old.queue - 1) (capped o.capacity n)) (sym many);
+        length_is = long ∙ ap (λ c. max (length old.queue - 1) (capped c (length queued + length new.blocked))) (sym same_capacity)
+            ∙ ap (λ n. max (length old.queue - 1) (capped new.capacity n)) (sym many);
         marks = marks;
         entries_are = ap (map bare) left_parked ∙ released_bare receiver old.entries m old.queue (not (is_shut past) && is_shut (p ∷ past));
         peak_is = same_peak ∙ peak_kept h new.entries
@@ -136,7 +137,7 @@ module _ {T A S : Type 0} where
       stands_as o (p ∷ past) new _ is (taken o past p old _ m receiver at.0 at.1 h reply e at.2 at.3
       (keeps ∙ ap (λ k. max k (capped old.capacity all)) (omega arith))
       (λ t. status_is h t ∙ sym (ap (λ c. status c (has_ticket t (offers_of old.blocked))) (and-true (is_live past t))))
-      refl refl refl refl refl refl)
+      refl refl refl refl refl refl refl)
 
   -- the front message leaves, and the first blocked message moves in
   takes_and_admits : (o : Opening) (past : Log T A) (p : Step T × Reply T A) (old new : State T S) (m : T) (receiver : Option ℕ)
@@ -166,7 +167,7 @@ module _ {T A S : Type 0} where
       (ap (λ l. l ++ b.message ∷ []) place.3 ∙ sym (map_push _ place.1 x))
       (length_push rest b.message ∙ one_more old.capacity (length rest) all (omega arith) room full
       ∙ ap (λ k. max k (capped old.capacity all)) (omega arith))
-      (marks_admitted o past old b later h at) refl refl refl refl refl refl)
+      (marks_admitted o past old b later h at) refl refl refl refl refl refl refl)
 
   -- nothing is queued, and the first blocked message is handed out
   takes_direct : (o : Opening) (past : Log T A) (p : Step T × Reply T A) (old new : State T S) (m : T) (receiver : Option ℕ)
@@ -190,7 +191,7 @@ module _ {T A S : Type 0} where
       (h.line_is ∙ ap (λ l. l ++ offers_of old.blocked) no_offer ∙ ap offers_of at) refl
       (stays_queued old.capacity 0 (0 + length later) (omega arith) (inl full)
       ∙ ap (λ k. max k (capped old.capacity (0 + length later))) (omega arith))
-      (marks_admitted o past old b later h at) refl refl refl refl refl refl)
+      (marks_admitted o past old b later h at) refl refl refl refl refl refl refl)
 
   -- a message is handed out, from a queue that isn't empty
   takes_queued : (o : Opening) (past : Log T A) (p : Step T × Reply T A) (old new : State T S) (m : T) (receiver : Option ℕ) (rest : List T)

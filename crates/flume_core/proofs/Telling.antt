@@ -73,6 +73,7 @@ module _ {T A S : Type 0} where
       subst P (sym e) record {
         run = h.run;
         capacity_is = h.capacity_is;
+        greatest_is = h.greatest_is;
         queued = h.queued;
         line_is = h.line_is;
         queue_is = h.queue_is;

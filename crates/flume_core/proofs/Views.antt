@@ -1,7 +1,7 @@
 -- What a state that stands for a log says of the log.
 use Rattle.std.proofs.Common.{◌≡◌, ◌≢◌, ℕ, ◌+◌, ◌<◌, Bool, true, false, not, cond, ⊎_elim, eqb, List, [], ◌∷◌, ◌++◌, length, map, take, ◌≤◌}
 use Rattle.std.proofs.Common.{Option}
-use Rattle.std.proofs.Common.{Some, None, refl, sym, ◌∙◌, ap, subst₂, arith, eqb-true, length-append}
+use Rattle.std.proofs.Common.{Some, None, refl, sym, ◌∙◌, ap, ap₂, max, subst₂, arith, eqb-true, length-append}
 use Rattle.std.specs.List.{All}
 use Rattle.std.specs.Option.{option_map}
 use Rattle.std.specs.FinMap.{get}
@@ -10,7 +10,7 @@ use Rattle.std.proofs.lemmas.List.{drop_at, take_at, length-map, map-append}
 use Rattle.std.proofs.lemmas.List.Elements.{All-head, All-tail}
 use Rattle.flume_model.specs.Log.{Log, Opening}
 use Rattle.flume_model.specs.Counts.{senders, receivers}
-use Rattle.flume_model.specs.Line.{line, capacity, boundary, queue, blocked, messages, is_live}
+use Rattle.flume_model.specs.Line.{line, capacity, greatest, greater, boundary, queue, blocked, messages, is_live}
 use Rattle.flume_model.specs.Entries.{some_wait, waiting_count, entry_of}
 use Rattle.flume_model.specs.Parked.{entries, peak}
 use Rattle.flume_model.specs.Channel.{IsBlocked, channel, has_ticket}
@@ -21,6 +21,17 @@ use Rattle.flume_state.specs.State.{State, offers_of, bare}
 use Rattle.flume_core.specs.StandsFor.{StandsFor}
 use Rattle.flume_model.proofs.order.Runs.{blocked_at_capacity, waits_whole}
 use Rattle.flume_core.proofs.Bare.{bare_some_wait, bare_waiting, bare_entry}
+
+-- the greater of a capacity and itself
+greater_self : (n : Option ℕ) → n ≡ greater n n
+greater_self None = refl
+greater_self (Some n) = ap Some (let same : n ≡ max n n = omega arith in same)
+
+-- the greater of two, compared with one of them
+greater_again : (n m : Option ℕ) → greater n m ≡ greater (greater n m) m
+greater_again None m = refl
+greater_again (Some n) None = refl
+greater_again (Some n) (Some m) = ap Some (let same : max n m ≡ max (max n m) m = omega arith in same)
 
 -- what isn't there mapped isn't there
 pub none_mapped : {X Y : Type 0} (f : X → Y) (x : Option X) → option_map f x ≡ None → x ≡ None
@@ -84,6 +95,11 @@ module _ {T : Type 0} where
   offered_messages (b ∷ xs) = ap (λ l. b.message ∷ l) (offered_messages xs)
 
 module _ {T A : Type 0} where
+  -- the greatest capacity so far is at least the one in force
+  greatest_covers : (o : Opening) (log : Log T A) → greatest o log ≡ greater (greatest o log) (capacity o log)
+  greatest_covers o [] = greater_self o.capacity
+  greatest_covers o (p ∷ past) = greater_again (greatest o past) (capacity o (p ∷ past))
+
   -- the peak is at least who waits
   peak_covers : (o : Opening) (log : Log T A) → waiting_count (entries o log) ≤ peak o log
   peak_covers o [] = omega arith
@@ -158,6 +174,11 @@ module _ {T A S : Type 0} where
       let b = h.peak_is in
       let c = peak_covers o log in
       omega arith
+
+  -- the greatest capacity so far is at least the one in force
+  pub greatest_kept : {o : Opening} {log : Log T A} {s : State T S} → StandsFor o log s → s.greatest ≡ greater s.greatest s.capacity
+  greatest_kept {o} {log} {s} h =
+      h.greatest_is ∙ greatest_covers o log ∙ ap₂ greater (sym h.greatest_is) (sym h.capacity_is)
 
   -- while a receiver waits, none is blocked
   pub none_blocked_waiting : {o : Opening} {log : Log T A} {s : State T S} → StandsFor o log s → some_wait s.entries ≡ true → s.blocked ≡ []

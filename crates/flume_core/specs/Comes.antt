@@ -4,7 +4,7 @@ use Rattle.flume_model.specs.declared.step.Step.{Step}
 use Rattle.flume_model.specs.declared.step.Step.TheVariants.{TrySend, Send, PollSend, WithdrawSend}
 use Rattle.flume_model.specs.declared.step.Step.TheVariants.{TryRecv, Recv, Poll, Withdraw, Drain}
 use Rattle.flume_model.specs.declared.step.Step.TheVariants.{CloneSender, CloneReceiver}
-use Rattle.flume_model.specs.declared.step.Step.TheVariants.{DropSender, DropReceiver}
+use Rattle.flume_model.specs.declared.step.Step.TheVariants.{DropSender, DropReceiver, SetCapacity}
 use Rattle.flume_model.specs.declared.step.Step.TheVariants.{Len, IsEmpty, IsFull}
 use Rattle.flume_model.specs.declared.step.Step.TheVariants.{Capacity as AskCapacity}
 use Rattle.flume_model.specs.declared.step.Step.TheVariants.{SenderCount, ReceiverCount}
@@ -14,7 +14,7 @@ use Rattle.flume_model.specs.declared.step.Reply.TheVariants.{Sent, Full, Closed
 use Rattle.flume_model.specs.declared.step.Reply.TheVariants.{Pending, Accepted, Waiting, Returned}
 use Rattle.flume_model.specs.declared.step.Reply.TheVariants.{NoTicket, Got, Empty, Ended, Parked}
 use Rattle.flume_model.specs.declared.step.Reply.TheVariants.{Gone, Drained, Done, NoEnd, CountFull}
-use Rattle.flume_model.specs.declared.step.Reply.TheVariants.{Number, Truth, Capacity}
+use Rattle.flume_model.specs.declared.step.Reply.TheVariants.{Number, Truth, Capacity, Unbounded}
 
 module _ {T A : Type 0} where
   -- The step may be answered so: an offer that is refused hands its own message back, and other
@@ -63,6 +63,9 @@ module _ {T A : Type 0} where
   Comes DropSender NoEnd = Unit {0}
   Comes DropReceiver Done = Unit {0}
   Comes DropReceiver NoEnd = Unit {0}
+  Comes (SetCapacity n) Done = Unit {0}
+  Comes (SetCapacity n) Ended = Unit {0}
+  Comes (SetCapacity n) Unbounded = Unit {0}
   Comes Len (Number n) = Unit {0}
   Comes IsEmpty (Truth b) = Unit {0}
   Comes IsFull (Truth b) = Unit {0}

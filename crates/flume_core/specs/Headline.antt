@@ -27,7 +27,8 @@ module _ {T A S : Type 0} where
     pub replies_lawful : IsRun opening log
     -- while a receiver waits, at least as many stand woken as messages are queued
     pub woken_cover : WokenCoverQueued s
-    -- queued messages and waiting receivers are at most the greater of the capacity and the peak
+    -- queued messages and waiting receivers are at most the greater of the greatest capacity so far
+    -- and the peak
     pub queue_bounded : QueuedAndWaitingAreBounded s
 
 module _ {T A : Type 0} where

@@ -8,11 +8,11 @@ use Rattle.flume_model.specs.declared.step.Step.TheVariants.{IsDisconnected}
 use Rattle.flume_model.specs.declared.step.Reply.{Reply}
 use Rattle.flume_model.specs.declared.step.Reply.TheVariants.{Full, Closed, NoMemory, Spent}
 use Rattle.flume_model.specs.declared.step.Reply.TheVariants.{NoTicket, Empty, Ended, NoEnd}
-use Rattle.flume_model.specs.declared.step.Reply.TheVariants.{CountFull}
+use Rattle.flume_model.specs.declared.step.Reply.TheVariants.{CountFull, Unbounded}
 use Rattle.flume_model.specs.Log.{Log, Opening, Offer}
 use Rattle.flume_model.specs.Counts.{senders, receivers}
-use Rattle.flume_model.specs.Line.{line, capacity, boundary, blocked, messages, next_ticket}
-use Rattle.flume_model.specs.Line.{is_live}
+use Rattle.flume_model.specs.Line.{line, capacity, greatest, boundary, blocked, messages}
+use Rattle.flume_model.specs.Line.{next_ticket, is_live}
 use Rattle.flume_model.specs.Parked.{entries, peak}
 use Rattle.flume_model.specs.Channel.{has_ticket}
 use Rattle.flume_model.specs.Replies.{IsRun}
@@ -29,6 +29,7 @@ module _ {T A : Type 0} where
       (s : State T S) : Type 0 where
     pub run : IsRun opening log
     pub capacity_is : s.capacity ≡ capacity opening log
+    pub greatest_is : s.greatest ≡ greatest opening log
     -- the queued offers, and behind them the blocked ones, are the line
     pub queued : List (Offer T)
     pub line_is : line log ≡ queued ++ offers_of s.blocked
@@ -52,6 +53,7 @@ module _ {T A : Type 0} where
   IsRefusal Ended = Unit {0}
   IsRefusal NoEnd = Unit {0}
   IsRefusal CountFull = Unit {0}
+  IsRefusal Unbounded = Unit {0}
   IsRefusal _ = ⊥
 
   -- the step, answered so, changes nothing: it is a query, or it was refused; where a parked

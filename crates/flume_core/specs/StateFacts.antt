@@ -26,11 +26,11 @@ module _ {T S : Type 0} where
   abbrev pub WokenCoverQueued : State T S → Type 0
   WokenCoverQueued s = some_wait s.entries ≡ true → length s.queue ≤ woken_count s.entries
 
-  -- the queued messages and the waiting receivers are together at most the greater of the capacity
-  -- and the peak
+  -- the queued messages and the waiting receivers are together at most the greater of the greatest
+  -- capacity so far and the peak
   abbrev pub QueuedAndWaitingAreBounded : State T S → Type 0
   QueuedAndWaitingAreBounded s =
-      IsWithin s.capacity s.peak (length s.queue + waiting_count s.entries)
+      IsWithin s.greatest s.peak (length s.queue + waiting_count s.entries)
 
   -- the tickets of parked receivers are below the next one, and each is another
   abbrev pub ReceiverTicketsApart : State T S → Type 0

@@ -7,6 +7,7 @@ ghost use Rattle.flume_core.specs.StandsFor.{StandsFor, Extends, ChangesNothing,
 ghost use Rattle.flume_state.specs.Due.{BecomesDue};
 ghost use Rattle.flume_core.specs.Comes.{Comes};
 
+mod capacity;
 mod ends;
 mod parked;
 mod queries;
@@ -27,6 +28,7 @@ use std::marker::Model;
 #[derive(Drop)]
 pub struct Chan<T, S, A: Allocator = Global> {
     capacity: Option<usize>,
+    greatest: Option<usize>,
     line: Line<T, A>,
     sends: Sends<S, A>,
     entries: Entries<T, S, A>,
@@ -45,6 +47,7 @@ impl<T, S, A: Allocator> Model for Chan<T, S, A> {
 
     ghost view = { λ chan. record {
       capacity = chan.capacity;
+      greatest = chan.greatest;
       queue = chan.line.queued;
       blocked = chan.line.blocked;
       space = chan.line.space;
@@ -88,6 +91,7 @@ impl<T: Drop, S: Drop, A: Allocator + Copy> Chan<T, S, A> {
     {
         Chan {
             capacity,
+            greatest: capacity,
             line: Line::new(alloc),
             sends: Sends::new(alloc),
             entries: Entries::new(alloc),
@@ -143,6 +147,7 @@ impl<T: Drop, A: Allocator + Copy> Chan<T, (), A> {
             Step::CloneReceiver => self.clone_receiver(),
             Step::DropSender => self.drop_sender(),
             Step::DropReceiver => self.drop_receiver(),
+            Step::SetCapacity(capacity) => self.set_capacity(capacity),
             Step::Len => self.len(),
             Step::IsEmpty => self.is_empty(),
             Step::IsFull => self.is_full(),

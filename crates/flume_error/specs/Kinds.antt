@@ -3,6 +3,8 @@ use Rattle.std.specs.declared.io.ErrorKind.{ErrorKind}
 use Rattle.std.specs.declared.io.ErrorKind.TheVariants as kind
 use Rattle.flume_error.specs.declared.error.SelectError.{SelectError}
 use Rattle.flume_error.specs.declared.error.SelectError.TheVariants as select
+use Rattle.flume_error.specs.declared.error.capacity.CapacityError.{CapacityError}
+use Rattle.flume_error.specs.declared.error.capacity.CapacityError.TheVariants as capacity
 use Rattle.flume_error.specs.declared.error.send.SendError.{SendError}
 use Rattle.flume_error.specs.declared.error.send.SendError.TheVariants as send
 use Rattle.flume_error.specs.declared.error.send.TrySendError.{TrySendError}
@@ -20,6 +22,11 @@ use Rattle.flume_error.specs.declared.error.receive.RecvTimeoutError.TheVariants
 abbrev pub select_kind : SelectError → ErrorKind
 select_kind select.Timeout = kind.TimedOut
 select_kind select.NoMemory = kind.OutOfMemory
+
+-- of a `CapacityError`
+abbrev pub capacity_kind : CapacityError → ErrorKind
+capacity_kind capacity.Unbounded = kind.Unsupported
+capacity_kind capacity.Disconnected = kind.BrokenPipe
 
 -- of a `RecvError`
 abbrev pub receive_kind : RecvError → ErrorKind

@@ -2,6 +2,8 @@
 use Rattle.std.specs.Prelude.{ℕ, List, codes}
 use Rattle.flume_error.specs.declared.error.SelectError.{SelectError}
 use Rattle.flume_error.specs.declared.error.SelectError.TheVariants as select
+use Rattle.flume_error.specs.declared.error.capacity.CapacityError.{CapacityError}
+use Rattle.flume_error.specs.declared.error.capacity.CapacityError.TheVariants as capacity
 use Rattle.flume_error.specs.declared.error.send.SendError.{SendError}
 use Rattle.flume_error.specs.declared.error.send.SendError.TheVariants as send
 use Rattle.flume_error.specs.declared.error.send.TrySendError.{TrySendError}
@@ -23,6 +25,11 @@ no_memory_text = codes "out of memory"
 abbrev pub select_text : SelectError → List ℕ
 select_text select.Timeout = codes "timeout occurred"
 select_text select.NoMemory = codes "out of memory"
+
+-- of a `CapacityError`
+abbrev pub capacity_text : CapacityError → List ℕ
+capacity_text capacity.Unbounded = codes "channel has no capacity"
+capacity_text capacity.Disconnected = codes "changing the capacity of a closed channel"
 
 -- of a `RecvError`
 abbrev pub receive_text : RecvError → List ℕ

@@ -6,10 +6,12 @@ ghost use Rattle.std.specs.Prelude.{◌≡◌, Some};
 ghost use Rattle.std.specs.Fmt.{styled_text};
 ghost use Rattle.flume_error.specs.Texts.{no_memory_text, select_text};
 
+pub mod capacity;
 pub mod conversions;
 pub mod receive;
 pub mod send;
 
+pub use capacity::CapacityError;
 pub use receive::{RecvError, RecvTimeoutError, TryRecvError};
 pub use send::{SendError, SendTimeoutError, TrySendError};
 use std::alloc::AllocError;

@@ -3,6 +3,7 @@ ghost use Rattle.std.specs.Prelude.{◌≡◌, ◌↔◌, IsTrue};
 ghost use Rattle.std.specs.Cmp.{IsEquivalence};
 ghost use Rattle.flume_error.specs.declared.error.NoMemory.{NoMemory};
 ghost use Rattle.flume_error.specs.declared.error.SelectError.{SelectError};
+ghost use Rattle.flume_error.specs.declared.error.capacity.CapacityError.{CapacityError};
 ghost use Rattle.flume_error.specs.declared.error.send.SendError.{SendError};
 ghost use Rattle.flume_error.specs.declared.error.send.TrySendError.{TrySendError};
 ghost use Rattle.flume_error.specs.declared.error.send.SendTimeoutError.{SendTimeoutError};
@@ -13,8 +14,8 @@ ghost use Rattle.flume_error.specs.Messages.{send_message, try_send_message, sen
 ghost use Rattle.flume_error.specs.Equality.{equal_sends, equal_try_sends, equal_send_timeouts};
 
 use crate::error::{
-    NoMemory, RecvError, RecvTimeoutError, SelectError, SendError, SendTimeoutError, TryRecvError,
-    TrySendError,
+    CapacityError, NoMemory, RecvError, RecvTimeoutError, SelectError, SendError, SendTimeoutError,
+    TryRecvError, TrySendError,
 };
 
 /// `into_inner` gives the same message before and after an error is converted.
@@ -47,6 +48,8 @@ pub fn other_errors_are_equal_by_case()
         → IsTrue (⟦<RecvTimeoutError as PartialEq>⟧.eq a b) ↔ (a ≡ b) }
     ensures select { (a b : SelectError)
         → IsTrue (⟦<SelectError as PartialEq>⟧.eq a b) ↔ (a ≡ b) }
+    ensures capacity { (a b : CapacityError)
+        → IsTrue (⟦<CapacityError as PartialEq>⟧.eq a b) ↔ (a ≡ b) }
     ensures no_memory { (a b : NoMemory)
         → IsTrue (⟦<NoMemory as PartialEq>⟧.eq a b) ↔ (a ≡ b) }
 {}
@@ -66,5 +69,6 @@ pub fn equality_of_other_errors_is_an_equivalence()
     ensures try_receive { IsEquivalence ⟦<TryRecvError as PartialEq>⟧.eq }
     ensures receive_timeout { IsEquivalence ⟦<RecvTimeoutError as PartialEq>⟧.eq }
     ensures select { IsEquivalence ⟦<SelectError as PartialEq>⟧.eq }
+    ensures capacity { IsEquivalence ⟦<CapacityError as PartialEq>⟧.eq }
     ensures no_memory { IsEquivalence ⟦<NoMemory as PartialEq>⟧.eq }
 {}

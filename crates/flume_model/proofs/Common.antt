@@ -30,11 +30,11 @@ pub use Rattle.flume_model.specs.Entries.{after_leave, marked, held_in, held_by}
 pub use Rattle.flume_model.specs.Fills.{FillIs, IsOf, shows_to, shown, or_else}
 pub use Rattle.flume_model.specs.Laws.{IsBelow, IsEarlier, Rising, InOrder, TicketsRise, BlockedAtCapacity, HandedOutStay, LiveAreKept}
 pub use Rattle.flume_model.specs.Laws.{AcceptedBelowBlocked}
-pub use Rattle.flume_model.specs.Limits.{IsOpen, most, HasRoom, IsAtCapacity, is_closed, IsClosed}
+pub use Rattle.flume_model.specs.Limits.{IsOpen, most, HasRoom, IsAtCapacity, is_closed, IsClosed, IsBounded}
 pub use Rattle.flume_model.specs.Line.{issued, issues, how_many, next_ticket, queue, spends, is_live, line, boundary, messages}
-pub use Rattle.flume_model.specs.Line.{boundary_after, blocked, capacity}
+pub use Rattle.flume_model.specs.Line.{boundary_after, blocked, capacity, capacity_after, greater, greatest}
 pub use Rattle.flume_model.specs.Log.{Log, Opening, Change, Queues, Blocks, Accepts, Withdraws, Takes, Drains, Parks, Asks, Collects}
-pub use Rattle.flume_model.specs.Log.{Leaves, SenderJoins, ReceiverJoins, SenderLeaves, ReceiverLeaves, Stays, is_ticket, filled_by}
+pub use Rattle.flume_model.specs.Log.{Leaves, SenderJoins, ReceiverJoins, SenderLeaves, ReceiverLeaves, Resizes, Stays, is_ticket, filled_by}
 pub use Rattle.flume_model.specs.Log.{was_filled, change, Offer, HandOut, Shown, FilledIn, capped}
 pub use Rattle.flume_model.specs.Offers.{fill, handed, kept, handed_out, hand_outs, offered, withdraws, offers, withdrawn}
 pub use Rattle.flume_model.specs.Parked.{LogEntry, untold, entries_after, entries, is_shut, parks, peak}
@@ -50,7 +50,7 @@ pub use Rattle.flume_model.specs.declared.step.Kind.{Kind}
 pub use Rattle.flume_model.specs.declared.step.Kind.TheVariants.{Block, Plain, Stream, Arm}
 pub use Rattle.flume_model.specs.declared.step.Reply.{Reply}
 pub use Rattle.flume_model.specs.declared.step.Reply.TheVariants.{NoMemory, NoTicket, Got, Ended, Gone, Sent, Pending, Accepted, Returned}
-pub use Rattle.flume_model.specs.declared.step.Reply.TheVariants.{Parked, Drained}
+pub use Rattle.flume_model.specs.declared.step.Reply.TheVariants.{Parked, Drained, Done}
 pub use Rattle.flume_model.specs.declared.step.Step.{Step}
 pub use Rattle.flume_model.specs.declared.step.Step.TheVariants.{TrySend, Send, Poll, Withdraw, PollSend, WithdrawSend, TryRecv, Recv}
-pub use Rattle.flume_model.specs.declared.step.Step.TheVariants.{Drain}
+pub use Rattle.flume_model.specs.declared.step.Step.TheVariants.{Drain, SetCapacity}

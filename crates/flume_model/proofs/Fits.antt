@@ -2,9 +2,9 @@
 use Rattle.flume_model.proofs.Common.{◌≡◌, ℕ, ◌+◌, ◌<◌, true, false, if◌then◌else◌, List, [], ◌∷◌, Option, Some, None, refl, sym, ◌∙◌, ap}
 use Rattle.flume_model.proofs.Common.{arith, cond, take, take-nil, IsPolled, IsGone, Channel, TakesIn, TakesNoneIn, IsAccepted, IsBlocked}
 use Rattle.flume_model.proofs.Common.{IsFront, channel, senders, receivers, senders_after, receivers_after, is_over, is_filled, is_woken}
-use Rattle.flume_model.proofs.Common.{entry_of, round_fills, leave_fills, passes_on, IsOpen, most, line, boundary, queue, messages, Log}
+use Rattle.flume_model.proofs.Common.{entry_of, round_fills, leave_fills, passes_on, IsBounded, IsOpen, most, line, boundary, queue, messages, Log}
 use Rattle.flume_model.proofs.Common.{Opening, Offer, Change, Queues, Blocks, Accepts, Withdraws, Takes, Drains, Parks, Asks, Collects}
-use Rattle.flume_model.proofs.Common.{Leaves, SenderJoins, ReceiverJoins, SenderLeaves, ReceiverLeaves, Stays, was_filled, change, LogEntry}
+use Rattle.flume_model.proofs.Common.{Leaves, SenderJoins, ReceiverJoins, SenderLeaves, ReceiverLeaves, Resizes, Stays, was_filled, change, LogEntry}
 use Rattle.flume_model.proofs.Common.{entries, IsReply, IsRun, ToldFilled, Entry, Filled, Reply, Accepted, Returned, Step, PollSend, Poll}
 use Rattle.flume_model.proofs.Common.{Withdraw, common_steps}
 use Rattle.flume_model.proofs.AskingCases.{Unfilled, polled_cases, gone_cases}
@@ -29,6 +29,7 @@ module _ {T : Type 0} where
   Fits c ReceiverJoins = 0 < c.receivers
   Fits c SenderLeaves = 0 < c.senders
   Fits c ReceiverLeaves = 0 < c.receivers
+  Fits c (Resizes n) = IsBounded c.capacity × IsOpen c.senders c.receivers
   Fits c Stays = Unit {0}
 
   -- an end of a line that has no message queues none

@@ -14,4 +14,5 @@ pub mod order
 pub mod waits
 pub mod fills
 pub mod users
+pub mod Resized
 pub mod Beginnings

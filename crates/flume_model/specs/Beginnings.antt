@@ -22,7 +22,8 @@ module _ {T A : Type 0} where
     pub boundary_within : boundary opening log ≤ length (line log)
     -- while a receiver waits, at least as many stand woken as messages are queued
     pub woken_cover : Covered opening log
-    -- queued messages and waiting receivers are at most the greater of the capacity and the peak
+    -- queued messages and waiting receivers are at most the greater of the greatest capacity so far
+    -- and the peak
     pub queue_bounded : Bounded opening log
 
   -- it held at each moment up to now

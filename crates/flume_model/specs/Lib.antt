@@ -24,3 +24,6 @@ pub mod ParkedRows
 pub mod FillRows
 pub mod ParkedNearMisses
 pub mod WakeNearMisses
+pub mod Resized
+pub mod CapacityRows
+pub mod CapacityNearMisses

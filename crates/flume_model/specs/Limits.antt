@@ -2,6 +2,11 @@
 use Rattle.std.specs.Prelude.{◌≡◌, ◌==◌, ℕ, ◌-◌, ◌<◌, ◌≤◌, ◌^◌, Bool, false, min, nat_le, Option}
 use Rattle.std.specs.Prelude.{Some, None}
 
+-- there is a capacity
+abbrev pub IsBounded : Option ℕ → Type 0
+IsBounded None = ⊥
+IsBounded (Some capacity) = Unit {0}
+
 -- one more message fits a queue of this length
 abbrev pub HasRoom : Option ℕ → ℕ → Type 0
 HasRoom None n = Unit {0}

@@ -1,8 +1,9 @@
--- What is left of the offers: the line, how much of it is queued, and the tickets of blocked sends.
+-- What is left of the offers: the line, the capacity, how much of the line is queued, and the
+-- tickets of blocked sends.
 use Rattle.std.specs.Prelude.{◌==◌, ℕ, ◌+◌, ◌-◌, Bool, false, not, ◌&&◌, ◌||◌, if◌then◌else◌}
 use Rattle.std.specs.Prelude.{List, [], ◌∷◌, length, map, drop, take, max, Option, Some, None}
 use Rattle.flume_model.specs.Log.{Log, Opening, Offer, Change, Queues, Blocks, Accepts, Withdraws}
-use Rattle.flume_model.specs.Log.{Takes, Drains, Parks, Leaves, change, capped}
+use Rattle.flume_model.specs.Log.{Takes, Drains, Parks, Leaves, Resizes, change, capped}
 use Rattle.flume_model.specs.Offers.{kept, hand_outs}
 use Rattle.flume_model.specs.Counts.{is_over}
 
@@ -11,19 +12,30 @@ abbrev pub how_many : Option ℕ → ℕ
 how_many None = 0
 how_many (Some ticket) = 1
 
+-- the greater of two capacities; none is greater than each
+abbrev pub greater : Option ℕ → Option ℕ → Option ℕ
+greater (Some n) (Some m) = Some (max n m)
+greater _ _ = None
+
 module _ {T : Type 0} where
   -- the messages of some offers
   abbrev pub messages : List (Offer T) → List T
   messages some = map (λ offer. offer.message) some
 
+  -- the capacity after a change, where this was it before
+  abbrev pub capacity_after : Option ℕ → Change T → Option ℕ
+  capacity_after capacity (Resizes new) = Some new
+  capacity_after capacity _ = capacity
+
   -- how many offers of the line's front are queued after a change, where `n` is how many were, and
-  -- the line is so long after it
+  -- this is the capacity, and the line is so long, after it
   abbrev pub boundary_after : Option ℕ → ℕ → ℕ → Change T → ℕ
   boundary_after capacity line_length n (Queues message filled) = n + 1 - how_many filled
   boundary_after capacity line_length n (Takes message receiver) =
       max (n - 1) (capped capacity line_length)
   boundary_after capacity line_length n (Drains messages) = capped capacity line_length
   boundary_after capacity line_length n (Leaves ticket filled) = n - how_many filled
+  boundary_after capacity line_length n (Resizes new) = max n (capped capacity line_length)
   boundary_after capacity line_length n _ = n
 
   -- how many tickets a change issues
@@ -48,9 +60,15 @@ module _ {T A : Type 0} where
   abbrev pub line : Log T A → List (Offer T)
   line log = if is_over log then [] else drop (hand_outs log) (kept log)
 
-  -- the capacity in force: the opening's
+  -- the capacity in force: the one that was set last, or else the opening's
   abbrev pub capacity : Opening → Log T A → Option ℕ
-  capacity opening log = opening.capacity
+  capacity opening [] = opening.capacity
+  capacity opening (p ∷ past) = capacity_after (capacity opening past) (change past p.0 p.1)
+
+  -- the greatest capacity so far, the one in force included; none of an unbounded channel
+  abbrev pub greatest : Opening → Log T A → Option ℕ
+  greatest opening [] = opening.capacity
+  greatest opening (p ∷ past) = greater (greatest opening past) (capacity opening (p ∷ past))
 
   -- how many offers of the line's front are queued
   abbrev pub boundary : Opening → Log T A → ℕ

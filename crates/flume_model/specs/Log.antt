@@ -6,7 +6,7 @@ use Rattle.flume_model.specs.declared.step.Step.{Step}
 use Rattle.flume_model.specs.declared.step.Step.TheVariants.{TrySend, Send, PollSend, WithdrawSend}
 use Rattle.flume_model.specs.declared.step.Step.TheVariants.{TryRecv, Recv, Poll, Withdraw, Drain}
 use Rattle.flume_model.specs.declared.step.Step.TheVariants.{CloneSender, CloneReceiver}
-use Rattle.flume_model.specs.declared.step.Step.TheVariants.{DropSender, DropReceiver}
+use Rattle.flume_model.specs.declared.step.Step.TheVariants.{DropSender, DropReceiver, SetCapacity}
 use Rattle.flume_model.specs.declared.step.Reply.{Reply}
 use Rattle.flume_model.specs.declared.step.Reply.TheVariants.{Sent, Pending, Accepted, Waiting}
 use Rattle.flume_model.specs.declared.step.Reply.TheVariants.{Returned, Got, Ended, Parked, Gone}
@@ -65,6 +65,8 @@ pub data Change (T : Type 0) : Type 0 where
   ReceiverJoins : Change T
   SenderLeaves : Change T
   ReceiverLeaves : Change T
+  -- this is the capacity from now on
+  Resizes : ℕ → Change T
   -- nothing changes
   Stays : Change T
 
@@ -112,4 +114,5 @@ module _ {T A : Type 0} where
   change past CloneReceiver Done = ReceiverJoins
   change past DropSender Done = SenderLeaves
   change past DropReceiver Done = ReceiverLeaves
+  change past (SetCapacity capacity) Done = Resizes capacity
   change past _ _ = Stays

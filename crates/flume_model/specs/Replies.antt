@@ -5,7 +5,8 @@ use Rattle.flume_model.specs.declared.step.Step.{Step}
 use Rattle.flume_model.specs.declared.step.Step.TheVariants.{TrySend, Send, PollSend, WithdrawSend}
 use Rattle.flume_model.specs.declared.step.Step.TheVariants.{TryRecv, Recv, Poll, Withdraw, Drain}
 use Rattle.flume_model.specs.declared.step.Step.TheVariants.{CloneSender, CloneReceiver}
-use Rattle.flume_model.specs.declared.step.Step.TheVariants.{DropSender, DropReceiver, Len, IsEmpty}
+use Rattle.flume_model.specs.declared.step.Step.TheVariants.{DropSender, DropReceiver, SetCapacity}
+use Rattle.flume_model.specs.declared.step.Step.TheVariants.{Len, IsEmpty}
 use Rattle.flume_model.specs.declared.step.Step.TheVariants.{IsFull, Capacity, SenderCount}
 use Rattle.flume_model.specs.declared.step.Step.TheVariants.{ReceiverCount, IsDisconnected}
 use Rattle.flume_model.specs.declared.step.Reply.{Reply}
@@ -14,8 +15,9 @@ use Rattle.flume_model.specs.declared.step.Reply.TheVariants.{Pending, Accepted,
 use Rattle.flume_model.specs.declared.step.Reply.TheVariants.{NoTicket, Got, Empty, Ended, Parked}
 use Rattle.flume_model.specs.declared.step.Reply.TheVariants.{Drained, Done, NoEnd, CountFull}
 use Rattle.flume_model.specs.declared.step.Reply.TheVariants.{Number, Truth, Capacity as Bound}
+use Rattle.flume_model.specs.declared.step.Reply.TheVariants.{Unbounded}
 use Rattle.flume_model.specs.Log.{Log, Opening}
-use Rattle.flume_model.specs.Limits.{is_full, IsOpen, IsClosed, is_closed, most}
+use Rattle.flume_model.specs.Limits.{IsBounded, is_full, IsOpen, IsClosed, is_closed, most}
 use Rattle.flume_model.specs.Entries.{round_fills, entry_of}
 use Rattle.flume_model.specs.Channel.{Channel, TakesIn, TakesNoneIn, IsFront, IsAccepted, IsPending}
 use Rattle.flume_model.specs.Channel.{IsBlocked, channel}
@@ -71,6 +73,9 @@ module _ {T A : Type 0} where
   IsReply c DropSender NoEnd = c.senders ≡ 0
   IsReply c DropReceiver Done = 0 < c.receivers
   IsReply c DropReceiver NoEnd = c.receivers ≡ 0
+  IsReply c (SetCapacity n) Unbounded = c.capacity ≡ None
+  IsReply c (SetCapacity n) Ended = IsBounded c.capacity × IsClosed c.senders c.receivers
+  IsReply c (SetCapacity n) Done = IsBounded c.capacity × IsOpen c.senders c.receivers
   IsReply c Len (Number n) = n ≡ c.boundary
   IsReply c IsEmpty (Truth b) = b ≡ (c.boundary == 0)
   IsReply c IsFull (Truth b) = b ≡ is_full c.capacity c.boundary

@@ -7,7 +7,7 @@ use Rattle.flume_model.specs.declared.step.Kind.TheVariants.{Block}
 use Rattle.flume_model.specs.declared.entry.Entry.{Entry}
 use Rattle.flume_model.specs.Log.{Log, Opening, was_filled}
 use Rattle.flume_model.specs.Counts.{senders, receivers, is_over}
-use Rattle.flume_model.specs.Line.{line, capacity, boundary, blocked, next_ticket, is_live}
+use Rattle.flume_model.specs.Line.{line, greatest, boundary, blocked, next_ticket, is_live}
 use Rattle.flume_model.specs.Limits.{IsOpen, IsClosed}
 use Rattle.flume_model.specs.Entries.{is_woken, is_filled, some_wait, waiting_count, woken_count}
 use Rattle.flume_model.specs.Entries.{entry_of}
@@ -41,19 +41,20 @@ module _ {T A : Type 0} where
       some_wait (entries opening log) ≡ true
       → boundary opening log ≤ woken_count (entries opening log)
 
-  -- what is queued and who waits are together at most the greater of the capacity and the peak
+  -- what is queued and who waits are together at most the greater of the greatest capacity so far
+  -- and the peak
   abbrev pub Bounded : Opening → Log T A → Type 0
   Bounded opening log =
-      IsWithin (capacity opening log) (peak opening log)
+      IsWithin (greatest opening log) (peak opening log)
       (boundary opening log + waiting_count (entries opening log))
 
   -- a receiver waits, as many stand woken as messages are queued, and what is queued and who waits
-  -- are together the greater of the capacity and the peak
+  -- are together the greater of the greatest capacity so far and the peak
   pub record MeetsBounds (opening : Opening) (log : Log T A) : Type 0 where
     pub waits : some_wait (entries opening log) ≡ true
     pub woken : boundary opening log ≡ woken_count (entries opening log)
     pub limit : ℕ
-    pub bounded : capacity opening log ≡ Some limit
+    pub bounded : greatest opening log ≡ Some limit
     pub queued :
         boundary opening log + waiting_count (entries opening log) ≡ max limit (peak opening log)
 

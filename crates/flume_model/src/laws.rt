@@ -67,6 +67,7 @@ ghost use Rattle.flume_model.specs.WakeNearMisses.{last_filled, plain_filled, fi
 ghost use Rattle.flume_model.specs.WakeNearMisses.{asking_loses_place, again_before_others};
 ghost use Rattle.flume_model.specs.WakeNearMisses.{passed_on_for_nothing, closing_wakes_first};
 
+pub mod capacity;
 pub mod fills;
 pub mod users;
 pub mod waits;

@@ -44,6 +44,8 @@ pub enum Step<T> {
     DropSender,
     /// One receiver leaves.
     DropReceiver,
+    /// Set the capacity of a bounded channel.
+    SetCapacity(usize),
     /// Ask how many messages are queued.
     Len,
     /// Ask whether no message is queued.
@@ -110,4 +112,6 @@ pub enum Reply<T, A: Allocator = Global> {
     Truth(bool),
     /// The capacity, or none of an unbounded channel.
     Capacity(Option<usize>),
+    /// The channel has no capacity to set.
+    Unbounded,
 }

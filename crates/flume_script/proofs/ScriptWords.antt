@@ -12,7 +12,7 @@ use Rattle.flume_model.specs.declared.step.Kind.{Kind}
 use Rattle.flume_model.specs.declared.step.Kind.TheVariants.{Block, Plain, Stream, Arm}
 use Rattle.flume_model.specs.declared.step.Step.{Step}
 use Rattle.flume_model.specs.declared.step.Step.TheVariants.{TrySend, Send, PollSend, WithdrawSend, TryRecv, Recv, Poll, Withdraw, Drain}
-use Rattle.flume_model.specs.declared.step.Step.TheVariants.{CloneSender, CloneReceiver, DropSender, DropReceiver, Len, IsEmpty, IsFull}
+use Rattle.flume_model.specs.declared.step.Step.TheVariants.{CloneSender, CloneReceiver, DropSender, DropReceiver, Len, IsEmpty, IsFull, SetCapacity}
 use Rattle.flume_model.specs.declared.step.Step.TheVariants.{Capacity, SenderCount, ReceiverCount, IsDisconnected}
 use Rattle.flume_script.specs.Script.{IsCall, IsStepLine, kind_name}
 
@@ -63,6 +63,7 @@ call_word (PollSend _) = Some (codes "poll_send")
 call_word (WithdrawSend _) = Some (codes "withdraw_send")
 call_word (Poll _) = Some (codes "poll")
 call_word (Withdraw _) = Some (codes "withdraw")
+call_word (SetCapacity _) = Some (codes "set_capacity")
 call_word _ = None
 
 -- the word before the first space of a line is that of the step, and after the space is its number
@@ -108,6 +109,7 @@ parted word later none TryRecv = no_word word later (codes "try_recv") (search r
 parted word later none (Recv kind) = same_recv word later kind none
 parted word later none (Poll n) = same_call word later (codes "poll") n none (search rules)
 parted word later none (Withdraw n) = same_call word later (codes "withdraw") n none (search rules)
+parted word later none (SetCapacity n) = same_call word later (codes "set_capacity") n none (search rules)
 parted word later none Drain = no_word word later (codes "drain") (search rules)
 parted word later none CloneSender = no_word word later (codes "clone_sender") (search rules)
 parted word later none CloneReceiver = no_word word later (codes "clone_receiver") (search rules)

@@ -7,7 +7,7 @@ use Rattle.flume_model.specs.declared.step.Reply.TheVariants.{Pending, Accepted,
 use Rattle.flume_model.specs.declared.step.Reply.TheVariants.{NoTicket, Got, Empty, Ended, Done}
 use Rattle.flume_model.specs.declared.step.Reply.TheVariants.{Parked, Gone, Drained}
 use Rattle.flume_model.specs.declared.step.Reply.TheVariants.{NoEnd, CountFull, Number, Truth}
-use Rattle.flume_model.specs.declared.step.Reply.TheVariants.{Capacity as Bound}
+use Rattle.flume_model.specs.declared.step.Reply.TheVariants.{Capacity as Bound, Unbounded}
 
 -- numbers, with a space before each
 abbrev pub spaced : List ℕ → List ℕ
@@ -51,6 +51,7 @@ reply_text (Truth true) = codes "true"
 reply_text (Truth false) = codes "false"
 reply_text (Bound None) = codes "none"
 reply_text (Bound (Some capacity)) = decimal capacity
+reply_text Unbounded = codes "unbounded"
 
 -- the texts of the replies, each ended by a line feed
 abbrev pub reply_texts : {A : Type 0} → List (Reply ℕ A) → List ℕ

@@ -10,7 +10,8 @@ use Rattle.flume_model.specs.declared.step.Step.{Step}
 use Rattle.flume_model.specs.declared.step.Step.TheVariants.{TrySend, Send, PollSend, WithdrawSend}
 use Rattle.flume_model.specs.declared.step.Step.TheVariants.{TryRecv, Recv, Poll, Withdraw, Drain}
 use Rattle.flume_model.specs.declared.step.Step.TheVariants.{CloneSender, CloneReceiver}
-use Rattle.flume_model.specs.declared.step.Step.TheVariants.{DropSender, DropReceiver, Len, IsEmpty}
+use Rattle.flume_model.specs.declared.step.Step.TheVariants.{DropSender, DropReceiver, SetCapacity}
+use Rattle.flume_model.specs.declared.step.Step.TheVariants.{Len, IsEmpty}
 use Rattle.flume_model.specs.declared.step.Step.TheVariants.{IsFull, Capacity, SenderCount}
 use Rattle.flume_model.specs.declared.step.Step.TheVariants.{ReceiverCount, IsDisconnected}
 
@@ -49,6 +50,7 @@ IsStepLine line CloneSender = line ≡ codes "clone_sender"
 IsStepLine line CloneReceiver = line ≡ codes "clone_receiver"
 IsStepLine line DropSender = line ≡ codes "drop_sender"
 IsStepLine line DropReceiver = line ≡ codes "drop_receiver"
+IsStepLine line (SetCapacity capacity) = IsCall line (codes "set_capacity ") capacity
 IsStepLine line Len = line ≡ codes "len"
 IsStepLine line IsEmpty = line ≡ codes "is_empty"
 IsStepLine line IsFull = line ≡ codes "is_full"

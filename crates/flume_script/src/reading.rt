@@ -128,6 +128,7 @@ fn call_step(word: &[u8], number: u64) -> Option<Step<u64>>
         _ if is(word, b"withdraw_send") => Some(Step::WithdrawSend(number)),
         _ if is(word, b"poll") => Some(Step::Poll(number)),
         _ if is(word, b"withdraw") => Some(Step::Withdraw(number)),
+        _ if is(word, b"set_capacity") => Some(Step::SetCapacity(number as usize)),
         _ => None,
     }
 }

@@ -145,6 +145,7 @@ fn write_reply<A: Allocator>(text: &mut String<A>, reply: &Reply<u64, A>) -> Res
         Reply::Number(number) => writeln!(text, "{number}")?,
         Reply::Truth(truth) => write_truth(text, *truth)?,
         Reply::Capacity(capacity) => write_capacity(text, *capacity)?,
+        Reply::Unbounded => text.push_str("unbounded\n")?,
     }
     Ok(())
 }

@@ -1,9 +1,10 @@
 -- What some steps leave, as functions of the state before them.
 use Rattle.std.specs.Prelude.{◌≡◌, ◌==◌, ℕ, ◌+◌, Bool, not, ◌&&◌, if◌then◌else◌, List, [], ◌∷◌}
 use Rattle.std.specs.Prelude.{◌++◌}
-use Rattle.std.specs.Prelude.{length, max, ◌<◌, Option}
+use Rattle.std.specs.Prelude.{length, max, ◌<◌, Option, Some}
 use Rattle.std.specs.FinMap.{remove}
 use Rattle.flume_model.specs.Limits.{is_closed, is_full, IsOpen, most}
+use Rattle.flume_model.specs.Line.{greater}
 use Rattle.flume_model.specs.declared.step.Kind.{Kind}
 use Rattle.flume_state.specs.Messages.{Blocked}
 use Rattle.flume_state.specs.Notices.{due_now}
@@ -58,6 +59,13 @@ module _ {T S : Type 0} where
   -- the state whose queue takes blocked messages in while it has room
   abbrev pub filled_up : State T S → State T S
   filled_up s = filled_up_from s.blocked s
+
+  -- the state with this capacity, whose queue then takes blocked messages in while it has room
+  abbrev pub resized : ℕ → State T S → State T S
+  resized new s = filled_up (record s {
+    capacity = Some new;
+    greatest = greater s.greatest (Some new);
+  })
 
   -- the state after a wake round
   abbrev pub rounded : State T S → State T S

@@ -13,6 +13,8 @@ use Rattle.flume_state.specs.Receivers.{Entries}
 pub record State (T S : Type 0) : Type 0 where
   -- none: unbounded
   pub capacity : Option ℕ
+  -- the greatest capacity so far, the one in force included
+  pub greatest : Option ℕ
   -- the queued messages, the front first, and the blocked ones behind them
   pub queue : List T
   pub blocked : List (Blocked T)
@@ -32,6 +34,7 @@ module _ {T S : Type 0} where
   abbrev pub opened : Opening → State T S
   opened opening = record {
     capacity = opening.capacity;
+    greatest = opening.capacity;
     queue = [];
     blocked = [];
     space = 0;

@@ -2,7 +2,8 @@
 use crate::asked::How;
 use ends_tests::counting::Counting;
 use flume::error::{
-    RecvError, RecvTimeoutError, SendError, SendTimeoutError, TryRecvError, TrySendError,
+    CapacityError, RecvError, RecvTimeoutError, SendError, SendTimeoutError, TryRecvError,
+    TrySendError,
 };
 use flume::{Receiver, Sender, Waits};
 use futures::task::Poll;
@@ -161,11 +162,21 @@ pub(crate) fn after_sending(answer: Poll<Result<(), SendError<u64>>>) -> Answer 
 pub(crate) fn sent<R: Waits>(tx: &Tx<'_, R>, how: How, message: u64, now: Instant) -> Answer {
     match how {
         How::Tries => after_try_send(tx.try_send(message)),
-        How::Waits => after_send(tx.send(message)),
+        How::Waits | How::Iterates => after_send(tx.send(message)),
         How::Hour => after_timed_send(tx.send_timeout(message, Duration::from_secs(3600))),
         How::Short => after_timed_send(tx.send_timeout(message, Duration::from_millis(100))),
         How::Longest => after_timed_send(tx.send_timeout(message, Duration::MAX)),
         How::Now => after_timed_send(tx.send_deadline(message, now)),
+    }
+}
+
+// What an iterator gives first.
+fn iterated<R: Waits>(rx: &Rx<'_, R>) -> Answer {
+    let mut messages = rx.iter();
+    match messages.next() {
+        Some(message) => Answer::Message("got", message),
+        None if messages.fault() => Answer::Word("no memory"),
+        None => Answer::Word("disconnected"),
     }
 }
 
@@ -178,6 +189,16 @@ pub(crate) fn received<R: Waits>(rx: &Rx<'_, R>, how: How, now: Instant) -> Answ
         How::Short => after_timed_recv(rx.recv_timeout(Duration::from_millis(100))),
         How::Longest => after_timed_recv(rx.recv_timeout(Duration::MAX)),
         How::Now => after_timed_recv(rx.recv_deadline(now)),
+        How::Iterates => iterated(rx),
+    }
+}
+
+/// What a change of the capacity answered.
+pub(crate) fn after_set_capacity(answer: Result<(), CapacityError>) -> Answer {
+    match answer {
+        Ok(()) => DONE,
+        Err(CapacityError::Unbounded) => Answer::Word("unbounded"),
+        Err(CapacityError::Disconnected) => Answer::Word("disconnected"),
     }
 }
 

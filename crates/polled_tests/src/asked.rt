@@ -1,7 +1,8 @@
 //! The lines of a script, read.
 
 /// How a message is sent or received: by the call that only tries, by the one that waits, up to an
-/// hour, up to a tenth of a second, with the longest timeout, or up to a moment that has come.
+/// hour, up to a tenth of a second, with the longest timeout, up to a moment that has come, or by an
+/// iterator that waits (a send then waits).
 #[derive(Clone, Copy, PartialEq, Drop)]
 pub(crate) enum How {
     Tries,
@@ -10,6 +11,7 @@ pub(crate) enum How {
     Short,
     Longest,
     Now,
+    Iterates,
 }
 
 /// What a line asks.
@@ -21,6 +23,7 @@ pub(crate) enum Call {
     Look,
     /// How many senders and receivers there are.
     Counts,
+    SetCapacity,
     Drain,
     /// A drain that is dropped, and gave nothing.
     DropDrain,
@@ -91,6 +94,7 @@ const CALLS: &[Named] = &[
     Named("recv_now", Call::Recv(How::Now)),
     Named("look", Call::Look),
     Named("counts", Call::Counts),
+    Named("set_capacity", Call::SetCapacity),
     Named("drain", Call::Drain),
     Named("drop_drain", Call::DropDrain),
     Named("send_async", Call::SendAsync),
@@ -167,6 +171,16 @@ impl Asked {
             self.slot = place(SLOTS, word)?;
         }
         Some(self)
+    }
+
+    /// The same by another call, where this one waits a short time.
+    pub(crate) fn in_place_of_short(mut self, how: How) -> Asked {
+        self.call = match self.call {
+            Call::Send(How::Short) => Call::Send(how),
+            Call::Recv(How::Short) => Call::Recv(how),
+            call => call,
+        };
+        self
     }
 
     /// What this asks: a call, and then names, a task or a number. `None`: it can't be read.

@@ -1,5 +1,7 @@
 //! The stage of a script: the ends of one channel, and what is polled by hand on them.
-use crate::answers::{Answer, DONE, Heap, Rx, Tx, after_send, drained, received, sent, truth};
+use crate::answers::{
+    Answer, DONE, Heap, Rx, Tx, after_send, after_set_capacity, drained, received, sent, truth,
+};
 use crate::asked::{Asked, Call, RECEIVER, SENDER};
 use crate::held::{
     Held, owned_receive, owned_send, owned_sink, owned_stream, polled, seen_by, seen_by_receiver,
@@ -59,6 +61,7 @@ impl<'t, 'r, 'h, R: Waits> Stage<'t, 'r, 'h, R> {
         match asked.call {
             Call::Send(how) => Some(sent(self.sender()?, how, asked.number, self.now)),
             Call::Recv(how) => Some(received(self.receiver()?, how, self.now)),
+            Call::SetCapacity => self.set_capacity(asked),
             Call::Drain => Some(drained(self.receiver()?)),
             Call::DropDrain => {
                 drop(self.receiver()?.drain().ok()?);
@@ -96,6 +99,15 @@ impl<'t, 'r, 'h, R: Waits> Stage<'t, 'r, 'h, R> {
             Some(rx) => Some(rx),
             None => self.rx.as_ref(),
         }
+    }
+
+    // Sets the capacity, by the end that is named.
+    fn set_capacity(&self, asked: &Asked) -> Option<Answer> {
+        let capacity = asked.number as usize;
+        Some(after_set_capacity(match asked.slot {
+            SENDER => self.sender()?.set_capacity(capacity),
+            _ => self.receiver()?.set_capacity(capacity),
+        }))
     }
 
     // What an end, or what a script gave a name, tells of the channel.

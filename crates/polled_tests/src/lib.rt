@@ -11,6 +11,8 @@ mod beside;
 #[cfg(test)]
 mod by_hand;
 #[cfg(test)]
+mod capacities;
+#[cfg(test)]
 mod dropped;
 #[cfg(test)]
 mod ends;
@@ -37,11 +39,15 @@ mod planted;
 #[cfg(test)]
 mod receives;
 #[cfg(test)]
+mod refused;
+#[cfg(test)]
 mod replay;
 #[cfg(test)]
 mod rows;
 #[cfg(test)]
 mod sends;
+#[cfg(test)]
+mod states;
 #[cfg(test)]
 mod views;
 #[cfg(test)]

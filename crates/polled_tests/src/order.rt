@@ -5,9 +5,10 @@ ghost use Rattle.futures.specs.Task.{IsArmed, Keeps};
 
 use crate::fixtures::is;
 use crate::watch::begin_watch;
-use crate::works::{Runs, SendUpTo, started};
+use crate::works::{ChangeCapacity, Runs, SendUpTo, started};
+use ends_tests::changes::wait_for_change;
 use flume::polled::{RecvFut, RecvStream, SendFut};
-use flume::{Sender, Waits, bounded, unbounded};
+use flume::{Receiver, Sender, Waits, bounded, unbounded};
 use futures::executor::block_on;
 use futures::future::join;
 use futures::task::{Context, Poll};
@@ -115,11 +116,10 @@ impl<R: Waits> Future for InTurn<'_, R> {
     }
 }
 
-// One future sends and the other receives, on one thread. What goes is received with the sender.
-fn on_one_thread<R: Runs>(rt: R, alloc: Global) -> Result<(), Fail> {
-    let (tx, rx) = bounded::<u64, _, _>(rt, alloc, 1, 4)?;
+// One future sends and the other receives, on one thread, until all numbers came.
+fn pass_all<R: Runs>(rt: R, tx: &Sender<u64, R>, rx: Receiver<u64, R>) -> Result<(), Fail> {
     let sends = InTurn {
-        tx: &tx,
+        tx,
         send: tx.send_async(0),
         next: 1,
         end: ALL,
@@ -130,6 +130,27 @@ fn on_one_thread<R: Runs>(rt: R, alloc: Global) -> Result<(), Fail> {
     };
     is(&rt, block_on(&rt, join(sends, received))?, (true, true));
     Ok(())
+}
+
+// The same while another thread changes the capacity, before the first number and all along.
+fn pass_all_while_it_changes<R: Runs>(rt: R, alloc: Global) -> Result<(), Fail> {
+    let (tx, rx) = bounded::<u64, _, _>(rt, alloc, 1, 4)?;
+    let changes = ChangeCapacity {
+        rt,
+        rx: rx.clone()?,
+    };
+    let changing = started(&rt, changes)?;
+    wait_for_change(&rt, &rx, 4);
+    pass_all(rt, &tx, rx)?;
+    drop(tx);
+    is(&rt, changing.join(&rt) > 0, true);
+    Ok(())
+}
+
+// The same at a capacity that stays.
+fn pass_all_at_4<R: Runs>(rt: R, alloc: Global) -> Result<(), Fail> {
+    let (tx, rx) = bounded::<u64, _, _>(rt, alloc, 1, 4)?;
+    pass_all(rt, &tx, rx)
 }
 
 // Receives as many numbers as are sent. Its output says whether each came in its order.
@@ -160,7 +181,17 @@ impl<R: Waits> Future for UpTo<'_, R> {
 #[test]
 fn two_futures_on_one_thread_pass_numbers_in_order(rt: HostRuntime) -> Result<(), Fail> {
     let watch = begin_watch(rt, rt.alloc())?;
-    let ended = on_one_thread(rt, rt.alloc());
+    let ended = pass_all_at_4(rt, rt.alloc());
+    watch.end(&rt);
+    ended
+}
+
+#[test]
+fn two_futures_pass_numbers_in_order_while_a_thread_changes_the_capacity(
+    rt: HostRuntime,
+) -> Result<(), Fail> {
+    let watch = begin_watch(rt, rt.alloc())?;
+    let ended = pass_all_while_it_changes(rt, rt.alloc());
     watch.end(&rt);
     ended
 }

@@ -1,4 +1,5 @@
 //! What a thread does, as a value: a closure costs the prover several times as much in each test.
+use ends_tests::changes::change_capacity;
 use flume::error::{RecvError, SendError};
 use flume::{Receiver, Sender, Waits};
 use std::alloc::AllocGlobal;
@@ -86,6 +87,22 @@ impl<R: Waits> Work for SendUpTo<R> {
         for message in 0..end {
             let _ = tx.send(message);
         }
+    }
+}
+
+/// Sets one capacity after another, until all senders are gone. How often it did.
+#[derive(Drop)]
+pub(crate) struct ChangeCapacity<R: Waits> {
+    pub(crate) rt: R,
+    pub(crate) rx: Receiver<u64, R>,
+}
+
+impl<R: Waits> Work for ChangeCapacity<R> {
+    type Answer = u64;
+
+    fn work(self) -> u64 {
+        let ChangeCapacity { rt, rx } = self;
+        change_capacity(&rt, &rx)
     }
 }
 

@@ -1,10 +1,13 @@
 //! Two selectors against each other, in two threads.
 use crate::fixtures::{amounts_to, holds};
 use crate::works::{Work, started};
+use ends_tests::changes::{change_capacity, wait_for_change};
 use flume::error::{NoMemory, RecvError, SendError};
 use flume::{Receiver, Selector, Sender, Waits};
 use std::alloc::{AllocError, Global};
+use std::process::Abort;
 use std::test::Fail;
+use std::thread::Threads;
 
 // How many selections each makes, where the other does as well.
 const ROUNDS: u64 = 10_000;
@@ -131,35 +134,69 @@ fn all_stand_in(some: &[u64], numbers: &[u64]) -> bool {
     true
 }
 
-#[test]
-fn two_selectors_that_meet_lose_and_double_no_message(rt: HostRuntime) -> Result<(), Fail> {
-    let (to_other, from_one) = flume::on(rt).bounded(0)?;
-    let (to_one, from_other) = flume::on(rt).bounded(0)?;
-    let alloc = rt.alloc();
-    let one = started(
-        &rt,
-        Play {
-            alloc,
-            tx: to_other,
-            rx: from_other,
-        },
-    )?;
-    let other = started(
-        &rt,
-        Play {
-            alloc,
-            tx: to_one,
-            rx: from_one,
-        },
-    )?;
-    let (mut one, mut other) = (one.join(&rt)?, other.join(&rt)?);
+// Both receive what is still there. What came is in order and came once, and what an arm sent came.
+fn compare<R: Waits + Abort>(rt: &R, mut one: Log<R>, mut other: Log<R>) -> Result<(), Fail> {
     one.take_what_is_left()?;
     other.take_what_is_left()?;
-    // What came is in order and came once, and what an arm sent came.
-    holds(&rt, rises(&one.got) && rises(&other.got));
-    holds(&rt, all_stand_in(&one.sent, &other.got));
-    holds(&rt, all_stand_in(&other.sent, &one.got));
+    holds(rt, rises(&one.got) && rises(&other.got));
+    holds(rt, all_stand_in(&one.sent, &other.got));
+    holds(rt, all_stand_in(&other.sent, &one.got));
     // One of them made all its selections, each of which took a message or gave one.
-    amounts_to(&rt, one.rounds.max(other.rounds), ROUNDS);
+    amounts_to(rt, one.rounds.max(other.rounds), ROUNDS);
+    Ok(())
+}
+
+// The ends of one channel.
+type Ends<R> = (Sender<u64, R>, Receiver<u64, R>);
+
+// Two threads make selections against each other, on these two channels.
+fn meet<R>(rt: R, alloc: Global, first: Ends<R>, second: Ends<R>) -> Result<(), Fail>
+where
+    R: Waits + Threads + Abort + Send + Sync + 'static,
+{
+    let (to_other, from_one) = first;
+    let (to_one, from_other) = second;
+    let (tx, rx) = (to_other, from_other);
+    let one = started(&rt, Play { alloc, tx, rx })?;
+    let (tx, rx) = (to_one, from_one);
+    let other = started(&rt, Play { alloc, tx, rx })?;
+    let (one, other) = (one.join(&rt)?, other.join(&rt)?);
+    compare(&rt, one, other)
+}
+
+#[test]
+fn two_selectors_that_meet_lose_and_double_no_message(rt: HostRuntime) -> Result<(), Fail> {
+    let first = flume::on(rt).bounded(0)?;
+    let second = flume::on(rt).bounded(0)?;
+    meet(rt, rt.alloc(), first, second)
+}
+
+// Sets one capacity after another, until all senders are gone. How often it did.
+#[derive(Drop)]
+struct ChangeCapacity<R: Waits> {
+    rt: R,
+    rx: Receiver<u64, R>,
+}
+
+impl<R: Waits> Work for ChangeCapacity<R> {
+    type Answer = u64;
+
+    fn work(self) -> u64 {
+        let ChangeCapacity { rt, rx } = self;
+        change_capacity(&rt, &rx)
+    }
+}
+
+#[test]
+fn two_selectors_lose_and_double_no_message_while_a_thread_changes_a_capacity(
+    rt: HostRuntime,
+) -> Result<(), Fail> {
+    let first = flume::on(rt).bounded(4)?;
+    let second = flume::on(rt).bounded(0)?;
+    let rx = first.1.clone()?;
+    let changing = started(&rt, ChangeCapacity { rt, rx })?;
+    wait_for_change(&rt, &first.1, 4);
+    meet(rt, rt.alloc(), first, second)?;
+    holds(&rt, changing.join(&rt) > 0);
     Ok(())
 }

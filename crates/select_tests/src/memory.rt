@@ -1,7 +1,7 @@
 //! Want of memory: a selection that is refused leaves no arm behind and calls no mapper, and the
 //! next one goes on.
 use crate::fixtures::{Counted, Won, amounts_to, dropped, gave, holds, offered, selected, tried};
-use crate::selections::{receive_or_send, send_or_receive};
+use crate::selections::{receive_or_send, receive_or_send_until, send_or_receive};
 use ends_tests::counting::Counting;
 use flume::error::{NoMemory, SelectError, TryRecvError, TrySendError};
 use flume::{Receiver, Selector, Sender, Waits, bounded};
@@ -122,5 +122,54 @@ fn an_arm_that_finds_no_memory_ends_its_selection_and_the_others_leave(
     refused_by_one(rt, &ample, &none)?;
     amounts_to(&rt, ample.live(), 0);
     amounts_to(&rt, none.live(), 0);
+    Ok(())
+}
+
+// More growths than a selection has.
+const MOST: u64 = 50;
+
+// Two arms that wait in channels of capacity 0, with these growths refused: the selection says so and
+// leaves nobody in either channel, or it is late. Whether a growth was refused.
+fn is_refused<R: Waits + Abort>(
+    rt: R,
+    heap: &Counting<std::alloc::Global>,
+    (first, last): (u64, u64),
+    deadline: Instant,
+) -> Result<bool, Fail> {
+    let (tx0, rx0) = bounded::<u64, _, _>(rt, heap, 1, 0)?;
+    let (tx1, rx1) = bounded::<u64, _, _>(rt, heap, 2, 0)?;
+    heap.refuse_between(first, last);
+    let answer = receive_or_send_until(&rx0, (&tx1, 7), deadline);
+    heap.refuse(false);
+    let is_refused = heap.refusals() > 0;
+    let wanted = if is_refused {
+        SelectError::NoMemory
+    } else {
+        SelectError::Timeout
+    };
+    selected(&rt, answer, Err(wanted));
+    offered(&rt, tx0.try_send(5), Err(TrySendError::Full(5)));
+    tried(&rt, rx1.try_recv(), Err(TryRecvError::Empty));
+    gave(&rt, send_or_receive(&tx0, 8, &rx0), Won::First(Ok(8)));
+    Ok(is_refused)
+}
+
+#[test]
+fn each_growth_of_a_selection_that_is_refused_leaves_nobody_behind(
+    rt: HostRuntime,
+) -> Result<(), Fail> {
+    let deadline = Instant::now(&rt)?;
+    let heap = Counting::new(rt.alloc());
+    for growth in 1..MOST {
+        let alone = is_refused(rt, &heap, (growth, growth), deadline)?;
+        let with_all_after = is_refused(rt, &heap, (growth, u64::MAX), deadline)?;
+        holds(&rt, alone == with_all_after && heap.live() == 0);
+        if !alone {
+            // The parker, and what each of the two arms wanted.
+            holds(&rt, growth > 3);
+            return Ok(());
+        }
+    }
+    holds(&rt, false);
     Ok(())
 }

@@ -100,3 +100,15 @@ pub(crate) fn receive_or_send<R: Waits, A: Allocator + Copy>(
         .send(tx, message, Won::Sent)
         .wait()
 }
+
+/// Receives, or sends this message, and waits no longer than this.
+pub(crate) fn receive_or_send_until<R: Waits, A: Allocator + Copy>(
+    rx: &Receiver<u64, R, A>,
+    (tx, message): (&Sender<u64, R, A>, u64),
+    deadline: Instant,
+) -> Result<Won, SelectError> {
+    Selector::new()
+        .recv(rx, Won::First)
+        .send(tx, message, Won::Sent)
+        .wait_deadline(deadline)
+}

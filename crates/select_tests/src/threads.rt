@@ -288,3 +288,36 @@ fn a_send_arm_of_a_full_channel_waits_until_a_thread_makes_room(
     }
     Ok(())
 }
+
+// Raises the capacity to 2, and answers its receiver.
+#[derive(Drop)]
+struct RaiseOnce<R: Waits> {
+    rx: Receiver<u64, R>,
+}
+
+impl<R: Waits> Work for RaiseOnce<R> {
+    type Answer = Option<Receiver<u64, R>>;
+
+    fn work(self) -> Option<Receiver<u64, R>> {
+        let RaiseOnce { rx } = self;
+        rx.set_capacity(2).ok()?;
+        Some(rx)
+    }
+}
+
+#[test]
+fn a_thread_that_raises_the_capacity_lets_the_message_of_a_send_arm_in(
+    rt: HostRuntime,
+) -> Result<(), Fail> {
+    for _ in 0..100 {
+        let (tx, rx) = flume::on(rt).bounded(1)?;
+        offered(&rt, tx.try_send(1), Ok(()));
+        let raising = started(&rt, RaiseOnce { rx })?;
+        let sent = send_until(&tx, 2, Until::Timeout(long()));
+        selected(&rt, sent, Ok(Won::Sent(Ok(()))));
+        let rx = raising.join(&rt).expect(&rt, "the channel is open");
+        received(&rt, rx.recv(), Ok(1));
+        received(&rt, rx.recv(), Ok(2));
+    }
+    Ok(())
+}

@@ -1,4 +1,4 @@
-//! Queries of both ends while a send waits.
+//! Queries of both ends, and a change of the capacity, while a send waits.
 use crate::fixtures::{is, long};
 use crate::watch::begin_watch;
 use flume::{Receiver, Sender, Waits, bounded, unbounded};
@@ -71,20 +71,46 @@ fn ask_often<R: Waits + Abort, Q: Waits>(
     is(&rt, rx.try_recv(), Ok(7));
 }
 
-// Whether a send that waits in a thread ends well, once all was asked while it waited.
-fn asked_while_it_waits<R: Waits + Threads + Abort + Send + Sync, Q: Waits + Send + Sync>(
+// Raises the capacity while the send of 7 waits in another thread, and lowers it again: its message
+// is queued from the raise on. So it had waited, and no receive let it in.
+fn raise_and_lower<R: Waits + Abort, Q: Waits>(
+    rt: R,
+    tx: &Sender<u64, Q>,
+    rx: &Receiver<u64, Q>,
+    read: &Receiver<(), R>,
+) {
+    is(&rt, read.recv(), Ok(()));
+    is(&rt, (tx.len(), rx.capacity()), (0, Some(0)));
+    is(&rt, tx.set_capacity(1), Ok(()));
+    is(&rt, (tx.len(), rx.capacity()), (1, Some(1)));
+    is(&rt, rx.set_capacity(0), Ok(()));
+    is(&rt, (tx.len(), rx.capacity()), (1, Some(0)));
+}
+
+// What is done while a send waits.
+#[derive(Clone, Copy, PartialEq, Drop)]
+enum Meanwhile {
+    Asks,
+    Raises,
+}
+
+// Whether a send that waits in a thread ends well, once all was done while it waited.
+fn done_while_it_waits<R: Waits + Threads + Abort + Send + Sync, Q: Waits + Send + Sync>(
     rt: R,
     (tx, rx): (&Sender<u64, Q>, &Receiver<u64, Q>),
     (blocked, idle): (&Sender<u64, Q>, &Receiver<u64, Q>),
     (read, release): (&Receiver<(), R>, Sender<(), R>),
-    deadline: Instant,
+    (meanwhile, deadline): (Meanwhile, Instant),
 ) -> bool {
     thread::scope(thread::scope_env(), &rt, move |scope| {
         let send = move || blocked.send_deadline(7, deadline).is_ok();
         let Ok(sending) = scope.spawn(send) else {
             return false;
         };
-        ask_often(rt, tx, rx, (blocked, idle), read);
+        match meanwhile {
+            Meanwhile::Asks => ask_often(rt, tx, rx, (blocked, idle), read),
+            Meanwhile::Raises => raise_and_lower(rt, tx, rx, read),
+        }
         drop(release);
         sending.join(&rt)
     })
@@ -100,11 +126,11 @@ fn two_of_each<R: Waits>(rt: R, alloc: Global) -> Result<(Ends<R>, Ends<R>), NoM
     Ok(((tx, rx), others))
 }
 
-// A send waits in a thread that reads a paused clock, while both ends are asked.
-fn ask_while_it_waits<R: Waits + Threads + Abort + Send + Sync + 'static>(
+// A send waits in a thread that reads a paused clock, while this is done.
+fn do_while_it_waits<R: Waits + Threads + Abort + Send + Sync + 'static>(
     rt: R,
     alloc: Global,
-    deadline: Instant,
+    (meanwhile, deadline): (Meanwhile, Instant),
 ) -> Result<(), Fail> {
     let (reads, read) = unbounded::<(), _, _>(rt, alloc, 1)?;
     let (release, go_on) = unbounded::<(), _, _>(rt, alloc, 2)?;
@@ -115,17 +141,32 @@ fn ask_while_it_waits<R: Waits + Threads + Abort + Send + Sync + 'static>(
     };
     let ((tx, rx), (blocked, idle)) = two_of_each(paused, alloc)?;
     let (ends, others) = ((&tx, &rx), (&blocked, &idle));
-    let sent = asked_while_it_waits(rt, ends, others, (&read, release), deadline);
+    let timed = (meanwhile, deadline);
+    let sent = done_while_it_waits(rt, ends, others, (&read, release), timed);
     assert!(rt; sent);
     Ok(())
 }
 
-#[test]
-fn asking_leaves_a_blocked_send_blocked(rt: HostRuntime) -> Result<(), Fail> {
+// The same, over before long.
+fn watched<R: Waits + Threads + Abort + Send + Sync + 'static>(
+    rt: R,
+    alloc: Global,
+    meanwhile: Meanwhile,
+) -> Result<(), Fail> {
     let deadline = Instant::now(&rt)?.checked_add(long());
     let deadline = deadline.expect(&rt, "an hour has a sum");
-    let watch = begin_watch(rt, rt.alloc())?;
-    let ended = ask_while_it_waits(rt, rt.alloc(), deadline);
+    let watch = begin_watch(rt, alloc)?;
+    let ended = do_while_it_waits(rt, alloc, (meanwhile, deadline));
     watch.end(&rt);
     ended
+}
+
+#[test]
+fn asking_leaves_a_blocked_send_blocked(rt: HostRuntime) -> Result<(), Fail> {
+    watched(rt, rt.alloc(), Meanwhile::Asks)
+}
+
+#[test]
+fn a_raised_capacity_lets_a_blocked_send_in(rt: HostRuntime) -> Result<(), Fail> {
+    watched(rt, rt.alloc(), Meanwhile::Raises)
 }

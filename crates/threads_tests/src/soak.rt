@@ -1,4 +1,5 @@
-//! Many messages through one channel, by calls of every kind, with ends that come and go.
+//! Many messages through one channel, by calls of every kind, with ends that come and go, and with
+//! a capacity that stays or that all senders change.
 use crate::fixtures::opened;
 use crate::works::{Work, started};
 use flume::{Receiver, Sender, Waits};
@@ -16,6 +17,9 @@ const EACH: usize = 2_500;
 
 // After how many messages a thread takes another end in place of its own.
 const RENEWAL: usize = 100;
+
+// The capacities that a sender sets in turn, one before each tenth message.
+const CAPACITIES: &[usize] = &[0, 7, 1, 64];
 
 // Who sent a message, and how many that one sent before.
 #[derive(Drop)]
@@ -78,14 +82,29 @@ fn renewed<R: Waits>(tx: Sender<Message, R>, number: usize) -> Option<Sender<Mes
     tx.downgrade().ok()?.upgrade().ok()?
 }
 
-// Sends all messages of one sender.
-fn send_all<R: Waits>(rt: &R, mut tx: Sender<Message, R>, sender: usize) -> bool {
+// Sets a capacity before each tenth message. Whether the channel took it.
+fn set_at<R: Waits>(tx: &Sender<Message, R>, number: usize) -> bool {
+    if number % 10 != 0 {
+        return true;
+    }
+    match CAPACITIES.get(number / 10 % CAPACITIES.len()) {
+        Some(capacity) => tx.set_capacity(*capacity).is_ok(),
+        None => false,
+    }
+}
+
+// Sends all messages of one sender, which changes the capacity or doesn't.
+fn send_all<R: Waits>(
+    rt: &R,
+    mut tx: Sender<Message, R>,
+    (sender, changes): (usize, bool),
+) -> bool {
     for number in 0..EACH {
         let Some(other) = renewed(tx, number) else {
             return false;
         };
         tx = other;
-        if !send_one(rt, &tx, Message { sender, number }) {
+        if changes && !set_at(&tx, number) || !send_one(rt, &tx, Message { sender, number }) {
             return false;
         }
     }
@@ -155,14 +174,21 @@ struct SendAll<R: Waits> {
     rt: R,
     tx: Sender<Message, R>,
     sender: usize,
+    // Whether it changes the capacity.
+    changes: bool,
 }
 
 impl<R: Waits> Work for SendAll<R> {
     type Answer = bool;
 
     fn work(self) -> bool {
-        let SendAll { rt, tx, sender } = self;
-        send_all(&rt, tx, sender)
+        let SendAll {
+            rt,
+            tx,
+            sender,
+            changes,
+        } = self;
+        send_all(&rt, tx, (sender, changes))
     }
 }
 
@@ -186,10 +212,16 @@ impl<R: Waits + AllocGlobal> Work for ReceiveAll<R> {
 fn start_sender<R: Waits + Threads + Send + Sync + 'static>(
     rt: R,
     tx: &Sender<Message, R>,
-    sender: usize,
+    (sender, changes): (usize, bool),
 ) -> Result<JoinHandle<bool>, Fail> {
     let tx = tx.clone()?;
-    started(&rt, SendAll { rt, tx, sender })
+    let sends = SendAll {
+        rt,
+        tx,
+        sender,
+        changes,
+    };
+    started(&rt, sends)
 }
 
 // Starts a thread that receives, with a receiver of its own.
@@ -202,13 +234,17 @@ where
 }
 
 // Starts the threads.
-fn start_all<R>(rt: R, tx: Sender<Message, R>, rx: Receiver<Message, R>) -> Result<Started, Fail>
+fn start_all<R>(
+    rt: R,
+    (tx, rx): (Sender<Message, R>, Receiver<Message, R>),
+    changes: bool,
+) -> Result<Started, Fail>
 where
     R: Waits + AllocGlobal + Threads + Send + Sync + 'static,
 {
     let (mut senders, mut receivers) = (Vec::new(rt.alloc()), Vec::new(rt.alloc()));
     for sender in 0..THREADS {
-        senders.push(start_sender(rt, &tx, sender)?)?;
+        senders.push(start_sender(rt, &tx, (sender, changes))?)?;
         receivers.push(start_receiver(rt, &rx)?)?;
     }
     Ok(Started { senders, receivers })
@@ -236,12 +272,12 @@ fn join_receivers<R: Threads + Abort>(
 }
 
 // Each message arrives once, and each receiver gets those of one sender in order.
-fn soak<R>(rt: R, capacity: Option<usize>) -> Result<(), Fail>
+fn soak<R>(rt: R, capacity: Option<usize>, changes: bool) -> Result<(), Fail>
 where
     R: Waits + AllocGlobal + Threads + Abort + Send + Sync + 'static,
 {
-    let (tx, rx) = opened::<Message, _>(rt, rt.alloc(), capacity)?;
-    let Started { senders, receivers } = start_all(rt, tx, rx)?;
+    let ends = opened::<Message, _>(rt, rt.alloc(), capacity)?;
+    let Started { senders, receivers } = start_all(rt, ends, changes)?;
     join_senders(&rt, senders);
     let mut counts = vec![in rt.alloc(); 0u32; THREADS * EACH]?;
     join_receivers(&rt, receivers, counts.as_mut_slice());
@@ -251,20 +287,27 @@ where
 
 #[test]
 fn each_message_arrives_once_and_in_order_unbounded(rt: HostRuntime) -> Result<(), Fail> {
-    soak(rt, None)
+    soak(rt, None, false)
 }
 
 #[test]
 fn each_message_arrives_once_and_in_order_at_capacity_0(rt: HostRuntime) -> Result<(), Fail> {
-    soak(rt, Some(0))
+    soak(rt, Some(0), false)
 }
 
 #[test]
 fn each_message_arrives_once_and_in_order_at_capacity_1(rt: HostRuntime) -> Result<(), Fail> {
-    soak(rt, Some(1))
+    soak(rt, Some(1), false)
 }
 
 #[test]
 fn each_message_arrives_once_and_in_order_at_capacity_7(rt: HostRuntime) -> Result<(), Fail> {
-    soak(rt, Some(7))
+    soak(rt, Some(7), false)
+}
+
+#[test]
+fn each_message_arrives_once_and_in_order_while_the_capacity_changes(
+    rt: HostRuntime,
+) -> Result<(), Fail> {
+    soak(rt, Some(0), true)
 }

@@ -1,11 +1,10 @@
 //! The nodes of a chain, each with the places before and after it.
-ghost use Rattle.std.specs.Prelude.{◌≡◌, ◌≢◌, ◌<◌, ◌≤◌, Some, None, true, false, option_copied};
-ghost use Rattle.std.specs.Prelude.{ℕ, List, length, IsSome};
+ghost use Rattle.std.specs.Prelude.{◌≡◌, ◌≢◌, ◌<◌, ◌≤◌, Some, None, option_copied, IsSome};
+ghost use Rattle.std.specs.Prelude.{IfOk, IfErr, OnErr, IfSome, IfNone, OnSome};
 ghost use Rattle.std.specs.Borrow.{Lends, sem};
-ghost use Rattle.std.specs.Vec.{vec_len, vec_capacity, VecUnchanged};
+ghost use Rattle.std.specs.Vec.{vec_len, vec_capacity};
 ghost use Rattle.flume_chain.specs.Links.{end, with, next_at, previous_at, element_at};
-ghost use Rattle.flume_chain.specs.Links.{Stands, Linked, Grown, with_element};
-ghost use Rattle.flume_chain.specs.Chained.{Placed, Holds, HasFree, table_of, room_of};
+ghost use Rattle.flume_chain.specs.Links.{Stands, Linked, Same, Put, Full, with_element};
 
 use std::alloc::Allocator;
 
@@ -33,6 +32,19 @@ impl<E> Node<E> {
         ensures value { self.old.element ≡ Some result.now }
     {
         match &mut self.element {
+            Some(element) => element,
+            None => unreachable!(),
+        }
+    }
+
+    // Takes out the element of a node that has one.
+    #[inline(always)]
+    fn take_element(&mut self) -> E
+        requires stands { IsSome self.old.element }
+        ensures element { self.old.element ≡ Some result }
+        ensures taken { self.new ≡ record self.old { element = None } }
+    {
+        match self.element.take() {
             Some(element) => element,
             None => unreachable!(),
         }
@@ -183,47 +195,85 @@ impl<E: Drop, A: Allocator> Links<E, A> {
         self.nodes[place as usize].previous = previous;
     }
 
-    // Puts an element into the free node, with the places before and after it.
+    // Puts an element into the free node, or where none is free into one more, with the places
+    // before and after it, and returns its place. With no memory for one more, or where its place
+    // would be `END`, the element comes back, and nothing changes.
     #[inline(always)]
-    fn fill(&mut self, element: E, previous: u32, next: u32)
-        requires free { self.old.free < vec_len self.old.nodes }
+    fn put(&mut self, element: E, previous: u32, next: u32) -> Result<u32, E>
+        requires free { Stands self.old self.old.free }
         requires fits { vec_len self.old.nodes ≤ end }
-        ensures filled { Linked self.old self.new (with (next_at self.old) self.old.free next)
-            (with (previous_at self.old) self.old.free previous)
-            (with (element_at self.old) self.old.free (Some element))
-            (next_at self.old self.old.free) }
+        ensures put { IfOk result (λ place. Put self.old self.new place
+            (with (next_at self.old) place next) (with (previous_at self.old) place previous)
+            (with (element_at self.old) place (Some element))) }
+        ensures full { OnErr result (Full self.old) }
+        ensures returned { IfErr result (λ back. back ≡ element) }
+        ensures unchanged { OnErr result (Same self.old self.new) }
     {
-        let node = &mut self.nodes[self.free as usize];
-        self.free = node.next;
-        *node = Node {
+        let place = self.free;
+        if place != END {
+            let node = &mut self.nodes[place as usize];
+            self.free = node.next;
+            *node = Node {
+                element: Some(element),
+                previous,
+                next,
+            };
+            return Ok(place);
+        }
+        let place = self.nodes.len();
+        if place >= END as usize {
+            return Err(element);
+        }
+        if place == self.nodes.capacity() && self.nodes.reserve(1).is_err() {
+            return Err(element);
+        }
+        self.nodes.push_reserved(Node {
             element: Some(element),
             previous,
             next,
-        };
+        });
+        Ok(place as u32)
     }
 
-    /// Puts an element before a place, into the free node, and returns its place.
+    /// Puts an element before a place, into the free node, or where none is free into one more, and
+    /// returns its place. With no memory for one more, or where its place would be `END`, the
+    /// element comes back, and nothing changes.
     #[inline(always)]
-    pub fn link_before(&mut self, next: u32, element: E) -> u32
-        requires free { self.old.free < vec_len self.old.nodes }
+    pub fn link_before(&mut self, next: u32, element: E) -> Result<u32, E>
+        requires free { Stands self.old self.old.free }
         requires fits { vec_len self.old.nodes ≤ end }
         requires next { Stands self.old next }
         requires previous { Stands self.old (previous_at self.old next) }
-        ensures place { result ≡ self.old.free }
-        ensures linked { Linked self.old self.new
-            (with (with (next_at self.old) self.old.free next)
-            (previous_at self.old next) self.old.free)
-            (with (with (previous_at self.old) self.old.free (previous_at self.old next))
-            next self.old.free)
-            (with (element_at self.old) self.old.free (Some element))
-            (next_at self.old self.old.free) }
+        ensures put { IfOk result (λ place. Put self.old self.new place
+            (with (with (next_at self.old) place next) (previous_at self.old next) place)
+            (with (with (previous_at self.old) place (previous_at self.old next)) next place)
+            (with (element_at self.old) place (Some element))) }
+        ensures full { OnErr result (Full self.old) }
+        ensures returned { IfErr result (λ back. back ≡ element) }
+        ensures unchanged { OnErr result (Same self.old self.new) }
     {
-        let place = self.free;
         let previous = self.previous(next);
-        self.fill(element, previous, next);
+        let place = self.put(element, previous, next)?;
         self.set_next(previous, place);
         self.set_previous(next, place);
-        place
+        Ok(place)
+    }
+
+    /// Links the place before a place with the one after it.
+    #[inline(always)]
+    pub fn unlink(&mut self, place: u32)
+        requires fits { vec_len self.old.nodes ≤ end }
+        requires next { Stands self.old (next_at self.old place) }
+        requires previous { Stands self.old (previous_at self.old place) }
+        ensures unlinked { Linked self.old self.new
+            (with (next_at self.old) (previous_at self.old place) (next_at self.old place))
+            (with (previous_at self.old) (next_at self.old place) (previous_at self.old place))
+            (element_at self.old) self.old.free }
+    {
+        let previous = self.previous(place);
+        let next = self.next(place);
+        self.set_next(previous, next);
+        self.set_previous(next, previous);
     }
 
     /// Links the place before a place with the one after it, and frees the node between them.
@@ -239,81 +289,58 @@ impl<E: Drop, A: Allocator> Links<E, A> {
             (with (previous_at self.old) (next_at self.old place) (previous_at self.old place))
             (element_at self.old) place }
     {
-        let previous = self.previous(place);
-        let next = self.next(place);
-        self.set_next(previous, next);
-        self.set_previous(next, previous);
+        self.unlink(place);
         self.set_next(place, self.free);
         self.free = place;
     }
 
-    /// Makes the place after the first one the first, and frees the node of the first.
+    /// Links a place behind all others.
     #[inline(always)]
-    pub fn bypass_first(&mut self, place: u32)
+    pub fn link_last(&mut self, place: u32)
         requires place { place < vec_len self.old.nodes }
         requires fits { vec_len self.old.nodes ≤ end }
-        requires next { Stands self.old (next_at self.old place) }
-        requires first { previous_at self.old place ≡ end }
+        requires last { Stands self.old self.old.last }
         ensures linked { Linked self.old self.new
-            (with (with (next_at self.old) (previous_at self.old place) (next_at self.old place))
-            place self.old.free)
-            (with (previous_at self.old) (next_at self.old place) (previous_at self.old place))
-            (element_at self.old) place }
+            (with (with (next_at self.old) place end) self.old.last place)
+            (with (with (previous_at self.old) place self.old.last) end place)
+            (element_at self.old) self.old.free }
     {
+        let last = self.last;
+        self.set_next(place, END);
+        self.set_next(last, place);
+        self.set_previous(place, last);
+        self.last = place;
+    }
+
+    /// Takes the first element out of its node, makes the place after it the first one, and frees
+    /// the node. `None` where no place is the first, and then nothing changes.
+    #[inline(always)]
+    pub fn take_first(&mut self) -> Option<E>
+        requires first { Stands self.old self.old.first }
+        requires fits { vec_len self.old.nodes ≤ end }
+        requires next { self.old.first ≢ end → Stands self.old (next_at self.old self.old.first) }
+        requires element { self.old.first ≢ end → IsSome (element_at self.old self.old.first) }
+        ensures none { IfNone result (self.old.first ≡ end) }
+        ensures some { OnSome result (self.old.first ≢ end) }
+        ensures element { IfSome result (λ e. element_at self.old self.old.first ≡ Some e) }
+        ensures taken { OnSome result (Linked self.old self.new
+            (with (with (next_at self.old) end (next_at self.old self.old.first))
+            self.old.first self.old.free)
+            (with (previous_at self.old) (next_at self.old self.old.first) end)
+            (with (element_at self.old) self.old.first None) self.old.first) }
+        ensures unchanged { IfNone result (Same self.old self.new) }
+    {
+        let place = self.first;
+        if place == END {
+            return None;
+        }
         let node = &mut self.nodes[place as usize];
-        self.first = node.next;
+        let element = node.take_element();
+        let next = node.next;
         node.next = self.free;
         self.free = place;
-        self.set_previous(self.first, END);
-    }
-
-    /// Sees to it that a node is free. Nothing changes where there is none and no memory for one
-    /// more, or where its place would be `END`.
-    #[inline(always)]
-    pub fn ready(&mut self) -> bool
-        ensures ready { result ≡ true → (items : List (Placed E)) (frees : List ℕ)
-            → Holds (table_of self.old) items frees → HasFree self.new items }
-        ensures room { (items : List (Placed E)) (frees : List ℕ)
-            → Holds (table_of self.old) items frees → 0 < room_of self.old (length items)
-            → (result ≡ true) × (vec_capacity self.new.nodes ≡ vec_capacity self.old.nodes) }
-        ensures refused { result ≡ false
-            → vec_capacity self.new.nodes ≡ vec_capacity self.old.nodes }
-        ensures unchanged { result ≡ false → Linked self.old self.new (next_at self.old)
-            (previous_at self.old) (element_at self.old) self.old.free }
-    {
-        if self.free != END {
-            return true;
-        }
-        self.grow()
-    }
-
-    // Makes one more node, which is free. Nothing changes where there is no memory for it, or
-    // where its place would be `END`.
-    fn grow(&mut self) -> bool
-        ensures grown { result ≡ true → Grown self.old self.new }
-        ensures fits { result ≡ true → vec_len self.old.nodes < end }
-        ensures capacity { vec_len self.old.nodes < vec_capacity self.old.nodes
-            → vec_capacity self.new.nodes ≡ vec_capacity self.old.nodes }
-        ensures succeeds { vec_len self.old.nodes < vec_capacity self.old.nodes
-            → vec_len self.old.nodes < end → result ≡ true }
-        ensures refused { result ≡ false
-            → vec_capacity self.new.nodes ≡ vec_capacity self.old.nodes }
-        ensures unchanged { result ≡ false → Linked self.old self.new (next_at self.old)
-            (previous_at self.old) (element_at self.old) self.old.free }
-    {
-        let place = self.nodes.len();
-        if place >= END as usize {
-            return false;
-        }
-        if place == self.nodes.capacity() && self.nodes.reserve(1).is_err() {
-            return false;
-        }
-        self.nodes.push_reserved(Node {
-            element: None,
-            previous: END,
-            next: self.free,
-        });
-        self.free = place as u32;
-        true
+        self.first = next;
+        self.set_previous(next, END);
+        Some(element)
     }
 }

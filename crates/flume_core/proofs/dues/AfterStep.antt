@@ -1,6 +1,6 @@
 -- Who is due after what each step leaves.
 use Rattle.std.proofs.Common.{◌≡◌, ℕ, ◌+◌, ◌≤◌, min, arith, Bool, true, false, not, ◌&&◌, eqb, eqb-true, eq-eqb, List, ◌∷◌, ◌++◌, []}
-use Rattle.std.proofs.Common.{Option, None, refl, sym, ◌∙◌, ap, subst, ⊎_elim, ◌⊎◌, if◌then◌else◌}
+use Rattle.std.proofs.Common.{Option, Some, None, refl, sym, ◌∙◌, ap, subst, ⊎_elim, ◌⊎◌, if◌then◌else◌}
 use Rattle.std.proofs.Math.Bool.{and-false}
 use Rattle.std.specs.Option.{option_map}
 use Rattle.std.specs.FinMap.{get, insert, remove, get-empty}
@@ -11,13 +11,14 @@ use Rattle.flume_model.specs.declared.step.Step.TheVariants.{Poll}
 use Rattle.flume_model.specs.declared.step.Reply.{Reply}
 use Rattle.flume_model.specs.declared.step.Reply.TheVariants.{Waiting, Returned, NoTicket}
 use Rattle.flume_model.specs.Limits.{is_closed}
+use Rattle.flume_model.specs.Line.{greater}
 use Rattle.flume_model.specs.Entries.{again, entry_of, passes_on, without}
 use Rattle.flume_state.specs.Messages.{Blocked}
 use Rattle.flume_state.specs.Notices.{due_now, resignalled}
 use Rattle.flume_state.specs.Sends.{blocked, noticed_send, with_notice}
 use Rattle.flume_state.specs.Receivers.{Entries, begins, noticed_receiver, waits_on}
 use Rattle.flume_state.specs.State.{State}
-use Rattle.flume_state.specs.Effects.{Returns, after_leaving, departed, rounded, taken, unparked, waiting_so, filled_up}
+use Rattle.flume_state.specs.Effects.{Returns, after_leaving, departed, rounded, taken, unparked, waiting_so, filled_up, resized}
 use Rattle.flume_state.specs.Due.{BecomesDue, SendDue, ReceiverDue, blocked_in, closed_between, receiver_due_in, waits_by}
 use Rattle.flume_core.specs.StandsFor.{IsLedTo, IsRefusal}
 use Rattle.flume_core.proofs.dues.OneTicket.{send_kept, send_closed, receiver_kept, receiver_waits}
@@ -26,7 +27,7 @@ use Rattle.flume_core.proofs.dues.ReceiversDue.{entry_again, entry_noticed, noti
 use Rattle.flume_core.proofs.dues.ReceiversDue.{without_noticed, round_for_due, all_woken_due}
 use Rattle.flume_core.proofs.dues.BothSides.{SendsDue, ReceiversDue, spent_sends, new_sends, signalled_sends, gone_receivers}
 use Rattle.flume_core.proofs.dues.BothSides.{new_receivers, passed_receivers}
-use Rattle.flume_core.proofs.dues.MovedIn.{MovesIn, moves_none, moves_queue, moves_taken, moves_filled_up}
+use Rattle.flume_core.proofs.dues.MovedIn.{MovesIn, moves_none, moves_queue, moves_capacity, moves_taken, moves_filled_up}
 use Rattle.flume_core.proofs.dues.Tickets.{tickets_of}
 
 -- a channel that stays as it is isn't closed
@@ -140,6 +141,13 @@ module _ {T S A : Type 0} where
   drained old new step reply idle led is =
       let emptied_ = moves_queue old old [] (moves_none old (tickets_of old led).live) in
       moved old _ new step reply idle (moves_filled_up old _ emptied_) is
+
+  -- the capacity is set
+  pub resized_due : (old new : State T S) (step : Step T) (reply : Reply T A) (capacity_ : ℕ) → NoneWaits step reply → IsLedTo A old
+      → new ≡ resized capacity_ old → BecomesDue old step reply new
+  resized_due old new step reply capacity_ idle led is =
+      let set_ = moves_capacity old old (Some capacity_) (greater old.greatest (Some capacity_)) (moves_none old (tickets_of old led).live) in
+      moved old _ new step reply idle (moves_filled_up old _ set_) is
 
   -- a receiver parks
   pub parked : (old new : State T S) (step : Step T) (reply : Reply T A) (kind : Kind) (signal : S) → NoneWaits step reply

@@ -1,5 +1,5 @@
 -- Blocked messages that move into the queue: whose sends are accepted by that.
-use Rattle.std.proofs.Common.{◌≡◌, suc, Bool, true, false, not, if◌then◌else◌, inl, List, [], ◌∷◌, ◌++◌, length, refl, subst, arith}
+use Rattle.std.proofs.Common.{◌≡◌, ℕ, suc, Bool, true, false, not, if◌then◌else◌, inl, Option, List, [], ◌∷◌, ◌++◌, length, refl, subst, arith}
 use Rattle.std.specs.List.{All}
 use Rattle.flume_model.specs.Limits.{is_full}
 use Rattle.flume_state.specs.Messages.{Blocked}
@@ -24,6 +24,17 @@ module _ {T S : Type 0} where
   -- another queue
   pub moves_queue : (old s : State T S) (queue_ : List T) → MovesIn old s → MovesIn old (record s { queue = queue_ })
   moves_queue old s queue_ h = record {
+    sends = h.sends;
+    entries = h.entries;
+    senders = h.senders;
+    receivers = h.receivers;
+    still_blocked = h.still_blocked;
+  }
+
+  -- another capacity
+  pub moves_capacity : (old s : State T S) (capacity_ greatest_ : Option ℕ) → MovesIn old s
+      → MovesIn old (record s { capacity = capacity_; greatest = greatest_ })
+  moves_capacity old s capacity_ greatest_ h = record {
     sends = h.sends;
     entries = h.entries;
     senders = h.senders;

@@ -167,7 +167,7 @@ impl<T: Drop, S: Drop, A: Allocator + Copy> Chan<T, S, A> {
     }
 
     // Lets blocked messages into the queue while it has room.
-    fn fill_up(&mut self)
+    pub(super) fn fill_up(&mut self)
         ensures filled { self.new ≡ filled_up self.old }
     {
         while self.line.blocked_len() > 0 {

@@ -9,8 +9,9 @@ ghost use Rattle.std.specs.IoError.{error_kind};
 ghost use Rattle.std.specs.declared.io.ErrorKind.TheVariants.{OutOfMemory};
 ghost use Rattle.flume_error.specs.Kinds.{send_kind, try_send_kind, send_timeout_kind};
 ghost use Rattle.flume_error.specs.Kinds.{receive_kind, try_receive_kind, receive_timeout_kind};
-ghost use Rattle.flume_error.specs.Kinds.{select_kind};
+ghost use Rattle.flume_error.specs.Kinds.{select_kind, capacity_kind};
 
+use crate::error::capacity::CapacityError;
 use crate::error::receive::{RecvError, RecvTimeoutError, TryRecvError};
 use crate::error::send::{SendError, SendTimeoutError, TrySendError};
 use crate::error::{NoMemory, SelectError};
@@ -131,6 +132,19 @@ impl From<SelectError> for io::Error {
         let kind = match e {
             SelectError::Timeout => ErrorKind::TimedOut,
             SelectError::NoMemory => ErrorKind::OutOfMemory,
+        };
+        io::Error::new(kind, e.text())
+    }
+}
+
+/// Of the kind `Unsupported` where the channel is unbounded, and `BrokenPipe` where it is closed.
+impl From<CapacityError> for io::Error {
+    ghost from_gives = { λ e error. error_kind error ≡ capacity_kind e };
+
+    fn from(e: CapacityError) -> io::Error {
+        let kind = match e {
+            CapacityError::Unbounded => ErrorKind::Unsupported,
+            CapacityError::Disconnected => ErrorKind::BrokenPipe,
         };
         io::Error::new(kind, e.text())
     }

@@ -1,7 +1,7 @@
 -- What holds of each run: the laws.
 use Rattle.flume_model.proofs.Common.{◌≡◌, ℕ, Bool, true, false, List, [], ◌∷◌, ◌++◌, length, Some, zero, suc, refl, sym, ◌∙◌, ap, subst}
 use Rattle.flume_model.proofs.Common.{subst₂, not, ◌&&◌, arith, or_from, cond-true, cond-false, AllZip, slice_get, is_over, some_wait}
-use Rattle.flume_model.proofs.Common.{TicketsRise, BlockedAtCapacity, line, queue, boundary, boundary_after, Log, Opening, Offer, HandOut}
+use Rattle.flume_model.proofs.Common.{TicketsRise, BlockedAtCapacity, line, queue, boundary, boundary_after, capacity, Log, Opening, Offer, HandOut}
 use Rattle.flume_model.proofs.Common.{change, kept, handed_out, entries, entries_after, is_shut, IsRun, Reply, Step}
 use Rattle.flume_model.proofs.Fits.{fits, not_over_yet}
 use Rattle.flume_model.proofs.EntryShape.{told_filled}
@@ -15,10 +15,10 @@ use Rattle.flume_model.proofs.order.WholeAfter.{waits_after}
 module _ {T A : Type 0} where
   -- what is queued of the line after one more pair
   room_more : (o : Opening) (past : Log T A) (p : Step T × Reply T A) → IsRun o (p ∷ past) → Shape o past
-      → Room o.capacity (boundary o (p ∷ past)) (length (line (p ∷ past)))
+      → Room (capacity o (p ∷ past)) (boundary o (p ∷ past)) (length (line (p ∷ past)))
   room_more o past p run shape = by_case (is_over (p ∷ past)) refl
     where
-      by_case : (b : Bool) → is_over (p ∷ past) ≡ b → Room o.capacity (boundary o (p ∷ past)) (length (line (p ∷ past)))
+      by_case : (b : Bool) → is_over (p ∷ past) ≡ b → Room (capacity o (p ∷ past)) (boundary o (p ∷ past)) (length (line (p ∷ past)))
       by_case true over =
           let none : boundary o (p ∷ past) ≡ 0 = cond-true (is_over (p ∷ past)) 0 _ over in
           let empty : line (p ∷ past) ≡ [] = cond-true (is_over (p ∷ past)) [] _ over in
@@ -27,13 +27,13 @@ module _ {T A : Type 0} where
       by_case false open_ =
           let done = change past p.0 p.1 in
           let same : line (p ∷ past) ≡ line_by past done = line_is_open (p ∷ past) open_ in
-          let queued : boundary o (p ∷ past) ≡ boundary_after o.capacity (length (line (p ∷ past))) (boundary o past) done =
+          let queued : boundary o (p ∷ past) ≡ boundary_after (capacity o (p ∷ past)) (length (line (p ∷ past))) (boundary o past) done =
           cond-false (is_over (p ∷ past)) 0 _ open_ in
           let told = told_filled o past run.1 in
           let room = room_after o past done shape (fits o past p.0 p.1 told run.0) (not_over_yet o past p told run open_) in
-          let R : ℕ → ℕ → Type 0 = λ n long. Room o.capacity n long in
+          let R : ℕ → ℕ → Type 0 = λ n long. Room (capacity o (p ∷ past)) n long in
           let long : length (line (p ∷ past)) ≡ length (line_by past done) = ap length same in
-          let counted = queued ∙ ap (λ n. boundary_after o.capacity n (boundary o past) done) long in
+          let counted = queued ∙ ap (λ n. boundary_after (capacity o (p ∷ past)) n (boundary o past) done) long in
           subst₂ R (sym counted) (sym long) room
 
   -- while a receiver waits after one more pair, the queue is the whole line
@@ -51,11 +51,11 @@ module _ {T A : Type 0} where
           let told = told_filled o past run.1 in
           let closes = not (is_shut past) && is_shut (p ∷ past) in
           let long : length (line (p ∷ past)) ≡ length (line_by past done) = ap length (line_is_open (p ∷ past) open_) in
-          let queued : boundary o (p ∷ past) ≡ boundary_after o.capacity (length (line (p ∷ past))) (boundary o past) done =
+          let queued : boundary o (p ∷ past) ≡ boundary_after (capacity o (p ∷ past)) (length (line (p ∷ past))) (boundary o past) done =
           cond-false (is_over (p ∷ past)) 0 _ open_ in
           let parked : entries o (p ∷ past) ≡ entries_after (queue o past) closes (entries o past) done =
           cond-false (is_over (p ∷ past)) [] _ open_ in
-          queued ∙ ap (λ n. boundary_after o.capacity n (boundary o past) done) long
+          queued ∙ ap (λ n. boundary_after (capacity o (p ∷ past)) n (boundary o past) done) long
           ∙ waits_after o past done closes shape (fits o past p.0 p.1 told run.0) (not_over_yet o past p told run open_)
           (sym (ap some_wait parked) ∙ some) ∙ sym long
 

@@ -1,9 +1,9 @@
 -- While a receiver waits, the queue is the whole line: so it is after each change that fits.
 use Rattle.flume_model.proofs.Common.{◌≡◌, ℕ, ◌-◌, Bool, true, false, if◌then◌else◌, List, [], ◌∷◌, ◌++◌, length, max, Option, Some, None}
 use Rattle.flume_model.proofs.Common.{refl, sym, ◌∙◌, ◌⊎◌, inl, inr, ap, arith, take, length-append, length-take-le, length-map, channel}
-use Rattle.flume_model.proofs.Common.{is_over, is_woken, some_wait, entry_of, all_woken, line, queue, boundary, boundary_after, Log}
+use Rattle.flume_model.proofs.Common.{is_over, is_woken, some_wait, entry_of, all_woken, line, queue, boundary, boundary_after, capacity, capacity_after, Log}
 use Rattle.flume_model.proofs.Common.{Opening, Change, Queues, Blocks, Withdraws, Takes, Drains, Parks, Asks, Collects, Leaves}
-use Rattle.flume_model.proofs.Common.{SenderLeaves, ReceiverLeaves, capped, LogEntry, untold, entries, entries_after, common_steps}
+use Rattle.flume_model.proofs.Common.{SenderLeaves, ReceiverLeaves, Resizes, capped, LogEntry, untold, entries, entries_after, common_steps}
 use Rattle.flume_model.proofs.WaitingCounts.{wait_round_for, wait_without, wait_after_leave, wait_woken}
 use Rattle.flume_model.proofs.WaitLists.{wait_again}
 use Rattle.flume_model.proofs.Fits.{Fits}
@@ -36,7 +36,7 @@ module _ {T A : Type 0} where
   -- while a receiver waits after a change that fits, the queue is the whole line
   pub waits_after : (o : Opening) (past : Log T A) (done : Change T) (closes : Bool) → Shape o past → Fits (channel o past) done
       → is_over past ≡ false → some_wait (entries_after (queue o past) closes (entries o past) done) ≡ true
-      → boundary_after o.capacity (length (line_by past done)) (boundary o past) done ≡ length (line_by past done)
+      → boundary_after (capacity_after (capacity o past) done) (length (line_by past done)) (boundary o past) done ≡ length (line_by past done)
   waits_after o past (Queues m filled) closes shape h open_ some =
       let long = long_queued o past m filled shape open_ in
       let before = shape.waits (wait_round_for untold (queue o past ++ m ∷ []) (entries o past) some) in
@@ -51,18 +51,18 @@ module _ {T A : Type 0} where
   waits_after o past (Takes m None) closes shape h open_ some =
       let long = long_taken o past m None shape h open_ in
       let before = shape.waits some in
-      taken_whole o.capacity (boundary o past - 1) (length (line_by past (Takes m None))) (omega arith)
+      taken_whole (capacity o past) (boundary o past - 1) (length (line_by past (Takes m None))) (omega arith)
   waits_after o past (Takes m (Some t)) closes shape h open_ some =
       let long = long_taken o past m (Some t) shape h.0 open_ in
       let before = shape.waits (wait_without t (entries o past) some) in
-      taken_whole o.capacity (boundary o past - 1) (length (line_by past (Takes m (Some t)))) (omega arith)
+      taken_whole (capacity o past) (boundary o past - 1) (length (line_by past (Takes m (Some t)))) (omega arith)
   waits_after o past (Drains list) closes shape h open_ some =
       let before = shape.waits some in
       let drained : length list ≡ length (line past) = ap length h ∙ length-map (take (boundary o past) (line past)) (λ x. x.message)
       ∙ length-take-le (boundary o past) (line past) shape.within ∙ before in
       let long = long_drained past list open_ in
       let none : length (line_by past (Drains list)) ≡ 0 = omega arith in
-      rw none (capped_none o.capacity)
+      rw none (capped_none (capacity o past))
   waits_after o past (Parks t kind) closes shape h open_ some =
       let none : length (line past) ≡ 0 = sym (length-map (line past) (λ x. x.message)) ∙ ap length h.0 in
       let same : length (line_by past (Parks t kind)) ≡ length (line past) =
@@ -93,4 +93,7 @@ module _ {T A : Type 0} where
       waits_same o past SenderLeaves shape open_ refl (wait_closing closes (entries o past) some)
   waits_after o past ReceiverLeaves closes shape h open_ some =
       waits_same o past ReceiverLeaves shape open_ refl (wait_closing closes (entries o past) some)
+  waits_after o past (Resizes new) closes shape h open_ some =
+      taken_whole (Some new) (boundary o past) (length (line_by past (Resizes new)))
+      (waits_same o past (Resizes new) shape open_ refl some)
   waits_after o past done closes shape h open_ some = waits_same o past done shape open_ refl some

@@ -1,29 +1,35 @@
--- Where all receivers block, no more is queued than the capacity.
-use Rattle.flume_model.proofs.Common.{◌≡◌, ℕ, ◌+◌, ◌-◌, ◌≤◌, Bool, true, false, not, ◌&&◌, [], ◌∷◌, Option, Some, refl, sym, arith, max}
+-- Where all receivers block, no more is queued than the greatest capacity so far.
+use Rattle.flume_model.proofs.Common.{◌≡◌, ℕ, ◌+◌, ◌-◌, ◌≤◌, Bool, true, false, not, ◌&&◌, [], ◌∷◌, Option, Some, None, refl, sym, arith, max}
 use Rattle.flume_model.proofs.Common.{subst, cond-true, cond-false, All-head, All-tail, parks_blocking, OnlyBlockingReceivers}
-use Rattle.flume_model.proofs.Common.{IsAtMostCapacity, Channel, channel, is_over, some_wait, round_fills, HasRoom, capacity, boundary}
-use Rattle.flume_model.proofs.Common.{boundary_after, queue, how_many, Log, Opening, Change, Queues, Takes, Drains, Leaves, change, capped}
+use Rattle.flume_model.proofs.Common.{IsAtMostCapacity, Channel, channel, is_over, some_wait, round_fills, HasRoom, boundary, greater, greatest}
+use Rattle.flume_model.proofs.Common.{boundary_after, capacity_after, queue, how_many, Log, Opening, Change, Queues, Takes, Drains, Leaves, Resizes, change, capped}
 use Rattle.flume_model.proofs.Common.{entries, is_shut, IsRun, Reply, Step, common_steps}
 use Rattle.flume_model.proofs.Fits.{Fits}
 use Rattle.flume_model.proofs.waits.WaitingSteps.{stepped}
 use Rattle.flume_model.proofs.waits.WaitingLaws.{covered, waits_while_open, woken_block_while_closed}
 use Rattle.flume_model.proofs.users.BlockEntries.{AllBlock, round_fills_one, none_woken, parks_block, block_after}
 
--- less is at most the capacity too
-less_within : (c : Option ℕ) (n m : ℕ) → n ≤ m → IsAtMostCapacity c m → IsAtMostCapacity c n
-less_within c n m le h = grind (arith, common_steps)
+-- less is at most the greatest capacity too
+less_within : (g c : Option ℕ) (n m : ℕ) → n ≤ m → IsAtMostCapacity g m → IsAtMostCapacity (greater g c) n
+less_within g c n m le h = grind (arith, common_steps)
 
 -- where there is room for one more, it is within the capacity
-room_within : (c : Option ℕ) (n m : ℕ) → m ≤ n + 1 → HasRoom c n → IsAtMostCapacity c m
-room_within c n m le h = grind (arith, common_steps)
+room_within : (g c : Option ℕ) (n m : ℕ) → m ≤ n + 1 → HasRoom c n → IsAtMostCapacity (greater g c) m
+room_within g c n m le h = grind (arith, common_steps)
 
 -- what is queued where one was taken
-taken_within : (c : Option ℕ) (n long : ℕ) → IsAtMostCapacity c n → IsAtMostCapacity c (max (n - 1) (capped c long))
-taken_within c n long h = grind (arith, common_steps)
+taken_within : (g c : Option ℕ) (n long : ℕ) → IsAtMostCapacity g n → IsAtMostCapacity (greater g c) (max (n - 1) (capped c long))
+taken_within g c n long h = grind (arith, common_steps)
+
+-- what is queued where the capacity was set
+resized_within : (g : Option ℕ) (new n long : ℕ) → IsAtMostCapacity g n
+    → IsAtMostCapacity (greater g (Some new)) (max n (capped (Some new) long))
+resized_within None new n long h = tt
+resized_within (Some g) new n long h = omega arith
 
 -- what is queued after a drain
-drained_within : (c : Option ℕ) (long : ℕ) → IsAtMostCapacity c (capped c long)
-drained_within c long = grind (arith, common_steps)
+drained_within : (g c : Option ℕ) (long : ℕ) → IsAtMostCapacity (greater g c) (capped c long)
+drained_within g c long = grind (arith, common_steps)
 
 -- nothing is within each capacity
 none_within : (c : Option ℕ) (n : ℕ) → n ≡ 0 → IsAtMostCapacity c n
@@ -31,29 +37,31 @@ none_within c n e = grind (arith, common_steps)
 
 module _ {T : Type 0} where
   -- where a message joins the queue
-  queues_within : (c : Channel T) (m : T) → (some_wait c.entries ≡ true → c.boundary ≡ 0) → AllBlock c.entries
+  queues_within : (g : Option ℕ) (c : Channel T) (m : T) → (some_wait c.entries ≡ true → c.boundary ≡ 0) → AllBlock c.entries
       → (some_wait c.entries ≡ false → HasRoom c.capacity c.boundary)
-      → IsAtMostCapacity c.capacity (c.boundary + 1 - how_many (round_fills c.entries))
-  queues_within c m empty block room = by_case (some_wait c.entries) refl
+      → IsAtMostCapacity (greater g c.capacity) (c.boundary + 1 - how_many (round_fills c.entries))
+  queues_within g c m empty block room = by_case (some_wait c.entries) refl
     where
       by_case : (b : Bool) → some_wait c.entries ≡ b
-          → IsAtMostCapacity c.capacity (c.boundary + 1 - how_many (round_fills c.entries))
+          → IsAtMostCapacity (greater g c.capacity) (c.boundary + 1 - how_many (round_fills c.entries))
       by_case true some =
           let one = round_fills_one c.entries block some in
           let none = empty some in
-          none_within c.capacity _ (omega arith)
-      by_case false none = room_within c.capacity c.boundary _ (omega arith) (room none)
+          none_within (greater g c.capacity) _ (omega arith)
+      by_case false none = room_within g c.capacity c.boundary _ (omega arith) (room none)
 
   -- after a change that fits
-  within_by : (c : Channel T) (n : ℕ) (done : Change T) → (some_wait c.entries ≡ true → c.boundary ≡ 0) → AllBlock c.entries → Fits c done
-      → IsAtMostCapacity c.capacity c.boundary → IsAtMostCapacity c.capacity (boundary_after c.capacity n c.boundary done)
-  within_by c n (Queues m filled) empty block h before =
-      let Within : Option ℕ → Type 0 = λ f. IsAtMostCapacity c.capacity (c.boundary + 1 - how_many f) in
-      subst Within (sym h.1) (queues_within c m empty block h.0.1)
-  within_by c n (Takes m receiver) empty block h before = taken_within c.capacity c.boundary n before
-  within_by c n (Drains list) empty block h before = drained_within c.capacity n
-  within_by c n (Leaves t filled) empty block h before = less_within c.capacity _ c.boundary (omega arith) before
-  within_by c n _ empty block h before = before
+  within_by : (g : Option ℕ) (c : Channel T) (n : ℕ) (done : Change T) → (some_wait c.entries ≡ true → c.boundary ≡ 0)
+      → AllBlock c.entries → Fits c done → IsAtMostCapacity g c.boundary
+      → IsAtMostCapacity (greater g (capacity_after c.capacity done)) (boundary_after (capacity_after c.capacity done) n c.boundary done)
+  within_by g c n (Queues m filled) empty block h before =
+      let Within : Option ℕ → Type 0 = λ f. IsAtMostCapacity (greater g c.capacity) (c.boundary + 1 - how_many f) in
+      subst Within (sym h.1) (queues_within g c m empty block h.0.1)
+  within_by g c n (Takes m receiver) empty block h before = taken_within g c.capacity c.boundary n before
+  within_by g c n (Drains list) empty block h before = drained_within g c.capacity n
+  within_by g c n (Leaves t filled) empty block h before = less_within g c.capacity _ c.boundary (omega arith) before
+  within_by g c n (Resizes new) empty block h before = resized_within g new c.boundary n before
+  within_by g c n _ empty block h before = less_within g c.capacity _ c.boundary (omega arith) before
 
 module _ {T A : Type 0} where
   -- a step that parks none of another kind makes such a change
@@ -89,26 +97,27 @@ module _ {T A : Type 0} where
 
   -- after one more pair of a run
   within_more : (o : Opening) (past : Log T A) (p : Step T × Reply T A) → IsRun o (p ∷ past) → OnlyBlockingReceivers past
-      → IsAtMostCapacity (capacity o past) (boundary o past) → IsAtMostCapacity (capacity o (p ∷ past)) (boundary o (p ∷ past))
+      → IsAtMostCapacity (greatest o past) (boundary o past) → IsAtMostCapacity (greatest o (p ∷ past)) (boundary o (p ∷ past))
   within_more o past p run only before = by_case (is_over (p ∷ past)) refl
     where
-      by_case : (b : Bool) → is_over (p ∷ past) ≡ b → IsAtMostCapacity (capacity o (p ∷ past)) (boundary o (p ∷ past))
-      by_case true over = none_within o.capacity _ (cond-true (is_over (p ∷ past)) 0 _ over)
+      by_case : (b : Bool) → is_over (p ∷ past) ≡ b → IsAtMostCapacity (greatest o (p ∷ past)) (boundary o (p ∷ past))
+      by_case true over = none_within (greatest o (p ∷ past)) _ (cond-true (is_over (p ∷ past)) 0 _ over)
       by_case false still =
           let s = stepped o past p run still in
-          subst (IsAtMostCapacity o.capacity) (sym s.boundary_is)
-          (within_by (channel o past) s.long (change past p.0 p.1) (none_queued o past run.1 only) (entries_block o past only) s.fit before)
+          subst (IsAtMostCapacity (greatest o (p ∷ past))) (sym s.boundary_is)
+          (within_by (greatest o past) (channel o past) s.long (change past p.0 p.1) (none_queued o past run.1 only)
+          (entries_block o past only) s.fit before)
 
-  -- no more is queued than the capacity
+  -- no more is queued than the greatest capacity so far
   pub within_capacity : (o : Opening) (log : Log T A) → IsRun o log → OnlyBlockingReceivers log
-      → IsAtMostCapacity (capacity o log) (boundary o log)
+      → IsAtMostCapacity (greatest o log) (boundary o log)
   within_capacity o [] run only = none_within o.capacity 0 refl
   within_capacity o (p ∷ past) run only =
       let others = All-tail (λ q. parks_blocking q.0 ≡ true) p past only in
       within_more o past p run others (within_capacity o past run.1 others)
 
-  -- where the capacity is 0 nothing is queued
-  pub rendezvous : (o : Opening) (log : Log T A) → IsRun o log → OnlyBlockingReceivers log → capacity o log ≡ Some 0 → boundary o log ≡ 0
+  -- where the capacity was never above 0 nothing is queued
+  pub rendezvous : (o : Opening) (log : Log T A) → IsRun o log → OnlyBlockingReceivers log → greatest o log ≡ Some 0 → boundary o log ≡ 0
   rendezvous o log run only none =
       let Within : Option ℕ → Type 0 = λ c. IsAtMostCapacity c (boundary o log) in
       let le : boundary o log ≤ 0 = subst Within none (within_capacity o log run only) in

@@ -3,7 +3,7 @@ use Rattle.flume_model.proofs.Common.{◌≡◌, ℕ, ◌+◌, ◌≤◌, Bool, 
 use Rattle.flume_model.proofs.Common.{ap, arith, inl, inr, drop, take, length, sum_by, length-take-le, cases_lt, take-append-drop}
 use Rattle.flume_model.proofs.Common.{map-append, drop-map, take_all, length-map, sum_by-cons, sum_by-append, sum_by_push, channel, held}
 use Rattle.flume_model.proofs.Common.{is_over, is_woken, is_filled, some_wait, round_fills, all_woken, entry_of, without, again}
-use Rattle.flume_model.proofs.Common.{after_leave, leave_fills, HasRoom, line, boundary, queue, messages, how_many, Log, Opening, Offer}
+use Rattle.flume_model.proofs.Common.{after_leave, leave_fills, HasRoom, line, capacity, boundary, queue, messages, how_many, Log, Opening, Offer}
 use Rattle.flume_model.proofs.Common.{Change, Queues, Blocks, Withdraws, Takes, Drains, Parks, Asks, Collects, Leaves, SenderLeaves}
 use Rattle.flume_model.proofs.Common.{ReceiverLeaves, change, offered, LogEntry, untold, parks, entries_after, entries, IsRun, Mark}
 use Rattle.flume_model.proofs.Common.{Waiting, Reply, Step, common_steps}
@@ -63,14 +63,14 @@ module _ {T A : Type 0} where
 
   -- where a message is taken in at once, all of the line is queued
   queue_whole : (o : Opening) (past : Log T A) → IsRun o past
-      → (some_wait (entries o past) ≡ false → HasRoom o.capacity (boundary o past)) → queue o past ≡ messages (line past)
+      → (some_wait (entries o past) ≡ false → HasRoom (capacity o past) (boundary o past)) → queue o past ≡ messages (line past)
   queue_whole o past run room = ap messages (take_all (boundary o past) (line past) (by_case (some_wait (entries o past)) refl))
     where
       by_case : (b : Bool) → some_wait (entries o past) ≡ b → length (line past) ≤ boundary o past
       by_case true some = let whole = (shape_of o past run).waits some in omega arith
       by_case false none =
           elim (cases_lt (boundary o past) (length (line past))) as (λ _. length (line past) ≤ boundary o past) [
-            | inl lt ↦ absurd (room_or_full o.capacity (boundary o past) (room none) ((shape_of o past run).full lt))
+            | inl lt ↦ absurd (room_or_full (capacity o past) (boundary o past) (room none) ((shape_of o past run).full lt))
             | inr le ↦ le
           ]
 

@@ -1,9 +1,9 @@
--- What is queued and who waits are together at most the greater of the capacity and the most that waited at once.
+-- What is queued and who waits are together at most the greater of the greatest capacity and the most that waited at once.
 use Rattle.flume_model.proofs.Common.{◌≡◌, ℕ, ◌+◌, ◌-◌, ◌≤◌, Bool, true, false, if◌then◌else◌, List, [], ◌∷◌, length, Option, Some, None}
 use Rattle.flume_model.proofs.Common.{refl, sym, ◌∙◌, ap, arith, max, subst, subst₂, cond-true, Channel, channel, is_over, is_woken}
-use Rattle.flume_model.proofs.Common.{some_wait, waiting_count, round, round_fills, all_woken, entry_of, without, HasRoom, boundary}
-use Rattle.flume_model.proofs.Common.{boundary_after, how_many, Log, Opening, Change, Queues, Takes, Drains, Parks, Asks, Collects, Leaves}
-use Rattle.flume_model.proofs.Common.{SenderLeaves, ReceiverLeaves, change, capped, LogEntry, untold, entries_after, entries, peak, IsRun}
+use Rattle.flume_model.proofs.Common.{some_wait, waiting_count, round, round_fills, all_woken, entry_of, without, HasRoom, boundary, capacity}
+use Rattle.flume_model.proofs.Common.{boundary_after, capacity_after, greater, greatest, how_many, Log, Opening, Change, Queues, Takes, Drains, Parks, Asks, Collects, Leaves}
+use Rattle.flume_model.proofs.Common.{SenderLeaves, ReceiverLeaves, Resizes, change, capped, LogEntry, untold, entries_after, entries, peak, IsRun}
 use Rattle.flume_model.proofs.Common.{IsWithin, Bounded, Reply, Step, common_steps}
 use Rattle.flume_model.proofs.Fits.{Fits}
 use Rattle.flume_model.proofs.WaitingCounts.{wait_woken}
@@ -22,9 +22,13 @@ data LeavesWithin (capacity : Option ℕ) (was queued waits : ℕ) : Type 0 wher
   NoneWaits : waits ≡ 0 → IsWithin capacity was queued → LeavesWithin capacity was queued waits
 
 -- what is queued and who waits, left within the bound so, are within it
-within_after : (capacity : Option ℕ) (highest was queued waits : ℕ) → IsWithin capacity highest was
-    → LeavesWithin capacity was queued waits → IsWithin capacity (max highest waits) (queued + waits)
-within_after capacity highest was queued waits before leaves = grind (arith, common_steps)
+within_after : (most capacity : Option ℕ) (highest was queued waits : ℕ) → IsWithin most highest was
+    → LeavesWithin capacity was queued waits → IsWithin (greater most capacity) (max highest waits) (queued + waits)
+within_after None capacity highest was queued waits before leaves = tt
+within_after (Some n) None highest was queued waits before leaves = tt
+within_after (Some n) (Some c) highest was queued waits before (NoMore le) = omega arith
+within_after (Some n) (Some c) highest was queued waits before (OnlyWaits none) = omega arith
+within_after (Some n) (Some c) highest was queued waits before (NoneWaits none le) = omega arith
 
 -- where the queue has room, one more is within the capacity
 room_within : (capacity : Option ℕ) (was n : ℕ) → HasRoom capacity n → IsWithin capacity was (n + 1)
@@ -33,6 +37,10 @@ room_within capacity was n room = grind (arith, common_steps)
 -- where one was taken, what is queued is within the capacity, or was queued before
 taken_within : (capacity : Option ℕ) (long n was : ℕ) → n ≤ was → IsWithin capacity was (max (n - 1) (capped capacity long))
 taken_within capacity long n was le = grind (arith, common_steps)
+
+-- where the capacity was set, what is queued is within it, or was queued before
+resized_within : (new long n was : ℕ) → n ≤ was → IsWithin (Some new) was (max n (capped (Some new) long))
+resized_within new long n was le = omega arith
 
 -- where all that was queued was drained, what is queued then is within the capacity
 drained_within : (capacity : Option ℕ) (long was : ℕ) → IsWithin capacity was (capped capacity long)
@@ -88,8 +96,9 @@ module _ {T : Type 0} where
 
   -- after a change that fits
   leaves_by : (c : Channel T) (closes : Bool) (done : Change T) (n : ℕ) → Stood c → Fits c done → Long c done n
-      → boundary_after c.capacity n c.boundary done ≤ n
-      → LeavesWithin c.capacity (c.boundary + waiting_count c.entries) (boundary_after c.capacity n c.boundary done)
+      → boundary_after (capacity_after c.capacity done) n c.boundary done ≤ n
+      → LeavesWithin (capacity_after c.capacity done) (c.boundary + waiting_count c.entries)
+      (boundary_after (capacity_after c.capacity done) n c.boundary done)
       (waiting_count (entries_after c.queue closes c.entries done))
   leaves_by c closes (Queues m filled) n stood h long within =
       let LeavesBy : Option ℕ → Type 0 = λ f. LeavesWithin c.capacity (c.boundary + waiting_count c.entries)
@@ -126,6 +135,9 @@ module _ {T : Type 0} where
       (let no_more = (round_counts untold front (without t c.entries)).no_more in omega arith)))
   leaves_by c closes SenderLeaves n stood h long within = leaves_close c closes
   leaves_by c closes ReceiverLeaves n stood h long within = leaves_close c closes
+  leaves_by c closes (Resizes new) n stood h long within =
+      leaves_fewer (record c { capacity = Some new }) _ (waiting_count c.entries) (omega arith)
+      (λ some. (let whole = stood.whole some in omega arith)) (resized_within new n c.boundary _ (omega arith))
   leaves_by c closes _ n stood h long within = NoMore (omega arith)
 
 -- nothing is within each bound
@@ -141,16 +153,18 @@ module _ {T A : Type 0} where
       by_case true over =
           let nobody = ap waiting_count (nobody_once_over o (p ∷ past) over) in
           let none : boundary o (p ∷ past) ≡ 0 = cond-true (is_over (p ∷ past)) 0 _ over in
-          none_within o.capacity _ _ (omega arith)
+          none_within (greatest o (p ∷ past)) _ _ (omega arith)
       by_case false still =
           let s = stepped o past p run still in
           let leaves = leaves_by (channel o past) s.closes (change past p.0 p.1) s.long s.stood s.fit s.line_is s.in_line in
-          let LeftBy : ℕ → ℕ → Type 0 = λ n waits. LeavesWithin o.capacity (boundary o past + waiting_count (entries o past)) n waits in
-          within_after o.capacity (peak o past) (boundary o past + waiting_count (entries o past)) (boundary o (p ∷ past))
+          let LeftBy : ℕ → ℕ → Type 0 = λ n waits. LeavesWithin (capacity o (p ∷ past))
+          (boundary o past + waiting_count (entries o past)) n waits in
+          within_after (greatest o past) (capacity o (p ∷ past)) (peak o past) (boundary o past + waiting_count (entries o past))
+          (boundary o (p ∷ past))
           (waiting_count (entries o (p ∷ past))) before
           (subst₂ LeftBy (sym s.boundary_is) (sym (ap waiting_count s.entries_are)) leaves)
 
-  -- what is queued and who waits are together at most the greater of the capacity and the most that waited at once
+  -- what is queued and who waits are together at most the greater of the greatest capacity and the most that waited at once
   pub bounded : (o : Opening) (log : Log T A) → IsRun o log → Bounded o log
   bounded o [] run = none_within o.capacity _ _ (omega arith)
   bounded o (p ∷ past) run = bounded_more o past p run (bounded o past run.1)

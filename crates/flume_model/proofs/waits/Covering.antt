@@ -2,8 +2,8 @@
 use Rattle.flume_model.proofs.Common.{◌≡◌, ℕ, ◌+◌, ◌-◌, ◌≤◌, Bool, true, false, if◌then◌else◌, [], ◌∷◌, length, Some, None, refl, sym, ◌∙◌}
 use Rattle.flume_model.proofs.Common.{◌⊎◌, inl, inr, ap, arith, Channel, channel, is_over, is_woken, some_wait, woken_count, round}
 use Rattle.flume_model.proofs.Common.{round_fills, all_woken, entry_of, without, passes_on, after_leave, leave_fills, boundary}
-use Rattle.flume_model.proofs.Common.{boundary_after, how_many, Log, Opening, Change, Queues, Blocks, Takes, Drains, Parks, Asks, Collects}
-use Rattle.flume_model.proofs.Common.{Leaves, SenderLeaves, ReceiverLeaves, change, LogEntry, untold, entries_after, entries, IsRun}
+use Rattle.flume_model.proofs.Common.{boundary_after, capacity_after, how_many, Log, Opening, Change, Queues, Blocks, Takes, Drains, Parks, Asks, Collects}
+use Rattle.flume_model.proofs.Common.{Leaves, SenderLeaves, ReceiverLeaves, Resizes, change, LogEntry, untold, entries_after, entries, IsRun}
 use Rattle.flume_model.proofs.Common.{Covered, Mark, Filled, Reply, Step, common_steps}
 use Rattle.flume_model.proofs.Fits.{Fits}
 use Rattle.flume_model.proofs.WaitingCounts.{wait_round, wait_round_for, wait_without, wait_woken}
@@ -57,9 +57,9 @@ module _ {T : Type 0} where
 
   -- after a change that fits
   covered_by : (c : Channel T) (closes : Bool) (done : Change T) (n : ℕ) → Stood c → Fits c done → Long c done n
-      → boundary_after c.capacity n c.boundary done ≤ n → (some_wait c.entries ≡ true → c.boundary ≤ woken_count c.entries)
+      → boundary_after (capacity_after c.capacity done) n c.boundary done ≤ n → (some_wait c.entries ≡ true → c.boundary ≤ woken_count c.entries)
       → some_wait (entries_after c.queue closes c.entries done) ≡ true
-      → boundary_after c.capacity n c.boundary done ≤ woken_count (entries_after c.queue closes c.entries done)
+      → boundary_after (capacity_after c.capacity done) n c.boundary done ≤ woken_count (entries_after c.queue closes c.entries done)
   covered_by c closes (Queues m filled) n stood h long within before some =
       let le = before (wait_round_for untold _ c.entries some) in
       let waits = wait_round_for untold _ c.entries some in
@@ -108,6 +108,8 @@ module _ {T : Type 0} where
   covered_by c closes SenderLeaves n stood h long within before some = covered_close c closes before some
   covered_by c closes ReceiverLeaves n stood h long within before some = covered_close c closes before some
   covered_by c closes (Blocks m t) n stood h long within before some = absurd (let none = h.0.1 in let no : ⊥ = cc in no)
+  covered_by c closes (Resizes new) n stood h long within before some =
+      let le = before some in let whole = stood.whole some in omega arith
   covered_by c closes _ n stood h long within before some = before some
 
 module _ {T A : Type 0} where

@@ -2,7 +2,7 @@
 use Rattle.flume_model.proofs.Common.{◌≡◌, ℕ, ◌+◌, ◌-◌, ◌≤◌, Bool, true, false, not, ◌&&◌, [], ◌∷◌, ◌++◌, length, drop, take, Some, None}
 use Rattle.flume_model.proofs.Common.{refl, sym, ◌∙◌, ap, arith, length-append, length-take-le, cond-true, cond-false, take-append-drop}
 use Rattle.flume_model.proofs.Common.{length-drop, length-map, length_push, Channel, channel, is_over, some_wait, line, boundary}
-use Rattle.flume_model.proofs.Common.{boundary_after, queue, how_many, Log, Opening, Offer, Change, Queues, Blocks, Withdraws, Takes}
+use Rattle.flume_model.proofs.Common.{boundary_after, capacity, queue, how_many, Log, Opening, Offer, Change, Queues, Blocks, Withdraws, Takes}
 use Rattle.flume_model.proofs.Common.{Drains, Leaves, change, entries_after, entries, is_shut, IsRun, Reply, Step}
 use Rattle.flume_model.proofs.Fits.{Fits, not_over_yet}
 use Rattle.flume_model.proofs.EntryShape.{told_filled, fits_run}
@@ -113,8 +113,8 @@ module _ {T A : Type 0} where
     pub long : ℕ
     pub long_is : long ≡ length (line (p ∷ past))
     pub line_is : Long (channel o past) (change past p.0 p.1) long
-    pub boundary_is : boundary o (p ∷ past) ≡ boundary_after o.capacity long (boundary o past) (change past p.0 p.1)
-    pub in_line : boundary_after o.capacity long (boundary o past) (change past p.0 p.1) ≤ long
+    pub boundary_is : boundary o (p ∷ past) ≡ boundary_after (capacity o (p ∷ past)) long (boundary o past) (change past p.0 p.1)
+    pub in_line : boundary_after (capacity o (p ∷ past)) long (boundary o past) (change past p.0 p.1) ≤ long
     pub entries_are : entries o (p ∷ past) ≡ entries_after (queue o past) closes (entries o past) (change past p.0 p.1)
 
   -- of each run
@@ -122,7 +122,7 @@ module _ {T A : Type 0} where
   stepped o past p run still =
       let open_ = not_over_yet o past p (told_filled o past run.1) run still in
       let fit = fits_run o past p run in
-      let queued : boundary o (p ∷ past) ≡ boundary_after o.capacity (length (line (p ∷ past))) (boundary o past) (change past p.0 p.1) =
+      let queued : boundary o (p ∷ past) ≡ boundary_after (capacity o (p ∷ past)) (length (line (p ∷ past))) (boundary o past) (change past p.0 p.1) =
       cond-false (is_over (p ∷ past)) 0 _ still in
       let in_line = (shape_of o (p ∷ past) run).within in
       record {

@@ -2,8 +2,8 @@
 use Rattle.flume_model.proofs.Common.{◌≡◌, ℕ, ◌≤◌, Bool, true, false, not, ◌&&◌, if◌then◌else◌, List, [], ◌∷◌, ◌++◌, length, Some, refl}
 use Rattle.flume_model.proofs.Common.{sym, ◌∙◌, ◌⊎◌, inl, inr, ap, arith, min, eqb-true, or_right, and_parts, list_any-append, Channel}
 use Rattle.flume_model.proofs.Common.{channel, senders, receivers, senders_after, receivers_after, is_over, is_woken, some_wait, all_woken}
-use Rattle.flume_model.proofs.Common.{without, round, IsClosed, is_closed, line, boundary, boundary_after, blocked, Log, Opening, Change}
-use Rattle.flume_model.proofs.Common.{Queues, Blocks, Takes, Parks, Asks, Collects, Leaves, SenderLeaves, ReceiverLeaves, change, LogEntry}
+use Rattle.flume_model.proofs.Common.{without, round, IsClosed, is_closed, line, boundary, boundary_after, capacity_after, blocked, Log, Opening, Change}
+use Rattle.flume_model.proofs.Common.{Queues, Blocks, Takes, Parks, Asks, Collects, Leaves, SenderLeaves, ReceiverLeaves, Resizes, change, LogEntry}
 use Rattle.flume_model.proofs.Common.{untold, entries_after, entries, IsRun, is_block, block_woken, WokenBlockWhileClosed, Reply, Step}
 use Rattle.flume_model.proofs.Common.{common_steps}
 use Rattle.flume_model.proofs.Fits.{Fits}
@@ -59,7 +59,7 @@ module _ {T : Type 0} where
       → closes ≡ (not (is_closed c.senders c.receivers) && is_closed (senders_after c.senders done) (receivers_after c.receivers done))
       → (block_woken c.entries ≡ true → ClosedWhole c.senders c.receivers (length c.line) c.boundary)
       → block_woken (entries_after c.queue closes c.entries done) ≡ true
-      → ClosedWhole (senders_after c.senders done) (receivers_after c.receivers done) n (boundary_after c.capacity n c.boundary done)
+      → ClosedWhole (senders_after c.senders done) (receivers_after c.receivers done) n (boundary_after (capacity_after c.capacity done) n c.boundary done)
   closed_by c closes (Queues m filled) n stood h long e before some =
       let was = before (round_for_push (λ es. block_woken es ≡ true → block_woken c.entries ≡ true) untold c.queue m c.entries
       (λ front. block_round front c.entries) some) in
@@ -95,6 +95,10 @@ module _ {T : Type 0} where
       closed_close c _ _ n closes stood long e (λ closed. omega arith) before some
   closed_by c closes ReceiverLeaves n stood h long e before some =
       closed_close c _ _ n closes stood long e (λ closed. omega arith) before some
+  closed_by c closes (Resizes new) n stood h long e before some =
+      let closed = (before some).0 in
+      let is_open = h.1 in
+      absurd (omega arith)
   closed_by c closes _ n stood h long e before some =
       let was = before some in let closed = was.0 in (omega arith, let le = was.1 in omega arith)
 

@@ -1,7 +1,7 @@
 //! Laws for those who use a channel. These functions do nothing: each contract is a law.
 ghost use Rattle.std.specs.Prelude.{◌≡◌, Some};
 ghost use Rattle.flume_model.specs.Log.{Log, Opening};
-ghost use Rattle.flume_model.specs.Line.{capacity, boundary};
+ghost use Rattle.flume_model.specs.Line.{greatest, boundary};
 ghost use Rattle.flume_model.specs.Replies.{IsRun};
 ghost use Rattle.flume_model.specs.Conserved.{Conserved};
 ghost use Rattle.flume_model.specs.Producers.{HandedOutInOrder};
@@ -23,13 +23,13 @@ pub fn each_producers_offers_keep_their_order<T, A: Allocator>()
     ensures law { (opening : Opening) (log : Log T A) → IsRun opening log → HandedOutInOrder log }
 {}
 
-/// Of each run whose receivers all block, no more messages are queued than the capacity says; so
-/// where the capacity is 0, none is ever queued.
+/// Of each run whose receivers all block, no more messages are queued than the greatest capacity
+/// so far; so where the capacity was never above 0, none is ever queued.
 pub fn blocking_receivers_keep_the_queue_within_capacity<T, A: Allocator>()
     ensures law { (opening : Opening) (log : Log T A) → IsRun opening log
         → OnlyBlockingReceivers log
-        → IsAtMostCapacity (capacity opening log) (boundary opening log) }
+        → IsAtMostCapacity (greatest opening log) (boundary opening log) }
     ensures rendezvous { (opening : Opening) (log : Log T A) → IsRun opening log
         → OnlyBlockingReceivers log
-        → capacity opening log ≡ Some 0 → boundary opening log ≡ 0 }
+        → greatest opening log ≡ Some 0 → boundary opening log ≡ 0 }
 {}

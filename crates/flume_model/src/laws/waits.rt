@@ -32,7 +32,7 @@ pub fn waiting_receivers_are_covered<T, A: Allocator>()
 {}
 
 /// Of each run, the messages that are queued and the receivers that wait are together at most as
-/// many as the capacity, or as ever waited at once, whichever is greater.
+/// many as the greatest capacity so far, or as ever waited at once, whichever is greater.
 pub fn queued_and_waiting_are_bounded<T, A: Allocator>()
     ensures law { (opening : Opening) (log : Log T A) → IsRun opening log → Bounded opening log }
 {}

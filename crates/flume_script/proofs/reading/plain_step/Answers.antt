@@ -1,7 +1,7 @@
 -- A word that is no plain step's is no step, since a step with a number or a kind has a space.
 use Rattle.std.proofs.Common.{codes, rules}
 use Rattle.flume_model.specs.declared.step.Step.TheVariants.{TrySend, Send, PollSend, WithdrawSend, TryRecv, Recv, Poll, Withdraw, Drain}
-use Rattle.flume_model.specs.declared.step.Step.TheVariants.{CloneSender, CloneReceiver, DropSender, DropReceiver, Len, IsEmpty, IsFull}
+use Rattle.flume_model.specs.declared.step.Step.TheVariants.{CloneSender, CloneReceiver, DropSender, DropReceiver, Len, IsEmpty, IsFull, SetCapacity}
 use Rattle.flume_model.specs.declared.step.Step.TheVariants.{Capacity, SenderCount, ReceiverCount, IsDisconnected}
 use Rattle.flume_script.specs.Script.{IsStepLine}
 use Rattle.flume_script.proofs.ScriptWords.{no_call, no_recv}
@@ -18,6 +18,7 @@ returns-else-is-13 c = record {
     | Recv kind ↦ no_recv c.args.word.now kind c.requires.no_space
     | Poll n ↦ no_call c.args.word.now (codes "poll") n c.requires.no_space
     | Withdraw n ↦ no_call c.args.word.now (codes "withdraw") n c.requires.no_space
+    | SetCapacity n ↦ no_call c.args.word.now (codes "set_capacity") n c.requires.no_space
     | Drain ↦ search rules
     | CloneSender ↦ search rules
     | CloneReceiver ↦ search rules

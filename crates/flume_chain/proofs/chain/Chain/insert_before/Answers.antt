@@ -1,10 +1,9 @@
-use Rattle.std.proofs.Common.{ℕ, ◌+◌, ◌++◌, ◌∷◌, length, length-append, sym, ap, subst, ◌∙◌, arith}
+use Rattle.std.proofs.Common.{◌+◌, ◌++◌, ◌∷◌, length, length-append, sym, ap, subst, ◌∙◌, arith}
 use Rattle.std.proofs.lemmas.Result.{IfOk-weaker}
 use Rattle.flume_chain.specs.Chained.{Holds, table_of, found, put_before}
-use Rattle.flume_chain.proofs.Rings.{once_same}
-use Rattle.flume_chain.proofs.Tables.{item, found_none, put_before_none}
-use Rattle.flume_chain.proofs.Steps.{free_below}
-use Rattle.flume_chain.proofs.Kept.{same_kept, same_chain, kept_items, found_split, neighbours, place_below, put_before_holds, put_items, walked}
+use Rattle.flume_chain.proofs.Tables.{item, put_before_none}
+use Rattle.flume_chain.proofs.Kept.{same_kept, same_chain, kept_items, found_split, neighbours, place_below, put_items, walked}
+use Rattle.flume_chain.proofs.Puts.{insert_holds, free_stands, put_room, not_full, on_err}
 use Rattle.flume_chain.proofs.ChainLaws.{length-put_before}
 use Rattle.flume_chain.proofs.chain.Chain.insert_before.Goals as goal
 
@@ -18,53 +17,49 @@ returns-in_default-clause-inserted g c =
     (λ place pushed. pushed ∙ sym (put_before_none c.args.self.now.items c.args.next (item place c.args.element) none))
     c.push_back.ensures.pushed
 
+pub link_before-requires-clause-free : goal.link_before-requires-clause-free
+link_before-requires-clause-free g c = free_stands c.self.inside.links c.self.invariant.items c.self.invariant.frees c.self.invariant.holds
+
+pub link_before-requires-clause-next : goal.link_before-requires-clause-next
+link_before-requires-clause-next g c =
+    let k = c.self.invariant in
+    let r = found_split c.self.inside.links k.items k.frees c.args.next c.in-Some.field-0.now k.holds c.in-Some.ensures.element in
+    λ stands. place_below c.self.inside.links k.items k.frees c.args.next c.in-Some.field-0.now r k.holds
+
+pub link_before-requires-clause-previous : goal.link_before-requires-clause-previous
+link_before-requires-clause-previous g c =
+    let k = c.self.invariant in
+    let r = found_split c.self.inside.links k.items k.frees c.args.next c.in-Some.field-0.now k.holds c.in-Some.ensures.element in
+    (neighbours (table_of c.self.inside.links) r.before r.after c.args.next c.in-Some.field-0.now k.frees
+    (subst (λ l. Holds (table_of c.self.inside.links) l k.frees) r.is k.holds)).previous
+
 pub invariant_of-self : goal.invariant_of-self
 invariant_of-self g c =
-    same_kept c.self.inside.links c.ready.new.self c.self.inside.len (c.ready.ensures.unchanged c.if-not-ready.true) c.self.invariant
+    same_kept c.self.inside.links c.link_before.new.self c.self.inside.len c.in_err-place.ensures.unchanged c.self.invariant
 
-pub returns-then-not-ready-clause-unchanged : goal.returns-then-not-ready-clause-unchanged
-returns-then-not-ready-clause-unchanged g c =
-    same_chain c.self.inside.links c.ready.new.self c.self.inside.len c.args.self.now (c.ready.ensures.unchanged c.if-not-ready.true) c.self.view_is
+pub returns-in_err-place-clause-succeeds : goal.returns-in_err-place-clause-succeeds
+returns-in_err-place-clause-succeeds g c = λ some.
+    let room = ap (λ x. x.room) c.self.view_is in
+    not_full c.self.inside.links c.self.invariant.items c.self.invariant.frees c.self.inside.len _ c.self.invariant.holds
+    c.self.invariant.count c.in_err-place.ensures.full (omega arith)
 
-pub link_before-place-requires-clause-free : goal.link_before-place-requires-clause-free
-link_before-place-requires-clause-free g c =
-    let k = c.self.invariant in
-    let f = c.ready.ensures.ready c.if-not-ready.false k.items k.frees k.holds in
-    free_below (table_of c.ready.new.self) k.items c.ready.new.self.free f.rest f.holds
-
-pub link_before-place-requires-clause-fits : goal.link_before-place-requires-clause-fits
-link_before-place-requires-clause-fits g c =
-    let k = c.self.invariant in
-    let f = c.ready.ensures.ready c.if-not-ready.false k.items k.frees k.holds in
-    f.holds.fits
-
-pub link_before-place-requires-clause-next : goal.link_before-place-requires-clause-next
-link_before-place-requires-clause-next g c =
-    let k = c.self.invariant in
-    let f = c.ready.ensures.ready c.if-not-ready.false k.items k.frees k.holds in
-    let r = found_split c.self.inside.links k.items k.frees c.args.next c.in-Some.field-0.now k.holds c.in-Some.ensures.element in
-    λ stands. place_below c.ready.new.self k.items (c.ready.new.self.free ∷ f.rest) c.args.next c.in-Some.field-0.now r f.holds
-
-pub link_before-place-requires-clause-previous : goal.link_before-place-requires-clause-previous
-link_before-place-requires-clause-previous g c =
-    let k = c.self.invariant in
-    let f = c.ready.ensures.ready c.if-not-ready.false k.items k.frees k.holds in
-    let r = found_split c.self.inside.links k.items k.frees c.args.next c.in-Some.field-0.now k.holds c.in-Some.ensures.element in
-    (neighbours (table_of c.ready.new.self) r.before r.after c.args.next c.in-Some.field-0.now (c.ready.new.self.free ∷ f.rest)
-    (subst (λ l. Holds (table_of c.ready.new.self) l (c.ready.new.self.free ∷ f.rest)) r.is f.holds)).previous
+pub returns-in_err-place-clause-unchanged : goal.returns-in_err-place-clause-unchanged
+returns-in_err-place-clause-unchanged g c =
+    on_err c.from_residual.result _
+    (same_chain c.self.inside.links c.link_before.new.self c.self.inside.len c.args.self.now c.in_err-place.ensures.unchanged c.self.view_is)
 
 pub invariant_of-self-2 : goal.invariant_of-self-2
 invariant_of-self-2 g c =
     let k = c.self.invariant in
-    let f = c.ready.ensures.ready c.if-not-ready.false k.items k.frees k.holds in
     let r = found_split c.self.inside.links k.items k.frees c.args.next c.in-Some.field-0.now k.holds c.in-Some.ensures.element in
+    let h = insert_holds c.self.inside.links c.link_before.new.self k.items k.frees c.args.next c.in-Some.field-0.now c.in_ok-place.place
+    c.args.element r k.holds c.in_ok-place.ensures.put in
     record {
-      items = r.before ++ item c.ready.new.self.free c.args.element ∷ item c.args.next c.in-Some.field-0.now ∷ r.after;
-      frees = f.rest;
-      holds = put_before_holds c.ready.new.self c.link_before-place.new.self k.items c.args.next c.in-Some.field-0.now c.args.element r f
-          c.link_before-place.ensures.linked;
+      items = r.before ++ item c.in_ok-place.place c.args.element ∷ item c.args.next c.in-Some.field-0.now ∷ r.after;
+      frees = h.frees;
+      holds = h.holds;
       count =
-          let a = length-append r.before (item c.ready.new.self.free c.args.element ∷ item c.args.next c.in-Some.field-0.now ∷ r.after) in
+          let a = length-append r.before (item c.in_ok-place.place c.args.element ∷ item c.args.next c.in-Some.field-0.now ∷ r.after) in
           let b = length-append r.before (item c.args.next c.in-Some.field-0.now ∷ r.after) in
           let n = ap length r.is in
           let m = k.count in
@@ -75,38 +70,47 @@ invariant_of-self-2 g c =
 pub returns-clause-inserted : goal.returns-clause-inserted
 returns-clause-inserted g c =
     let k = c.self.invariant in
-    let f = c.ready.ensures.ready c.if-not-ready.false k.items k.frees k.holds in
     let r = found_split c.self.inside.links k.items k.frees c.args.next c.in-Some.field-0.now k.holds c.in-Some.ensures.element in
-    let a = length-append r.before (item c.ready.new.self.free c.args.element ∷ item c.args.next c.in-Some.field-0.now ∷ r.after) in
+    let h = insert_holds c.self.inside.links c.link_before.new.self k.items k.frees c.args.next c.in-Some.field-0.now c.in_ok-place.place
+    c.args.element r k.holds c.in_ok-place.ensures.put in
+    let a = length-append r.before (item c.in_ok-place.place c.args.element ∷ item c.args.next c.in-Some.field-0.now ∷ r.after) in
     let b = length-append r.before (item c.args.next c.in-Some.field-0.now ∷ r.after) in
     let n = ap length r.is in
     let m = k.count in
-    walked c.link_before-place.new.self (c.self.inside.len + 1) _ f.rest
-    (put_before_holds c.ready.new.self c.link_before-place.new.self k.items c.args.next c.in-Some.field-0.now c.args.element r f
-    c.link_before-place.ensures.linked) (omega arith)
-    ∙ sym (put_items c.self.inside.links k.items k.frees c.args.next c.in-Some.field-0.now (item c.ready.new.self.free c.args.element) r k.holds)
-    ∙ ap (λ l. put_before l c.args.next (item c.ready.new.self.free c.args.element))
+    walked c.link_before.new.self (c.self.inside.len + 1) _ h.frees h.holds (omega arith)
+    ∙ sym (put_items c.self.inside.links k.items k.frees c.args.next c.in-Some.field-0.now (item c.in_ok-place.place c.args.element) r k.holds)
+    ∙ ap (λ l. put_before l c.args.next (item c.in_ok-place.place c.args.element))
     (kept_items c.self.inside.links c.self.inside.len c.args.self.now k c.self.view_is)
-    ∙ ap (λ (p : ℕ). put_before c.args.self.now.items c.args.next (item p c.args.element)) (sym c.link_before-place.ensures.place)
 
 pub returns-clause-fresh : goal.returns-clause-fresh
 returns-clause-fresh g c =
     let k = c.self.invariant in
-    let f = c.ready.ensures.ready c.if-not-ready.false k.items k.frees k.holds in
-    let below = free_below (table_of c.ready.new.self) k.items c.ready.new.self.free f.rest f.holds in
-    let counted = f.holds.within c.ready.new.self.free below in
-    let here = once_same c.ready.new.self.free in
-    ap (λ p. found c.args.self.now.items p) c.link_before-place.ensures.place
-    ∙ ap (λ l. found l c.ready.new.self.free) (sym (kept_items c.self.inside.links c.self.inside.len c.args.self.now k c.self.view_is))
-    ∙ found_none k.items c.ready.new.self.free (omega arith)
+    let r = found_split c.self.inside.links k.items k.frees c.args.next c.in-Some.field-0.now k.holds c.in-Some.ensures.element in
+    let h = insert_holds c.self.inside.links c.link_before.new.self k.items k.frees c.args.next c.in-Some.field-0.now c.in_ok-place.place
+    c.args.element r k.holds c.in_ok-place.ensures.put in
+    ap (λ l. found l c.in_ok-place.place)
+    (sym (kept_items c.self.inside.links c.self.inside.len c.args.self.now k c.self.view_is) ∙ r.is)
+    ∙ h.fresh
 
 pub returns-clause-fits : goal.returns-clause-fits
 returns-clause-fits g c =
     let k = c.self.invariant in
-    let f = c.ready.ensures.ready c.if-not-ready.false k.items k.frees k.holds in
+    let r = found_split c.self.inside.links k.items k.frees c.args.next c.in-Some.field-0.now k.holds c.in-Some.ensures.element in
+    let h = insert_holds c.self.inside.links c.link_before.new.self k.items k.frees c.args.next c.in-Some.field-0.now c.in_ok-place.place
+    c.args.element r k.holds c.in_ok-place.ensures.put in
     let new = ap length (returns-clause-inserted g c) in
-    let more = length-put_before c.args.self.now.items c.args.next (item c.link_before-place.result c.args.element) in
+    let more = length-put_before c.args.self.now.items c.args.next (item c.in_ok-place.place c.args.element) in
+    let a = length-append r.before (item c.in_ok-place.place c.args.element ∷ item c.args.next c.in-Some.field-0.now ∷ r.after) in
+    let b = length-append r.before (item c.args.next c.in-Some.field-0.now ∷ r.after) in
+    let n = ap length r.is in
     let old = ap length (kept_items c.self.inside.links c.self.inside.len c.args.self.now k c.self.view_is) in
-    let total = f.holds.total in
-    let fits = f.holds.fits in
+    let total = h.holds.total in
+    let fits = h.holds.fits in
     omega arith
+
+pub returns-clause-room : goal.returns-clause-room
+returns-clause-room g c = λ some.
+    let k = c.self.invariant in
+    let room = ap (λ x. x.room) c.self.view_is in
+    put_room c.self.inside.links c.link_before.new.self k.items k.frees c.self.inside.len c.in_ok-place.place _ _ _ k.holds k.count
+    c.in_ok-place.ensures.put (omega arith) ∙ room

@@ -1,71 +1,77 @@
-use Rattle.std.proofs.Common.{ℕ, ◌+◌, ◌++◌, ◌∷◌, [], length, length-append, sym, ap, ◌∙◌, arith}
-use Rattle.flume_chain.specs.Chained.{table_of, found}
-use Rattle.flume_chain.proofs.Tables.{item, found_none}
-use Rattle.flume_chain.proofs.Rings.{once_same}
-use Rattle.flume_chain.proofs.Steps.{free_below, last_below}
-use Rattle.flume_chain.proofs.Kept.{same_kept, same_chain, kept_items, put_holds, walked}
+use Rattle.std.proofs.Common.{◌+◌, ◌++◌, ◌∷◌, [], length, length-append, sym, ap, ◌∙◌, arith, append-nil}
+use Rattle.flume_chain.specs.Chained.{found, table_of}
+use Rattle.flume_chain.proofs.Tables.{item}
+use Rattle.flume_chain.proofs.Steps.{last_below}
+use Rattle.flume_chain.proofs.Kept.{same_kept, same_chain, kept_items, walked}
+use Rattle.flume_chain.proofs.Puts.{free_stands, push_holds, put_room, not_full, on_err}
 use Rattle.flume_chain.proofs.chain.Chain.push_back.Goals as goal
+
+pub link_before-requires-clause-free : goal.link_before-requires-clause-free
+link_before-requires-clause-free g c = free_stands c.self.inside.links c.self.invariant.items c.self.invariant.frees c.self.invariant.holds
+
+pub link_before-requires-clause-previous : goal.link_before-requires-clause-previous
+link_before-requires-clause-previous g c =
+    last_below (table_of c.self.inside.links) c.self.invariant.items c.self.invariant.frees c.self.invariant.holds
 
 pub invariant_of-self : goal.invariant_of-self
 invariant_of-self g c =
-    same_kept c.self.inside.links c.ready.new.self c.self.inside.len (c.ready.ensures.unchanged c.if-not-ready.true) c.self.invariant
+    same_kept c.self.inside.links c.link_before.new.self c.self.inside.len c.in_err-place.ensures.unchanged c.self.invariant
 
-pub returns-then-not-ready-clause-unchanged : goal.returns-then-not-ready-clause-unchanged
-returns-then-not-ready-clause-unchanged g c =
-    same_chain c.self.inside.links c.ready.new.self c.self.inside.len c.args.self.now (c.ready.ensures.unchanged c.if-not-ready.true) c.self.view_is
+pub returns-in_err-place-clause-succeeds : goal.returns-in_err-place-clause-succeeds
+returns-in_err-place-clause-succeeds g c = λ some.
+    let room = ap (λ x. x.room) c.self.view_is in
+    not_full c.self.inside.links c.self.invariant.items c.self.invariant.frees c.self.inside.len _ c.self.invariant.holds
+    c.self.invariant.count c.in_err-place.ensures.full (omega arith)
 
-pub link_before-place-requires-clause-free : goal.link_before-place-requires-clause-free
-link_before-place-requires-clause-free g c =
-    let f = c.ready.ensures.ready c.if-not-ready.false c.self.invariant.items c.self.invariant.frees c.self.invariant.holds in
-    free_below (table_of c.ready.new.self) c.self.invariant.items c.ready.new.self.free f.rest f.holds
-
-pub link_before-place-requires-clause-fits : goal.link_before-place-requires-clause-fits
-link_before-place-requires-clause-fits g c =
-    let f = c.ready.ensures.ready c.if-not-ready.false c.self.invariant.items c.self.invariant.frees c.self.invariant.holds in
-    f.holds.fits
-
-pub link_before-place-requires-clause-previous : goal.link_before-place-requires-clause-previous
-link_before-place-requires-clause-previous g c =
-    let f = c.ready.ensures.ready c.if-not-ready.false c.self.invariant.items c.self.invariant.frees c.self.invariant.holds in
-    last_below (table_of c.ready.new.self) c.self.invariant.items _ f.holds
+pub returns-in_err-place-clause-unchanged : goal.returns-in_err-place-clause-unchanged
+returns-in_err-place-clause-unchanged g c =
+    on_err c.from_residual.result _
+    (same_chain c.self.inside.links c.link_before.new.self c.self.inside.len c.args.self.now c.in_err-place.ensures.unchanged c.self.view_is)
 
 pub invariant_of-self-2 : goal.invariant_of-self-2
 invariant_of-self-2 g c =
-    let f = c.ready.ensures.ready c.if-not-ready.false c.self.invariant.items c.self.invariant.frees c.self.invariant.holds in
+    let k = c.self.invariant in
+    let h = push_holds c.self.inside.links c.link_before.new.self k.items k.frees c.in_ok-place.place c.args.element k.holds c.in_ok-place.ensures.put in
     record {
-      items = c.self.invariant.items ++ item c.ready.new.self.free c.args.element ∷ [];
-      frees = f.rest;
-      holds = put_holds c.ready.new.self c.link_before-place.new.self c.self.invariant.items c.args.element f c.link_before-place.ensures.linked;
-      count = let n = length-append c.self.invariant.items (item c.ready.new.self.free c.args.element ∷ []) in omega arith;
+      items = k.items ++ item c.in_ok-place.place c.args.element ∷ [];
+      frees = h.frees;
+      holds = h.holds;
+      count = let n = length-append k.items (item c.in_ok-place.place c.args.element ∷ []) in let m = k.count in omega arith;
     }
 
 pub returns-clause-pushed : goal.returns-clause-pushed
 returns-clause-pushed g c =
-    let f = c.ready.ensures.ready c.if-not-ready.false c.self.invariant.items c.self.invariant.frees c.self.invariant.holds in
-    let n = length-append c.self.invariant.items (item c.ready.new.self.free c.args.element ∷ []) in
-    walked c.link_before-place.new.self (c.self.inside.len + 1) _ f.rest
-    (put_holds c.ready.new.self c.link_before-place.new.self c.self.invariant.items c.args.element f c.link_before-place.ensures.linked)
-    (omega arith)
-    ∙ ap (λ l. l ++ item c.ready.new.self.free c.args.element ∷ [])
-    (kept_items c.self.inside.links c.self.inside.len c.args.self.now c.self.invariant c.self.view_is)
-    ∙ ap (λ (k : ℕ). c.args.self.now.items ++ item k c.args.element ∷ []) (sym c.link_before-place.ensures.place)
+    let k = c.self.invariant in
+    let h = push_holds c.self.inside.links c.link_before.new.self k.items k.frees c.in_ok-place.place c.args.element k.holds c.in_ok-place.ensures.put in
+    let n = length-append k.items (item c.in_ok-place.place c.args.element ∷ []) in
+    let m = k.count in
+    walked c.link_before.new.self (c.self.inside.len + 1) (k.items ++ item c.in_ok-place.place c.args.element ∷ []) h.frees h.holds (omega arith)
+    ∙ ap (λ l. l ++ item c.in_ok-place.place c.args.element ∷ [])
+    (kept_items c.self.inside.links c.self.inside.len c.args.self.now k c.self.view_is)
 
 pub returns-clause-fresh : goal.returns-clause-fresh
 returns-clause-fresh g c =
-    let f = c.ready.ensures.ready c.if-not-ready.false c.self.invariant.items c.self.invariant.frees c.self.invariant.holds in
-    let below = free_below (table_of c.ready.new.self) c.self.invariant.items c.ready.new.self.free f.rest f.holds in
-    let counted = f.holds.within c.ready.new.self.free below in
-    let here = once_same c.ready.new.self.free in
-    ap (λ k. found c.args.self.now.items k) c.link_before-place.ensures.place
-    ∙ ap (λ l. found l c.ready.new.self.free) (sym (kept_items c.self.inside.links c.self.inside.len c.args.self.now c.self.invariant c.self.view_is))
-    ∙ found_none c.self.invariant.items c.ready.new.self.free (omega arith)
+    let k = c.self.invariant in
+    let h = push_holds c.self.inside.links c.link_before.new.self k.items k.frees c.in_ok-place.place c.args.element k.holds c.in_ok-place.ensures.put in
+    ap (λ l. found l c.in_ok-place.place)
+    (sym (append-nil k.items ∙ kept_items c.self.inside.links c.self.inside.len c.args.self.now k c.self.view_is))
+    ∙ h.fresh
 
 pub returns-clause-fits : goal.returns-clause-fits
 returns-clause-fits g c =
-    let f = c.ready.ensures.ready c.if-not-ready.false c.self.invariant.items c.self.invariant.frees c.self.invariant.holds in
+    let k = c.self.invariant in
+    let h = push_holds c.self.inside.links c.link_before.new.self k.items k.frees c.in_ok-place.place c.args.element k.holds c.in_ok-place.ensures.put in
     let new = ap length (returns-clause-pushed g c) in
-    let split = length-append c.args.self.now.items (item c.link_before-place.result c.args.element ∷ []) in
-    let old = ap length (kept_items c.self.inside.links c.self.inside.len c.args.self.now c.self.invariant c.self.view_is) in
-    let total = f.holds.total in
-    let fits = f.holds.fits in
+    let split = length-append c.args.self.now.items (item c.in_ok-place.place c.args.element ∷ []) in
+    let same = length-append k.items (item c.in_ok-place.place c.args.element ∷ []) in
+    let old = ap length (kept_items c.self.inside.links c.self.inside.len c.args.self.now k c.self.view_is) in
+    let total = h.holds.total in
+    let fits = h.holds.fits in
     omega arith
+
+pub returns-clause-room : goal.returns-clause-room
+returns-clause-room g c = λ some.
+    let k = c.self.invariant in
+    let room = ap (λ x. x.room) c.self.view_is in
+    put_room c.self.inside.links c.link_before.new.self k.items k.frees c.self.inside.len c.in_ok-place.place _ _ _ k.holds k.count
+    c.in_ok-place.ensures.put (omega arith) ∙ room

@@ -1,0 +1,65 @@
+//! The step that sets the capacity.
+ghost use Rattle.std.specs.Prelude.{◌≡◌, ◌≤◌, ◌↔◌, Some, None};
+ghost use Rattle.flume_model.specs.Limits.{IsBounded, IsOpen, IsClosed};
+ghost use Rattle.flume_model.specs.Line.{greater};
+ghost use Rattle.flume_state.specs.Effects.{resized};
+ghost use Rattle.flume_state.specs.State.{State};
+ghost use Rattle.flume_core.specs.StandsFor.{Extends, IsLedTo, IsRefusal};
+ghost use Rattle.flume_state.specs.Due.{BecomesDue};
+ghost use Rattle.flume_core.specs.Comes.{Comes};
+
+use super::Chan;
+use flume_model::step::{Reply, Step};
+use std::alloc::Allocator;
+
+impl<T: Drop, S: Drop, A: Allocator + Copy> Chan<T, S, A> {
+    /// Sets the capacity of a bounded channel. `Done`: it is `capacity` from now on, and while the
+    /// queue is below it the first blocked message moves in: its ticket is accepted. A queue that is
+    /// longer stays as it is, and no receiver is woken. `Unbounded`: the channel has no capacity to
+    /// set. `Ended`: it has one, and is closed. The last two leave the channel as it was. Takes no
+    /// memory.
+    ///
+    /// ```
+    /// let mut chan: Chan<u64, u32> = Chan::new(alloc, Some(0));
+    /// chan.send(7, 10);                  // Pending(1), with the signal 10
+    /// chan.set_capacity(1);              // Done
+    /// chan.poll_send(1, None);           // Accepted
+    /// ```
+    pub fn set_capacity(&mut self, capacity: usize) -> Reply<T, A>
+        ensures step { Extends self.old (Step.SetCapacity capacity) result self.new }
+        ensures dues { IsLedTo A self.old
+            → BecomesDue self.old (Step.SetCapacity capacity) result self.new }
+        ensures comes { Comes (Step.SetCapacity capacity) result }
+        ensures space { self.old.space ≤ self.new.space }
+        ensures unbounded { (result ≡ Reply.Unbounded) ↔ (self.old.capacity ≡ None) }
+        ensures ended { (result ≡ Reply.Ended)
+            ↔ IsBounded self.old.capacity × IsClosed self.old.senders self.old.receivers }
+        ensures done { (result ≡ Reply.Done)
+            ↔ IsBounded self.old.capacity × IsOpen self.old.senders self.old.receivers }
+        ensures resized { result ≡ Reply.Done → self.new ≡ resized capacity self.old }
+        ensures unchanged { IsRefusal result → self.new ≡ self.old }
+    {
+        if self.capacity.is_none() {
+            return Reply::Unbounded;
+        }
+        if !self.is_open() {
+            return Reply::Ended;
+        }
+        self.keep_capacity(capacity);
+        self.fill_up();
+        Reply::Done
+    }
+
+    // Keeps this capacity, and the greatest so far.
+    fn keep_capacity(&mut self, capacity: usize)
+        ensures kept { self.new ≡ record self.old {
+          capacity = Some capacity;
+          greatest = greater self.old.greatest (Some capacity);
+        } }
+    {
+        self.capacity = Some(capacity);
+        if let Some(greatest) = self.greatest {
+            self.greatest = Some(greatest.max(capacity));
+        }
+    }
+}

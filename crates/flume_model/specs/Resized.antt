@@ -1,0 +1,31 @@
+-- What setting the capacity leaves of a run.
+use Rattle.std.specs.Prelude.{◌≡◌, ℕ, ◌∷◌, length, max, min, Some, None, ◌↔◌}
+use Rattle.flume_model.specs.declared.step.Step.TheVariants.{SetCapacity}
+use Rattle.flume_model.specs.declared.step.Reply.TheVariants.{Done}
+use Rattle.flume_model.specs.Log.{Log, Opening}
+use Rattle.flume_model.specs.Line.{line, capacity, boundary, next_ticket, is_live}
+use Rattle.flume_model.specs.Parked.{entries}
+
+module _ {T A : Type 0} where
+  -- the log in which the capacity was set to this, after what came before
+  abbrev pub set_to : ℕ → Log T A → Log T A
+  set_to new past = (SetCapacity new, Done) ∷ past
+
+  -- from the one log to the other the line, the parked receivers and the tickets stay, and this is
+  -- the capacity then; of the line so many are queued then
+  pub record IsResized (opening : Opening) (past log : Log T A) (new queued : ℕ) : Type 0 where
+    pub capacity_is : capacity opening log ≡ Some new
+    pub line_is : line log ≡ line past
+    pub boundary_is : boundary opening log ≡ queued
+    pub entries_are : entries opening log ≡ entries opening past
+    pub next_is : next_ticket opening log ≡ next_ticket opening past
+    pub live_are : (t : ℕ) → is_live log t ≡ is_live past t
+
+  -- how many are queued once the capacity was set to this: as many as were, and as many more of the
+  -- line as it allows
+  abbrev pub queued_at : Opening → Log T A → ℕ → ℕ
+  queued_at opening past new = max (boundary opening past) (min new (length (line past)))
+
+  -- an unbounded channel stays so, and a bounded one too
+  abbrev pub StaysBoundedOrNot : Opening → Log T A → Type 0
+  StaysBoundedOrNot opening log = (capacity opening log ≡ None) ↔ (opening.capacity ≡ None)

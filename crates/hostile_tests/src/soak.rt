@@ -1,0 +1,270 @@
+//! Eight threads on one channel whose allocator refuses one growth in a hundred: senders and
+//! receivers that try, block, wait a short time, poll and leave, with ends that are cloned, upgraded
+//! and dropped and a capacity that changes all along.
+use crate::memory::Heap;
+use ends_tests::counting::Counting;
+use flume::error::{NoMemory, RecvError, RecvTimeoutError, TryRecvError};
+use flume::{Receiver, Sender, Waits, bounded, unbounded};
+use futures::task::Poll;
+use futures::test::MockTask;
+use std::alloc::{AllocGlobal, Allocator, Global};
+use std::process::Abort;
+use std::random::RandomSource;
+use std::sync::Mutex;
+use std::test::Fail;
+use std::thread;
+use std::thread::Threads;
+use std::time::Duration;
+
+// How many messages each of the four sends that is taken for certain, and how many more that it
+// leaves as it sends them.
+const EACH: u64 = 1_000;
+
+// After how many messages a thread takes another end in place of its own, or sets the capacity.
+const RENEWAL: u64 = 50;
+
+// All messages, of both kinds.
+const ALL: usize = 8 * EACH as usize;
+
+// The first message of each of the four.
+const FIRSTS: &[u64] = &[0, 2 * EACH, 4 * EACH, 6 * EACH];
+
+// What a runtime value can do that the threads use.
+trait Runs: Waits + RandomSource + AllocGlobal + Threads + Abort + Send + Sync + 'static {}
+
+impl<R: Waits + RandomSource + AllocGlobal + Threads + Abort + Send + Sync + 'static> Runs for R {}
+
+fn short() -> Duration {
+    Duration::from_millis(1)
+}
+
+// Sends by the call that the message picks. The message comes back where it isn't taken.
+fn send_once<R: Waits, A: Allocator + Copy>(tx: &Sender<u64, R, A>, message: u64) -> Option<u64> {
+    match message % 3 {
+        0 => tx.send(message).err().map(|error| error.into_inner()),
+        1 => tx.try_send(message).err().map(|error| error.into_inner()),
+        _ => match tx.send_timeout(message, short()) {
+            Ok(()) => None,
+            Err(error) => Some(error.into_inner()),
+        },
+    }
+}
+
+// Sends a message until it is taken. Whether it was the very message that came back each time.
+fn send_until_taken<R: Waits, A: Allocator + Copy>(
+    rt: &R,
+    tx: &Sender<u64, R, A>,
+    message: u64,
+) -> bool {
+    for _ in rt.forever() {
+        match send_once(tx, message) {
+            None => return true,
+            Some(back) if back != message => return false,
+            Some(_) => thread::yield_now(),
+        }
+    }
+    unreachable!()
+}
+
+// Polls a send once, and leaves it as it is.
+fn send_and_leave<R: Waits, A: Allocator + Copy>(
+    task: &MockTask,
+    tx: &Sender<u64, R, A>,
+    message: u64,
+) {
+    let mut send = tx.send_async(message);
+    let _ = task.poll(&mut send);
+}
+
+// The sender, or in its place a clone, or another by way of a weak sender.
+fn renewed<R: Waits, A: Allocator + Copy>(
+    tx: Sender<u64, R, A>,
+    number: u64,
+) -> Option<Sender<u64, R, A>> {
+    if number % RENEWAL != 0 {
+        return Some(tx);
+    }
+    let _ = tx.set_capacity((number / RENEWAL % 5) as usize);
+    if number % (2 * RENEWAL) == 0 {
+        return tx.clone().ok();
+    }
+    tx.downgrade().ok()?.upgrade().ok()?
+}
+
+// Sends all messages of one thread. Whether each that came back was the very one.
+fn send_all<R: Runs, A: Allocator + Copy>(rt: R, mut tx: Sender<u64, R, A>, first: u64) -> bool {
+    let Ok(task) = MockTask::new(&rt) else {
+        return false;
+    };
+    for number in 0..EACH {
+        let Some(other) = renewed(tx, number) else {
+            return false;
+        };
+        tx = other;
+        let message = first.saturating_add(number.saturating_mul(2));
+        if !send_until_taken(&rt, &tx, message) {
+            return false;
+        }
+        send_and_leave(&task, &tx, message.saturating_add(1));
+    }
+    true
+}
+
+// What a receive came to.
+#[derive(Clone, Copy, Drop)]
+enum Came {
+    Message(u64),
+    Nothing,
+    Closed,
+}
+
+// Polls a receive once, and leaves it as it is.
+fn receive_and_leave<R: Waits, A: Allocator + Copy>(
+    task: &MockTask,
+    rx: &Receiver<u64, R, A>,
+) -> Came {
+    let mut receive = rx.recv_async();
+    match task.poll(&mut receive) {
+        Poll::Ready(Ok(message)) => Came::Message(message),
+        Poll::Ready(Err(RecvError::Disconnected)) => Came::Closed,
+        Poll::Ready(Err(RecvError::NoMemory)) | Poll::Pending => Came::Nothing,
+    }
+}
+
+// Receives by the call that the number picks.
+fn receive_once<R: Waits, A: Allocator + Copy>(
+    task: &MockTask,
+    rx: &Receiver<u64, R, A>,
+    number: u64,
+) -> Came {
+    match number % 4 {
+        0 => match rx.try_recv() {
+            Ok(message) => Came::Message(message),
+            Err(TryRecvError::Disconnected) => Came::Closed,
+            Err(_) => Came::Nothing,
+        },
+        1 => match rx.recv_timeout(short()) {
+            Ok(message) => Came::Message(message),
+            Err(RecvTimeoutError::Disconnected) => Came::Closed,
+            Err(_) => Came::Nothing,
+        },
+        2 => receive_and_leave(task, rx),
+        _ => match rx.recv() {
+            Ok(message) => Came::Message(message),
+            Err(RecvError::Disconnected) => Came::Closed,
+            Err(RecvError::NoMemory) => Came::Nothing,
+        },
+    }
+}
+
+// Counts a message.
+fn count<R: Waits>(rt: &R, counts: &Mutex<Vec<u32>>, message: u64) {
+    let mut counts = counts.lock(rt);
+    if let Some(count) = counts.get_mut(message as usize) {
+        *count = count.saturating_add(1);
+    }
+}
+
+// Takes all that is queued, and counts each.
+fn drain<R: Waits, A: Allocator + Copy>(
+    rt: &R,
+    rx: &Receiver<u64, R, A>,
+    counts: &Mutex<Vec<u32>>,
+) {
+    if let Ok(messages) = rx.drain() {
+        for message in messages {
+            count(rt, counts, message);
+        }
+    }
+}
+
+// Receives until all senders are gone, and counts each message.
+fn receive_all<R: Runs, A: Allocator + Copy>(
+    rt: R,
+    rx: Receiver<u64, R, A>,
+    counts: &Mutex<Vec<u32>>,
+) {
+    let Ok(task) = MockTask::new(&rt) else {
+        return;
+    };
+    let mut number = 0u64;
+    for _ in rt.forever() {
+        number = number.wrapping_add(1);
+        if number % RENEWAL == 0 {
+            drain(&rt, &rx, counts);
+        }
+        match receive_once(&task, &rx, number) {
+            Came::Message(message) => count(&rt, counts, message),
+            Came::Nothing => thread::yield_now(),
+            Came::Closed => return,
+        }
+    }
+}
+
+// Four threads send and four receive, until all is sent and received. Whether all were started.
+fn all_run<R: Runs, A: Allocator + Copy + Send + Sync>(
+    rt: R,
+    (tx, rx): (Sender<u64, R, A>, Receiver<u64, R, A>),
+    counts: &Mutex<Vec<u32>>,
+) -> bool {
+    thread::scope(thread::scope_env(), &rt, move |scope| {
+        for &first in FIRSTS {
+            let (own, other): (Result<_, _>, Result<_, _>) = (tx.clone(), rx.clone());
+            let (Ok(own), Ok(other)) = (own, other) else {
+                return false;
+            };
+            let sends = move || send_all(rt, own, first);
+            let receives = move || receive_all(rt, other, counts);
+            if scope.spawn(sends).is_err() || scope.spawn(receives).is_err() {
+                return false;
+            }
+        }
+        true
+    })
+}
+
+// Whether each message that was taken for certain came once, and each other one at most once.
+fn are_right(counts: &[u32]) -> bool {
+    for (at, &count) in counts.iter().enumerate() {
+        if count > 1 || at % 2 == 0 && count == 0 {
+            return false;
+        }
+    }
+    true
+}
+
+fn opened<'h, R: Waits>(
+    rt: R,
+    heap: Heap<'h>,
+    capacity: Option<usize>,
+) -> Result<(Sender<u64, R, Heap<'h>>, Receiver<u64, R, Heap<'h>>), NoMemory> {
+    match capacity {
+        Some(capacity) => bounded(rt, heap, 1, capacity),
+        None => unbounded(rt, heap, 1),
+    }
+}
+
+// All run at this capacity. Growths were refused, and no block is left.
+fn soak<R: Runs>(rt: R, alloc: Global, capacity: Option<usize>) -> Result<(), Fail> {
+    let heap = Counting::new(alloc);
+    let counts = Mutex::new(vec![in alloc; 0u32; ALL]?);
+    let ends = opened(rt, &heap, capacity)?;
+    heap.refuse_one_in(100);
+    assert!(rt; all_run(rt, ends, &counts), "not all threads ran");
+    assert!(rt;
+        are_right(&counts.into_inner()),
+        "a message is lost, or came twice"
+    );
+    assert!(rt; heap.refusals() > 0 && heap.live() == 0);
+    Ok(())
+}
+
+#[test]
+fn no_message_is_lost_where_one_growth_in_a_hundred_is_refused(
+    rt: HostRuntime,
+) -> Result<(), Fail> {
+    for capacity in [None, Some(0), Some(1), Some(7), Some(64)] {
+        soak(rt, rt.alloc(), capacity)?;
+    }
+    Ok(())
+}

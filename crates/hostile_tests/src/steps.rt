@@ -1,0 +1,230 @@
+//! Each growth of a step of `Chan` refused in turn: the step says so, all that can be asked of the
+//! channel is as it was, and with memory again it answers, as all steps after it, as if nothing had
+//! been.
+use crate::memory::{Heap, MOST, NONE, Window};
+use crate::texts::{read, written};
+use ends_tests::counting::Counting;
+use flume_core::chan::Chan;
+use flume_core::step::{Reply, Step};
+use std::alloc::Global;
+use std::process::Abort;
+use std::test::Fail;
+
+type Tried<'h> = Chan<u64, (), Heap<'h>>;
+
+// A script whose last step is refused; what that answers with memory, and without.
+#[derive(Clone, Copy)]
+struct Row(&'static str, &'static str, &'static str);
+
+const ROWS: &[Row] = &[
+    Row("unbounded\ntry_send 5", "sent", "nomemory 5"),
+    Row("bounded 1\nsend 5", "sent", "nomemory 5"),
+    Row("unbounded\nrecv plain\ntry_send 5", "sent", "nomemory 5"),
+    Row(
+        "bounded 0\nrecv stream\nrecv block\nsend 5",
+        "sent filled 2",
+        "nomemory 5",
+    ),
+    Row("bounded 0\nsend 5", "pending 1", "nomemory 5"),
+    Row("bounded 0\nsend 5\nsend 6", "pending 2", "nomemory 6"),
+    Row("unbounded\nrecv block", "parked 1", "nomemory"),
+    Row("bounded 1\nrecv arm\nrecv plain", "parked 2", "nomemory"),
+    Row(
+        "bounded 1\ntry_send 1\nsend 2\ndrain",
+        "drained 1",
+        "nomemory",
+    ),
+];
+
+// Steps that want no memory.
+const FREE: &[Row] = &[
+    Row("bounded 1\nsend 1\nsend 2\ntry_recv", "got 1", ""),
+    Row("bounded 1\nsend 1\nsend 2\nrecv block", "got 1", ""),
+    Row("unbounded\nrecv plain\npoll 1", "waiting", ""),
+    Row("unbounded\nrecv plain\ntry_send 1\npoll 1", "got 1", ""),
+    Row("unbounded\nrecv plain\nwithdraw 1", "gone", ""),
+    Row(
+        "unbounded\nrecv plain\nrecv block\ntry_send 1\nwithdraw 1",
+        "gone filled 2",
+        "",
+    ),
+    Row("bounded 0\nsend 1\npoll_send 1", "waiting", ""),
+    Row(
+        "bounded 0\nsend 1\nsend 2\nwithdraw_send 1",
+        "returned 1",
+        "",
+    ),
+    Row("bounded 0\nsend 1\nsend 2\nset_capacity 2", "done", ""),
+    Row("bounded 0\nsend 1\nclone_sender", "done", ""),
+    Row("bounded 0\nsend 1\nclone_receiver", "done", ""),
+    Row("bounded 0\nsend 1\ndrop_sender", "done", ""),
+    Row("bounded 0\nsend 1\ndrop_receiver", "done", ""),
+    Row("bounded 0\ntry_send 1", "full 1", ""),
+    Row("unbounded\ntry_recv", "empty", ""),
+    Row("unbounded\ndrain", "drained", ""),
+];
+
+// What can be asked without a change.
+const QUERIES: &[Step<u64>] = &[
+    Step::Len,
+    Step::IsEmpty,
+    Step::IsFull,
+    Step::Capacity,
+    Step::SenderCount,
+    Step::ReceiverCount,
+    Step::IsDisconnected,
+];
+
+// What shows who waits, what is queued and what is blocked: every ticket that a script has, asked
+// and withdrawn from both sides, between takes.
+const REST: &[Step<u64>] = &[
+    Step::PollSend(1),
+    Step::Poll(1),
+    Step::TrySend(91),
+    Step::Poll(2),
+    Step::PollSend(2),
+    Step::TryRecv,
+    Step::Withdraw(1),
+    Step::WithdrawSend(1),
+    Step::Withdraw(2),
+    Step::TryRecv,
+    Step::WithdrawSend(2),
+    Step::Withdraw(3),
+    Step::TryRecv,
+    Step::Drain,
+    Step::Send(92),
+];
+
+// What these steps answer.
+fn answers<'h>(
+    (alloc, heap): (Global, Heap<'h>),
+    chan: &mut Tried<'h>,
+    steps: &[Step<u64>],
+) -> Result<String, Fail> {
+    let mut replies = Vec::new(heap);
+    for step in steps {
+        replies.push(chan.step(*step))?;
+    }
+    written(alloc, heap, replies.as_slice())
+}
+
+// All that can be asked of a channel.
+fn told<'h>(memory: (Global, Heap<'h>), chan: &mut Tried<'h>) -> Result<String, Fail> {
+    let told = answers(memory, chan, QUERIES)?;
+    Ok(format!(in memory.0; "{told}; room for {}", chan.room())?)
+}
+
+// What a step answers of which these growths are refused.
+fn refused<'h>(
+    (alloc, heap): (Global, Heap<'h>),
+    chan: &mut Tried<'h>,
+    step: Step<u64>,
+    window: Window,
+) -> Result<String, Fail> {
+    heap.refuse_between(window.first, window.last);
+    let reply = chan.step(step);
+    heap.refuse(false);
+    let replies = vec![in heap; reply]?;
+    written(alloc, heap, replies.as_slice())
+}
+
+// A channel on which all steps of a script but the last were made, and that step.
+fn begun<'h>(
+    (alloc, heap): (Global, Heap<'h>),
+    script: &str,
+) -> Result<(Tried<'h>, Step<u64>), Fail> {
+    let (capacity, mut steps) = read(alloc, script)?;
+    let last = steps.pop().unwrap_or(Step::Len);
+    let mut chan: Tried<'h> = Chan::new(heap, capacity);
+    for step in steps {
+        let _: Reply<u64, Heap<'h>> = chan.step(step);
+    }
+    Ok((chan, last))
+}
+
+// Whether a growth was refused, and then what the step answered before; what it answers in the end,
+// and what follows.
+#[derive(Drop)]
+struct Outcome {
+    is_refused: bool,
+    before: String,
+    answer: String,
+    rest: String,
+}
+
+// Makes the last step of a script with these growths refused, and where one was, with memory again.
+fn seen<'h>(
+    rt: &impl Abort,
+    memory: (Global, Heap<'h>),
+    script: &str,
+    window: Window,
+) -> Result<Outcome, Fail> {
+    let (mut chan, last) = begun(memory, script)?;
+    let as_it_was = told(memory, &mut chan)?;
+    let before = refused(memory, &mut chan, last, window)?;
+    let is_refused = memory.1.refusals() > 0;
+    let answer = if is_refused {
+        let after = told(memory, &mut chan)?;
+        assert_eq!(rt; after.as_str(), as_it_was.as_str(), "{script}");
+        refused(memory, &mut chan, last, NONE)?
+    } else {
+        before.clone()?
+    };
+    let rest = answers(memory, &mut chan, REST)?;
+    Ok(Outcome {
+        is_refused,
+        before,
+        answer,
+        rest,
+    })
+}
+
+// A row with these growths refused, beside one of which none was. Whether one was refused.
+fn is_so(rt: &impl Abort, alloc: Global, row: Row, window: Window) -> Result<bool, Fail> {
+    let heap = Counting::new(alloc);
+    let whole = seen(rt, (alloc, &heap), row.0, NONE)?;
+    let found = seen(rt, (alloc, &heap), row.0, window)?;
+    if found.is_refused {
+        assert_eq!(rt; found.before.as_str(), row.2, "{}", row.0);
+    }
+    assert_eq!(rt; found.answer.as_str(), row.1, "{}", row.0);
+    assert_eq!(rt; found.rest.as_str(), whole.rest.as_str(), "{}", row.0);
+    assert!(rt; heap.live() == 0, "{}: blocks are left", row.0);
+    Ok(found.is_refused)
+}
+
+// A row once for each growth of its last step. There is one at least.
+fn each_growth(rt: &impl Abort, alloc: Global, row: Row, is_one: bool) -> Result<(), Fail> {
+    for first in 1..MOST {
+        let last = if is_one { first } else { u64::MAX };
+        if !is_so(rt, alloc, row, Window { first, last })? {
+            assert!(rt; first > 1, "{}: nothing was refused", row.0);
+            return Ok(());
+        }
+    }
+    assert!(rt; false, "{}: too many growths", row.0);
+    Ok(())
+}
+
+#[test]
+fn each_step_that_is_refused_memory_leaves_the_channel_as_it_was(
+    rt: HostRuntime,
+) -> Result<(), Fail> {
+    for row in ROWS {
+        each_growth(&rt, rt.alloc(), *row, false)?;
+        each_growth(&rt, rt.alloc(), *row, true)?;
+    }
+    Ok(())
+}
+
+#[test]
+fn the_other_steps_are_never_refused(rt: HostRuntime) -> Result<(), Fail> {
+    let all = Window {
+        first: 1,
+        last: u64::MAX,
+    };
+    for row in FREE {
+        assert!(rt; !is_so(&rt, rt.alloc(), *row, all)?, "{}", row.0);
+    }
+    Ok(())
+}

@@ -1,0 +1,114 @@
+//! A reader of scripts that is slow and plain. It is written from these rules alone, and not from the
+//! reader of `flume_script`:
+//!
+//! A script is bytes. A line ends in a line feed; a last line without one counts as well. One
+//! carriage return before the line feed is dropped. Words are parted by exactly one space, with none
+//! before or after. A number is one or more ASCII digits, at most 2^64 - 1 in value; zeros may stand
+//! first. An empty line, a byte outside these forms or a wrong number of words makes a line wrong. The
+//! first line is `unbounded` or `bounded N`, each other one a step. A script without any line is
+//! wrong in line 1.
+
+// Steps of one word.
+const ALONE: &[&str] = &[
+    "try_recv",
+    "drain",
+    "clone_sender",
+    "clone_receiver",
+    "drop_sender",
+    "drop_receiver",
+    "len",
+    "is_empty",
+    "is_full",
+    "capacity",
+    "sender_count",
+    "receiver_count",
+    "is_disconnected",
+];
+
+// Steps of a word and a number.
+const WITH_NUMBER: &[&str] = &[
+    "try_send",
+    "send",
+    "poll_send",
+    "withdraw_send",
+    "poll",
+    "withdraw",
+    "set_capacity",
+];
+
+// What follows `recv`.
+const KINDS: &[&str] = &["block", "plain", "stream", "arm"];
+
+// Whether the word is one of these.
+fn is_one_of(word: &[u8], words: &[&str]) -> bool {
+    for other in words {
+        if word == other.as_bytes() {
+            return true;
+        }
+    }
+    false
+}
+
+// Whether the word is a number. A value past 2^128 counts as 2^128 - 1, which is too great as well.
+fn is_number(word: &[u8]) -> bool {
+    let mut value = 0u128;
+    for &byte in word {
+        if byte < 48 || byte > 57 {
+            return false;
+        }
+        value = value.saturating_mul(10);
+        value = value.saturating_add((byte - 48) as u128);
+    }
+    !word.is_empty() && value <= u64::MAX as u128
+}
+
+// The line's part before its first space, and the part after it, where it has one.
+fn parted(line: &[u8]) -> (&[u8], Option<&[u8]>) {
+    for (place, &byte) in line.iter().enumerate() {
+        if byte == 32 {
+            let (word, rest) = line.split_at(place);
+            return (word, rest.get(1..));
+        }
+    }
+    (line, None)
+}
+
+// Whether the line, which has no end any more, is right: the first, or a step. The part after the
+// first space is one word: a number or a kind has no space in it.
+fn is_right(line: &[u8], is_first: bool) -> bool {
+    let (word, rest) = parted(line);
+    match (is_first, rest) {
+        (true, None) => is_one_of(word, &["unbounded"]),
+        (true, Some(rest)) => is_one_of(word, &["bounded"]) && is_number(rest),
+        (false, None) => is_one_of(word, ALONE),
+        (false, Some(rest)) if is_one_of(word, &["recv"]) => is_one_of(rest, KINDS),
+        (false, Some(rest)) => is_one_of(word, WITH_NUMBER) && is_number(rest),
+    }
+}
+
+/// How many lines the script has, where each is right; else the number of the first wrong line,
+/// counted from 1.
+pub(crate) fn read(script: &[u8]) -> Result<u64, u64> {
+    let mut number = 1u64;
+    let mut start = 0usize;
+    for (place, &byte) in script.iter().enumerate() {
+        if byte != 10 {
+            continue;
+        }
+        let line = script.get(start..place).unwrap_or_default();
+        if !is_right(line.strip_suffix(b"\r").unwrap_or(line), number == 1) {
+            return Err(number);
+        }
+        start = place.saturating_add(1);
+        number = number.saturating_add(1);
+    }
+    let last = script.get(start..).unwrap_or_default();
+    if last.is_empty() && start > 0 {
+        return Ok(number.saturating_sub(1));
+    }
+    if is_right(last, number == 1) {
+        Ok(number)
+    } else {
+        Err(number)
+    }
+}
