@@ -3,6 +3,7 @@ ghost use Rattle.std.specs.Prelude.{◌≡◌};
 
 use crate::fixtures::is;
 use ends_tests::counting::Counting;
+use flume_audit::audit::Audit;
 use flume_audit::book::Book;
 use flume_audit::closed::Closed;
 use flume_audit::seat::Seat;
@@ -124,23 +125,52 @@ fn a_refused_step_changes_nothing_and_is_made_later(rt: HostRuntime) -> Result<(
     Ok(())
 }
 
-// What comes of a book where memory is refused.
-fn refused_book<L: Ledger>(heap: Heap<'_>, blank: Blank) -> Option<NoMemory>
+// More growths than a new audit has.
+const GROWTHS: u64 = 9;
+
+// What comes of a new book, or audit, of two seats, where the growths of this window are refused,
+// from its first to its last.
+fn refused<L: Ledger, R: Drop>(
+    rt: R,
+    heap: Heap<'_>,
+    blank: Blank,
+    window: (u64, u64),
+    is_audit: bool,
+) -> Option<NoMemory>
     requires name { blank.name ≡ L.name }
     requires parts { blank.parts ≡ L.parts }
     requires one_each { blank.parts ≡ 2 }
 {
-    heap.refuse(true);
-    Book::<u64, L, Ones, Heap<'_>>::new(heap, blank, None, 2).err()
+    heap.refuse_between(window.0, window.1);
+    if is_audit {
+        Audit::<u64, L, R, Ones, Heap<'_>>::new(rt, heap, blank, None, 2).err()
+    } else {
+        Book::<u64, L, Ones, Heap<'_>>::new(heap, blank, None, 2).err()
+    }
+}
+
+// Opens a book, or an audit, once for each of its growths, with that one refused and all after it up
+// to `last`, and drops it. How many were refused. No block is left.
+fn count_refused<R: Abort + Copy>(rt: R, alloc: Global, last: Option<u64>, is_audit: bool) -> u64 {
+    let heap = Counting::new(alloc);
+    for growth in 1..GROWTHS {
+        let window = (growth, last.unwrap_or(growth));
+        let answer = refused::<Brand, R>(rt, &heap, Blank::new(2), window, is_audit);
+        is(&rt, heap.live(), 0);
+        is(&rt, answer.is_some(), heap.refusals() > 0);
+        if answer.is_none() {
+            return growth.wrapping_sub(1);
+        }
+    }
+    GROWTHS
 }
 
 #[test]
-fn no_book_is_made_where_there_is_no_memory(rt: HostRuntime) {
-    let heap = Counting::new(rt.alloc());
-    is(
-        &rt,
-        refused_book::<Brand>(&heap, Blank::new(2)),
-        Some(NoMemory),
-    );
-    is(&rt, heap.live(), 0);
+fn no_book_and_no_audit_is_made_where_one_growth_is_refused(rt: HostRuntime) {
+    for is_audit in [false, true] {
+        for last in [None, Some(u64::MAX)] {
+            let refused = count_refused(rt, rt.alloc(), last, is_audit);
+            is(&rt, refused > 0 && refused < GROWTHS, true);
+        }
+    }
 }

@@ -27,7 +27,7 @@ impl<R: Wait + Clock + Copy> Waits for R {}
 // The most messages that count as few.
 const FEW: u64 = 4;
 
-// What an unbounded channel holds, as a number: more than any bounded one.
+// What an unbounded channel holds, as a number: no bounded one holds more.
 const ANY: u64 = u64::MAX;
 
 // How often a call checks for its wake, at the most.

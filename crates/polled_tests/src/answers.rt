@@ -162,7 +162,7 @@ pub(crate) fn after_sending(answer: Poll<Result<(), SendError<u64>>>) -> Answer 
 pub(crate) fn sent<R: Waits>(tx: &Tx<'_, R>, how: How, message: u64, now: Instant) -> Answer {
     match how {
         How::Tries => after_try_send(tx.try_send(message)),
-        How::Waits | How::Iterates => after_send(tx.send(message)),
+        How::Waits | How::Iterates | How::IntoIterates => after_send(tx.send(message)),
         How::Hour => after_timed_send(tx.send_timeout(message, Duration::from_secs(3600))),
         How::Short => after_timed_send(tx.send_timeout(message, Duration::from_millis(100))),
         How::Longest => after_timed_send(tx.send_timeout(message, Duration::MAX)),
@@ -170,14 +170,30 @@ pub(crate) fn sent<R: Waits>(tx: &Tx<'_, R>, how: How, message: u64, now: Instan
     }
 }
 
+// What an iterator gave first, which says whether it met a fault.
+fn after_first(first: Option<u64>, is_fault: bool) -> Answer {
+    match first {
+        Some(message) => Answer::Message("got", message),
+        None if is_fault => Answer::Word("no memory"),
+        None => Answer::Word("disconnected"),
+    }
+}
+
 // What an iterator gives first.
 fn iterated<R: Waits>(rx: &Rx<'_, R>) -> Answer {
     let mut messages = rx.iter();
-    match messages.next() {
-        Some(message) => Answer::Message("got", message),
-        None if messages.fault() => Answer::Word("no memory"),
-        None => Answer::Word("disconnected"),
-    }
+    let first = messages.next();
+    after_first(first, messages.fault())
+}
+
+// What an iterator that has a clone of the receiver gives first.
+fn into_iterated<R: Waits>(rx: &Rx<'_, R>) -> Answer {
+    let Ok(own) = rx.clone() else {
+        return Answer::Word("no clone");
+    };
+    let mut messages = own.into_iter();
+    let first = messages.next();
+    after_first(first, messages.fault())
 }
 
 /// A receive by this call.
@@ -190,6 +206,7 @@ pub(crate) fn received<R: Waits>(rx: &Rx<'_, R>, how: How, now: Instant) -> Answ
         How::Longest => after_timed_recv(rx.recv_timeout(Duration::MAX)),
         How::Now => after_timed_recv(rx.recv_deadline(now)),
         How::Iterates => iterated(rx),
+        How::IntoIterates => into_iterated(rx),
     }
 }
 

@@ -2,7 +2,7 @@
 
 /// How a message is sent or received: by the call that only tries, by the one that waits, up to an
 /// hour, up to a tenth of a second, with the longest timeout, up to a moment that has come, or by an
-/// iterator that waits (a send then waits).
+/// iterator that waits, of the receiver or of a clone that it has (a send then waits).
 #[derive(Clone, Copy, PartialEq, Drop)]
 pub(crate) enum How {
     Tries,
@@ -12,6 +12,7 @@ pub(crate) enum How {
     Longest,
     Now,
     Iterates,
+    IntoIterates,
 }
 
 /// What a line asks.

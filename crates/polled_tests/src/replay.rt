@@ -38,7 +38,14 @@ const NONE: Refused = Refused {
 const MOST: u64 = 100;
 
 // The calls that stand in for one that waits a short time.
-const OTHERS: &[How] = &[How::Waits, How::Hour, How::Longest, How::Now, How::Iterates];
+const OTHERS: &[How] = &[
+    How::Waits,
+    How::Hour,
+    How::Longest,
+    How::Now,
+    How::Iterates,
+    How::IntoIterates,
+];
 
 // The ends of the channel that an opening line asks for.
 fn opened<'h, R: Waits>(
