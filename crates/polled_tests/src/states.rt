@@ -97,6 +97,14 @@ enum Sending<'s, 'h, R: Waits> {
 }
 
 impl<R: Waits> Sending<'_, '_, R> {
+    // Has a sink keep the message. Whether it did: a future has its own.
+    fn keeps(&mut self, message: Counted) -> bool {
+        match self {
+            Sending::Future(_) => false,
+            Sending::Sink(sink) => sink.start_send(message).is_ok(),
+        }
+    }
+
     // Polls it in this task. What that answers, whose message is dropped.
     fn polled(&mut self, task: &MockTask) -> &'static str {
         let answer = match self {
@@ -148,13 +156,15 @@ fn send_in<'s, 'h, R: Waits + Abort>(
     if state != State::Ready && state != State::Finished {
         is(rt, tx.try_send(Counted::new(drops)?).is_ok(), true);
     }
-    let own = tx.clone()?;
+    let (own, message) = (tx.clone()?, Counted::new(drops)?);
     let mut sending = if by_sink {
-        let mut sink = own.into_sink();
-        is(rt, sink.start_send(Counted::new(drops)?).is_ok(), true);
-        Sending::Sink(sink)
+        let sink: SendSink<'s, Counted, R, Heap<'h>> = own.into_sink();
+        let mut sending = Sending::Sink(sink);
+        is(rt, sending.keeps(message), true);
+        sending
     } else {
-        Sending::Future(own.into_send_async(Counted::new(drops)?))
+        let send: SendFut<'s, Counted, R, Heap<'h>> = own.into_send_async(message);
+        Sending::Future(send)
     };
     match state {
         State::Unpolled | State::Ready => {}
@@ -177,9 +187,11 @@ fn receive_in<'r, 'h, R: Waits + Abort>(
 ) -> Result<Receiving<'r, 'h, R>, Fail> {
     let own = rx.clone()?;
     let mut receiving = if by_stream {
-        Receiving::Stream(own.into_stream())
+        let stream: RecvStream<'r, Counted, R, Heap<'h>> = own.into_stream();
+        Receiving::Stream(stream)
     } else {
-        Receiving::Future(own.into_recv_async())
+        let receive: RecvFut<'r, Counted, R, Heap<'h>> = own.into_recv_async();
+        Receiving::Future(receive)
     };
     if state == State::Pending || state == State::Woken {
         is(rt, receiving.polled(task), "pending");
