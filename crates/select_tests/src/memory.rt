@@ -128,8 +128,8 @@ fn an_arm_that_finds_no_memory_ends_its_selection_and_the_others_leave(
 // More growths than a selection has.
 const MOST: u64 = 50;
 
-// Two arms that wait in channels of capacity 0, with these growths refused: the selection says so and
-// leaves nobody in either channel, or it is late. Whether a growth was refused.
+// Two arms that wait in channels of capacity 0, with these growths refused: the selection says so
+// and leaves nobody in either channel, or it is late. Whether a growth was refused.
 fn is_refused<R: Waits + Abort>(
     rt: R,
     heap: &Counting<std::alloc::Global>,

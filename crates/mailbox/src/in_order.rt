@@ -1,0 +1,45 @@
+//! Whether the messages of all workers arrived, and in order.
+ghost use Rattle.std.specs.Prelude.{◌≡◌, ◌<◌, ◌↔◌, All, IsTrue};
+ghost use Rattle.mailbox.specs.InOrder.{IsInOrder, numbers_of, one_to_hundred};
+
+/// How many workers there are: 0, 1 and 2.
+pub const WORKERS: u64 = 3;
+
+/// How many messages each sends: the numbers from 1 to this one.
+pub const MESSAGES: u64 = 100;
+
+/// Whether each pair is of one of the three workers, and the numbers of each worker are 1 to 100, in
+/// this order. How the workers' pairs stand among each other is open. Takes no memory.
+///
+/// ```
+/// in_order(&[]);                     // false: there are no numbers
+/// in_order(&[(0, 1)]);               // false: most are lacking
+/// ```
+pub fn in_order(pairs: &[(u64, u64)]) -> bool
+    ensures in_order { IsTrue result ↔ IsInOrder pairs.now }
+{
+    of_workers(pairs) && counts_up(pairs, 0) && counts_up(pairs, 1) && counts_up(pairs, 2)
+}
+
+// Whether each pair is of a worker.
+fn of_workers(pairs: &[(u64, u64)]) -> bool
+    ensures workers { IsTrue result ↔ All (λ pair. pair.0 < 3) pairs.now }
+{
+    pairs.iter().all(|pair| pair.0 < WORKERS)
+}
+
+// Whether the numbers of this worker are all that it sends, in order.
+fn counts_up(pairs: &[(u64, u64)], worker: u64) -> bool
+    ensures numbers { IsTrue result ↔ (numbers_of worker pairs.now ≡ one_to_hundred) }
+{
+    let mut next = 1;
+    for &(sender, number) in pairs {
+        if sender == worker {
+            if next > MESSAGES || number != next {
+                return false;
+            }
+            next += 1;
+        }
+    }
+    next > MESSAGES
+}

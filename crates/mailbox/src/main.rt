@@ -1,0 +1,86 @@
+//! A mailbox: three workers send into one channel, which is widened while they send.
+//!
+//! Each worker sends the numbers from 1 to 100, with its own: 0, 1 or 2. The main thread receives all
+//! of them, and looks whether those of each worker came in order, as a channel owes its users. It
+//! prints how many there were and what they come to, with status 0. Where they weren't in order it
+//! says so, with status 1; where there was no memory or no thread, with status 3. Status 4: it
+//! couldn't print.
+#![tactic(auto)]
+
+mod in_order;
+#[cfg(test)]
+mod rows;
+
+use flume::error::NoMemory;
+use flume::{Receiver, Runtime, Sender, Waits};
+use in_order::{MESSAGES, WORKERS, in_order};
+use std::io::Write;
+use std::process::ExitCode;
+use std::{io, thread};
+
+// A worker, and the number that it sends.
+type Message = (u64, u64);
+
+fn main(rt: HostRuntime) -> ExitCode {
+    ExitCode::from(tell(gather(rt), &mut io::writer(&rt)))
+}
+
+/// Starts the workers, and gives what they sent.
+fn gather<R: Runtime>(rt: R) -> io::Result<Vec<Message>> {
+    let (tx, mailbox) = flume::on(rt).bounded(1)?;
+    let mut workers = Vec::new(rt.alloc());
+    for worker in 0..WORKERS {
+        let tx = tx.clone()?;
+        workers.push(thread::spawn(&rt, move || send_all(&tx, worker))?)?;
+    }
+    // From here on no worker waits while fewer than eight messages do.
+    mailbox.set_capacity(8)?;
+    // The workers have clones of this one. The channel closes as the last clone goes.
+    drop(tx);
+    let messages = receive_all(&rt, &mailbox)?;
+    for worker in workers {
+        worker.join(&rt)?;
+    }
+    Ok(messages)
+}
+
+/// Sends all numbers of a worker.
+fn send_all<R: Waits>(mailbox: &Sender<Message, R>, worker: u64) -> io::Result<()> {
+    for number in 1..=MESSAGES {
+        mailbox.send((worker, number))?;
+    }
+    Ok(())
+}
+
+/// Receives until no worker is left.
+fn receive_all<R: Runtime>(rt: &R, mailbox: &Receiver<Message, R>) -> io::Result<Vec<Message>> {
+    let mut all = Vec::new(rt.alloc());
+    let mut messages = mailbox.iter();
+    for message in messages.by_ref() {
+        all.push(message)?;
+    }
+    if messages.fault() {
+        return Err(NoMemory.into());
+    }
+    Ok(all)
+}
+
+/// Writes what came of the workers, and answers the status. Only memory and threads can be wanting.
+fn tell<W: Write>(gathered: io::Result<Vec<Message>>, output: &mut W) -> u8 {
+    let (written, status) = match gathered {
+        Err(_) => (output.write_all(b"out of memory\n"), 3),
+        Ok(messages) if !in_order(&messages) => (output.write_all(b"out of order\n"), 1),
+        Ok(messages) => {
+            let (count, sum) = (messages.len(), sum(&messages));
+            (writeln!(output, "{count} messages, sum {sum}"), 0)
+        }
+    };
+    if written.is_ok() { status } else { 4 }
+}
+
+/// What the numbers come to.
+fn sum(messages: &[Message]) -> u64 {
+    messages
+        .iter()
+        .fold(0, |sum, message| message.1.saturating_add(sum))
+}
