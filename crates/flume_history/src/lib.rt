@@ -1,0 +1,4 @@
+//! For who keeps the history of a channel: what was done settles what was answered.
+#![tactic(auto)]
+
+pub mod laws;
