@@ -56,7 +56,9 @@ module _ {T A : Type 0} (c : Channel T) where
   send m _ _ h k n o = absurd h
 
   -- a blocked send that asks
-  pub poll_send : ((t : ℕ) (m back : T) → IsBlocked c t m → IsBlocked c t back → m ≡ back) → (t : ℕ) → Determines A (IsReply c (PollSend t))
+  pub poll_send :
+      ((t : ℕ) (m back : T) → IsBlocked c t m → IsBlocked c t back → m ≡ back) → (t : ℕ)
+      → Determines A (IsReply c (PollSend t))
   poll_send one t (NoMemory back) other h k n o = absurd (n tt)
   poll_send one t reply (NoMemory back) h k n o = absurd (o tt)
   poll_send one t NoTicket NoTicket h k n o = refl
@@ -77,12 +79,15 @@ module _ {T A : Type 0} (c : Channel T) where
   poll_send one t (Returned m closed) NoTicket h k n o = absurd (dead_or_live c t k h.0.0)
   poll_send one t (Returned m closed) Accepted h k n o = absurd (blocked_or_taken c t _ h.0 k.1)
   poll_send one t (Returned m closed) Waiting h k n o = absurd (open_or_closed c k.1 h.1)
-  poll_send one t (Returned m closed) (Returned back other) h k n o = ap2 (λ m closed. Returned m closed) (one t m back h.0 k.0) (h.2 ∙ sym k.2)
+  poll_send one t (Returned m closed) (Returned back other) h k n o =
+      ap2 (λ m closed. Returned m closed) (one t m back h.0 k.0) (h.2 ∙ sym k.2)
   poll_send one t (Returned m closed) _ h k n o = absurd k
   poll_send one t _ _ h k n o = absurd h
 
   -- a blocked send that leaves
-  pub withdraw_send : ((t : ℕ) (m back : T) → IsBlocked c t m → IsBlocked c t back → m ≡ back) → (t : ℕ) → Determines A (IsReply c (WithdrawSend t))
+  pub withdraw_send :
+      ((t : ℕ) (m back : T) → IsBlocked c t m → IsBlocked c t back → m ≡ back) → (t : ℕ)
+      → Determines A (IsReply c (WithdrawSend t))
   withdraw_send one t (NoMemory back) other h k n o = absurd (n tt)
   withdraw_send one t reply (NoMemory back) h k n o = absurd (o tt)
   withdraw_send one t NoTicket NoTicket h k n o = refl
@@ -95,6 +100,7 @@ module _ {T A : Type 0} (c : Channel T) where
   withdraw_send one t Accepted _ h k n o = absurd k
   withdraw_send one t (Returned m closed) NoTicket h k n o = absurd (dead_or_live c t k h.0.0)
   withdraw_send one t (Returned m closed) Accepted h k n o = absurd (blocked_or_taken c t _ h.0 k.1)
-  withdraw_send one t (Returned m closed) (Returned back other) h k n o = ap2 (λ m closed. Returned m closed) (one t m back h.0 k.0) (h.1 ∙ sym k.1)
+  withdraw_send one t (Returned m closed) (Returned back other) h k n o =
+      ap2 (λ m closed. Returned m closed) (one t m back h.0 k.0) (h.1 ∙ sym k.1)
   withdraw_send one t (Returned m closed) _ h k n o = absurd k
   withdraw_send one t _ _ h k n o = absurd h

@@ -18,8 +18,8 @@ pub fn replies_are_determined<T, A: Allocator>()
         → (IsWant reply → ⊥) → (IsWant other → ⊥) → SameReply reply other }
 {}
 
-/// Two runs from one opening, of the same steps, of which the same ones wanted memory, have the same
-/// replies. So whoever knows what was done knows what was answered.
+/// Two runs from one opening, of the same steps, of which the same ones wanted memory, have the
+/// same replies. So whoever knows what was done knows what was answered.
 pub fn runs_are_determined<T, A: Allocator>()
     ensures same { (opening : Opening) (log other : Log T A)
         → IsRun opening log → IsRun opening other → SameSteps log other → SameLog log other }

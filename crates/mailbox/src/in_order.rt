@@ -8,8 +8,8 @@ pub const WORKERS: u64 = 3;
 /// How many messages each sends: the numbers from 1 to this one.
 pub const MESSAGES: u64 = 100;
 
-/// Whether each pair is of one of the three workers, and the numbers of each worker are 1 to 100, in
-/// this order. How the workers' pairs stand among each other is open. Takes no memory.
+/// Whether each pair is of one of the three workers, and the numbers of each worker are 1 to 100,
+/// in this order. How the workers' pairs stand among each other is open. Takes no memory.
 ///
 /// ```
 /// in_order(&[]);                     // false: there are no numbers
