@@ -149,8 +149,8 @@ fn refused<L: Ledger, R: Drop>(
     }
 }
 
-// Opens a book, or an audit, once for each of its growths, with that one refused and all after it up
-// to `last`, and drops it. How many were refused. No block is left.
+// Opens a book, or an audit, once for each of its growths, with that one refused and all after it
+// up to `last`, and drops it. How many were refused. No block is left.
 fn count_refused<R: Abort + Copy>(rt: R, alloc: Global, last: Option<u64>, is_audit: bool) -> u64 {
     let heap = Counting::new(alloc);
     for growth in 1..GROWTHS {
