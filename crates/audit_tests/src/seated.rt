@@ -6,6 +6,7 @@ use flume_audit::audit::Audit;
 use flume_audit::book::Book;
 use flume_audit::closed::Closed;
 use flume_audit::seat::Seat;
+use flume_history::check::{Checked, check_history};
 use flume_model::step::{Reply, Step};
 use std::alloc::Global;
 use std::marker::Brand;
@@ -32,6 +33,8 @@ fn read_back<L: Ledger, R: Wait + Abort + Copy>(
     }
     let (closed, book) = audit.close(seats);
     is(&rt, closed, Closed::Settled);
+    let checked = check_history(alloc, book.opening(), book.history());
+    is(&rt, checked, Checked::Run);
     is(&rt, book.history().len(), 2);
     Ok(())
 }

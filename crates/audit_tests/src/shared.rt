@@ -6,6 +6,7 @@ use flume_audit::audit::Audit;
 use flume_audit::closed::Closed;
 use flume_audit::seat::Seat;
 use flume_error::error::NoMemory;
+use flume_history::check::{Checked, check_history};
 use flume_model::step::Step;
 use std::alloc::Global;
 use std::marker::Brand;
@@ -94,7 +95,7 @@ where
     })
 }
 
-// Four threads trade, and the audit is closed.
+// Four threads trade, and the audit is closed. Its history is a run.
 fn four_trade<L, R>(rt: R, alloc: Global, blank: Blank) -> Result<(), Fail>
 where
     L: Ledger + Send + Sync,
@@ -109,6 +110,8 @@ where
     let (closed, book) = audit.close(handed.into_inner());
     is(&rt, closed, Closed::Settled);
     is(&rt, book.history().len(), 8000);
+    let checked = check_history(alloc, book.opening(), book.history());
+    is(&rt, checked, Checked::Run);
     Ok(())
 }
 

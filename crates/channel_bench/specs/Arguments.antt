@@ -7,9 +7,9 @@ use Rattle.channel_bench.specs.declared.arguments.Capacity.TheVariants.{Unbounde
 use Rattle.channel_bench.specs.declared.arguments.Shape.{Shape}
 use Rattle.channel_bench.specs.declared.arguments.Shape.TheVariants.{Seq, Spsc, Mpsc, Mpmc, Oneshot}
 use Rattle.channel_bench.specs.declared.arguments.Shape.TheVariants.{Inout, TryPair, TryEmpty, TryFull}
-use Rattle.channel_bench.specs.declared.arguments.Shape.TheVariants.{AuditPair, AuditMemory, PollPair}
-use Rattle.channel_bench.specs.declared.arguments.Shape.TheVariants.{PollRecvPark, PollSendPark}
-use Rattle.channel_bench.specs.declared.arguments.Shape.TheVariants.{AsyncPair, AsyncJoin, AsyncPing}
+use Rattle.channel_bench.specs.declared.arguments.Shape.TheVariants.{AuditPair, AuditMemory, CheckPair}
+use Rattle.channel_bench.specs.declared.arguments.Shape.TheVariants.{PollPair, PollRecvPark}
+use Rattle.channel_bench.specs.declared.arguments.Shape.TheVariants.{PollSendPark, AsyncPair, AsyncJoin, AsyncPing}
 use Rattle.channel_bench.specs.declared.arguments.Shape.TheVariants.{Pending, PendingDrop}
 use Rattle.channel_bench.specs.declared.arguments.Shape.TheVariants.{CrowdPoll, CrowdDraw}
 use Rattle.channel_bench.specs.declared.arguments.Shape.TheVariants.{CrowdWithdraw, CrowdCancel}
@@ -28,6 +28,7 @@ shape_word TryEmpty = codes "try_empty"
 shape_word TryFull = codes "try_full"
 shape_word AuditPair = codes "audit_pair"
 shape_word AuditMemory = codes "audit_memory"
+shape_word CheckPair = codes "check_pair"
 shape_word PollPair = codes "poll_pair"
 shape_word PollRecvPark = codes "poll_recv_park"
 shape_word PollSendPark = codes "poll_send_park"
@@ -94,6 +95,7 @@ CanBeTimed Oneshot (Of capacity) = 0 < capacity
 CanBeTimed Inout (Of capacity) = 0 < capacity
 CanBeTimed TryPair (Of capacity) = 0 < capacity
 CanBeTimed AuditPair (Of capacity) = 0 < capacity
+CanBeTimed CheckPair (Of capacity) = 0 < capacity
 CanBeTimed TryFull Unbounded = ⊥
 CanBeTimed TryFull Big = ⊥
 CanBeTimed PollPair (Of capacity) = 0 < capacity

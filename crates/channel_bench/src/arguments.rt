@@ -23,6 +23,7 @@ pub enum Shape {
     TryFull,
     AuditPair,
     AuditMemory,
+    CheckPair,
     PollPair,
     PollRecvPark,
     PollSendPark,
@@ -55,6 +56,7 @@ impl Shape {
             "try_full" => Some(Shape::TryFull),
             "audit_pair" => Some(Shape::AuditPair),
             "audit_memory" => Some(Shape::AuditMemory),
+            "check_pair" => Some(Shape::CheckPair),
             "poll_pair" => Some(Shape::PollPair),
             "poll_recv_park" => Some(Shape::PollRecvPark),
             "poll_send_park" => Some(Shape::PollSendPark),
@@ -158,6 +160,7 @@ impl Arguments {
             | Shape::Inout
             | Shape::TryPair
             | Shape::AuditPair
+            | Shape::CheckPair
             | Shape::PollPair
             | Shape::AsyncPair => !matches!(self.capacity, Capacity::Of(0)),
             _ => true,

@@ -7,6 +7,7 @@ use flume_audit::audit::Audit;
 use flume_audit::receipt::Receipt;
 use flume_audit::seat::Seat;
 use flume_core::error::NoMemory;
+use flume_history::check::{Checked, check_history};
 use flume_model::step::{Reply, Step};
 use std::alloc::AllocError;
 use std::marker::Brand;
@@ -102,5 +103,22 @@ impl<R: Waits> Bench<R> {
         let start = Instant::now(&self.rt)?;
         let sum = store_each(&mut history, &mut receipts, self.messages)?;
         self.time_since(start, sum, 1)
+    }
+
+    /// The history of `try_pair` checked. Making it isn't timed.
+    pub fn check_pair(&self) -> Result<Duration, Fault> {
+        let mut history = Vec::new(self.alloc);
+        let mut sum = 0usize;
+        for message in 0..self.messages {
+            history.try_reserve(2)?;
+            history.push_reserved((Step::TrySend(message), Reply::Sent { filled: None }));
+            history.push_reserved((Step::TryRecv, Reply::Got(message)));
+            sum = sum.wrapping_add(message);
+        }
+        let start = Instant::now(&self.rt)?;
+        match check_history(self.alloc, self.capacity, &history) {
+            Checked::Run => self.time_since(start, sum, 1),
+            _ => Err(Fault::WrongMessages),
+        }
     }
 }

@@ -118,6 +118,7 @@ impl<R: Waits + Threads + RandomSource + AllocGlobal + Send + Sync> Bench<R> {
             Shape::TryFull => self.try_full(),
             Shape::AuditPair => self.audit_pair(),
             Shape::AuditMemory => self.audit_memory(),
+            Shape::CheckPair => self.check_pair(),
             Shape::AsyncPair => self.async_pair(),
             Shape::AsyncJoin => self.async_join(),
             Shape::AsyncPing => self.async_ping(),

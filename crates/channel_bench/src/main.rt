@@ -36,6 +36,7 @@ try_empty       try_recv of an empty channel
 try_full        try_send into a full channel; only at a number
 audit_pair      try_pair as steps of an audited channel, by one seat; not at 0
 audit_memory    what an audit keeps of these steps stored in lists, with no channel
+check_pair      the history of try_pair checked: two of its steps a message; not at 0
 poll_pair       a send polled by hand, and then a receive, each ready at once; not at 0
 poll_recv_park  a receive polled, which waits, a try_send, and the receive polled again
 poll_send_park  a send polled on a full channel, a try_recv, and the send polled again; only at a

@@ -23,7 +23,6 @@ pub mod judge;
 mod leak_rows;
 #[cfg(test)]
 mod leaks;
-pub mod lent;
 #[cfg(test)]
 mod list_rows;
 #[cfg(test)]

@@ -35,5 +35,5 @@ mod parked;
 mod room;
 #[cfg(test)]
 mod signatures;
-#[cfg(test)]
-mod works;
+pub mod watch;
+pub mod works;

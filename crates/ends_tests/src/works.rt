@@ -5,7 +5,7 @@ use std::thread;
 use std::thread::{JoinHandle, Threads};
 
 /// What a thread does.
-pub(crate) trait Work {
+pub trait Work {
     /// What it answers as it ends.
     type Answer;
 
@@ -14,7 +14,7 @@ pub(crate) trait Work {
 }
 
 /// Starts a thread that does this.
-pub(crate) fn started<R: Threads, W: Work + Send + Drop + 'static>(
+pub fn started<R: Threads, W: Work + Send + Drop + 'static>(
     rt: &R,
     work: W,
 ) -> Result<JoinHandle<W::Answer>, Fail>
@@ -26,9 +26,9 @@ where
 
 /// Sends a number, and answers whether it was taken.
 #[derive(Drop)]
-pub(crate) struct SendOne<R: Waits> {
-    pub(crate) tx: Sender<u64, R>,
-    pub(crate) message: u64,
+pub struct SendOne<R: Waits> {
+    pub tx: Sender<u64, R>,
+    pub message: u64,
 }
 
 impl<R: Waits> Work for SendOne<R> {

@@ -5,7 +5,7 @@ mod BlockedLive
 mod StateFacts
 mod Stands
 mod Marks
-mod Keeping
+pub mod Keeping
 mod Moves
 mod Spaces
 mod Receives
@@ -13,7 +13,7 @@ mod Takes
 mod Drains
 mod Resizes
 mod Telling
-mod Answering
+pub mod Answering
 mod AsTries
 mod Closing
 mod AskedMarks

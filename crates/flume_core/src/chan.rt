@@ -14,6 +14,7 @@ mod queries;
 mod receive;
 mod send;
 mod waiting;
+mod wanting;
 
 use flume_model::step::{Reply, Step};
 use flume_state::entries::Entries;

@@ -1,8 +1,16 @@
 mod Functions
-mod OneBlocked
+pub mod OneBlocked
 mod Apart
 mod OneSend
 mod OneReceive
-mod OneReply
-mod SameLogs
-mod OneRun
+pub mod OneReply
+pub mod SameLogs
+pub mod OneRun
+pub mod Wanting
+pub mod Equals
+pub mod Follows
+pub mod PairLines
+pub mod ReadPairs
+pub mod ReplyWants
+pub mod Lawful
+pub mod Judged

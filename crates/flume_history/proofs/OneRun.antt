@@ -70,7 +70,7 @@ module _ {T : Type 0} (A : Type 0) (c : Channel T) (back other : Option T) where
 
 module _ {T A : Type 0} where
   -- a reply tells of want of memory or not
-  want_or_not : (reply : Reply T A) → IsWant reply ⊎ (IsWant reply → ⊥)
+  pub want_or_not : (reply : Reply T A) → IsWant reply ⊎ (IsWant reply → ⊥)
   want_or_not (NoMemory back) = inl tt
   want_or_not _ = inr (λ want. want)
 

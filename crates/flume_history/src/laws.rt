@@ -1,12 +1,20 @@
 //! Laws of replies. These functions do nothing: each contract is a law.
+ghost use Rattle.std.specs.Prelude.{◌≡◌, ◌↔◌, Option, reverse};
 ghost use Rattle.flume_model.specs.Channel.{channel};
 ghost use Rattle.flume_model.specs.Log.{Log, Opening};
 ghost use Rattle.flume_model.specs.Replies.{IsReply, IsRun};
 ghost use Rattle.flume_model.specs.declared.step.Reply.{Reply};
 ghost use Rattle.flume_model.specs.declared.step.Step.{Step};
 ghost use Rattle.flume_audit.specs.Weights.{SameReply};
+ghost use Rattle.flume_state.specs.State.{State};
+ghost use Rattle.flume_core.specs.StandsFor.{StandsFor};
+ghost use Rattle.flume_core.specs.Wanting.{MayWant};
+ghost use Rattle.flume_history.specs.Equal.{equal_replies, Equals};
+ghost use Rattle.flume_history.specs.Histories.{IsHistory};
 ghost use Rattle.flume_history.specs.SameRuns.{IsWant, SameLog, SameSteps};
+ghost use Rattle.flume_history.specs.Wants.{handed_in};
 
+use flume_model::step::Reply;
 use std::alloc::Allocator;
 
 /// After each run, a step has at most one lawful reply beside want of memory: two that tell of no
@@ -23,4 +31,31 @@ pub fn replies_are_determined<T, A: Allocator>()
 pub fn runs_are_determined<T, A: Allocator>()
     ensures same { (opening : Opening) (log other : Log T A)
         → IsRun opening log → IsRun opening other → SameSteps log other → SameLog log other }
+{}
+
+/// What a channel did, with what it answered, is a history: `check_history` answers `Run` to it, or
+/// `NoMemory`. So it does to the history of each book.
+pub fn runs_are_histories<T: Eq, A: Allocator>()
+    ensures history { (opening : Opening) (log : Log T A) → IsRun opening log
+        → IsHistory (Equals T.eq) opening (reverse log) }
+{}
+
+/// Where a state says that memory may be wanted for a step, each channel that stands so may answer
+/// with that want, and with the message that the step hands in; nowhere else, and with no other.
+pub fn memory_may_be_wanted_as_defined<T, S, A: Allocator>()
+    ensures allowed { (opening : Opening) (log : Log T A) (s : State T S) (step : Step T)
+        → StandsFor opening log s
+        → MayWant s step
+        ↔ IsReply {A = A} (channel opening log) step (Reply.NoMemory (handed_in step)) }
+    ensures no_other { (opening : Opening) (log : Log T A) (s : State T S) (step : Step T)
+        (back : Option T) → StandsFor opening log s
+        → IsReply {A = A} (channel opening log) step (Reply.NoMemory back)
+        → back ≡ handed_in step }
+{}
+
+/// Replies are equal where their cases are the same and what they hold is equal; lists of drained
+/// messages by these, wherever they are kept.
+pub fn replies_are_equal_by_case<T: PartialEq, A: Allocator>()
+    ensures same { (told reply : Reply T A)
+        → ⟦<Reply<T, A> as PartialEq>⟧.eq told reply ≡ equal_replies T.eq told reply }
 {}

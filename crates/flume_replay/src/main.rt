@@ -1,7 +1,9 @@
-//! Replays what flume 0.12.0 answered to scripts, file by file, and says how many agree.
+//! Replays what flume 0.12.0 answered to scripts, file by file. It says how many agree, and how
+//! many are histories that a channel may have.
 #![tactic(auto)]
 
 use flume_core::error::NoMemory;
+use flume_history::script::check_script;
 use flume_script::run_script;
 use std::alloc::Global;
 use std::{fs, io};
@@ -17,8 +19,7 @@ fn main(rt: HostRuntime) -> io::Result<()> {
 fn replay(rt: &HostRuntime, name: &str) -> io::Result<()> {
     let path = format!(in rt.alloc(); "{name}.txt")?;
     let text = fs::read_to_string(rt, path.as_str())?;
-    let mut all = 0u64;
-    let mut agree = 0u64;
+    let (mut all, mut agree, mut runs) = (0u64, 0u64, 0u64);
     let mut first = None;
     let blocks = text.as_str().strip_suffix("\n").unwrap_or_default();
     for block in blocks.split("\n= ").skip(1) {
@@ -28,20 +29,26 @@ fn replay(rt: &HostRuntime, name: &str) -> io::Result<()> {
         } else {
             first = first.or(block.lines().next());
         }
+        if is_run(rt.alloc(), block)? {
+            runs = runs.saturating_add(1);
+        }
     }
     match first {
-        None => println!(rt; "{name}: {agree} of {all} agree"),
+        None => println!(rt; "{name}: {agree} of {all} agree, and {runs} are runs"),
         Some(number) => println!(rt; "{name}: {agree} of {all} agree, {number} is the first other"),
     }
+}
+
+/// The script and the replies of a block, each without the end of its last line.
+fn parts_of(block: &str) -> Option<(&str, &str)> {
+    let (_number, script_and_replies) = block.split_once("\n")?;
+    script_and_replies.split_once("\n-\n")
 }
 
 /// Whether the script of a block prints the replies of the block, byte by byte, and the end of the
 /// last line.
 fn agrees(alloc: Global, block: &str) -> io::Result<bool> {
-    let Some((_number, script_and_replies)) = block.split_once("\n") else {
-        return Ok(false);
-    };
-    let Some((script, replies)) = script_and_replies.split_once("\n-\n") else {
+    let Some((script, replies)) = parts_of(block) else {
         return Ok(false);
     };
     match run_script(alloc, script.as_bytes()) {
@@ -49,6 +56,27 @@ fn agrees(alloc: Global, block: &str) -> io::Result<bool> {
             let printed = run.text.strip_suffix(b"\n");
             Ok(run.status == 0 && printed == Some(replies.as_bytes()))
         }
+        Err(NoMemory) => Err(io::Error::from(io::ErrorKind::OutOfMemory)),
+    }
+}
+
+/// Whether a channel may have answered the script of a block with the replies of the block.
+fn is_run(alloc: Global, block: &str) -> io::Result<bool> {
+    let Some((script, replies)) = parts_of(block) else {
+        return Ok(false);
+    };
+    let mut replies = replies.lines();
+    let mut history = String::new(alloc);
+    for line in script.lines() {
+        if history.as_str().is_empty() {
+            write!(history, "{line}\n")?;
+        } else {
+            let reply = replies.next().unwrap_or_default();
+            write!(history, "{line} -> {reply}\n")?;
+        }
+    }
+    match check_script(alloc, history.as_str().as_bytes()) {
+        Ok(checked) => Ok(checked.status == 0 && replies.next().is_none()),
         Err(NoMemory) => Err(io::Error::from(io::ErrorKind::OutOfMemory)),
     }
 }

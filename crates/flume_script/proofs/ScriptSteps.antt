@@ -14,14 +14,14 @@ pub record ReadSteps (whole rest : List ℕ) (steps : List (Step ℕ)) : Type 0 
   pub count : length before + length rest ≤ length whole
 
 -- lists that agree place by place are as long
-length_all_zip : {A B : Type 0} (R : A → B → Type 0) (xs : List A) (ys : List B) → AllZip R xs ys → length xs ≡ length ys
+pub length_all_zip : {A B : Type 0} (R : A → B → Type 0) (xs : List A) (ys : List B) → AllZip R xs ys → length xs ≡ length ys
 length_all_zip R [] [] all = refl
 length_all_zip R [] (y ∷ ys) all = absurd all
 length_all_zip R (x ∷ xs) [] all = absurd all
 length_all_zip R (x ∷ xs) (y ∷ ys) all = ap suc (length_all_zip R xs ys all.1)
 
 -- two lists that agree place by place, with one more of each at their ends
-all_zip_push : {A B : Type 0} (R : A → B → Type 0) (xs : List A) (ys : List B) (x : A) (y : B) → AllZip R xs ys → R x y
+pub all_zip_push : {A B : Type 0} (R : A → B → Type 0) (xs : List A) (ys : List B) (x : A) (y : B) → AllZip R xs ys → R x y
     → AllZip R (xs ++ x ∷ []) (ys ++ y ∷ [])
 all_zip_push R [] [] x y all one = (one, tt)
 all_zip_push R [] (y' ∷ ys) x y all one = absurd all

@@ -31,8 +31,13 @@ pub enum Reading<A: Allocator> {
     },
 }
 
-// What stands before the first such byte, and what after it.
-fn part_at(bytes: &[u8], byte: u8) -> Option<(&[u8], &[u8])>
+/// What stands before the first such byte, and what after it.
+///
+/// ```
+/// part_at(b"poll 2", b' ')           // Some((b"poll", b"2"))
+/// part_at(b"drain", b' ')            // None
+/// ```
+pub fn part_at(bytes: &[u8], byte: u8) -> Option<(&[u8], &[u8])>
     ensures none { IfNone result (All (λ x. (x == byte) ≡ false) bytes.now) }
     ensures parts { IfSome result (λ r. bytes.now ≡ r.0.now ++ byte ∷ r.1.now) }
     ensures first { IfSome result (λ r. All (λ x. (x == byte) ≡ false) r.0.now) }
@@ -50,9 +55,15 @@ fn without_return(line: &[u8]) -> &[u8]
     }
 }
 
-// The first line, and what follows it.
+/// The first line, and what follows it. A line ends at a line feed, or at a carriage return and a
+/// line feed, and the last one at the end too.
+///
+/// ```
+/// next_line(b"len\ndrain\n")         // Some((b"len", b"drain\n"))
+/// next_line(b"drain")                // Some((b"drain", b""))
+/// ```
 #[tactic(auto, using(crate::proofs::ScriptLines::next_lines))]
-fn next_line(rest: &[u8]) -> Option<(&[u8], &[u8])>
+pub fn next_line(rest: &[u8]) -> Option<(&[u8], &[u8])>
     ensures none { IfNone result (rest.now ≡ []) }
     ensures first { IfSome result (λ r. lines rest.now ≡ r.0.now ∷ lines r.1.now) }
     ensures shorter { IfSome result (λ r. length r.1.now < length rest.now) }
@@ -147,7 +158,13 @@ fn recv_step(kind: &[u8]) -> Option<Step<u64>>
     }
 }
 
-fn step_of(line: &[u8]) -> Option<Step<u64>>
+/// The step that a line is.
+///
+/// ```
+/// step_of(b"poll 2")                 // Some(Step::Poll(2))
+/// step_of(b"poll")                   // None
+/// ```
+pub fn step_of(line: &[u8]) -> Option<Step<u64>>
     ensures value { MatchOption result (IsNoStep line.now) (IsStepLine line.now) }
 {
     match part_at(line, b' ') {
@@ -157,7 +174,14 @@ fn step_of(line: &[u8]) -> Option<Step<u64>>
     }
 }
 
-fn opening_of(line: &[u8]) -> Option<Option<usize>>
+/// The capacity at which a line opens a channel.
+///
+/// ```
+/// opening_of(b"bounded 7")           // Some(Some(7))
+/// opening_of(b"unbounded")           // Some(None)
+/// opening_of(b"len")                 // None
+/// ```
+pub fn opening_of(line: &[u8]) -> Option<Option<usize>>
     ensures value { MatchOption result (IsNoOpening line.now) (IsOpeningLine line.now) }
 {
     if is(line, b"unbounded") {

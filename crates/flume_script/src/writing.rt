@@ -117,8 +117,16 @@ fn write_capacity<A: Allocator>(
     Ok(())
 }
 
-// Adds the text of a reply, and a line feed.
-fn write_reply<A: Allocator>(text: &mut String<A>, reply: &Reply<u64, A>) -> Result<(), NoMemory>
+/// Adds the text of a reply, and a line feed. `NoMemory`: the text found no room, and part of this
+/// may stand in it.
+///
+/// ```
+/// write_reply(&mut text, &Reply::Got(12))?           // adds "got 12\n"
+/// ```
+pub fn write_reply<A: Allocator>(
+    text: &mut String<A>,
+    reply: &Reply<u64, A>,
+) -> Result<(), NoMemory>
     ensures value { OnOk result
         (string_bytes text.new ≡ string_bytes text.old ++ (reply_text reply.now ++ 10 ∷ [])) }
 {

@@ -3,6 +3,7 @@
 //! and dropped and a capacity that changes all along.
 use crate::memory::Heap;
 use ends_tests::counting::Counting;
+use ends_tests::watch::{Watched, begin_watch};
 use flume::error::{NoMemory, RecvError, RecvTimeoutError, TryRecvError};
 use flume::{Receiver, Sender, Waits, bounded, unbounded};
 use futures::task::Poll;
@@ -157,33 +158,33 @@ fn receive_once<R: Waits, A: Allocator + Copy>(
     }
 }
 
+// How often each message came, and who is told that one did.
+#[derive(Drop)]
+struct Tally<'w> {
+    counts: Mutex<Vec<u32>>,
+    watched: &'w Watched,
+}
+
 // Counts a message.
-fn count<R: Waits>(rt: &R, counts: &Mutex<Vec<u32>>, message: u64) {
-    let mut counts = counts.lock(rt);
+fn count<R: Waits>(rt: &R, tally: &Tally<'_>, message: u64) {
+    tally.watched.say_moved();
+    let mut counts = tally.counts.lock(rt);
     if let Some(count) = counts.get_mut(message as usize) {
         *count = count.saturating_add(1);
     }
 }
 
 // Takes all that is queued, and counts each.
-fn drain<R: Waits, A: Allocator + Copy>(
-    rt: &R,
-    rx: &Receiver<u64, R, A>,
-    counts: &Mutex<Vec<u32>>,
-) {
+fn drain<R: Waits, A: Allocator + Copy>(rt: &R, rx: &Receiver<u64, R, A>, tally: &Tally<'_>) {
     if let Ok(messages) = rx.drain() {
         for message in messages {
-            count(rt, counts, message);
+            count(rt, tally, message);
         }
     }
 }
 
 // Receives until all senders are gone, and counts each message.
-fn receive_all<R: Runs, A: Allocator + Copy>(
-    rt: R,
-    rx: Receiver<u64, R, A>,
-    counts: &Mutex<Vec<u32>>,
-) {
+fn receive_all<R: Runs, A: Allocator + Copy>(rt: R, rx: Receiver<u64, R, A>, tally: &Tally<'_>) {
     let Ok(task) = MockTask::new(&rt) else {
         return;
     };
@@ -191,10 +192,10 @@ fn receive_all<R: Runs, A: Allocator + Copy>(
     for _ in rt.forever() {
         number = number.wrapping_add(1);
         if number % RENEWAL == 0 {
-            drain(&rt, &rx, counts);
+            drain(&rt, &rx, tally);
         }
         match receive_once(&task, &rx, number) {
-            Came::Message(message) => count(&rt, counts, message),
+            Came::Message(message) => count(&rt, tally, message),
             Came::Nothing => thread::yield_now(),
             Came::Closed => return,
         }
@@ -205,7 +206,7 @@ fn receive_all<R: Runs, A: Allocator + Copy>(
 fn all_run<R: Runs, A: Allocator + Copy + Send + Sync>(
     rt: R,
     (tx, rx): (Sender<u64, R, A>, Receiver<u64, R, A>),
-    counts: &Mutex<Vec<u32>>,
+    tally: &Tally<'_>,
 ) -> bool {
     thread::scope(thread::scope_env(), &rt, move |scope| {
         for &first in FIRSTS {
@@ -214,7 +215,7 @@ fn all_run<R: Runs, A: Allocator + Copy + Send + Sync>(
                 return false;
             };
             let sends = move || send_all(rt, own, first);
-            let receives = move || receive_all(rt, other, counts);
+            let receives = move || receive_all(rt, other, tally);
             if scope.spawn(sends).is_err() || scope.spawn(receives).is_err() {
                 return false;
             }
@@ -244,15 +245,22 @@ fn opened<'h, R: Waits>(
     }
 }
 
-// All run at this capacity. Growths were refused, and no block is left.
-fn soak<R: Runs>(rt: R, alloc: Global, capacity: Option<usize>) -> Result<(), Fail> {
+// All run at this capacity, and some message comes all along. Growths were refused, and no block is
+// left.
+fn soak<R: Runs>(
+    rt: R,
+    alloc: Global,
+    watched: &Watched,
+    capacity: Option<usize>,
+) -> Result<(), Fail> {
     let heap = Counting::new(alloc);
     let counts = Mutex::new(vec![in alloc; 0u32; ALL]?);
+    let tally = Tally { counts, watched };
     let ends = opened(rt, &heap, capacity)?;
     heap.refuse_one_in(100);
-    assert!(rt; all_run(rt, ends, &counts), "not all threads ran");
+    assert!(rt; all_run(rt, ends, &tally), "not all threads ran");
     assert!(rt;
-        are_right(&counts.into_inner()),
+        are_right(&tally.counts.into_inner()),
         "a message is lost, or came twice"
     );
     assert!(rt; heap.refusals() > 0 && heap.live() == 0);
@@ -263,8 +271,10 @@ fn soak<R: Runs>(rt: R, alloc: Global, capacity: Option<usize>) -> Result<(), Fa
 fn no_message_is_lost_where_one_growth_in_a_hundred_is_refused(
     rt: HostRuntime,
 ) -> Result<(), Fail> {
+    let watch = begin_watch(rt, rt.alloc())?;
     for capacity in [None, Some(0), Some(1), Some(7), Some(64)] {
-        soak(rt, rt.alloc(), capacity)?;
+        soak(rt, rt.alloc(), watch.watched(), capacity)?;
     }
+    watch.end(&rt);
     Ok(())
 }

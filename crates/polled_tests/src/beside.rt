@@ -1,7 +1,8 @@
 //! Futures beside threads that block, on one channel.
 use crate::fixtures::is;
-use crate::watch::begin_watch;
-use crate::works::{Runs, Work, started};
+use crate::works::Runs;
+use ends_tests::watch::begin_watch;
+use ends_tests::works::{Work, started};
 use flume::error::RecvTimeoutError;
 use flume::polled::RecvStream;
 use flume::{Receiver, Sender, Waits, unbounded};

@@ -1,7 +1,8 @@
 //! A stream that is forwarded through a sink arrives whole and in its order.
 use crate::fixtures::is;
-use crate::watch::begin_watch;
-use crate::works::{Runs, Work, started};
+use crate::works::Runs;
+use ends_tests::watch::begin_watch;
+use ends_tests::works::{Work, started};
 use flume::error::SendError;
 use flume::{Sender, bounded};
 use futures::executor::block_on;

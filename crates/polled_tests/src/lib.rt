@@ -55,6 +55,4 @@ mod waiting;
 #[cfg(test)]
 mod wakes;
 #[cfg(test)]
-mod watch;
-#[cfg(test)]
 mod works;

@@ -3,8 +3,9 @@ ghost use Rattle.futures.specs.Poll.{OnPending};
 ghost use Rattle.futures.specs.Task.{IsArmed, Keeps};
 
 use crate::fixtures::is;
-use crate::watch::begin_watch;
-use crate::works::{Runs, SendUpTo, started};
+use crate::works::{Runs, SendUpTo};
+use ends_tests::watch::begin_watch;
+use ends_tests::works::started;
 use flume::polled::{RecvFut, RecvStream};
 use flume::{Receiver, Waits, bounded};
 use futures::executor::block_on;

@@ -1,6 +1,7 @@
 //! Futures, sinks and streams that threads take with them, owned or borrowed.
 use crate::fixtures::is;
-use crate::works::{Runs, Work, started};
+use crate::works::Runs;
+use ends_tests::works::{Work, started};
 use flume::error::{RecvError, SendError};
 use flume::polled::{RecvFut, RecvStream, SendFut, SendSink};
 use flume::{Receiver, Sender, unbounded};

@@ -4,9 +4,10 @@ ghost use Rattle.futures.specs.Poll.{OnPending};
 ghost use Rattle.futures.specs.Task.{IsArmed, Keeps};
 
 use crate::fixtures::is;
-use crate::watch::begin_watch;
-use crate::works::{ChangeCapacity, Runs, SendUpTo, started};
+use crate::works::{ChangeCapacity, Runs, SendUpTo};
 use ends_tests::changes::wait_for_change;
+use ends_tests::watch::begin_watch;
+use ends_tests::works::started;
 use flume::polled::{RecvFut, RecvStream, SendFut};
 use flume::{Receiver, Sender, Waits, bounded, unbounded};
 use futures::executor::block_on;

@@ -1,7 +1,8 @@
 //! Futures and streams that an executor waits for, with the other side in a thread.
 use crate::fixtures::{is, opened, receive_was, send_was};
-use crate::watch::begin_watch;
-use crate::works::{DropLater, ReceiveOne, Runs, SendOne, started};
+use crate::works::{DropLater, ReceiveOne, Runs, SendOne};
+use ends_tests::watch::begin_watch;
+use ends_tests::works::started;
 use flume::error::{RecvError, SendError};
 use flume::{bounded, unbounded};
 use futures::StreamExt;

@@ -1,13 +1,13 @@
 //! What a thread does, as a value: a closure costs the prover several times as much in each test.
 use ends_tests::changes::change_capacity;
+use ends_tests::works::Work;
 use flume::error::{RecvError, SendError};
 use flume::{Receiver, Sender, Waits};
 use std::alloc::AllocGlobal;
 use std::process::Abort;
 use std::random::RandomSource;
-use std::test::Fail;
 use std::thread;
-use std::thread::{JoinHandle, Threads};
+use std::thread::Threads;
 
 /// What a runtime value can do that executors, threads and channels use.
 pub(crate) trait Runs: Waits
@@ -20,26 +20,6 @@ pub(crate) trait Runs: Waits
     + 'static {}
 
 impl<R: Waits + RandomSource + AllocGlobal + Threads + Abort + Send + Sync + 'static> Runs for R {}
-
-/// What a thread does.
-pub(crate) trait Work {
-    /// What it answers as it ends.
-    type Answer;
-
-    /// Does it.
-    fn work(self) -> Self::Answer;
-}
-
-/// Starts a thread that does this.
-pub(crate) fn started<R: Threads, W: Work + Send + Drop + 'static>(
-    rt: &R,
-    work: W,
-) -> Result<JoinHandle<W::Answer>, Fail>
-where
-    W::Answer: Send + Drop + 'static,
-{
-    Ok(thread::spawn(rt, move || work.work())?)
-}
 
 /// Sends a number by a call that blocks.
 #[derive(Drop)]

@@ -1,7 +1,7 @@
 //! Two selectors against each other, in two threads.
 use crate::fixtures::{amounts_to, holds};
-use crate::works::{Work, started};
 use ends_tests::changes::{change_capacity, wait_for_change};
+use ends_tests::works::{Work, started};
 use flume::error::{NoMemory, RecvError, SendError};
 use flume::{Receiver, Selector, Sender, Waits};
 use std::alloc::{AllocError, Global};

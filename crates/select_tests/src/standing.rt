@@ -2,7 +2,7 @@
 //! its clock once it has parked its arms, and before it sleeps.
 use crate::fixtures::Won;
 use crate::selections::{Until, receive_from_three_until, receive_from_two_until};
-use crate::works::Work;
+use ends_tests::works::Work;
 use flume::error::{NoMemory, SelectError};
 use flume::{Receiver, Sender, Waits, unbounded};
 use std::alloc::Global;

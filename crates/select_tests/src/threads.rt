@@ -1,7 +1,7 @@
 //! Selections beside threads that send, receive or go.
 use crate::fixtures::{Won, gave, holds, long, offered, received, selected, tried};
 use crate::selections::{Until, receive_from_two, receive_until, send_until};
-use crate::works::{Work, started};
+use ends_tests::works::{Work, started};
 use flume::error::{NoMemory, RecvError, SelectError, SendError, TryRecvError, TrySendError};
 use flume::{Receiver, Selector, Sender, Waits, bounded, unbounded};
 use std::alloc::Global;

@@ -2,7 +2,8 @@
 //! wake on. That a selection waits its clock tells, which stands still.
 use crate::fixtures::{Won, holds, long, offered, queued, received, selected, tried};
 use crate::standing::{Lent, SelectThrice, SelectTwo, Standing, two_standing};
-use crate::works::{Work, beside};
+use crate::works::beside;
+use ends_tests::works::Work;
 use flume::error::{RecvError, TryRecvError, TrySendError};
 use flume::polled::RecvFut;
 use flume::{Receiver, Sender, Waits, bounded, unbounded};

@@ -1,28 +1,8 @@
 //! What a thread does, as a value: a closure costs the prover several times as much in each test.
+use ends_tests::works::Work;
 use std::sync::Wait;
-use std::test::Fail;
 use std::thread;
-use std::thread::{JoinHandle, Threads};
-
-/// What a thread does.
-pub(crate) trait Work {
-    /// What it answers as it ends.
-    type Answer;
-
-    /// Does it.
-    fn work(self) -> Self::Answer;
-}
-
-/// Starts a thread that does this.
-pub(crate) fn started<R: Threads, W: Work + Send + Drop + 'static>(
-    rt: &R,
-    work: W,
-) -> Result<JoinHandle<W::Answer>, Fail>
-where
-    W::Answer: Send + Drop + 'static,
-{
-    Ok(thread::spawn(rt, move || work.work())?)
-}
+use std::thread::Threads;
 
 /// Does the one in a thread, and the other meanwhile in this one. What each answered; of the first
 /// `None` where there could be no thread.

@@ -1,6 +1,7 @@
 //! Threads that receive from one channel and send into another.
 use crate::fixtures::is;
-use crate::works::{SendHundred, Work, send_hundred, started};
+use crate::works::{SendHundred, send_hundred};
+use ends_tests::works::{Work, started};
 use flume::{Receiver, Sender, Waits, bounded, unbounded};
 use flume_core::error::RecvError;
 use std::process::Abort;

@@ -1,6 +1,7 @@
 //! Threads that read by iterators, and send on.
 use crate::fixtures::{CAPACITIES, is, opened};
-use crate::works::{SendHundred, Work, send_hundred, started, starts_in};
+use crate::works::{SendHundred, send_hundred, starts_in};
+use ends_tests::works::{Work, started};
 use flume::{Iter, Receiver, Sender, Waits};
 use std::process::Abort;
 use std::sync::Mutex;

@@ -22,6 +22,4 @@ mod threads;
 #[cfg(test)]
 mod timed;
 #[cfg(test)]
-mod watch;
-#[cfg(test)]
 mod works;

@@ -1,7 +1,8 @@
 //! Many threads that send to many, or share what one sends.
 use crate::fixtures::{CAPACITIES, is, opened};
-use crate::watch::begin_watch;
-use crate::works::{Work, starts_in};
+use crate::works::starts_in;
+use ends_tests::watch::begin_watch;
+use ends_tests::works::Work;
 use flume::error::TryRecvError;
 use flume::{Receiver, Sender, Waits};
 use std::alloc::{AllocError, Global};

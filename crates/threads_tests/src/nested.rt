@@ -1,7 +1,8 @@
 //! Messages that hold an end of another channel.
 use crate::fixtures::{MOST_YIELDS, is, opened, yield_often};
-use crate::watch::begin_watch;
-use crate::works::{ReceiveOne, ReceiveThree, Three, Work, started};
+use crate::works::{ReceiveOne, ReceiveThree, Three};
+use ends_tests::watch::begin_watch;
+use ends_tests::works::{Work, started};
 use flume::{Receiver, Sender, Waits, WeakSender};
 use flume_core::error::{NoMemory, RecvError, SendError, TryRecvError, TrySendError};
 use std::process::Abort;

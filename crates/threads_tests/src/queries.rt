@@ -1,6 +1,6 @@
 //! Queries of both ends, and a change of the capacity, while a send waits.
 use crate::fixtures::{is, long};
-use crate::watch::begin_watch;
+use ends_tests::watch::begin_watch;
 use flume::{Receiver, Sender, Waits, bounded, unbounded};
 use flume_core::error::NoMemory;
 use std::alloc::Global;

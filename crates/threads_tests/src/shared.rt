@@ -1,6 +1,7 @@
 //! Ends that threads take with them, or share by reference.
 use crate::fixtures::is;
-use crate::works::{ReceiveThree, SendOne, Work, started, starts_in};
+use crate::works::{ReceiveThree, SendOne, starts_in};
+use ends_tests::works::{Work, started};
 use flume::{Receiver, Sender, Waits, WeakSender, bounded, unbounded};
 use flume_core::error::RecvError;
 use std::sync::atomic::{AtomicU64, Ordering};

@@ -1,7 +1,7 @@
 //! Many messages through one channel, by calls of every kind, with ends that come and go, and with
 //! a capacity that stays or that all senders change.
 use crate::fixtures::opened;
-use crate::works::{Work, started};
+use ends_tests::works::{Work, started};
 use flume::{Receiver, Sender, Waits};
 use flume_core::error::RecvError;
 use std::process::Abort;

@@ -1,7 +1,8 @@
 //! Two threads that meet, over one channel or over many, and calls that end as the other side goes.
 use crate::fixtures::{CAPACITIES, MOST_YIELDS, is, opened, yield_often};
-use crate::watch::begin_watch;
-use crate::works::{ReceiveOne, SendOne, Work, started};
+use crate::works::{ReceiveOne, SendOne};
+use ends_tests::watch::begin_watch;
+use ends_tests::works::{Work, started};
 use flume::error::{RecvError, SendError};
 use flume::{Receiver, Sender, Waits, bounded, unbounded};
 use std::alloc::Global;

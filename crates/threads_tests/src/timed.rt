@@ -1,6 +1,7 @@
 //! Calls with a deadline: served, or closed, while they wait, and two that race.
 use crate::fixtures::{is, long, opened};
-use crate::works::{ReceiveOne, Work, started};
+use crate::works::ReceiveOne;
+use ends_tests::works::{Work, started};
 use flume::error::{RecvTimeoutError, SendTimeoutError, TrySendError};
 use flume::{Receiver, Sender, Waits};
 use std::alloc::Global;

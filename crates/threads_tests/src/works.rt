@@ -1,29 +1,8 @@
 //! What a thread does, as a value: a closure costs the prover several times as much in each test.
+use ends_tests::works::Work;
 use flume::error::{RecvError, SendError};
 use flume::{Receiver, Sender, Waits};
-use std::test::Fail;
-use std::thread;
-use std::thread::{JoinHandle, Scope, Threads};
-
-/// What a thread does.
-pub(crate) trait Work {
-    /// What it answers as it ends.
-    type Answer;
-
-    /// Does it.
-    fn work(self) -> Self::Answer;
-}
-
-/// Starts a thread that does this.
-pub(crate) fn started<R: Threads, W: Work + Send + Drop + 'static>(
-    rt: &R,
-    work: W,
-) -> Result<JoinHandle<W::Answer>, Fail>
-where
-    W::Answer: Send + Drop + 'static,
-{
-    Ok(thread::spawn(rt, move || work.work())?)
-}
+use std::thread::Scope;
 
 /// Starts a thread of this scope that does this. False: there can be none.
 pub(crate) fn starts_in<'s, E, W: Work + Send + Drop + 's>(scope: &Scope<'s, E>, work: W) -> bool

@@ -1,0 +1,111 @@
+//! Collects messages into batches: of five, or of what has come when a time is over.
+//!
+//! What is printed doesn't depend on how long anything takes. A batch is begun only once all that
+//! is to go into it was sent, so its time may be over or not; and where nothing was sent, the time
+//! passes, however long it is.
+#![tactic(auto)]
+
+use flume::error::NoMemory;
+use flume::{Receiver, RecvTimeoutError, Runtime, Sender, Waits};
+use std::time::{Duration, Instant};
+use std::{io, thread};
+
+// The most messages of a batch.
+const SIZE: usize = 5;
+
+// How long a batch waits for its messages, in milliseconds.
+const PATIENCE: u64 = 20;
+
+/// Why a batch ended.
+#[derive(Drop)]
+enum End {
+    /// It has all messages that it may have.
+    Full,
+    /// Its time was over.
+    Late,
+    /// Nobody was left to send one.
+    Closed,
+}
+
+/// Messages in the order in which they came, and why there are no more of them.
+#[derive(Drop)]
+struct Batch {
+    messages: Vec<u64>,
+    end: End,
+}
+
+fn main(rt: HostRuntime) -> io::Result<()> {
+    // Of capacity 10: the first ten messages find room, so they are all sent before one is read.
+    let (tx, messages) = flume::on(rt).bounded(10)?;
+    // Of capacity 1: who says a word here doesn't wait until it is heard.
+    let (sent, was_sent) = flume::on(rt).bounded(1)?;
+    let (acknowledge, acknowledged) = flume::on(rt).bounded(1)?;
+    let sender = thread::spawn(&rt, move || send_all(tx, &sent, &acknowledged))?;
+    was_sent.recv()?;
+    print(&rt, collect(&rt, &messages)?)?;
+    print(&rt, collect(&rt, &messages)?)?;
+    // The sender waits for a word of this thread now, so nothing comes before the time is over.
+    print(&rt, collect(&rt, &messages)?)?;
+    acknowledge.send(())?;
+    was_sent.recv()?;
+    print(&rt, collect(&rt, &messages)?)?;
+    sender.join(&rt)
+}
+
+/// Sends ten messages, and after a word from the other side three more. Says each time that it has
+/// done so, the second time after it closed the channel by letting its only sender go.
+fn send_all<R: Waits>(
+    tx: Sender<u64, R>,
+    sent: &Sender<(), R>,
+    acknowledged: &Receiver<(), R>,
+) -> io::Result<()> {
+    send_some(&tx, 1, 10)?;
+    sent.send(())?;
+    acknowledged.recv()?;
+    send_some(&tx, 11, 13)?;
+    drop(tx);
+    Ok(sent.send(())?)
+}
+
+/// Sends these numbers.
+fn send_some<R: Waits>(tx: &Sender<u64, R>, first: u64, last: u64) -> io::Result<()> {
+    for number in first..=last {
+        tx.send(number)?;
+    }
+    Ok(())
+}
+
+/// The next batch. A receive whose deadline is past doesn't wait, and takes a message that is
+/// there: so a batch whose time is over is filled with what has come.
+fn collect<R: Runtime>(rt: &R, from: &Receiver<u64, R>) -> io::Result<Batch> {
+    // All room is taken before the first message is, so that none is lost for want of memory.
+    let mut messages = Vec::with_capacity(rt.alloc(), SIZE)?;
+    let now = Instant::now(rt)?;
+    let deadline = now
+        .checked_add(Duration::from_millis(PATIENCE))
+        .unwrap_or(now);
+    for _ in 0..SIZE {
+        let end = match from.recv_deadline(deadline) {
+            Ok(message) => {
+                messages.push(message)?;
+                continue;
+            }
+            Err(RecvTimeoutError::Timeout) => End::Late,
+            Err(RecvTimeoutError::Disconnected) => End::Closed,
+            Err(RecvTimeoutError::NoMemory) => return Err(NoMemory.into()),
+        };
+        return Ok(Batch { messages, end });
+    }
+    let end = End::Full;
+    Ok(Batch { messages, end })
+}
+
+/// Prints the messages of a batch, and why it ended.
+fn print<R: Print>(rt: &R, batch: Batch) -> io::Result<()> {
+    let messages = &batch.messages;
+    match batch.end {
+        End::Full => println!(rt; "full: {messages:?}"),
+        End::Late => println!(rt; "late: {messages:?}"),
+        End::Closed => println!(rt; "closed: {messages:?}"),
+    }
+}

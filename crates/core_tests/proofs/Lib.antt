@@ -1,3 +1,0 @@
-mod Returning
-mod Sending
-mod Receiving

@@ -1,0 +1,121 @@
+//! A bus of events: each subscriber has a bounded channel of its own, and none of them is waited
+//! for.
+//!
+//! One thread publishes and reads, so what is printed hangs on no schedule.
+#![tactic(auto)]
+
+use flume::error::NoMemory;
+use flume::{Receiver, Runtime, Sender, TrySendError, Waits};
+use std::io;
+
+/// What a subscriber finds in its channel.
+#[derive(Drop)]
+enum Notice {
+    /// The event with this number.
+    Event(u64),
+    /// So many events came while the channel was full.
+    Missed(u64),
+}
+
+/// A subscriber as the bus sees it.
+#[derive(Drop)]
+struct Subscriber<R: Waits> {
+    notices: Sender<Notice, R>,
+    // How many events it missed and wasn't told of.
+    missed: u64,
+    gone: bool,
+}
+
+impl<R: Waits> Subscriber<R> {
+    /// Tells it of an event, after those that it missed. What finds no room counts as missed.
+    fn tell(&mut self, event: u64) -> Result<(), NoMemory> {
+        if self.missed > 0 && self.offer(Notice::Missed(self.missed))? {
+            self.missed = 0;
+        }
+        if self.missed > 0 || !self.offer(Notice::Event(event))? {
+            self.missed = self.missed.saturating_add(1);
+        }
+        Ok(())
+    }
+
+    /// Whether the notice was taken in. `try_send` doesn't wait: a full channel is the subscriber's
+    /// own affair, and no other one has to suffer from it.
+    fn offer(&mut self, notice: Notice) -> Result<bool, NoMemory> {
+        match self.notices.try_send(notice) {
+            Ok(()) => Ok(true),
+            Err(TrySendError::Full(_)) => Ok(false),
+            Err(TrySendError::Disconnected(_)) => {
+                self.gone = true;
+                Ok(false)
+            }
+            Err(TrySendError::NoMemory(_)) => Err(NoMemory),
+        }
+    }
+}
+
+/// All subscribers, in the order in which they came.
+#[derive(Drop)]
+struct Bus<R: Waits> {
+    rt: R,
+    subscribers: Vec<Subscriber<R>>,
+}
+
+impl<R: Runtime> Bus<R> {
+    /// A new subscriber, which may be behind by as many notices as `capacity` says. It leaves by
+    /// dropping the receiver.
+    fn subscribe(&mut self, capacity: usize) -> io::Result<Receiver<Notice, R>> {
+        let (notices, received) = flume::on(self.rt).bounded(capacity)?;
+        self.subscribers.push(Subscriber {
+            notices,
+            missed: 0,
+            gone: false,
+        })?;
+        Ok(received)
+    }
+
+    /// Tells each subscriber of the event, and takes those that are gone off the list.
+    fn publish(&mut self, event: u64) -> io::Result<()> {
+        for subscriber in &mut self.subscribers {
+            subscriber.tell(event)?;
+        }
+        self.subscribers.retain(|subscriber| !subscriber.gone);
+        Ok(())
+    }
+}
+
+fn main(rt: HostRuntime) -> io::Result<()> {
+    let subscribers = Vec::new(rt.alloc());
+    let mut bus = Bus { rt, subscribers };
+    // This one reads after each event, so room for one notice is enough.
+    let quick = bus.subscribe(1)?;
+    // This one reads seldom: it gets the first two events of a longer row, and a count of the rest.
+    let slow = bus.subscribe(2)?;
+    for event in 1..=5 {
+        bus.publish(event)?;
+        read(&rt, "quick", &quick)?;
+    }
+    read(&rt, "slow", &slow)?;
+    bus.publish(6)?;
+    read(&rt, "slow", &slow)?;
+    // The only receiver of this channel goes, so it closes. The bus sees that as it publishes.
+    drop(quick);
+    bus.publish(7)?;
+    println!(rt; "subscribers: {}", bus.subscribers.len())?;
+    let late = bus.subscribe(1)?;
+    bus.publish(8)?;
+    // With the bus the last sender of each channel goes. What is queued is still read.
+    drop(bus);
+    read(&rt, "slow", &slow)?;
+    read(&rt, "late", &late)
+}
+
+/// Prints all that is there, without waiting for more.
+fn read<R: Runtime + Print>(rt: &R, name: &str, notices: &Receiver<Notice, R>) -> io::Result<()> {
+    for notice in notices.try_iter() {
+        match notice {
+            Notice::Event(event) => println!(rt; "{name}: event {event}")?,
+            Notice::Missed(count) => println!(rt; "{name}: missed {count}")?,
+        }
+    }
+    Ok(())
+}

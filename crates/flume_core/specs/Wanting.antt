@@ -1,0 +1,22 @@
+-- Where memory may be wanted for a step: what a state says of it.
+use Rattle.std.specs.Prelude.{◌≡◌, ℕ, ◌<◌, ◌⊎◌, true, length}
+use Rattle.flume_model.specs.declared.step.Step.{Step}
+use Rattle.flume_model.specs.declared.step.Step.TheVariants.{TrySend, Send, TryRecv, Recv, Poll, Drain}
+use Rattle.flume_model.specs.Limits.{IsOpen, most}
+use Rattle.flume_state.specs.Receivers.{standing, only_leaves}
+use Rattle.flume_state.specs.State.{State}
+use Rattle.flume_core.specs.Waiting.{FindsNothing, FindsNoRoom}
+
+module _ {T S : Type 0} where
+  -- A channel in this state may answer the step with want of memory: an offer that is taken in or
+  -- blocks, a receiver that parks, a receive that lets a blocked message into the queue, a drain of
+  -- some message. `Chan` itself makes no use of the last but one: its receives take no memory.
+  abbrev pub MayWant : State T S → Step T → Type 0
+  MayWant s (TrySend message) = IsOpen s.senders s.receivers × (FindsNoRoom s → ⊥)
+  MayWant s (Send message) = IsOpen s.senders s.receivers × (FindsNoRoom s → s.next < most)
+  MayWant s TryRecv = 0 < length s.blocked
+  MayWant s (Recv kind) = (0 < length s.blocked) ⊎ (FindsNothing s × (s.next < most))
+  MayWant s (Poll ticket) =
+      (only_leaves (standing ticket s.entries) ≡ true) × (0 < length s.blocked)
+  MayWant s Drain = 0 < length s.queue
+  MayWant s _ = ⊥

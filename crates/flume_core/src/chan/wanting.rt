@@ -1,0 +1,48 @@
+//! Whether a step may be answered with want of memory, by the rule for all channels.
+ghost use Rattle.std.specs.Prelude.{◌≡◌, true, IsTrue, ◌↔◌};
+ghost use Rattle.flume_state.specs.Receivers.{standing, only_leaves};
+ghost use Rattle.flume_core.specs.Wanting.{MayWant};
+
+use super::Chan;
+use flume_model::step::Step;
+use flume_state::entries::Standing;
+use std::alloc::Allocator;
+
+impl<T: Drop, S: Drop, A: Allocator + Copy> Chan<T, S, A> {
+    /// Whether a channel that stands as this one may answer the step with `NoMemory`. True for an
+    /// offer that is taken in or blocks, a receiver that parks, a drain of some message, and where a
+    /// message is blocked, for a receive too: a channel may want memory to let that one into the
+    /// queue, though a `Chan` never does. It changes nothing, is no step, and takes no memory.
+    ///
+    /// ```
+    /// let mut chan: Chan<u64, u32> = Chan::new(alloc, Some(0));
+    /// chan.may_want_memory(&Step::TryRecv);    // false
+    /// chan.send(7, 10);                        // Pending(1)
+    /// chan.may_want_memory(&Step::TryRecv);    // true
+    /// ```
+    pub fn may_want_memory(&self, step: &Step<T>) -> bool
+        ensures wants { IsTrue result ↔ MayWant self.now step.now }
+    {
+        match step {
+            Step::TrySend(_) => self.is_open() && !self.send_would_wait(),
+            Step::Send(_) => { self.is_open() && (!self.send_would_wait() || self.next < u64::MAX) }
+            Step::TryRecv => self.line.blocked_len() > 0,
+            Step::Recv(_) => {
+                self.line.blocked_len() > 0 || self.receive_would_wait() && self.next < u64::MAX
+            }
+            Step::Poll(ticket) => self.looks_anew(*ticket) && self.line.blocked_len() > 0,
+            Step::Drain => self.line.queued_len() > 0,
+            _ => false,
+        }
+    }
+
+    // Whether the parked receiver with this ticket, which doesn't block, would look at the line.
+    fn looks_anew(&self, ticket: u64) -> bool
+        ensures looks { IsTrue result ↔ (only_leaves (standing ticket self.now.entries) ≡ true) }
+    {
+        match self.entries.standing(ticket) {
+            Some(Standing::Waiting | Standing::Woken) => true,
+            _ => false,
+        }
+    }
+}

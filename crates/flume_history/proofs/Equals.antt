@@ -1,0 +1,90 @@
+-- What equal replies have in common.
+use Rattle.std.proofs.Common.{◌≡◌, ◌⊎◌, inl, inr, ◌↔◌, Bool, true, false, ◌&&◌, [], ◌∷◌, refl, ap₂, Vec, subst}
+use Rattle.std.specs.Bool.{IsTrue}
+use Rattle.std.specs.Cmp.{IsEquivalence, bool_eq_equiv}
+use Rattle.std.specs.Cmp.Lexicographic.{options_equiv}
+use Rattle.std.proofs.lemmas.Cmp.{nat_eq_equiv, lists_equiv}
+use Rattle.flume_model.specs.declared.step.Reply.{Reply}
+use Rattle.flume_model.specs.declared.step.Reply.TheVariants.{Sent, Full, Closed, NoMemory, Spent, Pending, Returned, Got, Parked}
+use Rattle.flume_model.specs.declared.step.Reply.TheVariants.{Gone, Drained, Number, Truth, Capacity}
+use Rattle.flume_model.specs.Log.{Log}
+use Rattle.flume_audit.specs.Weights.{SameReply}
+use Rattle.flume_history.specs.Equal.{Equals}
+use Rattle.flume_history.specs.Histories.{IsSaidOf}
+use Rattle.flume_history.specs.SameRuns.{IsWant}
+use Rattle.flume_history.proofs.OneRun.{want_or_not}
+
+-- false isn't true
+never : IsTrue false → ⊥
+never e = let no : ⊥ = cc in no
+
+-- two truths that hold together
+both : (b c : Bool) → b ≡ true → c ≡ true → (b && c) ≡ true
+both b c first second = ap₂ (λ x y. x && y) first second
+
+module _ {T A : Type 0} (equal : T → T → Bool) where
+  -- what equals a want is one
+  want : (told reply : Reply T A) → IsWant told → Equals equal told reply → IsWant reply
+  want (NoMemory back) (NoMemory other) w h = tt
+  want (NoMemory back) _ w h = absurd (never h)
+  want _ reply w h = absurd w
+
+  -- what is no want equals none
+  no_want : (told reply : Reply T A) → (IsWant told → ⊥) → Equals equal told reply → IsWant reply → ⊥
+  no_want told (NoMemory other) none h w = against told none h
+    where
+      against : (told : Reply T A) → (IsWant told → ⊥) → Equals equal told (NoMemory other) → ⊥
+      against (NoMemory back) none h = none tt
+      against _ none h = never h
+  no_want told _ none h w = w
+
+  -- of two equal replies both are wants or neither is
+  pub same_want : (told reply : Reply T A) → Equals equal told reply → IsWant told ↔ IsWant reply
+  same_want told reply h = by_want (want_or_not told)
+    where
+      by_want : IsWant told ⊎ (IsWant told → ⊥) → IsWant told ↔ IsWant reply
+      by_want (inl w) = (λ v. want told reply w h, λ v. w)
+      by_want (inr none) = (λ w. absurd (none w), λ w. absurd (no_want told reply none h w))
+
+  -- of two replies that equal one both are wants or neither is
+  pub tells_want : (told reply other : Reply T A) → Equals equal told reply → Equals equal told other → IsWant reply ↔ IsWant other
+  tells_want told reply other h k = (
+    λ w. (same_want told other k).0 ((same_want told reply h).1 w),
+    λ w. (same_want told reply h).0 ((same_want told other k).1 w),
+  )
+
+  -- what equals a drained list equals one with the same messages
+  drained : (told : Reply T A) (list other : Vec T A) → list.items ≡ other.items → Equals equal told (Drained list)
+      → Equals equal told (Drained other)
+  drained (Drained told) list other same h = rw same at h
+  drained _ list other same h = absurd (never h)
+
+  -- what equals a reply equals the same one
+  pub goes_by_messages : (told reply other : Reply T A) → SameReply reply other → Equals equal told reply → Equals equal told other
+  goes_by_messages told (Drained list) (Drained other) same h = drained told list other same h
+  goes_by_messages told (Drained list) _ same h = subst (λ r. Equals equal told r) same h
+  goes_by_messages told _ other same h = subst (λ r. Equals equal told r) same h
+
+module _ {T A : Type 0} (equal : T → T → Bool) (laws : IsEquivalence equal) where
+  -- a reply equals itself
+  pub equals_itself : (reply : Reply T A) → Equals equal reply reply
+  equals_itself (Sent filled) = (options_equiv nat_eq_equiv).refl filled
+  equals_itself (Full message) = laws.refl message
+  equals_itself (Closed message) = laws.refl message
+  equals_itself (NoMemory back) = (options_equiv laws).refl back
+  equals_itself (Spent back) = (options_equiv laws).refl back
+  equals_itself (Pending ticket) = nat_eq_equiv.refl ticket
+  equals_itself (Returned message closed) = both _ _ (laws.refl message) (bool_eq_equiv.refl closed)
+  equals_itself (Got message) = laws.refl message
+  equals_itself (Parked ticket) = nat_eq_equiv.refl ticket
+  equals_itself (Gone closed filled) = both _ _ (bool_eq_equiv.refl closed) ((options_equiv nat_eq_equiv).refl filled)
+  equals_itself (Drained list) = (lists_equiv laws).refl list.items
+  equals_itself (Number number) = nat_eq_equiv.refl number
+  equals_itself (Truth truth) = bool_eq_equiv.refl truth
+  equals_itself (Capacity capacity) = (options_equiv nat_eq_equiv).refl capacity
+  equals_itself _ = refl
+
+  -- a log is told by itself
+  pub told_by_itself : (log : Log T A) → IsSaidOf (Equals equal) log log
+  told_by_itself [] = tt
+  told_by_itself (p ∷ past) = (refl, equals_itself p.1, told_by_itself past)

@@ -1,0 +1,125 @@
+-- What `check_script` makes of the bytes of a history.
+use Rattle.std.specs.Prelude.{◌≡◌, ℕ, ◌+◌, ◌⊎◌, ◌↔◌, List, [], ◌∷◌, ◌++◌, length, reverse}
+use Rattle.std.specs.Prelude.{Option, Some, None, codes}
+use Rattle.std.specs.List.{AllZip}
+use Rattle.std.specs.Fmt.{decimal}
+use Rattle.std.specs.Str.Lines.{lines}
+use Rattle.flume_model.specs.declared.step.Step.{Step}
+use Rattle.flume_model.specs.declared.step.Reply.{Reply}
+use Rattle.flume_model.specs.Channel.{Channel, channel}
+use Rattle.flume_model.specs.Log.{Log, opens}
+use Rattle.flume_model.specs.Replies.{IsReply, IsRun}
+use Rattle.flume_script.specs.ReplyTexts.{reply_text}
+use Rattle.flume_script.specs.Script.{IsOpeningLine, IsNoOpening, IsStepLine, wrong_text}
+use Rattle.flume_history.specs.Histories.{IsSaidOf, IsHistory, BreaksAt}
+use Rattle.flume_history.specs.SameRuns.{IsWant}
+
+-- a step, and the bytes that were said of its reply
+abbrev pub Pair : Type 0
+Pair = Step ℕ × List ℕ
+
+-- what was said is the text of this reply
+abbrev pub Says : {A : Type 0} → List ℕ → Reply ℕ A → Type 0
+Says said reply = said ≡ reply_text reply
+
+-- the line is this step, ` -> ` and this, which was said of its reply
+pub record IsPairLine (line : List ℕ) (pair : Pair) : Type 0 where
+  pub step_text : List ℕ
+  pub is_step : IsStepLine step_text pair.0
+  pub line_is : line ≡ step_text ++ codes " -> " ++ pair.1
+
+-- the lines are an opening line, and then one line for each of these pairs
+pub record IsToldScript (lines : List (List ℕ)) (capacity : Option ℕ) (pairs : List Pair)
+    : Type 0 where
+  pub first : List ℕ
+  pub rest : List (List ℕ)
+  pub lines_are : lines ≡ first ∷ rest
+  pub opens : IsOpeningLine first capacity
+  pub pairs_are : AllZip IsPairLine rest pairs
+
+-- the line is no step with something said of its reply
+abbrev pub IsNoPair : List ℕ → Type 0
+IsNoPair line = (pair : Pair) → IsPairLine line pair → ⊥
+
+-- of these lines, so many are pairs, and the next one isn't
+pub record PairsUpTo (lines : List (List ℕ)) (place : ℕ) : Type 0 where
+  pub before : List (List ℕ)
+  pub pairs : List Pair
+  pub line : List ℕ
+  pub later : List (List ℕ)
+  pub parts : lines ≡ before ++ line ∷ later
+  pub right : AllZip IsPairLine before pairs
+  pub wrong : IsNoPair line
+  pub place_is : length before ≡ place
+
+-- the first wrong line has this number, counted from 1; where there is no line, the first is wrong
+abbrev pub IsFirstWrongTold : List (List ℕ) → ℕ → Type 0
+IsFirstWrongTold [] number = number ≡ 1
+IsFirstWrongTold (first ∷ rest) number =
+    (IsNoOpening first × (number ≡ 1))
+    ⊎ ((capacity : Option ℕ) × IsOpeningLine first capacity
+    × (place : ℕ) × PairsUpTo rest place × (number ≡ place + 2))
+
+-- the text is that of a reply that is lawful there
+abbrev pub IsLawfulText : (A : Type 0) → Channel ℕ → Step ℕ → List ℕ → Type 0
+IsLawfulText A c step text = (reply : Reply ℕ A) × IsReply c step reply × Says text reply
+
+-- one text, or two with ` or ` between them
+abbrev pub joined : List ℕ → Option (List ℕ) → List ℕ
+joined own None = own
+joined own (Some other) = own ++ codes " or " ++ other
+
+-- the text shows what is lawful there: first the text of the reply that is no want of memory, and
+-- behind it another one, where one is lawful; these are the texts of all replies that are lawful
+pub record Shows (A : Type 0) (c : Channel ℕ) (step : Step ℕ) (should : List ℕ) : Type 0 where
+  pub own : Reply ℕ A
+  pub other : Option (List ℕ)
+  pub should_is : should ≡ joined (reply_text own) other
+  pub is_lawful : IsReply c step own
+  pub no_want : IsWant own → ⊥
+  pub is_another : other ≡ Some (reply_text own) → ⊥
+  pub are_all : (text : List ℕ)
+      → IsLawfulText A c step text ↔ ((text ≡ reply_text own) ⊎ (other ≡ Some text))
+
+-- what is printed where this line says `said`, and `should` is lawful
+abbrev pub break_text : ℕ → List ℕ → List ℕ → List ℕ
+break_text number said should =
+    codes "line " ++ decimal number ++ codes ": " ++ said ++ codes ", but " ++ should ++ 10 ∷ []
+
+-- each line is right, and the pairs are a history
+pub record Runs (A : Type 0) (input text : List ℕ) (status : ℕ) : Type 0 where
+  pub capacity : Option ℕ
+  pub pairs : List Pair
+  pub reads : IsToldScript (lines input) capacity pairs
+  pub is_history : IsHistory {A = A} Says (opens capacity 1) pairs
+  pub text_is : text ≡ codes "run" ++ 10 ∷ []
+  pub status_is : status ≡ 0
+
+-- each line is right, and the pairs break at one: the text names its line, what was said there, and
+-- what is lawful there after each run of the pairs before it
+pub record Breaks (A : Type 0) (input text : List ℕ) (status : ℕ) : Type 0 where
+  pub capacity : Option ℕ
+  pub before : List Pair
+  pub step : Step ℕ
+  pub said : List ℕ
+  pub later : List Pair
+  pub reads : IsToldScript (lines input) capacity (before ++ (step, said) ∷ later)
+  pub breaks :
+      BreaksAt {A = A} Says (opens capacity 1) (before ++ (step, said) ∷ later) (length before)
+  pub should : List ℕ
+  pub shows : (log : Log ℕ A) → IsRun (opens capacity 1) log → IsSaidOf Says (reverse before) log
+      → Shows A (channel (opens capacity 1) log) step should
+  pub text_is : text ≡ break_text (length before + 2) said should
+  pub status_is : status ≡ 1
+
+-- a line is wrong: the text names the first one
+pub record RefusesTold (input text : List ℕ) (status : ℕ) : Type 0 where
+  pub line : ℕ
+  pub wrong : IsFirstWrongTold (lines input) line
+  pub text_is : text ≡ wrong_text line
+  pub status_is : status ≡ 2
+
+-- of these bytes this text is printed, with this status; A is the allocator of the lists in replies
+abbrev pub Judges : Type 0 → List ℕ → List ℕ → ℕ → Type 0
+Judges A input text status =
+    Runs A input text status ⊎ (Breaks A input text status ⊎ RefusesTold input text status)

@@ -1,0 +1,192 @@
+//! A reply in place of another: one of its kind that differs from it, or want of memory.
+use crate::slow::handed_in;
+use flume_model::step::{Reply, Step};
+use std::alloc::Global;
+use std::test::Fail;
+
+/// What is drawn: a state of 64 bits that each draw multiplies.
+#[derive(Drop)]
+pub(crate) struct Chance {
+    pub(crate) state: u64,
+}
+
+impl Chance {
+    /// A number below the bound, or 0.
+    pub(crate) fn below(&mut self, bound: u64) -> u64 {
+        self.state = self
+            .state
+            .wrapping_mul(6_364_136_223_846_793_005)
+            .wrapping_add(1_442_695_040_888_963_407);
+        (self.state >> 33).checked_rem(bound).unwrap_or(0)
+    }
+
+    // Another number, not far from this one.
+    fn other(&mut self, number: u64) -> u64 {
+        number ^ self.below(7).wrapping_add(1)
+    }
+
+    // Another number of messages or of ends.
+    fn other_count(&mut self, count: usize) -> usize {
+        count ^ (self.below(7) as usize).wrapping_add(1)
+    }
+
+    // None, or another ticket.
+    fn other_filled(&mut self, filled: Option<u64>) -> Option<u64> {
+        match filled {
+            None => Some(self.below(8)),
+            Some(_) if self.below(2) == 0 => None,
+            Some(ticket) => Some(self.other(ticket)),
+        }
+    }
+
+    // None, or another capacity.
+    fn other_capacity(&mut self, capacity: Option<usize>) -> Option<usize> {
+        match capacity {
+            None => Some(self.below(4) as usize),
+            Some(_) if self.below(2) == 0 => None,
+            Some(capacity) => Some(self.other_count(capacity)),
+        }
+    }
+
+    // One of the messages is another, or is left out. Where there are none, one is put in.
+    fn other_list(&mut self, alloc: Global, list: &[u64]) -> Result<Vec<u64>, Fail> {
+        let place = self.below(list.len() as u64) as usize;
+        let leaves_out = self.below(2) == 0;
+        let mut others = Vec::new(alloc);
+        if list.is_empty() {
+            others.push(1)?;
+        }
+        for (number, &message) in list.iter().enumerate() {
+            if number != place {
+                others.push(message)?;
+            } else if !leaves_out {
+                others.push(self.other(message))?;
+            }
+        }
+        Ok(others)
+    }
+
+    /// Another reply of the same kind; a reply that holds nothing is of one kind with the others
+    /// that hold nothing.
+    pub(crate) fn other_reply(
+        &mut self,
+        alloc: Global,
+        reply: &Reply<u64>,
+    ) -> Result<Reply<u64>, Fail> {
+        Ok(match reply {
+            Reply::Sent { filled } => Reply::Sent {
+                filled: self.other_filled(*filled),
+            },
+            Reply::Full(message) => Reply::Full(self.other(*message)),
+            Reply::Closed(message) => Reply::Closed(self.other(*message)),
+            Reply::Pending(ticket) => Reply::Pending(self.other(*ticket)),
+            Reply::Returned { message, closed } => self.other_returned(*message, *closed),
+            Reply::Got(message) => Reply::Got(self.other(*message)),
+            Reply::Parked(ticket) => Reply::Parked(self.other(*ticket)),
+            Reply::Gone { closed, filled } => self.other_gone(*closed, *filled),
+            Reply::Drained(list) => Reply::Drained(self.other_list(alloc, list)?),
+            Reply::Number(number) => Reply::Number(self.other_count(*number)),
+            Reply::Truth(truth) => Reply::Truth(!*truth),
+            Reply::Capacity(capacity) => Reply::Capacity(self.other_capacity(*capacity)),
+            _ => self.other_plain(reply),
+        })
+    }
+
+    fn other_returned(&mut self, message: u64, closed: bool) -> Reply<u64> {
+        match self.below(2) {
+            0 => Reply::Returned {
+                message: self.other(message),
+                closed,
+            },
+            _ => Reply::Returned {
+                message,
+                closed: !closed,
+            },
+        }
+    }
+
+    fn other_gone(&mut self, closed: bool, filled: Option<u64>) -> Reply<u64> {
+        match self.below(2) {
+            0 => Reply::Gone {
+                closed: !closed,
+                filled,
+            },
+            _ => Reply::Gone {
+                closed,
+                filled: self.other_filled(filled),
+            },
+        }
+    }
+
+    fn other_plain(&mut self, reply: &Reply<u64>) -> Reply<u64> {
+        let drawn = plain(self.below(9));
+        if drawn == *reply {
+            return match reply {
+                Reply::Done => Reply::NoEnd,
+                _ => Reply::Done,
+            };
+        }
+        drawn
+    }
+
+    /// Want of memory in place of the reply to this step. In one case of four another message comes
+    /// back than the one that was handed in, or one where none was.
+    pub(crate) fn want_of_memory(&mut self, step: &Step<u64>) -> Reply<u64> {
+        let back = handed_in(step);
+        if self.below(4) == 0 {
+            return Reply::NoMemory(self.other_filled(back));
+        }
+        Reply::NoMemory(back)
+    }
+}
+
+// The reply of this number that holds nothing.
+fn plain(number: u64) -> Reply<u64> {
+    match number {
+        0 => Reply::Accepted,
+        1 => Reply::Waiting,
+        2 => Reply::NoTicket,
+        3 => Reply::Empty,
+        4 => Reply::Ended,
+        5 => Reply::Done,
+        6 => Reply::NoEnd,
+        7 => Reply::CountFull,
+        _ => Reply::Unbounded,
+    }
+}
+
+/// The name of a reply's kind.
+pub(crate) fn name_of(reply: &Reply<u64>) -> &'static str {
+    match reply {
+        Reply::Sent { .. } => "Sent",
+        Reply::Full(_) => "Full",
+        Reply::Closed(_) => "Closed",
+        Reply::NoMemory(_) => "NoMemory",
+        Reply::Pending(_) => "Pending",
+        Reply::Returned { .. } => "Returned",
+        Reply::Got(_) => "Got",
+        Reply::Parked(_) => "Parked",
+        Reply::Gone { .. } => "Gone",
+        Reply::Drained(_) => "Drained",
+        Reply::Number(_) => "Number",
+        Reply::Truth(_) => "Truth",
+        Reply::Capacity(_) => "Capacity",
+        _ => plain_name_of(reply),
+    }
+}
+
+// The name of a reply that holds nothing.
+fn plain_name_of(reply: &Reply<u64>) -> &'static str {
+    match reply {
+        Reply::Accepted => "Accepted",
+        Reply::Waiting => "Waiting",
+        Reply::NoTicket => "NoTicket",
+        Reply::Empty => "Empty",
+        Reply::Ended => "Ended",
+        Reply::Done => "Done",
+        Reply::NoEnd => "NoEnd",
+        Reply::CountFull => "CountFull",
+        Reply::Unbounded => "Unbounded",
+        _ => "Spent",
+    }
+}

@@ -1,0 +1,110 @@
+//! A worker that can be told to stop, and that stops by itself where nothing comes for too long.
+//!
+//! What is printed hangs on no schedule: the worker is told to stop only once all its answers are
+//! there, and where it ends by itself nothing could have come.
+#![tactic(auto)]
+
+use flume::error::NoMemory;
+use flume::{Receiver, Runtime, SelectError, Selector, Sender, Waits};
+use std::time::Duration;
+use std::{io, thread};
+
+/// Why a worker ended.
+#[derive(Debug, Drop)]
+enum Why {
+    /// It was told to stop, or nobody was left to tell it so or to send it a job.
+    Stopped,
+    /// Neither came in time.
+    Late,
+}
+
+/// What a worker receives from, and what it answers into.
+#[derive(Drop)]
+struct Worker<R: Waits> {
+    rt: R,
+    stop: Receiver<(), R>,
+    jobs: Receiver<u64, R>,
+    done: Sender<u64, R>,
+}
+
+impl<R: Waits> Worker<R> {
+    /// Doubles numbers until it is to end, and says why it did. It waits for each up to `patience`.
+    fn work(&self, patience: Duration) -> io::Result<Why> {
+        for _ in self.rt.forever() {
+            // The stop is tried first: who is told to stop takes no job that is there as well.
+            let next = Selector::new()
+                .recv(&self.stop, |_| None)
+                .recv(&self.jobs, Result::ok);
+            match next.wait_timeout(patience) {
+                Ok(Some(number)) => self.done.send(number.saturating_mul(2))?,
+                Ok(None) => return Ok(Why::Stopped),
+                Err(SelectError::Timeout) => return Ok(Why::Late),
+                Err(SelectError::NoMemory) => return Err(NoMemory.into()),
+            }
+        }
+        unreachable!()
+    }
+}
+
+fn main(rt: HostRuntime) -> io::Result<()> {
+    println!(rt; "{:?}", told_to_stop(rt)?)?;
+    println!(rt; "{:?}", too_late(rt)?)
+}
+
+/// Has five jobs done, and then a worker that is told to stop.
+fn told_to_stop<R: Runtime + Print>(rt: R) -> io::Result<Why> {
+    // Of capacity 1: one word is all that is ever said, and who says it doesn't wait.
+    let (tell, stop) = flume::on(rt).bounded(1)?;
+    // Of capacity 1: each job is answered before the next one is given.
+    let (give, jobs) = flume::on(rt).bounded(1)?;
+    // Of capacity 0: the worker goes on once its answer was read.
+    let (done, answers) = flume::on(rt).bounded(0)?;
+    let worker = Worker {
+        rt,
+        stop,
+        jobs,
+        done,
+    };
+    // Longer than this program runs: the worker is told to stop before.
+    let patience = Duration::from_secs(3600);
+    let working = thread::spawn(&rt, move || worker.work(patience))?;
+    let asked = ask(&rt, tell, give, answers);
+    // If the worker failed, its error says why. The other one only says that it was gone.
+    let why = working.join(&rt)?;
+    asked?;
+    Ok(why)
+}
+
+/// Gives the jobs, prints their answers, and only then tells the worker to stop. The ends go as it
+/// returns, so the worker ends too where this fails.
+fn ask<R: Runtime + Print>(
+    rt: &R,
+    tell: Sender<(), R>,
+    give: Sender<u64, R>,
+    answers: Receiver<u64, R>,
+) -> io::Result<()> {
+    for job in 1..=5 {
+        give.send(job)?;
+        println!(rt; "{}", answers.recv()?)?;
+    }
+    Ok(tell.send(())?)
+}
+
+/// Lets a worker wait for what doesn't come: both senders are here, and neither sends.
+fn too_late<R: Runtime>(rt: R) -> io::Result<Why> {
+    let (tell, stop) = flume::on(rt).bounded(1)?;
+    let (give, jobs) = flume::on(rt).bounded(1)?;
+    let (done, _answers) = flume::on(rt).bounded(0)?;
+    let worker = Worker {
+        rt,
+        stop,
+        jobs,
+        done,
+    };
+    // Of any length the same is printed.
+    let patience = Duration::from_millis(20);
+    let working = thread::spawn(&rt, move || worker.work(patience))?;
+    let why = working.join(&rt)?;
+    drop((tell, give));
+    Ok(why)
+}

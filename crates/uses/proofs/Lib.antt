@@ -1,0 +1,4 @@
+mod Returning
+mod Sending
+mod Receiving
+mod Counting

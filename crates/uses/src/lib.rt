@@ -1,0 +1,15 @@
+//! Callers of the library that conclude something from its contracts: each is one that a reader may
+//! begin with who proves things on top. `docs/CALLING.md` tells of each.
+#![tactic(auto)]
+
+pub mod asked;
+pub mod followed;
+pub mod lent;
+pub mod refused;
+pub mod settled;
+pub mod share;
+
+#[cfg(test)]
+fn is<T: std::fmt::Debug + PartialEq + Drop>(rt: &impl std::process::Abort, answer: T, wanted: T) {
+    assert_eq!(rt; answer, wanted);
+}

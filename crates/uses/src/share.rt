@@ -1,0 +1,37 @@
+//! A message whose type has an invariant: the receiver relies on it.
+ghost use Rattle.std.specs.Prelude.{◌≤◌, IfOk};
+
+use flume::error::RecvError;
+use flume::{Receiver, Waits};
+use std::alloc::Allocator;
+
+/// So many parts of a whole: at least one makes the whole, and there are no more than make it.
+#[derive(Clone, Copy, Drop)]
+pub struct Share {
+    parts: u32,
+    whole: u32,
+    ghost some: { 1 ≤ whole },
+    ghost within: { parts ≤ whole },
+}
+
+impl Share {
+    /// So many parts of a whole. None where the whole has no part, or fewer than there are.
+    pub fn new(parts: u32, whole: u32) -> Option<Share> {
+        if whole == 0 || parts > whole {
+            return None;
+        }
+        Some(Share { parts, whole })
+    }
+}
+
+/// Receives a share, and says how many hundredths it is. No share is of a whole without parts: that
+/// came through the channel with its type, so the division can't fail, and no more than a hundred
+/// come out.
+pub fn receive_hundredths<R: Waits, A: Allocator + Copy>(
+    rx: &Receiver<Share, R, A>,
+) -> Result<u64, RecvError>
+    ensures at_most { IfOk result (λ hundredths. hundredths ≤ 100) }
+{
+    let share = rx.recv()?;
+    Ok(share.parts as u64 * 100 / share.whole as u64)
+}
