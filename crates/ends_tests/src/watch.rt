@@ -2,7 +2,6 @@
 use crate::works::{Work, started};
 use flume::Waits;
 use std::alloc::Global;
-use std::process::Abort;
 use std::sync::atomic::{AtomicU64, Ordering};
 use std::sync::{Arc, Condvar, Mutex};
 use std::test::Fail;
@@ -38,23 +37,22 @@ fn left_since<R: Waits>(rt: &R, moved: Instant) -> Duration {
     }
 }
 
-// Waits until the test is over. Ends the process with a failure where nothing moved for too long.
-fn watch_over<R: Waits + Abort>(rt: &R, watched: &Watched, began: Instant) {
+// Waits until the test is over, or nothing moved for too long. Answers whether it is over.
+fn watch_over<R: Waits>(rt: &R, watched: &Watched, began: Instant) -> bool {
     let (mut seen, mut moved) = (0, began);
     let mut is_over = watched.is_over.lock(rt);
     for _ in rt.forever() {
         if *is_over {
-            return;
+            return true;
         }
         let moves = watched.moves.load(Ordering::Relaxed);
         if moves != seen {
             (seen, moved) = (moves, Instant::now(rt).unwrap_or(moved));
         }
         let left = left_since(rt, moved);
-        assert!(rt;
-            !left.is_zero(),
-            "a wake is lost: nothing moved for too long"
-        );
+        if left.is_zero() {
+            return false;
+        }
         is_over = watched.changed.wait_timeout(rt, is_over, left).0;
     }
     unreachable!()
@@ -62,27 +60,37 @@ fn watch_over<R: Waits + Abort>(rt: &R, watched: &Watched, began: Instant) {
 
 // Watches over a test.
 #[derive(Drop)]
-struct WatchOver<R: Waits + Abort> {
+struct WatchOver<R: Waits, W: Work> {
     rt: R,
     watched: Arc<Watched>,
     began: Instant,
+    stuck: W,
 }
 
-impl<R: Waits + Abort> Work for WatchOver<R> {
+impl<R: Waits, W: Work<Answer = ()> + Drop> Work for WatchOver<R, W> {
     type Answer = ();
 
     fn work(self) {
-        let WatchOver { rt, watched, began } = self;
-        watch_over(&rt, &watched, began);
+        let WatchOver {
+            rt,
+            watched,
+            began,
+            stuck,
+        } = self;
+        if !watch_over(&rt, &watched, began) {
+            stuck.work();
+        }
     }
 }
 
-/// Begins to watch over a test, which fails where for 50 seconds it neither says that something
-/// moved nor that it is over.
-pub fn begin_watch<R: Waits + Threads + Abort + Send + Sync + 'static>(
-    rt: R,
-    alloc: Global,
-) -> Result<Watch, Fail> {
+/// Begins to watch over a test. Where for 50 seconds it neither says that something moved nor that
+/// it is over, the watching thread does `stuck`, which is to fail the test: no library may end a
+/// process, so each crate of tests brings its own.
+pub fn begin_watch<R, W>(rt: R, alloc: Global, stuck: W) -> Result<Watch, Fail>
+where
+    R: Waits + Threads + Send + Sync + 'static,
+    W: Work<Answer = ()> + Send + Drop + 'static,
+{
     let began = Instant::now(&rt)?;
     let watched = Arc::new(
         alloc,
@@ -97,6 +105,7 @@ pub fn begin_watch<R: Waits + Threads + Abort + Send + Sync + 'static>(
         rt,
         watched: seen,
         began,
+        stuck,
     };
     let thread = started(&rt, watching)?;
     Ok(Watch { watched, thread })

@@ -74,7 +74,8 @@ impl<T: Drop, R: Waits, A: Allocator + Copy> Receiver<T, R, A> {
 
     /// Takes the next message, and waits while there is none, up to the deadline. `Timeout`: it is
     /// reached, and no message came. Where the channel is closed by then the answer is
-    /// `Disconnected`. A clock that can't be read counts as past each deadline.
+    /// `Disconnected`. A clock that can't be read counts as past each deadline. A message that is
+    /// there is taken, even where the deadline was past before the call.
     ///
     /// ```
     /// let (_tx, rx) = flume::on(rt).unbounded::<u64>()?;

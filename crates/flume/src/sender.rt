@@ -80,7 +80,8 @@ impl<T: Drop, R: Waits, A: Allocator + Copy> Sender<T, R, A> {
 
     /// Sends a message, and waits while the channel is full, up to the deadline. `Timeout`: it is
     /// reached, and the message wasn't taken in. Where the channel is closed by then the answer is
-    /// `Disconnected`. A clock that can't be read counts as past each deadline.
+    /// `Disconnected`. A clock that can't be read counts as past each deadline. Where the channel
+    /// isn't full the message is sent, even where the deadline was past before the call.
     ///
     /// ```
     /// let (tx, _rx) = flume::on(rt).bounded(1)?;

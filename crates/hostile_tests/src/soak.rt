@@ -4,6 +4,7 @@
 use crate::memory::Heap;
 use ends_tests::counting::Counting;
 use ends_tests::watch::{Watched, begin_watch};
+use ends_tests::works::Work;
 use flume::error::{NoMemory, RecvError, RecvTimeoutError, TryRecvError};
 use flume::{Receiver, Sender, Waits, bounded, unbounded};
 use futures::task::Poll;
@@ -34,6 +35,18 @@ const FIRSTS: &[u64] = &[0, 2 * EACH, 4 * EACH, 6 * EACH];
 trait Runs: Waits + RandomSource + AllocGlobal + Threads + Abort + Send + Sync + 'static {}
 
 impl<R: Waits + RandomSource + AllocGlobal + Threads + Abort + Send + Sync + 'static> Runs for R {}
+
+// Fails a test in which nothing moves any more.
+#[derive(Drop)]
+struct Stuck<R: Waits + Abort>(R);
+
+impl<R: Waits + Abort> Work for Stuck<R> {
+    type Answer = ();
+
+    fn work(self) {
+        panic!(self.0; "a wake is lost: nothing moved for too long")
+    }
+}
 
 fn short() -> Duration {
     Duration::from_millis(1)
@@ -271,7 +284,7 @@ fn soak<R: Runs>(
 fn no_message_is_lost_where_one_growth_in_a_hundred_is_refused(
     rt: HostRuntime,
 ) -> Result<(), Fail> {
-    let watch = begin_watch(rt, rt.alloc())?;
+    let watch = begin_watch(rt, rt.alloc(), Stuck(rt))?;
     for capacity in [None, Some(0), Some(1), Some(7), Some(64)] {
         soak(rt, rt.alloc(), watch.watched(), capacity)?;
     }

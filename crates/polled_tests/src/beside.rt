@@ -1,6 +1,6 @@
 //! Futures beside threads that block, on one channel.
 use crate::fixtures::is;
-use crate::works::Runs;
+use crate::works::{Runs, Stuck};
 use ends_tests::watch::begin_watch;
 use ends_tests::works::{Work, started};
 use flume::error::RecvTimeoutError;
@@ -98,7 +98,7 @@ fn behind_a_future<H: Wait + Threads + Sync, R: Waits + Send + Sync>(
 fn a_thread_that_blocks_behind_a_future_gets_the_front_of_the_queue(
     rt: HostRuntime,
 ) -> Result<(), Fail> {
-    let watch = begin_watch(rt, rt.alloc())?;
+    let watch = begin_watch(rt, rt.alloc(), Stuck(rt))?;
     let task = MockTask::new(&rt)?;
     let count = AtomicU64::new(0);
     let readings = &count;
@@ -115,7 +115,7 @@ fn a_thread_that_blocks_behind_a_future_gets_the_front_of_the_queue(
 fn a_thread_that_blocks_behind_a_future_gets_the_message_that_this_was_woken_for(
     rt: HostRuntime,
 ) -> Result<(), Fail> {
-    let watch = begin_watch(rt, rt.alloc())?;
+    let watch = begin_watch(rt, rt.alloc(), Stuck(rt))?;
     let task = MockTask::new(&rt)?;
     let count = AtomicU64::new(0);
     let readings = &count;
@@ -202,7 +202,7 @@ fn echo_all<R: Runs>(rt: R, alloc: Global) -> Result<(), Fail> {
 
 #[test]
 fn no_wake_is_lost_as_a_task_that_found_nothing_waits_again(rt: HostRuntime) -> Result<(), Fail> {
-    let watch = begin_watch(rt, rt.alloc())?;
+    let watch = begin_watch(rt, rt.alloc(), Stuck(rt))?;
     let ran = echo_all(rt, rt.alloc());
     watch.end(&rt);
     ran

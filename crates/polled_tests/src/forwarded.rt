@@ -1,6 +1,6 @@
 //! A stream that is forwarded through a sink arrives whole and in its order.
 use crate::fixtures::is;
-use crate::works::Runs;
+use crate::works::{Runs, Stuck};
 use ends_tests::watch::begin_watch;
 use ends_tests::works::{Work, started};
 use flume::error::SendError;
@@ -77,7 +77,7 @@ fn passes_all<R: Runs>(rt: R, alloc: Global, capacity: usize) -> Result<(), Fail
 
 #[test]
 fn a_stream_goes_through_a_sink_of_a_channel_of_capacity_100(rt: HostRuntime) -> Result<(), Fail> {
-    let watch = begin_watch(rt, rt.alloc())?;
+    let watch = begin_watch(rt, rt.alloc(), Stuck(rt))?;
     let ended = passes_all(rt, rt.alloc(), 100);
     watch.end(&rt);
     ended
@@ -85,7 +85,7 @@ fn a_stream_goes_through_a_sink_of_a_channel_of_capacity_100(rt: HostRuntime) ->
 
 #[test]
 fn a_stream_goes_through_a_sink_of_a_channel_of_capacity_1(rt: HostRuntime) -> Result<(), Fail> {
-    let watch = begin_watch(rt, rt.alloc())?;
+    let watch = begin_watch(rt, rt.alloc(), Stuck(rt))?;
     let ended = passes_all(rt, rt.alloc(), 1);
     watch.end(&rt);
     ended

@@ -3,7 +3,7 @@ ghost use Rattle.futures.specs.Poll.{OnPending};
 ghost use Rattle.futures.specs.Task.{IsArmed, Keeps};
 
 use crate::fixtures::is;
-use crate::works::{Runs, SendUpTo};
+use crate::works::{Runs, SendUpTo, Stuck};
 use ends_tests::watch::begin_watch;
 use ends_tests::works::started;
 use flume::polled::{RecvFut, RecvStream};
@@ -130,7 +130,7 @@ fn receive_all<R: Runs>(rt: R, alloc: Global) -> Result<(), Fail> {
 
 #[test]
 fn twenty_loops_on_one_thread_share_the_messages_of_another(rt: HostRuntime) -> Result<(), Fail> {
-    let watch = begin_watch(rt, rt.alloc())?;
+    let watch = begin_watch(rt, rt.alloc(), Stuck(rt))?;
     let ended = receive_all(rt, rt.alloc());
     watch.end(&rt);
     ended

@@ -4,7 +4,7 @@ ghost use Rattle.futures.specs.Poll.{OnPending};
 ghost use Rattle.futures.specs.Task.{IsArmed, Keeps};
 
 use crate::fixtures::is;
-use crate::works::{ChangeCapacity, Runs, SendUpTo};
+use crate::works::{ChangeCapacity, Runs, SendUpTo, Stuck};
 use ends_tests::changes::wait_for_change;
 use ends_tests::watch::begin_watch;
 use ends_tests::works::started;
@@ -85,7 +85,7 @@ fn of_a_thread<R: Runs>(rt: R, alloc: Global) -> Result<(), Fail> {
 
 #[test]
 fn futures_and_a_stream_receive_in_the_order_of_a_thread(rt: HostRuntime) -> Result<(), Fail> {
-    let watch = begin_watch(rt, rt.alloc())?;
+    let watch = begin_watch(rt, rt.alloc(), Stuck(rt))?;
     let ended = of_a_thread(rt, rt.alloc());
     watch.end(&rt);
     ended
@@ -181,7 +181,7 @@ impl<R: Waits> Future for UpTo<'_, R> {
 
 #[test]
 fn two_futures_on_one_thread_pass_numbers_in_order(rt: HostRuntime) -> Result<(), Fail> {
-    let watch = begin_watch(rt, rt.alloc())?;
+    let watch = begin_watch(rt, rt.alloc(), Stuck(rt))?;
     let ended = pass_all_at_4(rt, rt.alloc());
     watch.end(&rt);
     ended
@@ -191,7 +191,7 @@ fn two_futures_on_one_thread_pass_numbers_in_order(rt: HostRuntime) -> Result<()
 fn two_futures_pass_numbers_in_order_while_a_thread_changes_the_capacity(
     rt: HostRuntime,
 ) -> Result<(), Fail> {
-    let watch = begin_watch(rt, rt.alloc())?;
+    let watch = begin_watch(rt, rt.alloc(), Stuck(rt))?;
     let ended = pass_all_while_it_changes(rt, rt.alloc());
     watch.end(&rt);
     ended

@@ -1,6 +1,6 @@
 //! Futures and streams that an executor waits for, with the other side in a thread.
 use crate::fixtures::{is, opened, receive_was, send_was};
-use crate::works::{DropLater, ReceiveOne, Runs, SendOne};
+use crate::works::{DropLater, ReceiveOne, Runs, SendOne, Stuck};
 use ends_tests::watch::begin_watch;
 use ends_tests::works::started;
 use flume::error::{RecvError, SendError};
@@ -33,7 +33,7 @@ fn receives<R: Runs>(rt: R, alloc: Global) -> Result<(), Fail> {
 fn a_receive_by_an_executor_gets_the_message_of_a_thread_and_then_the_end(
     rt: HostRuntime,
 ) -> Result<(), Fail> {
-    let watch = begin_watch(rt, rt.alloc())?;
+    let watch = begin_watch(rt, rt.alloc(), Stuck(rt))?;
     let ended = receives(rt, rt.alloc());
     watch.end(&rt);
     ended
@@ -56,7 +56,7 @@ fn sends<R: Runs>(rt: R, alloc: Global) -> Result<(), Fail> {
 fn a_send_by_an_executor_reaches_a_thread_and_comes_back_once_that_is_gone(
     rt: HostRuntime,
 ) -> Result<(), Fail> {
-    let watch = begin_watch(rt, rt.alloc())?;
+    let watch = begin_watch(rt, rt.alloc(), Stuck(rt))?;
     let ended = sends(rt, rt.alloc());
     watch.end(&rt);
     ended
@@ -90,7 +90,7 @@ fn receives_end<R: Runs>(rt: R, alloc: Global) -> Result<(), Fail> {
 fn a_send_that_an_executor_waits_for_ends_as_the_last_receiver_goes(
     rt: HostRuntime,
 ) -> Result<(), Fail> {
-    let watch = begin_watch(rt, rt.alloc())?;
+    let watch = begin_watch(rt, rt.alloc(), Stuck(rt))?;
     let ended = sends_end(rt, rt.alloc());
     watch.end(&rt);
     ended
@@ -100,7 +100,7 @@ fn a_send_that_an_executor_waits_for_ends_as_the_last_receiver_goes(
 fn a_receive_that_an_executor_waits_for_ends_as_the_last_sender_goes(
     rt: HostRuntime,
 ) -> Result<(), Fail> {
-    let watch = begin_watch(rt, rt.alloc())?;
+    let watch = begin_watch(rt, rt.alloc(), Stuck(rt))?;
     let ended = receives_end(rt, rt.alloc());
     watch.end(&rt);
     ended
@@ -120,7 +120,7 @@ fn streams<R: Runs>(rt: R, alloc: Global) -> Result<(), Fail> {
 
 #[test]
 fn a_stream_takes_a_blocked_message_of_a_thread_and_then_ends(rt: HostRuntime) -> Result<(), Fail> {
-    let watch = begin_watch(rt, rt.alloc())?;
+    let watch = begin_watch(rt, rt.alloc(), Stuck(rt))?;
     let ended = streams(rt, rt.alloc());
     watch.end(&rt);
     ended

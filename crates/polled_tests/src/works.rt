@@ -21,6 +21,18 @@ pub(crate) trait Runs: Waits
 
 impl<R: Waits + RandomSource + AllocGlobal + Threads + Abort + Send + Sync + 'static> Runs for R {}
 
+/// Fails a test in which nothing moves any more.
+#[derive(Drop)]
+pub(crate) struct Stuck<R: Waits + Abort>(pub(crate) R);
+
+impl<R: Waits + Abort> Work for Stuck<R> {
+    type Answer = ();
+
+    fn work(self) {
+        panic!(self.0; "a wake is lost: nothing moved for too long")
+    }
+}
+
 /// Sends a number by a call that blocks.
 #[derive(Drop)]
 pub(crate) struct SendOne<R: Waits> {

@@ -1,6 +1,6 @@
 //! Many threads that send to many, or share what one sends.
 use crate::fixtures::{CAPACITIES, is, opened};
-use crate::works::starts_in;
+use crate::works::{Stuck, starts_in};
 use ends_tests::watch::begin_watch;
 use ends_tests::works::Work;
 use flume::error::TryRecvError;
@@ -170,7 +170,7 @@ fn all_arrive_once<R: Waits + Threads + Abort + Send + Sync + 'static>(
 
 #[test]
 fn each_message_arrives_once(rt: HostRuntime) -> Result<(), Fail> {
-    let watch = begin_watch(rt, rt.alloc())?;
+    let watch = begin_watch(rt, rt.alloc(), Stuck(rt))?;
     let ended = all_arrive_once(rt, rt.alloc());
     watch.end(&rt);
     ended
@@ -225,7 +225,7 @@ fn all_share_once<R: Waits + Threads + Abort + Send + Sync + 'static>(
 
 #[test]
 fn eight_receivers_share_the_messages_until_the_sender_goes(rt: HostRuntime) -> Result<(), Fail> {
-    let watch = begin_watch(rt, rt.alloc())?;
+    let watch = begin_watch(rt, rt.alloc(), Stuck(rt))?;
     let ended = all_share_once(rt, rt.alloc());
     watch.end(&rt);
     ended

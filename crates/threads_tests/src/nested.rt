@@ -1,6 +1,6 @@
 //! Messages that hold an end of another channel.
 use crate::fixtures::{MOST_YIELDS, is, opened, yield_often};
-use crate::works::{ReceiveOne, ReceiveThree, Three};
+use crate::works::{ReceiveOne, ReceiveThree, Stuck, Three};
 use ends_tests::watch::begin_watch;
 use ends_tests::works::{Work, started};
 use flume::{Receiver, Sender, Waits, WeakSender};
@@ -199,7 +199,7 @@ where
 
 #[test]
 fn a_receive_ends_as_its_sender_goes_with_a_channel(rt: HostRuntime) -> Result<(), Fail> {
-    let watch = begin_watch(rt, rt.alloc())?;
+    let watch = begin_watch(rt, rt.alloc(), Stuck(rt))?;
     let ended = end_with_channels(rt);
     watch.end(&rt);
     ended

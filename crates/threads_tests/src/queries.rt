@@ -1,5 +1,6 @@
 //! Queries of both ends, and a change of the capacity, while a send waits.
 use crate::fixtures::{is, long};
+use crate::works::Stuck;
 use ends_tests::watch::begin_watch;
 use flume::{Receiver, Sender, Waits, bounded, unbounded};
 use flume_core::error::NoMemory;
@@ -155,7 +156,7 @@ fn watched<R: Waits + Threads + Abort + Send + Sync + 'static>(
 ) -> Result<(), Fail> {
     let deadline = Instant::now(&rt)?.checked_add(long());
     let deadline = deadline.expect(&rt, "an hour has a sum");
-    let watch = begin_watch(rt, alloc)?;
+    let watch = begin_watch(rt, alloc, Stuck(rt))?;
     let ended = do_while_it_waits(rt, alloc, (meanwhile, deadline));
     watch.end(&rt);
     ended

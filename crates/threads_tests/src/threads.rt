@@ -1,6 +1,6 @@
 //! Two threads that meet, over one channel or over many, and calls that end as the other side goes.
 use crate::fixtures::{CAPACITIES, MOST_YIELDS, is, opened, yield_often};
-use crate::works::{ReceiveOne, SendOne};
+use crate::works::{ReceiveOne, SendOne, Stuck};
 use ends_tests::watch::begin_watch;
 use ends_tests::works::{Work, started};
 use flume::error::{RecvError, SendError};
@@ -38,7 +38,7 @@ fn meet<R: Waits + Threads + Abort + Send + Sync + 'static>(
 
 #[test]
 fn a_send_without_room_meets_a_receive(rt: HostRuntime) -> Result<(), Fail> {
-    let watch = begin_watch(rt, rt.alloc())?;
+    let watch = begin_watch(rt, rt.alloc(), Stuck(rt))?;
     let ended = meet(rt, rt.alloc());
     watch.end(&rt);
     ended
@@ -108,7 +108,7 @@ fn each_one_to_one<R: Waits + Threads + Abort + Send + Sync + 'static>(
 
 #[test]
 fn one_thread_receives_in_the_order_of_the_other(rt: HostRuntime) -> Result<(), Fail> {
-    let watch = begin_watch(rt, rt.alloc())?;
+    let watch = begin_watch(rt, rt.alloc(), Stuck(rt))?;
     let ended = each_one_to_one(rt, rt.alloc());
     watch.end(&rt);
     ended
@@ -161,7 +161,7 @@ fn short_lived<R: Waits + Threads + Abort + Send + Sync + 'static>(
 
 #[test]
 fn short_lived_channels_each_pass_their_message(rt: HostRuntime) -> Result<(), Fail> {
-    let watch = begin_watch(rt, rt.alloc())?;
+    let watch = begin_watch(rt, rt.alloc(), Stuck(rt))?;
     let ended = short_lived(rt, rt.alloc());
     watch.end(&rt);
     ended
@@ -233,7 +233,7 @@ fn sends_end<R: Waits + Threads + Abort + Send + Sync + 'static>(
 
 #[test]
 fn a_receive_ends_as_the_last_sender_goes(rt: HostRuntime) -> Result<(), Fail> {
-    let watch = begin_watch(rt, rt.alloc())?;
+    let watch = begin_watch(rt, rt.alloc(), Stuck(rt))?;
     let ended = receives_end(rt, rt.alloc());
     watch.end(&rt);
     ended
@@ -241,7 +241,7 @@ fn a_receive_ends_as_the_last_sender_goes(rt: HostRuntime) -> Result<(), Fail> {
 
 #[test]
 fn a_send_ends_as_the_last_receiver_goes(rt: HostRuntime) -> Result<(), Fail> {
-    let watch = begin_watch(rt, rt.alloc())?;
+    let watch = begin_watch(rt, rt.alloc(), Stuck(rt))?;
     let ended = sends_end(rt, rt.alloc());
     watch.end(&rt);
     ended

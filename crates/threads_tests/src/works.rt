@@ -2,6 +2,7 @@
 use ends_tests::works::Work;
 use flume::error::{RecvError, SendError};
 use flume::{Receiver, Sender, Waits};
+use std::process::Abort;
 use std::thread::Scope;
 
 /// Starts a thread of this scope that does this. False: there can be none.
@@ -10,6 +11,18 @@ where
     W::Answer: Send + Drop + 's,
 {
     scope.spawn(move || work.work()).is_ok()
+}
+
+/// Fails a test in which nothing moves any more.
+#[derive(Drop)]
+pub(crate) struct Stuck<R: Waits + Abort>(pub(crate) R);
+
+impl<R: Waits + Abort> Work for Stuck<R> {
+    type Answer = ();
+
+    fn work(self) {
+        panic!(self.0; "a wake is lost: nothing moved for too long")
+    }
 }
 
 /// Says that it begins, and sends a number.
