@@ -1,14 +1,16 @@
-//! Drawn steps by two threads at once: each entry is told by one receipt, whatever the schedule.
+//! Drawn steps by two threads at once, of which each fourth sets the capacity: each entry is told by
+//! one receipt, and the history is a run, whatever the schedule.
 ghost use Rattle.std.specs.Prelude.{◌≡◌};
 
 use crate::drawn::{receipts_of, times_told};
-use crate::draws::Draws;
 use crate::fixtures::is;
+use core_tests::draws::Draws;
 use flume_audit::audit::Audit;
 use flume_audit::closed::Closed;
 use flume_audit::differs::differs;
 use flume_audit::receipt::Receipt;
 use flume_audit::seat::Seat;
+use flume_history::check::{Checked, check_history};
 use flume_model::step::{Reply, Step};
 use std::alloc::Global;
 use std::marker::Brand;
@@ -22,8 +24,11 @@ use std::thread::{Scope, Threads};
 // How many steps each thread makes.
 const STEPS: usize = 200;
 
-// The capacities of the channels.
-const CAPACITIES: &[usize] = &[0, 1, 3];
+// The capacities of the channels as they are opened.
+const CAPACITIES: &[Option<usize>] = &[Some(0), Some(1), Some(3), None];
+
+// The seeds from which the steps are drawn.
+const SEEDS: &[u64] = &[20_261_129, 20_261_131, 20_261_133, 20_261_135];
 
 // The seats that threads hand back.
 type Handed<L> = Mutex<Vec<Seat<u64, L>>>;
@@ -38,6 +43,14 @@ struct Drawing<'a, L: Ledger, R: Wait> {
     handed: &'a Handed<L>,
 }
 
+// The step of this number: each fourth one sets a capacity from 0 to 4, and the others are drawn.
+fn step_of(draws: &mut Draws, number: usize) -> Step<u64> {
+    match number % 4 {
+        3 => Step::SetCapacity(number / 4 % 5),
+        _ => draws.step(),
+    }
+}
+
 impl<L: Ledger, R: Wait + Copy> Drawing<'_, L, R> {
     // A seat that isn't handed back is found missing at the end.
     fn draw(self) {
@@ -48,11 +61,9 @@ impl<L: Ledger, R: Wait + Copy> Drawing<'_, L, R> {
             mut draws,
             handed,
         } = self;
-        for _ in 0..STEPS {
-            match audit.step(&mut seat, draws.step()) {
-                Ok(Reply::Pending(_) | Reply::Parked(_)) => {
-                    draws.issued = draws.issued.saturating_add(2);
-                }
+        for number in 0..STEPS {
+            match audit.step(&mut seat, step_of(&mut draws, number)) {
+                Ok(Reply::Pending(ticket) | Reply::Parked(ticket)) => draws.issued = ticket,
                 Ok(_) => {}
                 Err(_) => return,
             }
@@ -141,7 +152,7 @@ fn two_draw<L, R>(
     rt: R,
     alloc: Global,
     blank: Blank,
-    capacity: usize,
+    capacity: Option<usize>,
     seed: u64,
 ) -> Result<(), Fail>
 where
@@ -151,7 +162,7 @@ where
     requires parts { blank.parts ≡ L.parts }
     requires one_each { blank.parts ≡ 2 }
 {
-    let (audit, seats) = Audit::<u64, L, R>::new(rt, alloc, blank, Some(capacity), 2)?;
+    let (audit, seats) = Audit::<u64, L, R>::new(rt, alloc, blank, capacity, 2)?;
     let handed = Mutex::new(Vec::new(alloc));
     is(&rt, draw_in_threads(rt, &audit, seats, seed, &handed), true);
     let seats = handed.into_inner();
@@ -160,6 +171,8 @@ where
     let (closed, book) = audit.close(seats);
     is(&rt, closed, Closed::Settled);
     is(&rt, differs(book.history(), &lists), None);
+    let checked = check_history(alloc, book.opening(), book.history());
+    is(&rt, checked, Checked::Run);
     let mut once = 0usize;
     for (number, entry) in book.history().iter().enumerate() {
         if times_in(number, entry, &lists) == 1 {
@@ -171,9 +184,13 @@ where
 }
 
 #[test]
-fn drawn_steps_of_two_threads_are_told_by_one_receipt_each(rt: HostRuntime) -> Result<(), Fail> {
+fn drawn_steps_of_two_threads_are_a_run_of_which_each_is_told_once(
+    rt: HostRuntime,
+) -> Result<(), Fail> {
     for &capacity in CAPACITIES {
-        two_draw::<Brand, _>(rt, rt.alloc(), Blank::new(2), capacity, 20_261_124)?;
+        for &seed in SEEDS {
+            two_draw::<Brand, _>(rt, rt.alloc(), Blank::new(2), capacity, seed)?;
+        }
     }
     Ok(())
 }

@@ -1,8 +1,8 @@
 //! Drawn steps, by two seats in turn: each entry is told by one receipt.
 ghost use Rattle.std.specs.Prelude.{◌≡◌};
 
-use crate::draws::Draws;
 use crate::fixtures::{is, step_at};
+use core_tests::draws::Draws;
 use flume_audit::book::Book;
 use flume_audit::closed::Closed;
 use flume_audit::receipt::Receipt;

@@ -9,8 +9,6 @@ mod compared;
 #[cfg(test)]
 mod drawn;
 #[cfg(test)]
-mod draws;
-#[cfg(test)]
 mod fixtures;
 #[cfg(test)]
 mod memory;
