@@ -1,4 +1,6 @@
 //! What holds of the state of a channel.
+ghost use Rattle.std.specs.Prelude.{◌≤◌};
+ghost use Rattle.flume_state.specs.State.{message_count};
 ghost use Rattle.flume_core.specs.StandsFor.{IsLedTo};
 ghost use Rattle.flume_core.specs.StateFacts.{ChannelFacts};
 
@@ -6,13 +8,16 @@ use crate::chan::Chan;
 use std::alloc::Allocator;
 
 /// The laws of the state of a channel, which hold where some run led to it: so of one that was made
-/// by `Chan::new` or `Chan::starting_at`, and changed only by its steps and `next_due`. Does
-/// nothing.
+/// by `Chan::new` or `Chan::starting_at`, and changed only by its steps and `next_due`. Of any
+/// state, the messages that stand never pass the room that was taken for messages. Does nothing.
 ///
 /// ```
 /// chan.send(7, signal);
 /// facts(&chan);
 /// ```
-pub fn facts<T, S, A: Allocator>(chan: &Chan<T, S, A>)
+pub fn facts<T: Drop, S: Drop, A: Allocator + Copy>(chan: &Chan<T, S, A>)
     ensures facts { IsLedTo A chan.now → ChannelFacts chan.now }
-{}
+    ensures fits { message_count chan.now ≤ chan.now.space }
+{
+    let _ = chan.room();
+}

@@ -1,5 +1,5 @@
--- What a receive leaves of a channel at which nobody waits.
-use Rattle.std.proofs.Common.{◌≡◌, List, [], ◌∷◌, refl, ◌∙◌}
+-- What a receive takes from a channel at which nobody waits.
+use Rattle.std.proofs.Common.{◌≡◌, ◌≢◌, List, [], ◌∷◌, refl, ◌∙◌, ap, sym}
 use Rattle.flume_state.specs.State.{State}
 use Rattle.flume_state.specs.Effects.{fronted, fronted_from, taken}
 use Rattle.scheduler.specs.Turns.{IsPlain}
@@ -17,17 +17,19 @@ module _ {T S : Type 0} (s : State T S) (plain : IsPlain s) where
   pub taken_is : (rest : List T) → taken rest s ≡ record s { queue = rest }
   taken_is rest = rw fronted_is (rw plain.any_number (rw plain.none_blocked refl))
 
-  -- so nobody waits at it after a receive either, whether or not there was a message
-  pub plain_after : (after : State T S) → (s.queue ≡ [] → after ≡ s)
-      → ((message : T) (rest : List T) → s.queue ≡ message ∷ rest → after ≡ taken rest s)
-      → IsPlain after
-  plain_after after none some = by_queue s.queue refl
+  -- so the front goes, and all else stays
+  pub front_goes : (message : T) (after : State T S) → (fronted s).queue ≢ []
+      → ((front : T) (rest : List T) → (fronted s).queue ≡ front ∷ rest
+      → (message ≡ front) × (after ≡ taken rest s))
+      → (rest : List T) × (s.queue ≡ message ∷ rest) × (after ≡ record s { queue = rest })
+  front_goes message after some got = by_queue s.queue refl
     where
-      by_queue : (queue : List T) → s.queue ≡ queue → IsPlain after
-      by_queue [] is = rw (none is) plain
-      by_queue (message ∷ rest) is = rw (some message rest is ∙ taken_is rest) (record {
-        any_number = plain.any_number;
-        none_blocked = plain.none_blocked;
-        none_parked = plain.none_parked;
-        is_open = plain.is_open;
-      })
+      queue_is : (fronted s).queue ≡ s.queue
+      queue_is = ap (λ t. t.queue) fronted_is
+
+      by_queue : (queue : List T) → s.queue ≡ queue
+          → (rest : List T) × (s.queue ≡ message ∷ rest) × (after ≡ record s { queue = rest })
+      by_queue [] is = absurd (some (queue_is ∙ is))
+      by_queue (front ∷ rest) is =
+          let left = got front rest (queue_is ∙ is) in
+          (rest, is ∙ ap (λ m. m ∷ rest) (sym left.0), left.1 ∙ taken_is rest)

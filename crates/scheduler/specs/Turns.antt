@@ -4,7 +4,7 @@ use Rattle.flume_model.specs.Limits.{IsOpen}
 use Rattle.flume_state.specs.State.{State}
 use Rattle.scheduler.specs.declared.run_queue.Task.{Task}
 use Rattle.scheduler.specs.declared.run_queue.Turn.{Turn}
-use Rattle.scheduler.specs.declared.run_queue.Turn.TheVariants.{Idle, Done, Again, Refused}
+use Rattle.scheduler.specs.declared.run_queue.Turn.TheVariants.{Idle, Done, Again}
 
 -- an open channel of any number of messages, at which nobody waits
 pub record IsPlain {T S : Type 0} (s : State T S) : Type 0 where
@@ -18,13 +18,10 @@ abbrev pub after_step : Task → Task
 after_step task = record task { steps = task.steps - 1 }
 
 -- What a turn of the task, with these others behind it, was and left: the others, and behind them
--- the task with one step less; without it, where that was its last step; and where there was no
--- memory without it too, but then the turn hands it out.
+-- the task with one step less, or without it where that was its last step.
 abbrev pub Turned : Task → List Task → Turn → List Task → Type 0
 Turned task others (Done number) left =
     (task.steps ≤ 1) × (number ≡ task.number) × (left ≡ others)
 Turned task others (Again back) left =
     (1 < task.steps) × (back ≡ after_step task) × (left ≡ others ++ after_step task ∷ [])
-Turned task others (Refused back) left =
-    (1 < task.steps) × (back ≡ after_step task) × (left ≡ others)
 Turned task others Idle left = ⊥

@@ -30,9 +30,6 @@ fn run<R: Wait + Print>(rt: &R, queue: &mut RunQueue) -> io::Result<()> {
             Turn::Idle => return Ok(()),
             Turn::Done(number) => println!(rt; "task {number}: done")?,
             Turn::Again(task) => println!(rt; "task {}: {} to go", task.number, task.steps)?,
-            // The task came back. A program that has something else to do could try later; this
-            // one hasn't.
-            Turn::Refused(_) => return Err(NoMemory.into()),
         }
     }
     unreachable!()

@@ -1,8 +1,10 @@
 //! The queue of the tasks that are to run: a channel that one owner has, without a lock.
-ghost use Rattle.std.specs.Prelude.{◌≡◌, ◌↔◌, List, [], ◌∷◌, ◌++◌, IfOk, Err, Some, None};
-ghost use Rattle.scheduler.specs.Turns.{Turned};
+ghost use Rattle.std.specs.Prelude.{◌≡◌, ◌↔◌, List, [], ◌∷◌, ◌++◌, IfOk, IfNone, IfSome};
+ghost use Rattle.std.specs.Prelude.{Err, None};
+ghost use Rattle.scheduler.specs.Turns.{IsPlain, Turned};
 
 use flume_core::chan::Chan;
+use flume_core::facts::facts;
 use flume_model::step::Reply;
 use std::alloc::Global;
 use std::marker::Model;
@@ -23,14 +25,11 @@ pub enum Turn {
     Done(u64),
     /// A step of this task, which stands at the back of the queue now.
     Again(Task),
-    /// A step of this task, which isn't done. There was no memory to put it back, so it is the
-    /// caller's now.
-    Refused(Task),
 }
 
 /// Tasks, the one whose turn is next at the front. Nobody waits at its channel, which has one
-/// sender and one receiver and holds any number of tasks: a task that comes back always fits, but
-/// for want of memory. Nothing closes it but the end of its owner.
+/// sender and one receiver and holds any number of tasks: a task that comes back always fits, in
+/// the memory that it left. Nothing closes it but the end of its owner.
 #[derive(Drop)]
 pub struct RunQueue {
     tasks: Chan<Task, ()>,
@@ -83,7 +82,7 @@ impl RunQueue {
 
     /// One turn: the task at the front does one step, and goes to the back if it isn't done then.
     /// No task is lost: those behind it stay, and it stands at the back with one step less, or it
-    /// was its last step, or it comes back since there was no memory.
+    /// was its last step. Takes no memory: a task that goes back has the room that it left.
     ///
     /// ```
     /// queue.add(Task { number: 1, steps: 2 })?;
@@ -96,7 +95,8 @@ impl RunQueue {
         ensures turned { (task : Task) (others : List Task) → self.old ≡ task ∷ others
             → Turned task others result self.new }
     {
-        let Some(task) = self.take() else {
+        facts(&self.tasks);
+        let Some(task) = take(&mut self.tasks) else {
             return Turn::Idle;
         };
         if task.steps <= 1 {
@@ -104,22 +104,23 @@ impl RunQueue {
         }
         let steps = task.steps - 1;
         let task = Task { steps, ..task };
-        match self.add(task) {
-            Ok(()) => Turn::Again(task),
-            Err(back) => Turn::Refused(back),
-        }
-    }
-
-    // Takes the task at the front. Takes no memory.
-    fn take(&mut self) -> Option<Task>
-        ensures none { self.old ≡ [] → (result ≡ None) × (self.new ≡ []) }
-        ensures some { (task : Task) (others : List Task) → self.old ≡ task ∷ others
-            → (result ≡ Some task) × (self.new ≡ others) }
-    {
-        match self.tasks.try_recv() {
-            Reply::Got(task) => Some(task),
-            Reply::Empty => None,
+        match self.tasks.try_send(task) {
+            Reply::Sent { .. } => Turn::Again(task),
             _ => unreachable!(),
         }
+    }
+}
+
+// Takes the task at the front. The room that it stood in stays. Takes no memory.
+fn take(tasks: &mut Chan<Task, ()>) -> Option<Task>
+    requires plain { IsPlain tasks.old }
+    ensures none { IfNone result ((tasks.old.queue ≡ []) × (tasks.new ≡ tasks.old)) }
+    ensures some { IfSome result (λ task. (others : List Task)
+        × (tasks.old.queue ≡ task ∷ others) × (tasks.new ≡ record tasks.old { queue = others })) }
+{
+    match tasks.try_recv() {
+        Reply::Got(task) => Some(task),
+        Reply::Empty => None,
+        _ => unreachable!(),
     }
 }
