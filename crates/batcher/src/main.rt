@@ -1,4 +1,5 @@
-//! Collects messages into batches: of five, or of what has come when a time is over.
+//! Collects messages into batches: by draining the channel until a batch has five messages or its
+//! time is over, whichever comes first.
 //!
 //! What is printed doesn't depend on how long anything takes. A batch is begun only once all that
 //! is to go into it was sent, so its time may be over or not; and where nothing was sent, the time
@@ -10,7 +11,7 @@ use flume::{Receiver, RecvTimeoutError, Runtime, Sender, Waits};
 use std::time::{Duration, Instant};
 use std::{io, thread};
 
-// The most messages of a batch.
+// With how many messages a batch is full. It may get more, since a drain takes all that is queued.
 const SIZE: usize = 5;
 
 // How long a batch waits for its messages, in milliseconds.
@@ -19,7 +20,7 @@ const PATIENCE: u64 = 20;
 /// Why a batch ended.
 #[derive(Drop)]
 enum End {
-    /// It has all messages that it may have.
+    /// It has as many messages as it waits for, or more.
     Full,
     /// Its time was over.
     Late,
@@ -42,7 +43,6 @@ fn main(rt: HostRuntime) -> io::Result<()> {
     let (acknowledge, acknowledged) = flume::on(rt).bounded(1)?;
     let sender = thread::spawn(&rt, move || send_all(tx, &sent, &acknowledged))?;
     was_sent.recv()?;
-    print(&rt, collect(&rt, &messages)?)?;
     print(&rt, collect(&rt, &messages)?)?;
     // The sender waits for a word of this thread now, so nothing comes before the time is over.
     print(&rt, collect(&rt, &messages)?)?;
@@ -75,16 +75,19 @@ fn send_some<R: Waits>(tx: &Sender<u64, R>, first: u64, last: u64) -> io::Result
     Ok(())
 }
 
-/// The next batch. A receive whose deadline is past doesn't wait, and takes a message that is
-/// there: so a batch whose time is over is filled with what has come.
+/// The next batch. One deadline serves for all its waits: a receive whose deadline is past doesn't
+/// wait, and still takes a message that is there.
 fn collect<R: Runtime>(rt: &R, from: &Receiver<u64, R>) -> io::Result<Batch> {
-    // All room is taken before the first message is, so that none is lost for want of memory.
-    let mut messages = Vec::with_capacity(rt.alloc(), SIZE)?;
     let now = Instant::now(rt)?;
     let deadline = now
         .checked_add(Duration::from_millis(PATIENCE))
         .unwrap_or(now);
-    for _ in 0..SIZE {
+    let mut messages = Vec::new(rt.alloc());
+    for _ in rt.forever() {
+        drain(from, &mut messages)?;
+        if messages.len() >= SIZE {
+            break;
+        }
         let end = match from.recv_deadline(deadline) {
             Ok(message) => {
                 messages.push(message)?;
@@ -98,6 +101,15 @@ fn collect<R: Runtime>(rt: &R, from: &Receiver<u64, R>) -> io::Result<Batch> {
     }
     let end = End::Full;
     Ok(Batch { messages, end })
+}
+
+/// Moves all that is queued into the list, taken from the channel in one step. Where there is no
+/// memory for it, what was taken is lost with the program.
+fn drain<R: Waits>(from: &Receiver<u64, R>, messages: &mut Vec<u64>) -> io::Result<()> {
+    for message in from.drain()? {
+        messages.push(message)?;
+    }
+    Ok(())
 }
 
 /// Prints the messages of a batch, and why it ended.

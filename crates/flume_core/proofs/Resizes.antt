@@ -1,6 +1,6 @@
 -- The capacity set: what that leaves stands for the log with that step added.
-use Rattle.std.proofs.Common.{◌≡◌, ℕ, ◌+◌, ◌<◌, ◌≤◌, Bool, true, false, ◌⊎◌, inl, inr, ⊎_elim, List, [], ◌∷◌, ◌++◌}
-use Rattle.std.proofs.Common.{length, map, max, min, Option, Some, None, refl, sym, ◌∙◌, ap, ap₂, arith, append_assoc, length-append}
+use Rattle.std.proofs.Common.{◌≡◌, ℕ, ◌+◌, ◌≤◌, true, false, ◌⊎◌, inl, inr, ⊎_elim, ◌∷◌, ◌++◌}
+use Rattle.std.proofs.Common.{length, max, min, Some, refl, sym, ◌∙◌, ap, ap₂, arith, append_assoc, length-append}
 use Rattle.std.proofs.Math.Bool.{and-true}
 use Rattle.std.proofs.lemmas.List.{map-append, length-map}
 use Rattle.flume_model.specs.declared.step.Step.{Step}
@@ -16,7 +16,7 @@ use Rattle.flume_state.specs.Effects.{filled_up, resized}
 use Rattle.flume_core.specs.StandsFor.{StandsFor}
 use Rattle.flume_model.proofs.order.Kept.{keeps_line}
 use Rattle.flume_model.proofs.order.LineSteps.{line_stays}
-use Rattle.flume_core.proofs.Views.{status, status_is, queued_length, offered_messages, line_length}
+use Rattle.flume_core.proofs.Views.{status, status_is, queued_length, offered_messages}
 use Rattle.flume_core.proofs.Stands.{stands_as, stands_open, fits_as, over_same, open_not_over, peak_kept, still_live}
 use Rattle.flume_core.proofs.Takes.{full_or_room}
 use Rattle.flume_core.proofs.Drains.{MovedIn, moves_in, marks_all, apart_blocked, fills_none_full}

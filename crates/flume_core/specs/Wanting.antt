@@ -1,5 +1,5 @@
 -- Where memory may be wanted for a step: what a state says of it.
-use Rattle.std.specs.Prelude.{◌≡◌, ℕ, ◌<◌, ◌⊎◌, true, length}
+use Rattle.std.specs.Prelude.{◌≡◌, ◌<◌, ◌⊎◌, true, length}
 use Rattle.flume_model.specs.declared.step.Step.{Step}
 use Rattle.flume_model.specs.declared.step.Step.TheVariants.{TrySend, Send, TryRecv, Recv, Poll, Drain}
 use Rattle.flume_model.specs.Limits.{IsOpen, most}

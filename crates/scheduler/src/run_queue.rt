@@ -82,7 +82,8 @@ impl RunQueue {
 
     /// One turn: the task at the front does one step, and goes to the back if it isn't done then.
     /// No task is lost: those behind it stay, and it stands at the back with one step less, or it
-    /// was its last step. Takes no memory: a task that goes back has the room that it left.
+    /// was its last step. It is never refused for want of memory: a task that goes back has the
+    /// room that it left.
     ///
     /// ```
     /// queue.add(Task { number: 1, steps: 2 })?;
@@ -111,7 +112,7 @@ impl RunQueue {
     }
 }
 
-// Takes the task at the front. The room that it stood in stays. Takes no memory.
+// Takes the task at the front. The room that it stood in stays.
 fn take(tasks: &mut Chan<Task, ()>) -> Option<Task>
     requires plain { IsPlain tasks.old }
     ensures none { IfNone result ((tasks.old.queue ≡ []) × (tasks.new ≡ tasks.old)) }

@@ -2,13 +2,13 @@
 use Rattle.std.proofs.Common.{◌≡◌, Some, None, refl, sym, ◌∙◌, subst, arith, rules}
 use Rattle.flume_model.specs.Limits.{IsBounded, IsOpen, IsClosed}
 use Rattle.flume_model.specs.Line.{greater}
-use Rattle.flume_state.specs.Effects.{resized, filled_up}
+use Rattle.flume_state.specs.Effects.{filled_up}
 use Rattle.flume_state.specs.State.{State}
 use Rattle.flume_core.proofs.Keeping.{still}
 use Rattle.flume_core.proofs.Resizes.{resizes}
 use Rattle.flume_core.proofs.Spaces.{space_filled_up}
 use Rattle.flume_core.proofs.Views.{open_at_log, closed_at_log}
-use Rattle.flume_core.proofs.dues.AfterStep.{unchanged, resized_due}
+use Rattle.flume_core.proofs.dues.AfterStep.{resized_due}
 use Rattle.flume_core.proofs.chan.Chan.set_capacity.Goals as goal
 
 pub returns-then-is_none-clause-step : goal.returns-then-is_none-clause-step
