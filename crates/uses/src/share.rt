@@ -1,5 +1,5 @@
 //! A message whose type has an invariant: the receiver relies on it.
-ghost use Rattle.std.specs.Prelude.{◌≤◌, IfOk};
+ghost use Rattle.std.specs.Prelude.{◌≡◌, ◌≤◌, ◌<◌, ◌⊎◌, IfOk, IfNone, IfSome};
 
 use flume::error::RecvError;
 use flume::{Receiver, Waits};
@@ -16,7 +16,10 @@ pub struct Share {
 
 impl Share {
     /// So many parts of a whole. None where the whole has no part, or fewer than there are.
-    pub fn new(parts: u32, whole: u32) -> Option<Share> {
+    pub fn new(parts: u32, whole: u32) -> Option<Share>
+        ensures made { IfSome result (λ share. (share.parts ≡ parts) × (share.whole ≡ whole)) }
+        ensures none { IfNone result ((whole ≡ 0) ⊎ (whole < parts)) }
+    {
         if whole == 0 || parts > whole {
             return None;
         }
