@@ -1,5 +1,5 @@
-//! Drawn steps by two threads at once, of which each fourth sets the capacity: each entry is told by
-//! one receipt, and the history is a run, whatever the schedule.
+//! Drawn steps by two threads at once, of which each fourth sets the capacity: each entry is told
+//! by one receipt, and the history is a run, whatever the schedule.
 ghost use Rattle.std.specs.Prelude.{◌≡◌};
 
 use crate::drawn::{receipts_of, times_told};

@@ -1,5 +1,5 @@
 //! The queue of the tasks that are to run: a channel that one owner has, without a lock.
-ghost use Rattle.std.specs.Prelude.{◌≡◌, ◌↔◌, List, [], ◌∷◌, ◌++◌, IfOk, IfNone, IfSome};
+ghost use Rattle.std.specs.Prelude.{◌≡◌, List, [], ◌∷◌, ◌++◌, IfOk, IfNone, IfSome};
 ghost use Rattle.std.specs.Prelude.{Err, None};
 ghost use Rattle.scheduler.specs.Turns.{IsPlain, Turned};
 

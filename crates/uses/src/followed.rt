@@ -14,7 +14,8 @@ use std::alloc::Allocator;
 /// what was offered, in order, and the rest is queued or blocked.
 pub fn pass_all<A: Allocator + Copy>(chan: &mut Chan<u64, (), A>, count: u64) -> u64
     ensures headline { (opening : Opening) (log : Log ℕ A) → StandsFor opening log chan.old
-        → (longer : Log ℕ A) × StandsFor opening longer chan.new × Headline opening longer chan.new }
+        → (longer : Log ℕ A) × StandsFor opening longer chan.new
+        × Headline opening longer chan.new }
 {
     let mut sum = 0u64;
     for number in 0..count {

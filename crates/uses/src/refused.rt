@@ -16,8 +16,8 @@ pub fn offer<T: Drop, R: Waits, A: Allocator + Copy>(tx: &Sender<T, R, A>, messa
     }
 }
 
-/// Offers messages from the front on, without waiting, until one comes back. It is answered, and the
-/// rest stays in the queue: what was sent, that one, and the rest are what was handed in.
+/// Offers messages from the front on, without waiting, until one comes back. It is answered, and
+/// the rest stays in the queue: what was sent, that one, and the rest are what was handed in.
 pub fn offer_all<T: Drop, R: Waits, A: Allocator + Copy>(
     tx: &Sender<T, R, A>,
     messages: &mut VecDeque<T, A>,

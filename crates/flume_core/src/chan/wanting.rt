@@ -10,8 +10,8 @@ use std::alloc::Allocator;
 
 impl<T: Drop, S: Drop, A: Allocator + Copy> Chan<T, S, A> {
     /// Whether a channel that stands as this one may answer the step with `NoMemory`. True for an
-    /// offer that is taken in or blocks, a receiver that parks, a drain of some message, and where a
-    /// message is blocked, for a receive too: a channel may want memory to let that one into the
+    /// offer that is taken in or blocks, a receiver that parks, a drain of some message, and where
+    /// a message is blocked, for a receive too: a channel may want memory to let that one into the
     /// queue, though a `Chan` never does. It changes nothing, is no step, and takes no memory.
     ///
     /// ```
