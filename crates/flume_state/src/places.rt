@@ -2,6 +2,7 @@
 ghost use Rattle.std.specs.Prelude.{◌≡◌, None, OnOk, OnErr};
 ghost use Rattle.std.specs.FinMap.{empty, get, insert, remove};
 
+mod hashed;
 mod table;
 
 use std::alloc::{AllocError, Allocator};
@@ -38,7 +39,7 @@ impl<A: Allocator> Model for Places<A> {
     ghost invariant = { λ s. IsApart s.near s.table };
 }
 
-impl<A: Allocator + Clone> Places<A> {
+impl<A: Allocator + Copy> Places<A> {
     /// No ticket has a place. Takes no memory.
     ///
     /// ```

@@ -1,31 +1,33 @@
-//! The places of tickets in a table.
+//! The places of tickets in a table, which is made when the first of them comes.
 ghost use Rattle.std.specs.Prelude.{◌≡◌, true, None, OnOk, OnErr};
 ghost use Rattle.std.specs.FinMap.{empty, get, insert, remove};
 
+use super::hashed::HashedPlaces;
 use std::alloc::{AllocError, Allocator};
-use std::collections::HashMap;
-use std::hash::{BuildHasherDefault, FoldHasher};
 use std::marker::Model;
 
-/// The place of each of some tickets, found by its hash.
+/// The place of each of some tickets. Where none ever came it has no table: so a channel on which
+/// nobody parks beside another is as small as one without.
 #[derive(Drop)]
 pub(super) struct PlaceTable<A: Allocator> {
-    table: HashMap<u64, u32, BuildHasherDefault<FoldHasher>, A>,
+    made: Option<Box<HashedPlaces<A>, A>>,
+    alloc: A,
 }
 
 impl<A: Allocator> Model for PlaceTable<A> {
     ghost use Rattle.std.specs.Coded.{coded_ℕ};
-    ghost use Rattle.std.specs.FinMap.{code, from_entries};
+    ghost use Rattle.std.specs.FinMap.{code, empty};
+    ghost use Rattle.std.specs.Option.{option_map_or};
     ghost use Rattle.flume_state.specs.Places.{PlaceMap};
 
     ghost Value = { PlaceMap };
 
     ghost coded = { code coded_ℕ coded_ℕ };
 
-    ghost view = { λ a. from_entries a.table.entries };
+    ghost view = { λ a. option_map_or (λ b. b.value) a.made empty };
 }
 
-impl<A: Allocator + Clone> PlaceTable<A> {
+impl<A: Allocator + Copy> PlaceTable<A> {
     /// No ticket has a place. Takes no memory.
     ///
     /// ```
@@ -37,9 +39,7 @@ impl<A: Allocator + Clone> PlaceTable<A> {
     pub fn new(alloc: A) -> Self
         ensures empty { result ≡ empty }
     {
-        PlaceTable {
-            table: HashMap::new(alloc),
-        }
+        PlaceTable { made: None, alloc }
     }
 
     /// Whether no ticket has a place. It reads a count, whatever the length.
@@ -47,44 +47,62 @@ impl<A: Allocator + Clone> PlaceTable<A> {
     pub fn is_empty(&self) -> bool
         ensures empty { result ≡ true → self.now ≡ empty }
     {
-        self.table.is_empty()
+        match &self.made {
+            Some(made) => made.is_empty(),
+            None => true,
+        }
     }
 
     /// The place of `ticket`, and `None` where it has none.
-    #[tactic(auto, using(crate::proofs::TableLemmas::get_of_table))]
-    #[inline(never)]
+    #[tactic(auto, using(crate::proofs::TableLemmas::nothing_found))]
+    #[inline(always)]
     pub fn get(&self, ticket: u64) -> Option<u32>
         ensures place { result ≡ get self.now ticket }
     {
-        self.table.get(&ticket).copied()
+        match &self.made {
+            Some(made) => made.get(ticket),
+            None => None,
+        }
     }
 
     /// Gives `ticket` a place. One that it had is replaced, which needs no memory. With no memory
     /// left, nothing changes.
-    #[tactic(auto, using(crate::proofs::TableLemmas::inserts))]
+    #[tactic(auto, using(crate::proofs::TableLemmas::nothing_found))]
     #[inline(never)]
     pub fn insert(&mut self, ticket: u64, place: u32) -> Result<(), AllocError>
         ensures inserted { OnOk result (self.new ≡ insert self.old ticket place) }
         ensures unchanged { OnErr result (self.new ≡ self.old) }
         ensures absent { OnErr result (get self.old ticket ≡ None) }
     {
-        self.table.insert(ticket, place)?;
+        if let Some(made) = &mut self.made {
+            return made.insert(ticket, place);
+        }
+        let mut made = HashedPlaces::new(self.alloc);
+        made.insert(ticket, place)?;
+        match Box::new(self.alloc, made) {
+            Ok(made) => self.made = Some(made),
+            Err(_) => return Err(AllocError),
+        }
         Ok(())
     }
 
     /// The ticket has no place any more. Nothing changes where it had none. Takes no memory.
-    #[tactic(auto, using(crate::proofs::TableLemmas::removed))]
-    #[inline(never)]
+    #[tactic(auto, using(crate::proofs::TableLemmas::nothing_removed))]
+    #[inline(always)]
     pub fn remove(&mut self, ticket: u64)
         ensures removed { self.new ≡ remove self.old ticket }
     {
-        self.table.remove(&ticket);
+        if let Some(made) = &mut self.made {
+            made.remove(ticket);
+        }
     }
 
     /// No ticket has a place any more. Takes no memory.
     pub fn clear(&mut self)
         ensures empty { self.new ≡ empty }
     {
-        self.table.clear();
+        if let Some(made) = &mut self.made {
+            made.clear();
+        }
     }
 }
