@@ -105,6 +105,7 @@ pub(crate) struct Shared<T, R: Waits, A: Allocator + Copy = Global> {
 
 impl<T: Drop, R: Waits, A: Allocator + Copy> Shared<T, R, A> {
     /// What the ends of a new channel share. Takes no memory.
+    #[inline(always)]
     pub(crate) fn new(rt: R, alloc: A, id: u64, capacity: Option<usize>) -> Self
         ensures number { result.id ≡ id }
     {

@@ -52,6 +52,7 @@ impl<T, S, A: Allocator> Model for Locked<T, S, A> {
 
 impl<T: Drop, S: Drop, A: Allocator + Copy> Locked<T, S, A> {
     /// A new channel of this capacity: `None` holds any number of messages. Takes no memory.
+    #[inline(always)]
     pub fn new(alloc: A, capacity: Option<usize>) -> Self
         ensures state { result ≡ opened (opens capacity 1) }
     {

@@ -44,6 +44,7 @@ impl<E: Drop, A: Allocator> Chain<E, A> {
     /// chain.remove(0);                   // Some('a')
     /// chain.first();                     // Some(1)
     /// ```
+    #[inline(always)]
     pub fn new(alloc: A) -> Self
         ensures empty { result.items ≡ [] }
         ensures room { result.room ≡ 0 }

@@ -73,6 +73,7 @@ impl<T: Drop, S: Drop, A: Allocator + Copy> Chan<T, S, A> {
     /// chan.try_send(1);                  // Sent { filled: None }
     /// chan.try_send(2);                  // Full(2)
     /// ```
+    #[inline(always)]
     pub fn new(alloc: A, capacity: Option<usize>) -> Self
         ensures state { result ≡ opened (opens capacity 1) }
         ensures stands { StandsFor {A = A} (opens capacity 1) [] result }
@@ -86,6 +87,7 @@ impl<T: Drop, S: Drop, A: Allocator + Copy> Chan<T, S, A> {
     /// let mut chan: Chan<u64, ()> = Chan::starting_at(alloc, Some(0), 5);
     /// chan.send(7, ());                  // Pending(5)
     /// ```
+    #[inline(always)]
     pub fn starting_at(alloc: A, capacity: Option<usize>, ticket: u64) -> Self
         ensures state { result ≡ opened (opens capacity ticket) }
         ensures stands { StandsFor {A = A} (opens capacity ticket) [] result }

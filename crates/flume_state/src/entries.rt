@@ -136,6 +136,7 @@ impl<T: Drop, S: Drop, A: Allocator + Copy> Entries<T, S, A> {
     /// entries.next_due();                // Some(1)
     /// entries.next_due();                // None
     /// ```
+    #[inline(always)]
     pub fn new(alloc: A) -> Self
         ensures empty { result ≡ [] }
     {

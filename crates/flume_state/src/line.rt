@@ -60,6 +60,7 @@ impl<T: Drop, A: Allocator + Copy> Line<T, A> {
     /// line.take_queued();                // Some(7)
     /// line.take_queued();                // None: 8 is blocked
     /// ```
+    #[inline(always)]
     pub fn new(alloc: A) -> Self
         ensures empty { result ≡ record { queued = []; blocked = []; space = 0 } }
     {

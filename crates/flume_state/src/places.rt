@@ -51,6 +51,7 @@ impl<A: Allocator + Copy> Places<A> {
     /// places.remove(7);
     /// places.get(7);                     // None
     /// ```
+    #[inline(always)]
     pub fn new(alloc: A) -> Self
         ensures empty { result ≡ empty }
     {

@@ -54,6 +54,7 @@ impl<S: Drop, A: Allocator + Copy> Sends<S, A> {
     /// sends.accepted(7);                 // Some(true)
     /// sends.next_due();                  // Some(7)
     /// ```
+    #[inline(always)]
     pub fn new(alloc: A) -> Self
         ensures empty { result ≡ empty }
     {

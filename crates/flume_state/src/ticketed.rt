@@ -57,6 +57,7 @@ impl<E: Drop, A: Allocator + Copy> TicketChain<E, A> {
     /// chain.find(7);                     // Some(0)
     /// chain.first();                     // Some(1)
     /// ```
+    #[inline(always)]
     pub fn new(alloc: A) -> Self
         ensures empty { result.items ≡ [] }
         ensures room { result.room ≡ 0 }

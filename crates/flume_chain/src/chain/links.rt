@@ -64,6 +64,7 @@ impl<E: Drop, A: Allocator> Links<E, A> {
     ghost use Rattle.flume_chain.specs.contracts.chain.links.Links.{the_row};
 
     /// No nodes. Takes no memory.
+    #[inline(always)]
     pub fn new(alloc: A) -> Self
         ensures size { vec_len result.nodes ≡ 0 }
         ensures capacity { vec_capacity result.nodes ≡ 0 }

@@ -2,7 +2,7 @@
 ghost use Rattle.std.specs.Prelude.{◌≡◌, true, None, OnOk, OnErr};
 ghost use Rattle.std.specs.FinMap.{empty, get, insert, remove};
 
-use super::hashed::HashedPlaces;
+use crate::places::hashed::HashedPlaces;
 use std::alloc::{AllocError, Allocator};
 use std::marker::Model;
 
@@ -36,6 +36,7 @@ impl<A: Allocator + Copy> PlaceTable<A> {
     /// places.get(7);                     // Some(2)
     /// places.is_empty();                 // false
     /// ```
+    #[inline(always)]
     pub fn new(alloc: A) -> Self
         ensures empty { result ≡ empty }
     {
