@@ -10,6 +10,7 @@ mod Moves
 mod Spaces
 mod Receives
 mod Takes
+mod Unblocked
 mod Drains
 mod Resizes
 mod Telling

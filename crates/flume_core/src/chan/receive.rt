@@ -121,9 +121,24 @@ impl<T: Drop, S: Drop, A: Allocator + Copy> Chan<T, S, A> {
     }
 
     // Hands out the message at the front. It takes no memory: the queue has room for the blocked
-    // messages too.
+    // messages too. Where none is blocked none can move in.
     #[inline(always)]
     pub(super) fn take_front(&mut self) -> Option<T>
+        ensures some { IfSome result (λ message. (rest : List T)
+            × ((fronted self.old).queue ≡ message ∷ rest)
+            × (self.new ≡ taken rest self.old)) }
+        ensures none { IfNone result ((fronted self.old).queue ≡ []) }
+        ensures unchanged { IfNone result (self.new ≡ self.old) }
+    {
+        if self.line.blocked_len() == 0 {
+            return self.line.take_queued();
+        }
+        self.take_front_and_refill()
+    }
+
+    // The same, also where some are blocked.
+    #[inline(never)]
+    fn take_front_and_refill(&mut self) -> Option<T>
         ensures some { IfSome result (λ message. (rest : List T)
             × ((fronted self.old).queue ≡ message ∷ rest)
             × (self.new ≡ taken rest self.old)) }

@@ -1,14 +1,9 @@
--- The front of the queue is taken, and then a blocked message may move in.
-use Rattle.std.proofs.Common.{refl, ap, ◌∙◌}
+-- The front of the queue is taken where no message is blocked.
+use Rattle.std.proofs.Common.{sym, ◌∙◌}
+use Rattle.flume_core.proofs.Unblocked.{takes_alone}
 use Rattle.flume_core.proofs.chan.Chan.take_front.Goals as goal
 
-pub returns-clause-some : goal.returns-clause-some
-returns-clause-some g c =
-    let taken = c.in_ok-message.ensures.taken in
-    let queue = ap (λ l. l.queued) taken in
-    let same = ap (λ l. l.blocked) taken in
-    let space = ap (λ l. l.space) taken in (
-      c.take_queued.new.self.queued,
-      rw (← c.bring_to_front.ensures.fronted, ← c.self.view_is) queue,
-      c.refill.ensures.refilled ∙ rw (← c.bring_to_front.ensures.fronted, ← c.self.view_is, same, space) refl,
-    )
+pub returns-then-blocked_len-eq0-clause-some : goal.returns-then-blocked_len-eq0-clause-some
+returns-then-blocked_len-eq0-clause-some g c =
+    rw (sym c.self.view_is)
+    (takes_alone _ _ _ (sym c.blocked_len.ensures.len ∙ c.if-blocked_len-eq0.true) c.take_queued.ensures.taken)
