@@ -34,7 +34,7 @@ module _ {T S : Type 0} where
   pub takes_alone : (s : State T S) (l : Messages T) (r : Option T) → length s.blocked ≡ 0
       → IfSome r (λ m. record { queued = s.queue; blocked = s.blocked; space = s.space } ≡ record l { queued = m ∷ l.queued })
       → IfSome r (λ m. (rest : List T) × ((fronted s).queue ≡ m ∷ rest)
-          × (record s { queue = l.queued; blocked = l.blocked; space = l.space } ≡ taken rest s))
+      × (record s { queue = l.queued; blocked = l.blocked; space = l.space } ≡ taken rest s))
   takes_alone s l None none h = tt
   takes_alone s l (Some m) none h =
       let empty_ = nil_by s.blocked (λ more. omega arith) in
