@@ -6,11 +6,11 @@ use Rattle.flume_state.proofs.places.table.PlaceTable.remove.Goals.{in-Some, in_
 pub returns : goal.returns
 returns g c = elim c.match-self.branch [
   | in-Some w ↦ record {
-      removed =
-          rw (sym c.self.view_is)
-          (rw (w.self-inside-is, w.in-Some.is, sym w.deref_mut.ensures.value) w.remove.ensures.removed);
-    }
+    removed =
+        rw (sym c.self.view_is)
+        (rw (w.self-inside-is, w.in-Some.is, sym w.deref_mut.ensures.value) w.remove.ensures.removed);
+  }
   | in_default w ↦ record {
-      removed = rw (sym c.self.view_is) (rw (w.self-inside-is, w.in_default.is) (sym (nothing_removed c.args.ticket)));
-    }
+    removed = rw (sym c.self.view_is) (rw (w.self-inside-is, w.in_default.is) (sym (nothing_removed c.args.ticket)));
+  }
 ]
