@@ -6,29 +6,29 @@ use Rattle.flume_history.specs.Equal.{Equals}
 use Rattle.flume_history.specs.Histories.{IsSaidOf, BreaksAt}
 use Rattle.flume_history.proofs.Equals.{tells_want}
 use Rattle.flume_history.proofs.Follows.{with_next, breaks_at, beginning}
-use Rattle.flume_history.proofs.check.check_history.Given as given
 use Rattle.flume_history.proofs.check.check_history.Goals as goal
 
--- where the channel doesn't follow, the history breaks
-broken : (g : given.Over) (c : goal.After-drop-chan-inside-in-Some-false-5 g)
-    → BreaksAt (Equals g.T.PartialEq.eq) (opens c.args.capacity 1) c.args.history.now c.loop-place.place
-broken g c =
+pub returns-in-Some-false-clause-run : goal.returns-in-Some-false-clause-run
+returns-in-Some-false-clause-run g c = λ known.
     let so_far = c.loop-place.invariant.followed in
+    let broken : BreaksAt (Equals g.T.PartialEq.eq) (opens c.args.capacity 1) c.args.history.now c.loop-place.place =
     breaks_at (Equals g.T.PartialEq.eq) (tells_want g.T.PartialEq.eq) (opens c.args.capacity 1) c.args.history.now c.loop-place.place
     c.index-history-place.result so_far.0 (search rules) c.index-history-place.is so_far.1.run so_far.2
-    (c.follows.ensures.otherwise (search rules) (opens c.args.capacity 1) so_far.0 so_far.1)
-
-pub returns-in-Some-false-clause-run : goal.returns-in-Some-false-clause-run
-returns-in-Some-false-clause-run g c = λ known. (
-  λ e. absurd (let none : ⊥ = cc in none),
-  λ whole. absurd ((broken g c).not_on
-      (beginning (Equals g.T.PartialEq.eq) (opens c.args.capacity 1) (c.loop-place.place + 1) c.args.history.now whole)),
-)
+    (c.follows.ensures.otherwise (search rules) (opens c.args.capacity 1) so_far.0 so_far.1) in (
+      λ e. absurd (let none : ⊥ = cc in none),
+      λ whole. absurd (broken.not_on
+          (beginning (Equals g.T.PartialEq.eq) (opens c.args.capacity 1) (c.loop-place.place + 1) c.args.history.now whole)),
+    )
 
 pub returns-in-Some-false-clause-breaks : goal.returns-in-Some-false-clause-breaks
 returns-in-Some-false-clause-breaks g c = λ place e.
     let same : c.loop-place.place ≡ place = cc in
-    subst (λ n. BreaksAt (Equals g.T.PartialEq.eq) (opens c.args.capacity 1) c.args.history.now n) same (broken g c)
+    let so_far = c.loop-place.invariant.followed in
+    let broken : BreaksAt (Equals g.T.PartialEq.eq) (opens c.args.capacity 1) c.args.history.now c.loop-place.place =
+    breaks_at (Equals g.T.PartialEq.eq) (tells_want g.T.PartialEq.eq) (opens c.args.capacity 1) c.args.history.now c.loop-place.place
+    c.index-history-place.result so_far.0 (search rules) c.index-history-place.is so_far.1.run so_far.2
+    (c.follows.ensures.otherwise (search rules) (opens c.args.capacity 1) so_far.0 so_far.1) in
+    subst (λ n. BreaksAt (Equals g.T.PartialEq.eq) (opens c.args.capacity 1) c.args.history.now n) same broken
 
 pub loop-place-preserved : goal.loop-place-preserved
 loop-place-preserved g c =
