@@ -19,9 +19,7 @@ fn send_three<R: Waits + Abort>(rt: R, tx: &Sender<Parcel, R>) {
 const CLOSED: &[Option<usize>] = &[None, Some(100)];
 
 #[test]
-fn each_send_hands_its_message_back_once_the_receivers_are_gone(
-    rt: HostRuntime,
-) {
+fn each_send_hands_its_message_back_once_the_receivers_are_gone(rt: HostRuntime) {
     let now = present(&rt);
     for &capacity in CLOSED {
         let (tx, rx) = opened(rt, rt.alloc(), capacity);

@@ -119,8 +119,6 @@ fn opening_calls<R: Runtime>(rt: R) -> Result<usize, AllocError> {
 }
 
 #[test]
-fn each_call_that_fails_by_memory_alone_answers_what_an_allocation_does(
-    rt: HostRuntime,
-) {
+fn each_call_that_fails_by_memory_alone_answers_what_an_allocation_does(rt: HostRuntime) {
     is(&rt, opening_calls(rt), Ok(3));
 }
