@@ -7,7 +7,6 @@ use flume_core::step::{Reply, Step};
 use std::alloc::Global;
 use std::process::Abort;
 use std::sync::atomic::{AtomicU64, Ordering};
-use std::test::Fail;
 
 // How many values were made, how many of them were dropped, and the sum of the numbers of those
 // that weren't.
