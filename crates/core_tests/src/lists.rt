@@ -40,7 +40,7 @@ fn each_list_is_answered_as_its_row_says(rt: HostRuntime) {
 
 // The text of a number.
 fn text_of(rt: &impl Abort, alloc: Global, number: u64) -> String {
-    had(rt, number.to_string(alloc))
+    had(rt, format!(in alloc; "{number}"))
 }
 
 // The number of a text; no row has the greatest one.

@@ -18,7 +18,7 @@ pub(crate) struct Row {
 #[derive(Clone, Copy, Drop)]
 pub(crate) enum Asked {
     /// A call, and the text of its reply.
-    Told(Call, &'static str),
+    Told(Call<u64, u64>, &'static str),
     /// The next ticket that is due.
     Due(Option<u64>),
     /// The signal of a ticket.
@@ -27,22 +27,26 @@ pub(crate) enum Asked {
     /// this sum and with signals of this one.
     Rung(u64, u64, u64),
     /// A turn of a call that waits, and what it leads to.
-    Leads(Turn, Met<u64>),
+    Leads(Turn<u64>, Met<u64>),
 }
 
 /// A call on the channel, with the message and the signal that it hands in.
 #[derive(Clone, Copy, Drop)]
-pub(crate) enum Call {
-    TrySend(u64),
-    Send(u64, u64),
-    PollSend(u64, Option<u64>),
+pub(crate) enum Call<T, S> {
+    TrySend(T),
+    Send(T, S),
+    PollSend(u64, Option<S>),
+    WithdrawSend(u64),
     TryRecv,
-    Recv(Kind, u64),
-    Poll(u64, Option<u64>),
+    Recv(Kind, S),
+    Poll(u64, Option<S>),
     Withdraw(u64),
+    Drain,
+    CloneSender,
     CloneReceiver,
     DropSender,
     DropReceiver,
+    Len,
 }
 
 // How often it rang, and what the rings were of, as the sum of the tickets and that of the signals.
@@ -71,19 +75,23 @@ struct Stage {
     waiting: Waiting,
 }
 
-// Makes one call.
-fn make(chan: &mut Chan<u64, u64>, call: Call) -> Reply<u64> {
+/// Makes one call.
+pub(crate) fn make<T: Drop, S: Drop>(chan: &mut Chan<T, S>, call: Call<T, S>) -> Reply<T> {
     match call {
         Call::TrySend(message) => chan.try_send(message),
         Call::Send(message, signal) => chan.send(message, signal),
         Call::PollSend(ticket, signal) => chan.poll_send(ticket, signal),
+        Call::WithdrawSend(ticket) => chan.withdraw_send(ticket),
         Call::TryRecv => chan.try_recv(),
         Call::Recv(kind, signal) => chan.recv(kind, signal),
         Call::Poll(ticket, signal) => chan.poll(ticket, signal),
         Call::Withdraw(ticket) => chan.withdraw(ticket),
+        Call::Drain => chan.drain(),
+        Call::CloneSender => chan.clone_sender(),
         Call::CloneReceiver => chan.clone_receiver(),
         Call::DropSender => chan.drop_sender(),
         Call::DropReceiver => chan.drop_receiver(),
+        Call::Len => chan.len(),
     }
 }
 
@@ -117,9 +125,14 @@ impl Stage {
 
 /// Asks in turn, and compares each answer.
 pub(crate) fn replay<R: Abort>(rt: &R, alloc: Global, rows: &[Row]) {
+    replay_from(rt, alloc, 1, rows);
+}
+
+/// The same on channels whose first ticket is this one.
+pub(crate) fn replay_from<R: Abort>(rt: &R, alloc: Global, ticket: u64, rows: &[Row]) {
     for row in rows {
         let mut stage = Stage {
-            chan: Chan::new(alloc, row.capacity),
+            chan: Chan::starting_at(alloc, row.capacity, ticket),
             bell: Counter {
                 rings: 0,
                 tickets: 0,
