@@ -1,10 +1,12 @@
 //! Rows of calls, each with its answer: calls on a channel, turns of calls that wait, and bells.
+ghost use Rattle.std.specs.Prelude.{◌≡◌, ⊤};
+
 use crate::answers::{is_so, reply_is};
 use crate::turns::{Met, Turn, Waiting};
 use flume_calls::due::{Bell, fire_due};
 use flume_core::chan::Chan;
 use flume_core::step::{Kind, Reply};
-use std::alloc::Global;
+use std::alloc::{AllocError, Global};
 use std::process::Abort;
 
 /// A sentence on what a new channel of this capacity shows, and what is asked of it in turn.
@@ -31,7 +33,7 @@ pub(crate) enum Asked {
 }
 
 /// A call on the channel, with the message and the signal that it hands in.
-#[derive(Clone, Copy, Drop)]
+#[derive(Copy, Drop)]
 pub(crate) enum Call<T, S> {
     TrySend(T),
     Send(T, S),
@@ -47,6 +49,17 @@ pub(crate) enum Call<T, S> {
     DropSender,
     DropReceiver,
     Len,
+}
+
+// By hand, since a derived clone of each case costs the prover more.
+impl<T: Copy, S: Copy> Clone for Call<T, S> {
+    ghost is_clone = { λ it copy. copy ≡ it };
+
+    ghost is_infallible = { λ _. ⊤ };
+
+    fn clone(&self) -> Result<Self, AllocError> {
+        Ok(*self)
+    }
 }
 
 // How often it rang, and what the rings were of, as the sum of the tickets and that of the signals.

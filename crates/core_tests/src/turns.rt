@@ -1,12 +1,15 @@
 //! Turns of the calls that wait, and what each leads to.
+ghost use Rattle.std.specs.Prelude.{◌≡◌, ⊤};
+
 use flume_calls::calls::{RecvCall, RecvNext, SendCall, SendNext};
 use flume_core::chan::Chan;
 use flume_core::error::{RecvTimeoutError, SendTimeoutError};
 use flume_core::step::Kind;
+use std::alloc::AllocError;
 
 /// A turn of a call, with its message and its signal. A later turn is of the send or of the receive
 /// that parked last.
-#[derive(Clone, Copy, Drop)]
+#[derive(Copy, Drop)]
 pub(crate) enum Turn<T> {
     FirstSend(T),
     ParkSend(T, u64),
@@ -16,8 +19,19 @@ pub(crate) enum Turn<T> {
     AgainReceive { late: bool, signal: Option<u64> },
 }
 
+// By hand, since a derived clone of each case costs the prover more.
+impl<T: Copy> Clone for Turn<T> {
+    ghost is_clone = { λ it copy. copy ≡ it };
+
+    ghost is_infallible = { λ _. ⊤ };
+
+    fn clone(&self) -> Result<Self, AllocError> {
+        Ok(*self)
+    }
+}
+
 /// What a turn led to. The message of a send that comes back stands with it.
-#[derive(Clone, Copy, Debug, PartialEq, Drop)]
+#[derive(Copy, Debug, PartialEq, Drop)]
 pub(crate) enum Met<T> {
     Sent,
     Got(T),
@@ -29,6 +43,17 @@ pub(crate) enum Met<T> {
     NoMemory(Option<T>),
     // No such call is parked.
     NoCall,
+}
+
+// By hand, since a derived clone of each case costs the prover more.
+impl<T: Copy> Clone for Met<T> {
+    ghost is_clone = { λ it copy. copy ≡ it };
+
+    ghost is_infallible = { λ _. ⊤ };
+
+    fn clone(&self) -> Result<Self, AllocError> {
+        Ok(*self)
+    }
 }
 
 /// The send and the receive that parked last.

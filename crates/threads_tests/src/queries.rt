@@ -92,7 +92,7 @@ fn raise_and_lower<R: Waits + Abort, Q: Waits>(
 }
 
 // What is done while a send waits.
-#[derive(Clone, Copy, PartialEq, Drop)]
+#[derive(Clone, Copy)]
 enum Meanwhile {
     Asks,
     Raises,
