@@ -46,8 +46,7 @@ fn ends_of_channels_with_one_number_count_as_the_same(rt: HostRuntime) {
 #[test]
 fn a_channel_has_its_memory_from_the_allocator_of_its_builder(rt: HostRuntime) {
     let heap = Counting::new(rt.alloc());
-    let on_heap = flume::on(rt).allocator(&heap);
-    let (tx, rx) = had(&rt, on_heap.unbounded());
+    let (tx, rx) = had(&rt, flume::on(rt).allocator(&heap).unbounded());
     is(&rt, 0 < heap.live(), true);
     is(&rt, tx.send(1), Ok(()));
     is(&rt, rx.recv(), Ok(1));
@@ -56,8 +55,10 @@ fn a_channel_has_its_memory_from_the_allocator_of_its_builder(rt: HostRuntime) {
     is(&rt, heap.live(), 0);
 
     heap.refuse(true);
-    is(&rt, on_heap.unbounded::<u64>().err(), Some(NoMemory));
-    is(&rt, on_heap.bounded::<u64>(1).err(), Some(NoMemory));
+    let unbounded = flume::on(rt).allocator(&heap).unbounded::<u64>();
+    is(&rt, unbounded.err(), Some(NoMemory));
+    let bounded = flume::on(rt).allocator(&heap).bounded::<u64>(1);
+    is(&rt, bounded.err(), Some(NoMemory));
 }
 
 #[test]
