@@ -1,5 +1,5 @@
-//! Answers, compared in one place. Want of memory fails a test here: a `?` in a test costs the prover
-//! a second, and an abort none.
+//! Answers, compared in one place. Want of memory fails a test here: a `?` in a test costs the
+//! prover a second, and an abort none.
 use flume_core::step::Reply;
 use flume_script::writing::write_replies;
 use std::alloc::Global;
