@@ -78,10 +78,8 @@ const CLONED: &[Option<usize>] = &[None, Some(0)];
 fn a_clone_is_of_the_same_channel_at_each_capacity(rt: HostRuntime) {
     for &capacity in CLONED {
         let (tx, rx) = opened::<u64, _, _>(rt, rt.alloc(), capacity);
-        let other = had(&rt, tx.clone());
-        is(&rt, tx.same_channel(&other), true);
-        let other = had(&rt, rx.clone());
-        is(&rt, rx.same_channel(&other), true);
+        is(&rt, tx.same_channel(&had(&rt, tx.clone())), true);
+        is(&rt, rx.same_channel(&had(&rt, rx.clone())), true);
     }
 }
 
