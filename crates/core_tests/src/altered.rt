@@ -1,10 +1,11 @@
 //! A channel that answers as it should, but for one fault that is planted in its replies.
+use crate::answers::had;
 use flume_core::chan::Chan;
 use flume_core::run::run;
 use flume_core::step::{Reply, Step};
 use std::alloc::Global;
 use std::mem;
-use std::test::Fail;
+use std::process::Abort;
 
 /// What is wrong with the replies.
 #[derive(Clone, Copy, Debug, PartialEq, Drop)]
@@ -53,25 +54,14 @@ impl Altered {
     /// The replies to the steps.
     pub(crate) fn run(
         &mut self,
+        rt: &impl Abort,
         alloc: Global,
         steps: &[Step<u64>],
-    ) -> Result<Vec<Reply<u64>>, Fail> {
-        let mut replies = self.right_replies(alloc, steps)?;
+    ) -> Vec<Reply<u64>> {
+        let right = run(alloc, &mut self.chan, had(rt, steps.to_vec(alloc)));
+        let mut replies = right.ok().expect(rt, "there is memory");
         self.alter_each(steps, replies.as_mut_slice());
-        Ok(replies)
-    }
-
-    // The replies to the steps as they should be.
-    fn right_replies(
-        &mut self,
-        alloc: Global,
-        steps: &[Step<u64>],
-    ) -> Result<Vec<Reply<u64>>, Fail> {
-        let steps = steps.to_vec(alloc)?;
-        match run(alloc, &mut self.chan, steps) {
-            Ok(replies) => Ok(replies),
-            Err(_) => Err("out of memory".into()),
-        }
+        replies
     }
 
     fn alter_each(&mut self, steps: &[Step<u64>], replies: &mut [Reply<u64>]) {

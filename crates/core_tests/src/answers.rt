@@ -1,15 +1,20 @@
-//! Answers, compared in one place.
+//! Answers, compared in one place. Want of memory fails a test here: a `?` in a test costs the
+//! prover a second, and an abort none.
 use flume_core::step::Reply;
 use flume_script::writing::write_replies;
 use std::alloc::Global;
 use std::fmt::Debug;
 use std::process::Abort;
 use std::slice;
-use std::test::Fail;
 
 /// The answer is the wanted one.
 pub(crate) fn is<T: Debug + PartialEq + Drop>(rt: &impl Abort, answer: T, wanted: T) {
     assert_eq!(rt; answer, wanted);
+}
+
+/// What a call answers that fails by memory alone.
+pub(crate) fn had<T, E: Debug + Drop>(rt: &impl Abort, answer: Result<T, E>) -> T {
+    answer.expect(rt, "there is memory")
 }
 
 /// The answer is the wanted one, in the row of this title.
@@ -34,10 +39,9 @@ pub(crate) fn replies_are(
     title: &str,
     replies: &[Reply<u64>],
     wanted: &str,
-) -> Result<(), Fail> {
-    let text = write_replies(alloc, replies)?;
+) {
+    let text = had(rt, write_replies(alloc, replies));
     text_is(rt, title, &text, wanted);
-    Ok(())
 }
 
 /// The reply is written so, with the end of its line, which isn't in the wanted text.
@@ -47,7 +51,7 @@ pub(crate) fn reply_is(
     title: &str,
     reply: Reply<u64>,
     wanted: &str,
-) -> Result<(), Fail> {
-    let line = format!(in alloc; "{wanted}\n")?;
-    replies_are(rt, alloc, title, slice::from_ref(&reply), line.as_str())
+) {
+    let line = had(rt, format!(in alloc; "{wanted}\n"));
+    replies_are(rt, alloc, title, slice::from_ref(&reply), line.as_str());
 }

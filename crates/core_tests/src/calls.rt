@@ -2,20 +2,19 @@
 use crate::answers::is;
 use crate::rows::Asked::{Leads, Told};
 use crate::rows::Call::{DropReceiver, TryRecv, TrySend};
-use crate::rows::{Row, replay};
-use crate::turns::Met::{Disconnected, Got, NeedSignal, NoMemory, Parked, Sent, Timeout};
+use crate::rows::{Row, replay, replay_from};
+use crate::turns::Met::{self, Disconnected, Got, NeedSignal, NoMemory, Parked, Sent, Timeout};
 use crate::turns::Turn::{
     self, AgainReceive, AgainSend, FirstReceive, FirstSend, ParkReceive, ParkSend,
 };
 use crate::turns::Waiting;
-use flume_calls::calls::{RecvCall, SendCall};
 use flume_core::chan::Chan;
 use flume_core::step::{Kind, Reply};
-use std::test::Fail;
+use std::process::Abort;
 
-const LATE_SEND: Turn = AgainSend { late: true };
+const LATE_SEND: Turn<u64> = AgainSend { late: true };
 
-const LATE_RECEIVE: Turn = AgainReceive {
+const LATE_RECEIVE: Turn<u64> = AgainReceive {
     late: true,
     signal: None,
 };
@@ -71,77 +70,77 @@ const ROWS: &[Row] = &[
 ];
 
 #[test]
-fn each_turn_leads_to_what_its_row_says(rt: HostRuntime) -> Result<(), Fail> {
-    replay(&rt, rt.alloc(), ROWS)
+fn each_turn_leads_to_what_its_row_says(rt: HostRuntime) {
+    replay(&rt, rt.alloc(), ROWS);
 }
+
+const SPENT: &[Row] = &[Row {
+    title: "where every ticket was issued no call parks",
+    capacity: Some(0),
+    asked: &[
+        Leads(ParkSend(7, 10), NoMemory(Some(7))),
+        Leads(ParkReceive(Kind::Block, 10), NoMemory(None)),
+    ],
+}];
 
 #[test]
 fn where_every_ticket_was_issued_no_call_parks(rt: HostRuntime) {
-    let mut chan: Chan<u64, u64> = Chan::starting_at(rt.alloc(), Some(0), u64::MAX);
-    let mut calls = Waiting::new();
-    is(
-        &rt,
-        calls.make(&mut chan, ParkSend(7, 10)),
-        NoMemory(Some(7)),
-    );
-    is(
-        &rt,
-        calls.make(&mut chan, ParkReceive(Kind::Block, 10)),
-        NoMemory(None),
-    );
+    replay_from(&rt, rt.alloc(), u64::MAX, SPENT);
 }
 
 // A message that can't be copied.
 #[derive(Debug, PartialEq, Drop)]
 struct Parcel(u64);
 
+// What turns led to on a new channel of capacity 0.
+fn lead(
+    rt: &impl Abort,
+    chan: &mut Chan<Parcel, u64>,
+    calls: &mut Waiting,
+    turn: Turn<Parcel>,
+    met: Met<Parcel>,
+) {
+    is(rt, calls.make(chan, turn), met);
+}
+
 #[test]
 fn a_message_that_no_receive_can_take_comes_back(rt: HostRuntime) {
-    let mut chan: Chan<Parcel, u64> = Chan::new(rt.alloc(), Some(0));
-    let mut calls = Waiting::new();
-    let first = calls.after_send(SendCall::first(Parcel(1), &mut chan));
-    is(&rt, first, NeedSignal(Some(Parcel(1))));
-    is(
+    let (chan, calls) = (&mut Chan::new(rt.alloc(), Some(0)), &mut Waiting::new());
+    lead(
         &rt,
-        calls.after_send(SendCall::park(Parcel(3), 11, &mut chan)),
-        Parked,
+        chan,
+        calls,
+        FirstSend(Parcel(1)),
+        NeedSignal(Some(Parcel(1))),
     );
-    is(
-        &rt,
-        calls.again_send(&mut chan, true),
-        Timeout(Some(Parcel(3))),
-    );
+    lead(&rt, chan, calls, ParkSend(Parcel(3), 11), Parked);
+    let late = AgainSend { late: true };
+    lead(&rt, chan, calls, late, Timeout(Some(Parcel(3))));
 }
 
 #[test]
 fn a_message_goes_from_a_parked_send_to_a_receive(rt: HostRuntime) {
-    let mut chan: Chan<Parcel, u64> = Chan::new(rt.alloc(), Some(0));
-    let mut calls = Waiting::new();
-    is(
-        &rt,
-        calls.after_send(SendCall::park(Parcel(2), 10, &mut chan)),
-        Parked,
-    );
-    is(
-        &rt,
-        calls.after_receive(RecvCall::first(&mut chan)),
-        Got(Parcel(2)),
-    );
-    is(&rt, calls.again_send(&mut chan, false), Sent);
+    let (chan, calls) = (&mut Chan::new(rt.alloc(), Some(0)), &mut Waiting::new());
+    lead(&rt, chan, calls, ParkSend(Parcel(2), 10), Parked);
+    lead(&rt, chan, calls, FirstReceive, Got(Parcel(2)));
+    lead(&rt, chan, calls, AgainSend { late: false }, Sent);
 }
 
 #[test]
 fn a_receive_waits_on_under_a_new_signal_and_is_told_the_end(rt: HostRuntime) {
-    let mut chan: Chan<Parcel, u64> = Chan::new(rt.alloc(), Some(0));
-    let mut calls = Waiting::new();
-    let parked = calls.after_receive(RecvCall::park(Kind::Stream, 12, &mut chan));
-    is(&rt, parked, Parked);
-    is(&rt, calls.again_receive(&mut chan, false, Some(13)), Parked);
-    is(&rt, chan.signal(1).copied(), Some(13));
+    let (chan, calls) = (&mut Chan::new(rt.alloc(), Some(0)), &mut Waiting::new());
+    lead(&rt, chan, calls, ParkReceive(Kind::Stream, 12), Parked);
+    let late = false;
+    let signal = Some(13);
+    lead(&rt, chan, calls, AgainReceive { late, signal }, Parked);
+    is(&rt, chan.signal(1).copied(), signal);
     is(&rt, chan.drop_sender(), Reply::Done);
-    is(
+    let signal = None;
+    lead(
         &rt,
-        calls.again_receive(&mut chan, false, None),
+        chan,
+        calls,
+        AgainReceive { late, signal },
         Disconnected(None),
     );
 }

@@ -1,5 +1,5 @@
 //! Tests of the errors: their texts, conversions and equality.
-use crate::answers::is;
+use crate::answers::{had, is};
 use flume_core::error::{
     CapacityError, NoMemory, RecvError, RecvTimeoutError, SelectError, SendError, SendTimeoutError,
     TryRecvError, TrySendError,
@@ -8,40 +8,37 @@ use std::alloc::{AllocError, Global};
 use std::error::Error;
 use std::fmt::Display;
 use std::process::Abort;
-use std::test::Fail;
 
 /// A message with no text of its own.
 #[derive(Drop)]
 struct Plain(u8);
 
-fn text<E: Error>(alloc: Global, e: &E) -> Result<String, AllocError> {
-    format!(in alloc; "{e}")
+fn text<E: Error>(rt: &impl Abort, alloc: Global, e: &E) -> String {
+    had(rt, format!(in alloc; "{e}"))
 }
 
-fn debug_text<E: Error>(alloc: Global, e: &E) -> Result<String, AllocError> {
-    format!(in alloc; "{e:?}")
+fn debug_text<E: Error>(rt: &impl Abort, alloc: Global, e: &E) -> String {
+    had(rt, format!(in alloc; "{e:?}"))
 }
 
 /// At a width to the right, at a width in the middle with a fill, and cut short.
-fn padded<D: Display>(alloc: Global, e: &D) -> Result<String, AllocError> {
-    format!(in alloc; "{e:>40}|{e:*^38}|{e:.6}")
+fn padded<D: Display>(rt: &impl Abort, alloc: Global, e: &D) -> String {
+    had(rt, format!(in alloc; "{e:>40}|{e:*^38}|{e:.6}"))
 }
 
 /// Each of these displays the text beside it, and is padded and cut as that text is.
-fn display<E: Error>(rt: &impl Abort, alloc: Global, rows: &[(E, &str)]) -> Result<(), Fail> {
+fn display<E: Error>(rt: &impl Abort, alloc: Global, rows: &[(E, &str)]) {
     for (e, want) in rows {
-        is(rt, text(alloc, e)?.as_str(), *want);
-        is(rt, padded(alloc, e)?, padded(alloc, want)?);
+        is(rt, text(rt, alloc, e).as_str(), *want);
+        is(rt, padded(rt, alloc, e), padded(rt, alloc, want));
     }
-    Ok(())
 }
 
 /// Each of these has the text beside it as its debug text.
-fn debug<E: Error>(rt: &impl Abort, alloc: Global, rows: &[(E, &str)]) -> Result<(), Fail> {
+fn debug<E: Error>(rt: &impl Abort, alloc: Global, rows: &[(E, &str)]) {
     for (e, want) in rows {
-        is(rt, debug_text(alloc, e)?.as_str(), *want);
+        is(rt, debug_text(rt, alloc, e).as_str(), *want);
     }
-    Ok(())
 }
 
 const SEND: &[(SendError<u8>, &str)] = &[
@@ -103,22 +100,21 @@ const CAPACITY: &[(CapacityError, &str)] = &[
 const NO_MEMORY: &[(NoMemory, &str)] = &[(NoMemory, "out of memory")];
 
 #[test]
-fn each_error_displays_its_text_padded_and_cut(rt: HostRuntime) -> Result<(), Fail> {
+fn each_error_displays_its_text_padded_and_cut(rt: HostRuntime) {
     let alloc = rt.alloc();
-    display(&rt, alloc, SEND)?;
-    display(&rt, alloc, TRY_SEND)?;
-    display(&rt, alloc, SEND_TIMEOUT)?;
-    display(&rt, alloc, RECV)?;
-    display(&rt, alloc, TRY_RECV)?;
-    display(&rt, alloc, RECV_TIMEOUT)?;
-    display(&rt, alloc, SELECT)?;
-    display(&rt, alloc, CAPACITY)?;
-    display(&rt, alloc, NO_MEMORY)?;
-    let shown = padded(alloc, &NoMemory)?;
+    display(&rt, alloc, SEND);
+    display(&rt, alloc, TRY_SEND);
+    display(&rt, alloc, SEND_TIMEOUT);
+    display(&rt, alloc, RECV);
+    display(&rt, alloc, TRY_RECV);
+    display(&rt, alloc, RECV_TIMEOUT);
+    display(&rt, alloc, SELECT);
+    display(&rt, alloc, CAPACITY);
+    display(&rt, alloc, NO_MEMORY);
+    let shown = padded(&rt, alloc, &NoMemory);
     let wanted =
         "                           out of memory|************out of memory*************|out of";
     is(&rt, shown.as_str(), wanted);
-    Ok(())
 }
 
 const SEND_SHOWN: &[(SendError<u8>, &str)] = &[
@@ -166,31 +162,27 @@ const SELECT_SHOWN: &[(SelectError, &str)] = &[
 const NO_MEMORY_SHOWN: &[(NoMemory, &str)] = &[(NoMemory, "NoMemory")];
 
 #[test]
-fn each_error_has_its_debug_text(rt: HostRuntime) -> Result<(), Fail> {
+fn each_error_has_its_debug_text(rt: HostRuntime) {
     let alloc = rt.alloc();
-    debug(&rt, alloc, SEND_SHOWN)?;
-    debug(&rt, alloc, TRY_SEND_SHOWN)?;
-    debug(&rt, alloc, SEND_TIMEOUT_SHOWN)?;
-    debug(&rt, alloc, RECV_SHOWN)?;
-    debug(&rt, alloc, TRY_RECV_SHOWN)?;
-    debug(&rt, alloc, RECV_TIMEOUT_SHOWN)?;
-    debug(&rt, alloc, SELECT_SHOWN)?;
-    debug(&rt, alloc, NO_MEMORY_SHOWN)?;
-    Ok(())
+    debug(&rt, alloc, SEND_SHOWN);
+    debug(&rt, alloc, TRY_SEND_SHOWN);
+    debug(&rt, alloc, SEND_TIMEOUT_SHOWN);
+    debug(&rt, alloc, RECV_SHOWN);
+    debug(&rt, alloc, TRY_RECV_SHOWN);
+    debug(&rt, alloc, RECV_TIMEOUT_SHOWN);
+    debug(&rt, alloc, SELECT_SHOWN);
+    debug(&rt, alloc, NO_MEMORY_SHOWN);
 }
 
 #[test]
-fn a_send_error_is_one_of_std_whatever_its_message(rt: HostRuntime) -> Result<(), Fail> {
+fn a_send_error_is_one_of_std_whatever_its_message(rt: HostRuntime) {
     let a = rt.alloc();
     let refused = TrySendError::Full(Plain(5));
-    is(
-        &rt,
-        text(a, &refused)?.as_str(),
-        "sending on a full channel",
-    );
-    is(&rt, debug_text(a, &refused)?.as_str(), "\"Full(..)\"");
+    let shown = text(&rt, a, &refused);
+    is(&rt, shown.as_str(), "sending on a full channel");
+    let shown = debug_text(&rt, a, &refused);
+    is(&rt, shown.as_str(), "\"Full(..)\"");
     is(&rt, refused.into_inner().0, 5);
-    Ok(())
 }
 
 #[test]

@@ -1,5 +1,5 @@
 //! Tests of what each error becomes as std's io error: its kind, and its text.
-use crate::answers::is;
+use crate::answers::{had, is};
 use flume_core::error::{
     CapacityError, NoMemory, RecvError, RecvTimeoutError, SelectError, SendError, SendTimeoutError,
     TryRecvError, TrySendError,
@@ -8,20 +8,19 @@ use std::alloc::{AllocError, Global};
 use std::io;
 use std::io::ErrorKind;
 use std::process::Abort;
-use std::test::Fail;
 
 /// Each of these becomes an io error of the kind and with the text beside it.
 fn becomes<E: Into<io::Error> + Copy>(
     rt: &impl Abort,
     alloc: Global,
     rows: &[(E, ErrorKind, &str)],
-) -> Result<(), Fail> {
+) {
     for (e, kind, text) in rows {
         let error: io::Error = (*e).into();
         is(rt, error.kind(), *kind);
-        is(rt, format!(in alloc; "{error}")?.as_str(), *text);
+        let shown = had(rt, format!(in alloc; "{error}"));
+        is(rt, shown.as_str(), *text);
     }
-    Ok(())
 }
 
 const SEND: &[(SendError<u8>, ErrorKind, &str)] = &[
@@ -151,17 +150,16 @@ const NO_MEMORY: &[(NoMemory, ErrorKind, &str)] = &[(
 )];
 
 #[test]
-fn each_error_becomes_an_io_error_of_its_kind_with_its_text(rt: HostRuntime) -> Result<(), Fail> {
+fn each_error_becomes_an_io_error_of_its_kind_with_its_text(rt: HostRuntime) {
     let alloc = rt.alloc();
-    becomes(&rt, alloc, SEND)?;
-    becomes(&rt, alloc, TRY_SEND)?;
-    becomes(&rt, alloc, SEND_TIMEOUT)?;
-    becomes(&rt, alloc, RECV)?;
-    becomes(&rt, alloc, TRY_RECV)?;
-    becomes(&rt, alloc, RECV_TIMEOUT)?;
-    becomes(&rt, alloc, SELECT)?;
-    becomes(&rt, alloc, CAPACITY)?;
-    becomes(&rt, alloc, NO_MEMORY)?;
+    becomes(&rt, alloc, SEND);
+    becomes(&rt, alloc, TRY_SEND);
+    becomes(&rt, alloc, SEND_TIMEOUT);
+    becomes(&rt, alloc, RECV);
+    becomes(&rt, alloc, TRY_RECV);
+    becomes(&rt, alloc, RECV_TIMEOUT);
+    becomes(&rt, alloc, SELECT);
+    becomes(&rt, alloc, CAPACITY);
+    becomes(&rt, alloc, NO_MEMORY);
     is(&rt, AllocError::from(NoMemory), AllocError);
-    Ok(())
 }

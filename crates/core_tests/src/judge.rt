@@ -1,7 +1,6 @@
 //! A slow list, kept from the replies of one script alone, that says whether they can be.
 use flume_core::step::{Reply, Step};
-use std::alloc::Global;
-use std::test::Fail;
+use std::alloc::{AllocError, Global};
 
 #[derive(Drop)]
 struct Offer {
@@ -62,7 +61,7 @@ impl Told {
     }
 
     /// Keeps what the reply to this step tells.
-    pub fn add(&mut self, step: &Step<u64>, reply: &Reply<u64>) -> Result<(), Fail> {
+    pub fn add(&mut self, step: &Step<u64>, reply: &Reply<u64>) -> Result<(), AllocError> {
         match step {
             Step::TrySend(message) => self.offered(*message, reply)?,
             Step::Send(message) => self.offered(*message, reply)?,
@@ -83,7 +82,7 @@ impl Told {
     }
 
     // A message was offered.
-    fn offered(&mut self, message: u64, reply: &Reply<u64>) -> Result<(), Fail> {
+    fn offered(&mut self, message: u64, reply: &Reply<u64>) -> Result<(), AllocError> {
         let (ticket, filled) = match reply {
             Reply::Sent { filled } => (None, *filled),
             Reply::Pending(ticket) => (Some(*ticket), None),
@@ -137,7 +136,7 @@ impl Told {
     }
 
     // A receive that has no ticket yet.
-    fn received(&mut self, reply: &Reply<u64>) -> Result<(), Fail> {
+    fn received(&mut self, reply: &Reply<u64>) -> Result<(), AllocError> {
         match reply {
             Reply::Got(message) => self.shown(*message)?,
             Reply::Parked(ticket) => {
@@ -164,7 +163,7 @@ impl Told {
     }
 
     // A receiver that waits is filled, once.
-    fn fill(&mut self, filled: Option<u64>) -> Result<(), Fail> {
+    fn fill(&mut self, filled: Option<u64>) -> Result<(), AllocError> {
         if let Some(ticket) = filled {
             if self.replace(ticket, Stands::Filled) != Stands::Parked {
                 self.fault();
@@ -176,7 +175,7 @@ impl Told {
         Ok(())
     }
 
-    fn shown(&mut self, message: u64) -> Result<(), Fail> {
+    fn shown(&mut self, message: u64) -> Result<(), AllocError> {
         self.hand_outs.push(HandOut {
             message: Some(message),
             filled: None,
@@ -185,7 +184,7 @@ impl Told {
     }
 
     // A parked receiver asked, or left. One that was filled gets its message, and no other answer.
-    fn answered(&mut self, ticket: u64, reply: &Reply<u64>) -> Result<(), Fail> {
+    fn answered(&mut self, ticket: u64, reply: &Reply<u64>) -> Result<(), AllocError> {
         let (after, is_right) = match (self.replace(ticket, Stands::Spent), reply) {
             (Stands::Parked, Reply::Got(message)) => {
                 self.shown(*message)?;
@@ -220,7 +219,7 @@ impl Told {
         }
     }
 
-    fn drained(&mut self, reply: &Reply<u64>) -> Result<(), Fail> {
+    fn drained(&mut self, reply: &Reply<u64>) -> Result<(), AllocError> {
         match reply {
             Reply::Drained(list) => {
                 for message in list {
@@ -257,7 +256,7 @@ impl Told {
     }
 
     // The messages that were offered and did not come back, in order.
-    fn kept(&self, alloc: Global) -> Result<Vec<u64>, Fail> {
+    fn kept(&self, alloc: Global) -> Result<Vec<u64>, AllocError> {
         let mut kept = Vec::new(alloc);
         for offer in &self.offers {
             if !offer.returned {
@@ -269,7 +268,7 @@ impl Told {
 
     /// Each reply can be; the j-th hand-out is the j-th offer that was kept; and unless both ends
     /// are gone, none is left, and each that filled a receiver was collected.
-    pub fn is_right(&self, alloc: Global) -> Result<bool, Fail> {
+    pub fn is_right(&self, alloc: Global) -> Result<bool, AllocError> {
         let kept = self.kept(alloc)?;
         if self.faults > 0 || !self.is_over() && self.hand_outs.len() != kept.len() {
             return Ok(false);

@@ -2,12 +2,12 @@
 use crate::answers::is_so;
 use crate::draws::Draws;
 use crate::leak_rows::{ROWS, Row};
+use crate::rows::{Call, make};
 use flume_core::chan::Chan;
 use flume_core::step::{Reply, Step};
 use std::alloc::Global;
 use std::process::Abort;
 use std::sync::atomic::{AtomicU64, Ordering};
-use std::test::Fail;
 
 // How many values were made, how many of them were dropped, and the sum of the numbers of those
 // that weren't.
@@ -82,50 +82,31 @@ impl<'a> Stage<'a> {
         self.renews.then(|| self.signals.make())
     }
 
-    // Makes the step with a message and a signal of its own.
-    fn reply(&mut self, step: &Step<u64>) -> Reply<Counted<'a>> {
+    // The call of this step, with a message and a signal of its own.
+    fn call(&self, step: &Step<u64>) -> Call<Counted<'a>, Counted<'a>> {
         match *step {
-            Step::TrySend(_) => self.chan.try_send(self.messages.make()),
-            Step::Send(_) => self.send(),
-            Step::PollSend(ticket) => self.poll_send(ticket),
-            Step::WithdrawSend(ticket) => self.chan.withdraw_send(ticket),
-            Step::TryRecv => self.chan.try_recv(),
-            Step::Recv(kind) => self.chan.recv(kind, self.signals.make()),
-            Step::Poll(ticket) => self.poll(ticket),
-            Step::Withdraw(ticket) => self.chan.withdraw(ticket),
-            Step::Drain => self.chan.drain(),
-            _ => self.count(step),
-        }
-    }
-
-    fn send(&mut self) -> Reply<Counted<'a>> {
-        self.chan.send(self.messages.make(), self.signals.make())
-    }
-
-    fn poll_send(&mut self, ticket: u64) -> Reply<Counted<'a>> {
-        let renewed = self.renewed();
-        self.chan.poll_send(ticket, renewed)
-    }
-
-    fn poll(&mut self, ticket: u64) -> Reply<Counted<'a>> {
-        let renewed = self.renewed();
-        self.chan.poll(ticket, renewed)
-    }
-
-    // Makes a step of the ends, or counts the queue.
-    fn count(&mut self, step: &Step<u64>) -> Reply<Counted<'a>> {
-        match *step {
-            Step::CloneSender => self.chan.clone_sender(),
-            Step::CloneReceiver => self.chan.clone_receiver(),
-            Step::DropSender => self.chan.drop_sender(),
-            Step::DropReceiver => self.chan.drop_receiver(),
-            _ => self.chan.len(),
+            Step::TrySend(_) => Call::TrySend(self.messages.make()),
+            Step::Send(_) => Call::Send(self.messages.make(), self.signals.make()),
+            Step::PollSend(ticket) => Call::PollSend(ticket, self.renewed()),
+            Step::WithdrawSend(ticket) => Call::WithdrawSend(ticket),
+            Step::TryRecv => Call::TryRecv,
+            Step::Recv(kind) => Call::Recv(kind, self.signals.make()),
+            Step::Poll(ticket) => Call::Poll(ticket, self.renewed()),
+            Step::Withdraw(ticket) => Call::Withdraw(ticket),
+            Step::Drain => Call::Drain,
+            Step::CloneSender => Call::CloneSender,
+            Step::CloneReceiver => Call::CloneReceiver,
+            Step::DropSender => Call::DropSender,
+            Step::DropReceiver => Call::DropReceiver,
+            _ => Call::Len,
         }
     }
 
     // Makes the step, and drops what it hands out.
     fn make(&mut self, step: &Step<u64>) {
-        if matches!(self.reply(step), Reply::Pending(_) | Reply::Parked(_)) {
+        let call = self.call(step);
+        let reply = make(&mut self.chan, call);
+        if matches!(reply, Reply::Pending(_) | Reply::Parked(_)) {
             self.issued = self.issued.saturating_add(1);
         }
         if self.names {

@@ -1,5 +1,5 @@
 //! Lists of steps, with their replies: at numbers, at texts, and at messages that can't be copied.
-use crate::answers::{is, replies_are};
+use crate::answers::{had, is, replies_are};
 use crate::list_rows::{ROWS, Row};
 use flume_core::chan::Chan;
 use flume_core::run::run;
@@ -8,50 +8,39 @@ use flume_core::step::Step::{
 };
 use flume_core::step::{Reply, Step};
 use std::alloc::Global;
+use std::fmt::Debug;
 use std::process::Abort;
-use std::test::Fail;
 
 // The replies to the steps on this channel.
 fn replies_to<T: Drop>(
+    rt: &impl Abort,
     alloc: Global,
     chan: &mut Chan<T, ()>,
     steps: Vec<Step<T>>,
-) -> Result<Vec<Reply<T>>, Fail> {
-    let replies = run(alloc, chan, steps);
-    Ok(replies.ok().ok_or("out of memory")?)
-}
-
-// The replies to one list, at numbers.
-fn replies_at_numbers(
-    alloc: Global,
-    chan: &mut Chan<u64, ()>,
-    steps: &[Step<u64>],
-) -> Result<Vec<Reply<u64>>, Fail> {
-    let steps = steps.to_vec(alloc)?;
-    replies_to(alloc, chan, steps)
+) -> Vec<Reply<T>> {
+    run(alloc, chan, steps).ok().expect(rt, "there is memory")
 }
 
 // Each list of the row is answered as it says, at numbers.
-fn holds_at_numbers<R: Abort>(rt: &R, alloc: Global, row: &Row) -> Result<(), Fail> {
+fn holds_at_numbers<R: Abort>(rt: &R, alloc: Global, row: &Row) {
     let mut chan: Chan<u64, ()> = Chan::starting_at(alloc, row.capacity, row.ticket);
     for &(steps, wanted) in row.lists {
-        let replies = replies_at_numbers(alloc, &mut chan, steps)?;
-        replies_are(rt, alloc, row.title, replies.as_slice(), wanted)?;
+        let steps = had(rt, steps.to_vec(alloc));
+        let replies = replies_to(rt, alloc, &mut chan, steps);
+        replies_are(rt, alloc, row.title, replies.as_slice(), wanted);
     }
-    Ok(())
 }
 
 #[test]
-fn each_list_is_answered_as_its_row_says(rt: HostRuntime) -> Result<(), Fail> {
+fn each_list_is_answered_as_its_row_says(rt: HostRuntime) {
     for row in ROWS {
-        holds_at_numbers(&rt, rt.alloc(), row)?;
+        holds_at_numbers(&rt, rt.alloc(), row);
     }
-    Ok(())
 }
 
 // The text of a number.
-fn text_of(alloc: Global, number: u64) -> Result<String, Fail> {
-    Ok(number.to_string(alloc)?)
+fn text_of(rt: &impl Abort, alloc: Global, number: u64) -> String {
+    had(rt, format!(in alloc; "{number}"))
 }
 
 // The number of a text; no row has the greatest one.
@@ -60,10 +49,10 @@ fn number_of(text: &String) -> u64 {
 }
 
 // The step, with a text for its message.
-fn with_text(alloc: Global, step: &Step<u64>) -> Result<Step<String>, Fail> {
-    Ok(match *step {
-        Step::TrySend(number) => Step::TrySend(text_of(alloc, number)?),
-        Step::Send(number) => Step::Send(text_of(alloc, number)?),
+fn with_text(rt: &impl Abort, alloc: Global, step: &Step<u64>) -> Step<String> {
+    match *step {
+        Step::TrySend(number) => Step::TrySend(text_of(rt, alloc, number)),
+        Step::Send(number) => Step::Send(text_of(rt, alloc, number)),
         Step::PollSend(ticket) => Step::PollSend(ticket),
         Step::WithdrawSend(ticket) => Step::WithdrawSend(ticket),
         Step::TryRecv => Step::TryRecv,
@@ -83,7 +72,7 @@ fn with_text(alloc: Global, step: &Step<u64>) -> Result<Step<String>, Fail> {
         Step::SenderCount => Step::SenderCount,
         Step::ReceiverCount => Step::ReceiverCount,
         Step::IsDisconnected => Step::IsDisconnected,
-    })
+    }
 }
 
 // The reply, with a number for its text.
@@ -128,69 +117,58 @@ fn bare(alloc: Global, reply: &Reply<String>) -> Reply<u64> {
 }
 
 // The steps, with texts for their messages.
-fn with_texts(alloc: Global, steps: &[Step<u64>]) -> Result<Vec<Step<String>>, Fail> {
+fn with_texts(rt: &impl Abort, alloc: Global, steps: &[Step<u64>]) -> Vec<Step<String>> {
     let mut texts = Vec::new(alloc);
     for step in steps {
-        texts.push(with_text(alloc, step)?)?;
+        had(rt, texts.push(with_text(rt, alloc, step)));
     }
-    Ok(texts)
+    texts
 }
 
 // The replies, with numbers for their texts.
-fn with_numbers(alloc: Global, replies: &[Reply<String>]) -> Result<Vec<Reply<u64>>, Fail> {
+fn with_numbers(rt: &impl Abort, alloc: Global, replies: &[Reply<String>]) -> Vec<Reply<u64>> {
     let mut numbers = Vec::new(alloc);
     for reply in replies {
-        numbers.push(with_number(alloc, reply))?;
+        had(rt, numbers.push(with_number(alloc, reply)));
     }
-    Ok(numbers)
-}
-
-// The replies to one list, at texts.
-fn replies_at_texts(
-    alloc: Global,
-    chan: &mut Chan<String, ()>,
-    steps: &[Step<u64>],
-) -> Result<Vec<Reply<u64>>, Fail> {
-    let steps = with_texts(alloc, steps)?;
-    let replies = replies_to(alloc, chan, steps)?;
-    with_numbers(alloc, replies.as_slice())
+    numbers
 }
 
 // Each list of the row is answered as it says, at texts.
-fn holds_at_texts<R: Abort>(rt: &R, alloc: Global, row: &Row) -> Result<(), Fail> {
+fn holds_at_texts<R: Abort>(rt: &R, alloc: Global, row: &Row) {
     let mut chan: Chan<String, ()> = Chan::starting_at(alloc, row.capacity, row.ticket);
     for &(steps, wanted) in row.lists {
-        let replies = replies_at_texts(alloc, &mut chan, steps)?;
-        replies_are(rt, alloc, row.title, replies.as_slice(), wanted)?;
+        let steps = with_texts(rt, alloc, steps);
+        let replies = replies_to(rt, alloc, &mut chan, steps);
+        let replies = with_numbers(rt, alloc, replies.as_slice());
+        replies_are(rt, alloc, row.title, replies.as_slice(), wanted);
     }
-    Ok(())
 }
 
 #[test]
-fn each_list_is_answered_so_where_messages_are_texts(rt: HostRuntime) -> Result<(), Fail> {
+fn each_list_is_answered_so_where_messages_are_texts(rt: HostRuntime) {
     for row in ROWS {
-        holds_at_texts(&rt, rt.alloc(), row)?;
+        holds_at_texts(&rt, rt.alloc(), row);
     }
-    Ok(())
 }
 
 // A message that can't be copied.
 #[derive(Debug, PartialEq, Eq, Drop)]
 struct Parcel(u64);
 
-// The replies to the steps on a new channel of this capacity, with this first ticket.
-fn replies_of<T: Drop>(
-    alloc: Global,
-    capacity: Option<usize>,
-    ticket: u64,
+// The replies to the steps on a new channel of this capacity, with this first ticket, are these.
+fn replies_of_are<T: Debug + PartialEq + Drop>(
+    (rt, alloc): (&impl Abort, Global),
+    (capacity, ticket): (Option<usize>, u64),
     steps: Vec<Step<T>>,
-) -> Result<Vec<Reply<T>>, Fail> {
+    wanted: Vec<Reply<T>>,
+) {
     let mut chan: Chan<T, ()> = Chan::starting_at(alloc, capacity, ticket);
-    replies_to(alloc, &mut chan, steps)
+    is(rt, replies_to(rt, alloc, &mut chan, steps), wanted);
 }
 
 #[test]
-fn messages_need_not_be_copied(rt: HostRuntime) -> Result<(), Fail> {
+fn messages_need_not_be_copied(rt: HostRuntime) {
     let steps = vec![in rt.alloc();
         TrySend(Parcel(1)),
         TrySend(Parcel(2)),
@@ -198,7 +176,7 @@ fn messages_need_not_be_copied(rt: HostRuntime) -> Result<(), Fail> {
         TryRecv,
         DropSender,
         TryRecv,
-    ]?;
+    ];
     let wanted = vec![in rt.alloc();
         Reply::Sent { filled: None },
         Reply::Full(Parcel(2)),
@@ -206,20 +184,20 @@ fn messages_need_not_be_copied(rt: HostRuntime) -> Result<(), Fail> {
         Reply::Empty,
         Reply::Done,
         Reply::Ended,
-    ]?;
-    is(&rt, replies_of(rt.alloc(), Some(1), 1, steps)?, wanted);
-    Ok(())
+    ];
+    let (steps, wanted) = (had(&rt, steps), had(&rt, wanted));
+    replies_of_are((&rt, rt.alloc()), (Some(1), 1), steps, wanted);
 }
 
 #[test]
-fn blocked_messages_need_not_be_copied(rt: HostRuntime) -> Result<(), Fail> {
+fn blocked_messages_need_not_be_copied(rt: HostRuntime) {
     let steps = vec![in rt.alloc();
         Send(Parcel(1)),
         Send(Parcel(2)),
         DropReceiver,
         PollSend(1),
         IsDisconnected,
-    ]?;
+    ];
     let wanted = vec![in rt.alloc();
         Reply::Sent { filled: None },
         Reply::Pending(1),
@@ -229,56 +207,35 @@ fn blocked_messages_need_not_be_copied(rt: HostRuntime) -> Result<(), Fail> {
             closed: true,
         },
         Reply::Truth(true),
-    ]?;
-    is(&rt, replies_of(rt.alloc(), Some(1), 1, steps)?, wanted);
-    Ok(())
+    ];
+    let (steps, wanted) = (had(&rt, steps), had(&rt, wanted));
+    replies_of_are((&rt, rt.alloc()), (Some(1), 1), steps, wanted);
 }
 
-// Two texts.
-fn two_texts(alloc: Global) -> Result<(String, String), Fail> {
-    let first = "one".to_string(alloc)?;
-    Ok((first, "two".to_string(alloc)?))
-}
-
-// These two steps, with the drop of a receiver between them.
-fn around_a_drop(
-    alloc: Global,
-    first: Step<String>,
-    last: Step<String>,
-) -> Result<Vec<Step<String>>, Fail> {
-    Ok(vec![in alloc; first, DropReceiver, last]?)
-}
-
-// The replies are these, with `Done` between them.
-fn texts_are<R: Abort>(
-    rt: &R,
-    alloc: Global,
-    replies: Vec<Reply<String>>,
-    first: Reply<String>,
-    last: Reply<String>,
-) -> Result<(), Fail> {
-    let wanted = vec![in alloc; first, Reply::Done, last]?;
-    is(rt, replies, wanted);
-    Ok(())
+// A text.
+fn text(rt: &impl Abort, alloc: Global, text: &str) -> String {
+    had(rt, text.to_string(alloc))
 }
 
 #[test]
-fn a_refused_text_comes_back(rt: HostRuntime) -> Result<(), Fail> {
+fn a_refused_text_comes_back(rt: HostRuntime) {
     let a = rt.alloc();
-    let (first, second) = two_texts(a)?;
-    let steps = around_a_drop(a, TrySend(first), TrySend(second))?;
-    let replies = replies_of(a, Some(0), 1, steps)?;
-    let (first, second) = two_texts(a)?;
-    texts_are(&rt, a, replies, Reply::Full(first), Reply::Closed(second))
+    let (first, second) = (text(&rt, a, "one"), text(&rt, a, "two"));
+    let steps = vec![in a; TrySend(first), DropReceiver, TrySend(second)];
+    let (first, second) = (text(&rt, a, "one"), text(&rt, a, "two"));
+    let wanted = vec![in a; Reply::Full(first), Reply::Done, Reply::Closed(second)];
+    let (steps, wanted) = (had(&rt, steps), had(&rt, wanted));
+    replies_of_are((&rt, a), (Some(0), 1), steps, wanted);
 }
 
 #[test]
-fn a_text_comes_back_where_no_ticket_is_left(rt: HostRuntime) -> Result<(), Fail> {
+fn a_text_comes_back_where_no_ticket_is_left(rt: HostRuntime) {
     let a = rt.alloc();
-    let (first, second) = two_texts(a)?;
-    let steps = around_a_drop(a, Send(first), Send(second))?;
-    let replies = replies_of(a, Some(0), u64::MAX, steps)?;
-    let (first, second) = two_texts(a)?;
+    let (first, second) = (text(&rt, a, "one"), text(&rt, a, "two"));
+    let steps = vec![in a; Send(first), DropReceiver, Send(second)];
+    let (first, second) = (text(&rt, a, "one"), text(&rt, a, "two"));
     let spent = Reply::Spent(Some(first));
-    texts_are(&rt, a, replies, spent, Reply::Closed(second))
+    let wanted = vec![in a; spent, Reply::Done, Reply::Closed(second)];
+    let (steps, wanted) = (had(&rt, steps), had(&rt, wanted));
+    replies_of_are((&rt, a), (Some(0), u64::MAX), steps, wanted);
 }

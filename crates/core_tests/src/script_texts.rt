@@ -1,10 +1,10 @@
 //! Scripts and texts of replies, on concrete bytes.
-use crate::answers::{is, is_so, replies_are, text_is};
+use crate::answers::{had, is, is_so, replies_are, reply_is, text_is};
 use flume_core::step::{Kind, Reply, Step};
 use flume_script::reading::{Reading, read_script};
 use flume_script::writing::write_wrong;
 use std::alloc::Global;
-use std::test::Fail;
+use std::process::Abort;
 
 // (input, the number of the first wrong line or 0, how many steps)
 const READINGS: &[(&[u8], usize, usize)] = &[
@@ -90,32 +90,30 @@ const READINGS: &[(&[u8], usize, usize)] = &[
 ];
 
 // The capacity and the steps of a right script, or the number of the first wrong line.
-fn read(
-    alloc: Global,
-    input: &[u8],
-) -> Result<Result<(Option<usize>, Vec<Step<u64>>), usize>, Fail> {
-    match read_script(alloc, input)? {
-        Reading::Right { capacity, steps } => Ok(Ok((capacity, steps))),
-        Reading::Wrong { line } => Ok(Err(line)),
+type Read = Result<(Option<usize>, Vec<Step<u64>>), usize>;
+
+fn read(rt: &impl Abort, alloc: Global, input: &[u8]) -> Read {
+    match had(rt, read_script(alloc, input)) {
+        Reading::Right { capacity, steps } => Ok((capacity, steps)),
+        Reading::Wrong { line } => Err(line),
     }
 }
 
 // The number of the first wrong line or 0, and how many steps.
-fn read_counts(alloc: Global, input: &[u8]) -> Result<(usize, usize), Fail> {
-    Ok(match read(alloc, input)? {
+fn read_counts(rt: &impl Abort, alloc: Global, input: &[u8]) -> (usize, usize) {
+    match read(rt, alloc, input) {
         Ok((_capacity, steps)) => (0, steps.len()),
         Err(line) => (line, 0),
-    })
+    }
 }
 
 #[test]
-fn reads(rt: HostRuntime) -> Result<(), Fail> {
+fn reads(rt: HostRuntime) {
     for (input, wrong, count) in READINGS {
-        let title = format!(in rt.alloc(); "of {input:?}")?;
-        let read = read_counts(rt.alloc(), input)?;
+        let title = had(&rt, format!(in rt.alloc(); "of {input:?}"));
+        let read = read_counts(&rt, rt.alloc(), input);
         is_so(&rt, title.as_str(), read, (*wrong, *count));
     }
-    Ok(())
 }
 
 const EACH_STEP: &[Step<u64>] = &[
@@ -148,21 +146,20 @@ const EACH_STEP: &[Step<u64>] = &[
 const VALUES: &[Step<u64>] = &[Step::TrySend(10), Step::Len, Step::TrySend(u64::MAX)];
 
 #[test]
-fn reads_values_and_each_step(rt: HostRuntime) -> Result<(), Fail> {
+fn reads_values_and_each_step(rt: HostRuntime) {
     let input = b"bounded 007\ntry_send 10\r\nlen\ntry_send 18446744073709551615";
-    let wanted = (Some(7), VALUES.to_vec(rt.alloc())?);
-    is(&rt, read(rt.alloc(), input)?, Ok(wanted));
+    let wanted = (Some(7), had(&rt, VALUES.to_vec(rt.alloc())));
+    is(&rt, read(&rt, rt.alloc(), input), Ok(wanted));
     let input = b"unbounded\ntry_send 1\nsend 2\npoll_send 3\nwithdraw_send 4\ntry_recv\n\
         recv block\nrecv plain\nrecv stream\nrecv arm\npoll 5\nwithdraw 6\ndrain\n\
         clone_sender\nclone_receiver\ndrop_sender\ndrop_receiver\nset_capacity 7\nlen\n\
         is_empty\nis_full\ncapacity\nsender_count\nreceiver_count\nis_disconnected\n";
-    let wanted = (None, EACH_STEP.to_vec(rt.alloc())?);
-    is(&rt, read(rt.alloc(), input)?, Ok(wanted));
-    Ok(())
+    let wanted = (None, had(&rt, EACH_STEP.to_vec(rt.alloc())));
+    is(&rt, read(&rt, rt.alloc(), input), Ok(wanted));
 }
 
 #[test]
-fn writes(rt: HostRuntime) -> Result<(), Fail> {
+fn writes(rt: HostRuntime) {
     let replies = vec![in rt.alloc();
         Reply::Sent { filled: None },
         Reply::Sent { filled: Some(3) },
@@ -196,19 +193,19 @@ fn writes(rt: HostRuntime) -> Result<(), Fail> {
         Reply::Capacity(None),
         Reply::Capacity(Some(2)),
         Reply::Unbounded,
-    ]?;
+    ];
     let wanted = "sent\nsent filled 3\nfull 10\nclosed 18446744073709551615\nnomemory\n\
         nomemory 0\nspent\nspent 7\npending 3\naccepted\nwaiting\nreturned 4\nreturned 4 closed\n\
         noticket\ngot 12\nempty\nended\ndone\nnoend\ncountfull\n200\ntrue\nfalse\nnone\n2\nunbounded\n";
-    replies_are(&rt, rt.alloc(), "each reply", &replies, wanted)?;
-    let text = write_wrong(rt.alloc(), 120)?;
+    replies_are(&rt, rt.alloc(), "each reply", &had(&rt, replies), wanted);
+    let text = had(&rt, write_wrong(rt.alloc(), 120));
     text_is(&rt, "a wrong line", &text, "line 120: not a step\n");
-    Ok(())
 }
 
 #[test]
-fn writes_replies_to_parked_receivers(rt: HostRuntime) -> Result<(), Fail> {
-    let replies = vec![in rt.alloc();
+fn writes_replies_to_parked_receivers(rt: HostRuntime) {
+    let a = rt.alloc();
+    let replies = vec![in a;
         Reply::Parked(6),
         Reply::Gone {
             closed: false,
@@ -226,17 +223,12 @@ fn writes_replies_to_parked_receivers(rt: HostRuntime) -> Result<(), Fail> {
             closed: true,
             filled: Some(0),
         },
-        Reply::Drained(Vec::new(rt.alloc())),
-        Reply::Drained(vec![in rt.alloc(); 7, 10, u64::MAX]?),
-    ]?;
-    let wanted = "parked 6\ngone\ngone closed\ngone filled 18\ngone closed filled 0\n\
-        drained\ndrained 7 10 18446744073709551615\n";
-    replies_are(
-        &rt,
-        rt.alloc(),
-        "each reply to a parked receiver",
-        &replies,
-        wanted,
-    )?;
-    Ok(())
+    ];
+    let title = "each reply to a parked receiver";
+    let wanted = "parked 6\ngone\ngone closed\ngone filled 18\ngone closed filled 0\n";
+    replies_are(&rt, a, title, &had(&rt, replies), wanted);
+    reply_is(&rt, a, title, Reply::Drained(Vec::new(a)), "drained");
+    let drained = had(&rt, vec![in a; 7, 10, u64::MAX]);
+    let wanted = "drained 7 10 18446744073709551615";
+    reply_is(&rt, a, title, Reply::Drained(drained), wanted);
 }

@@ -1,9 +1,8 @@
 //! Scripts, each with a sentence on what it shows, the bytes that it prints and its status.
-use crate::answers::{is_so, text_is};
+use crate::answers::{had, is_so, text_is};
 use flume_script::run_script;
 use std::alloc::Global;
 use std::process::Abort;
-use std::test::Fail;
 
 // A sentence, a script, and what it prints.
 struct Row {
@@ -335,26 +334,25 @@ const WRONG: &[Row] = &[
 ];
 
 // Each script prints its bytes, and ends with this status.
-fn replay<R: Abort>(rt: &R, alloc: Global, rows: &[Row], status: u8) -> Result<(), Fail> {
+fn replay<R: Abort>(rt: &R, alloc: Global, rows: &[Row], status: u8) {
     for row in rows {
-        let script = run_script(alloc, row.script.as_bytes())?;
+        let script = had(rt, run_script(alloc, row.script.as_bytes()));
         text_is(rt, row.title, &script.text, row.printed);
         is_so(rt, row.title, script.status, status);
     }
-    Ok(())
 }
 
 #[test]
-fn a_right_script_prints_its_replies(rt: HostRuntime) -> Result<(), Fail> {
-    replay(&rt, rt.alloc(), RIGHT, 0)?;
-    replay(&rt, rt.alloc(), BLOCKED, 0)?;
-    replay(&rt, rt.alloc(), ENDS_AND_QUERIES, 0)?;
-    replay(&rt, rt.alloc(), CAPACITIES, 0)?;
-    replay(&rt, rt.alloc(), PARKED, 0)?;
-    replay(&rt, rt.alloc(), WAKES, 0)
+fn a_right_script_prints_its_replies(rt: HostRuntime) {
+    replay(&rt, rt.alloc(), RIGHT, 0);
+    replay(&rt, rt.alloc(), BLOCKED, 0);
+    replay(&rt, rt.alloc(), ENDS_AND_QUERIES, 0);
+    replay(&rt, rt.alloc(), CAPACITIES, 0);
+    replay(&rt, rt.alloc(), PARKED, 0);
+    replay(&rt, rt.alloc(), WAKES, 0);
 }
 
 #[test]
-fn a_wrong_script_prints_its_first_wrong_line(rt: HostRuntime) -> Result<(), Fail> {
-    replay(&rt, rt.alloc(), WRONG, 2)
+fn a_wrong_script_prints_its_first_wrong_line(rt: HostRuntime) {
+    replay(&rt, rt.alloc(), WRONG, 2);
 }

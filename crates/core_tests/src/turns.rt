@@ -1,22 +1,37 @@
 //! Turns of the calls that wait, and what each leads to.
+ghost use Rattle.std.specs.Prelude.{◌≡◌, ⊤};
+
 use flume_calls::calls::{RecvCall, RecvNext, SendCall, SendNext};
 use flume_core::chan::Chan;
 use flume_core::error::{RecvTimeoutError, SendTimeoutError};
 use flume_core::step::Kind;
+use std::alloc::AllocError;
 
-/// A turn of a call. A later turn is of the send or of the receive that parked last.
-#[derive(Clone, Copy, Drop)]
-pub(crate) enum Turn {
-    FirstSend(u64),
-    ParkSend(u64, u64),
+/// A turn of a call, with its message and its signal. A later turn is of the send or of the receive
+/// that parked last.
+#[derive(Copy, Drop)]
+pub(crate) enum Turn<T> {
+    FirstSend(T),
+    ParkSend(T, u64),
     AgainSend { late: bool },
     FirstReceive,
     ParkReceive(Kind, u64),
     AgainReceive { late: bool, signal: Option<u64> },
 }
 
+// By hand, since a derived clone of each case costs the prover more.
+impl<T: Copy> Clone for Turn<T> {
+    ghost is_clone = { λ it copy. copy ≡ it };
+
+    ghost is_infallible = { λ _. ⊤ };
+
+    fn clone(&self) -> Result<Self, AllocError> {
+        Ok(*self)
+    }
+}
+
 /// What a turn led to. The message of a send that comes back stands with it.
-#[derive(Clone, Copy, Debug, PartialEq, Drop)]
+#[derive(Copy, Debug, PartialEq, Drop)]
 pub(crate) enum Met<T> {
     Sent,
     Got(T),
@@ -30,11 +45,22 @@ pub(crate) enum Met<T> {
     NoCall,
 }
 
+// By hand, since a derived clone of each case costs the prover more.
+impl<T: Copy> Clone for Met<T> {
+    ghost is_clone = { λ it copy. copy ≡ it };
+
+    ghost is_infallible = { λ _. ⊤ };
+
+    fn clone(&self) -> Result<Self, AllocError> {
+        Ok(*self)
+    }
+}
+
 /// The send and the receive that parked last.
 #[derive(Drop)]
 pub(crate) struct Waiting {
-    send: Option<SendCall>,
-    receive: Option<RecvCall>,
+    pub(crate) send: Option<SendCall>,
+    pub(crate) receive: Option<RecvCall>,
 }
 
 impl Waiting {
@@ -45,8 +71,8 @@ impl Waiting {
         }
     }
 
-    /// What a turn of a send led to. One that parks is kept.
-    pub(crate) fn after_send<T: Drop>(&mut self, next: SendNext<T>) -> Met<T> {
+    // What a turn of a send led to. One that parks is kept.
+    fn after_send<T: Drop>(&mut self, next: SendNext<T>) -> Met<T> {
         match next {
             SendNext::Done(Ok(())) => Met::Sent,
             SendNext::Done(Err(SendTimeoutError::Timeout(back))) => Met::Timeout(Some(back)),
@@ -62,8 +88,8 @@ impl Waiting {
         }
     }
 
-    /// What a turn of a receive led to. One that parks is kept.
-    pub(crate) fn after_receive<T: Drop>(&mut self, next: RecvNext<T>) -> Met<T> {
+    // What a turn of a receive led to. One that parks is kept.
+    fn after_receive<T: Drop>(&mut self, next: RecvNext<T>) -> Met<T> {
         match next {
             RecvNext::Done(Ok(message)) => Met::Got(message),
             RecvNext::Done(Err(RecvTimeoutError::Timeout)) => Met::Timeout(None),
@@ -81,16 +107,16 @@ impl Waiting {
         }
     }
 
-    /// A later turn of the send that parked last.
-    pub(crate) fn again_send<T: Drop>(&mut self, chan: &mut Chan<T, u64>, late: bool) -> Met<T> {
+    // A later turn of the send that parked last.
+    fn again_send<T: Drop>(&mut self, chan: &mut Chan<T, u64>, late: bool) -> Met<T> {
         match self.send.take() {
             Some(call) => self.after_send(call.again(chan, late, None)),
             None => Met::NoCall,
         }
     }
 
-    /// A later turn of the receive that parked last, with this signal.
-    pub(crate) fn again_receive<T: Drop>(
+    // A later turn of the receive that parked last, with this signal.
+    fn again_receive<T: Drop>(
         &mut self,
         chan: &mut Chan<T, u64>,
         late: bool,
@@ -103,7 +129,7 @@ impl Waiting {
     }
 
     /// Makes one turn.
-    pub(crate) fn make(&mut self, chan: &mut Chan<u64, u64>, turn: Turn) -> Met<u64> {
+    pub(crate) fn make<T: Drop>(&mut self, chan: &mut Chan<T, u64>, turn: Turn<T>) -> Met<T> {
         match turn {
             Turn::FirstSend(message) => self.after_send(SendCall::first(message, chan)),
             Turn::ParkSend(message, signal) => {

@@ -1,12 +1,11 @@
 //! The lists of a channel's state, call by call: parked receivers and live sends.
-use crate::answers::is;
+use crate::answers::{had, is};
 use flume_core::step::Kind;
 use flume_state::entries::{Entries, Standing};
 use flume_state::line::Line;
 use flume_state::sends::Sends;
-use std::alloc::{AllocError, Global};
+use std::alloc::Global;
 use std::process::Abort;
-use std::test::Fail;
 
 // Parked receivers, of messages of one byte and signals of four.
 type Receivers = Entries<u8, u32, Global>;
@@ -15,11 +14,11 @@ type Receivers = Entries<u8, u32, Global>;
 type Messages = Line<u8, Global>;
 
 // Parks a receiver of each kind.
-fn park_each(receivers: &mut Receivers) -> Result<(), AllocError> {
-    receivers.park(1, Kind::Stream, 10)?;
-    receivers.park(2, Kind::Block, 20)?;
-    receivers.park(3, Kind::Plain, 30)?;
-    receivers.park(4, Kind::Arm, 40)
+fn park_each<R: Abort>(rt: &R, receivers: &mut Receivers) {
+    had(rt, receivers.park(1, Kind::Stream, 10));
+    had(rt, receivers.park(2, Kind::Block, 20));
+    had(rt, receivers.park(3, Kind::Plain, 30));
+    had(rt, receivers.park(4, Kind::Arm, 40));
 }
 
 // The ticket that is due next is this one.
@@ -81,9 +80,9 @@ fn second_round<R: Abort>(rt: &R, receivers: &mut Receivers, messages: &mut Mess
 }
 
 #[test]
-fn follows_four_receivers_of_each_kind(rt: HostRuntime) -> Result<(), Fail> {
+fn follows_four_receivers_of_each_kind(rt: HostRuntime) {
     let mut receivers = Entries::new(rt.alloc());
-    park_each(&mut receivers)?;
+    park_each(&rt, &mut receivers);
     let mut messages = Line::new(rt.alloc());
     first_round(&rt, &mut receivers, &mut messages);
     removal(&rt, &mut receivers);
@@ -91,15 +90,14 @@ fn follows_four_receivers_of_each_kind(rt: HostRuntime) -> Result<(), Fail> {
     second_round(&rt, &mut receivers, &mut messages);
     receivers.clear();
     assert!(rt; receivers.standing(1).is_none());
-    Ok(())
 }
 
 #[test]
-fn a_live_send_keeps_its_last_signal_until_it_is_spent(rt: HostRuntime) -> Result<(), Fail> {
+fn a_live_send_keeps_its_last_signal_until_it_is_spent(rt: HostRuntime) {
     let mut sends = Sends::new(rt.alloc());
     is(&rt, sends.accepted(7), None);
-    sends.block(7, 70u32)?;
-    sends.block(8, 80)?;
+    had(&rt, sends.block(7, 70u32));
+    had(&rt, sends.block(8, 80));
     is(&rt, sends.accepted(7), Some(false));
     is(&rt, sends.signal(8).copied(), Some(80));
     sends.set_signal(8, 81);
@@ -108,23 +106,19 @@ fn a_live_send_keeps_its_last_signal_until_it_is_spent(rt: HostRuntime) -> Resul
     sends.spend(8);
     is(&rt, sends.accepted(8), None);
     is(&rt, sends.signal(7).copied(), Some(70));
-    Ok(())
 }
 
 #[test]
-fn a_send_that_is_accepted_or_due_is_named_once(rt: HostRuntime) -> Result<(), Fail> {
+fn a_send_that_is_accepted_or_due_is_named_once(rt: HostRuntime) {
     let mut sends = Sends::new(rt.alloc());
-    sends.block(7, 70u32)?;
-    sends.block(8, 80)?;
+    had(&rt, sends.block(7, 70u32));
+    had(&rt, sends.block(8, 80));
     is(&rt, sends.next_due(), None);
     sends.mark_due(7);
     sends.accept(8);
     sends.mark_due(9);
-    is(
-        &rt,
-        (sends.accepted(7), sends.accepted(8)),
-        (Some(false), Some(true)),
-    );
+    is(&rt, sends.accepted(7), Some(false));
+    is(&rt, sends.accepted(8), Some(true));
     is(&rt, sends.next_due(), Some(7));
     is(&rt, sends.next_due(), Some(8));
     is(&rt, sends.next_due(), None);
@@ -132,5 +126,4 @@ fn a_send_that_is_accepted_or_due_is_named_once(rt: HostRuntime) -> Result<(), F
     sends.clear();
     is(&rt, sends.accepted(7), None);
     is(&rt, sends.next_due(), None);
-    Ok(())
 }

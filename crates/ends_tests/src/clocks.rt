@@ -1,14 +1,13 @@
 //! Clocks of the tests' own: one that can't be read, and one that counts how often it is. And a
 //! timeout so long that no clock comes to its end.
-use crate::fixtures::{Parcel, is, long};
-use crate::works::{Work, started};
+use crate::fixtures::{Parcel, begun, had, is, later, long, opened, present};
+use crate::works::Work;
 use flume::error::{RecvTimeoutError, SendTimeoutError, TryRecvError, TrySendError};
 use flume::{Receiver, Sender, Waits, bounded};
 use std::io::ErrorKind;
 use std::process::Abort;
 use std::sync::Wait;
 use std::sync::atomic::{AtomicU64, Ordering};
-use std::test::Fail;
 use std::time::{Clock, Duration, Instant};
 use std::{io, thread};
 
@@ -51,10 +50,9 @@ impl<R> Clock for Counting<'_, R> {
 }
 
 #[test]
-fn a_receive_is_late_where_the_clock_cannot_be_read(rt: HostRuntime) -> Result<(), Fail> {
-    let later = Instant::now(&rt)?.checked_add(long());
-    let later = later.expect(&rt, "an hour has a sum");
-    let (tx, rx) = bounded::<Parcel, _, _>(Unreadable { rt }, rt.alloc(), 1, 1)?;
+fn a_receive_is_late_where_the_clock_cannot_be_read(rt: HostRuntime) {
+    let later = later(&rt);
+    let (tx, rx) = had(&rt, bounded(Unreadable { rt }, rt.alloc(), 1, 1));
     is(&rt, rx.recv_timeout(long()), Err(RecvTimeoutError::Timeout));
     is(&rt, rx.recv_deadline(later), Err(RecvTimeoutError::Timeout));
     is(&rt, tx.send(Parcel(1)), Ok(()));
@@ -63,14 +61,12 @@ fn a_receive_is_late_where_the_clock_cannot_be_read(rt: HostRuntime) -> Result<(
     drop(tx);
     let closed = rx.recv_timeout(long());
     is(&rt, closed, Err(RecvTimeoutError::Disconnected));
-    Ok(())
 }
 
 #[test]
-fn a_send_is_late_where_the_clock_cannot_be_read(rt: HostRuntime) -> Result<(), Fail> {
-    let later = Instant::now(&rt)?.checked_add(long());
-    let later = later.expect(&rt, "an hour has a sum");
-    let (tx, rx) = bounded::<Parcel, _, _>(Unreadable { rt }, rt.alloc(), 1, 1)?;
+fn a_send_is_late_where_the_clock_cannot_be_read(rt: HostRuntime) {
+    let later = later(&rt);
+    let (tx, rx) = had(&rt, bounded(Unreadable { rt }, rt.alloc(), 1, 1));
     is(&rt, tx.send_timeout(Parcel(1), long()), Ok(()));
     let timed = tx.send_timeout(Parcel(2), long());
     is(&rt, timed, Err(SendTimeoutError::Timeout(Parcel(2))));
@@ -81,17 +77,16 @@ fn a_send_is_late_where_the_clock_cannot_be_read(rt: HostRuntime) -> Result<(), 
     drop(rx);
     let closed = tx.send_timeout(Parcel(4), long());
     is(&rt, closed, Err(SendTimeoutError::Disconnected(Parcel(4))));
-    Ok(())
 }
 
 #[test]
-fn a_timeout_comes_no_sooner_than_the_clock_shows_it(rt: HostRuntime) -> Result<(), Fail> {
+fn a_timeout_comes_no_sooner_than_the_clock_shows_it(rt: HostRuntime) {
     let readings = AtomicU64::new(0);
     let counting = Counting {
         rt,
         readings: &readings,
     };
-    let (tx, rx) = bounded::<Parcel, _, _>(counting, rt.alloc(), 1, 1)?;
+    let (tx, rx) = had(&rt, bounded(counting, rt.alloc(), 1, 1));
     let timeout = Duration::from_micros(40);
     // The first reading is of 0, so the one of 40 is the first at which the deadline is reached.
     is(
@@ -108,34 +103,37 @@ fn a_timeout_comes_no_sooner_than_the_clock_shows_it(rt: HostRuntime) -> Result<
     is(&rt, rx.recv(), Ok(Parcel(1)));
 
     readings.store(0, Ordering::SeqCst);
-    let deadline = Instant::now(&counting)?.checked_add(timeout);
-    let deadline = deadline.expect(&rt, "it has a sum");
+    let began = Instant::now(&counting).expect(&rt, "this clock can be read");
+    let deadline = began.checked_add(timeout).expect(&rt, "it has a sum");
     is(
         &rt,
         rx.recv_deadline(deadline),
         Err(RecvTimeoutError::Timeout),
     );
     is(&rt, 41 <= readings.load(Ordering::SeqCst), true);
-    Ok(())
+}
+
+// How much time went by since then.
+fn passed_since<R: Clock + Abort>(rt: &R, start: Instant) -> Duration {
+    start.elapsed(rt).expect(rt, "the clock can be read")
 }
 
 #[test]
-fn a_timeout_takes_its_time_by_the_clock(rt: HostRuntime) -> Result<(), Fail> {
-    let (tx, rx) = bounded::<Parcel, _, _>(rt, rt.alloc(), 1, 1)?;
+fn a_timeout_takes_its_time_by_the_clock(rt: HostRuntime) {
+    let (tx, rx) = opened(rt, rt.alloc(), Some(1));
     let timeout = Duration::from_millis(20);
-    let start = Instant::now(&rt)?;
+    let start = present(&rt);
     is(
         &rt,
         rx.recv_timeout(timeout),
         Err(RecvTimeoutError::Timeout),
     );
-    is(&rt, timeout <= start.elapsed(&rt)?, true);
+    is(&rt, timeout <= passed_since(&rt, start), true);
     is(&rt, tx.send(Parcel(1)), Ok(()));
-    let start = Instant::now(&rt)?;
+    let start = present(&rt);
     let timed = tx.send_timeout(Parcel(2), timeout);
     is(&rt, timed, Err(SendTimeoutError::Timeout(Parcel(2))));
-    is(&rt, timeout <= start.elapsed(&rt)?, true);
-    Ok(())
+    is(&rt, timeout <= passed_since(&rt, start), true);
 }
 
 // What four calls with the longest timeout answer: one is served, one is taken, and two are closed.
@@ -145,18 +143,6 @@ type Answers = (
     Result<Parcel, RecvTimeoutError>,
     Result<(), SendTimeoutError<Parcel>>,
 );
-
-fn wait_longest<R: Waits>(rx: &Receiver<Parcel, R>, tx: &Sender<Parcel, R>) -> Answers {
-    let served = rx.recv_timeout(Duration::MAX);
-    let taken = tx.send_timeout(Parcel(2), Duration::MAX);
-    let closed = rx.recv_timeout(Duration::MAX);
-    (
-        served,
-        taken,
-        closed,
-        tx.send_timeout(Parcel(3), Duration::MAX),
-    )
-}
 
 // Makes the four calls.
 #[derive(Drop)]
@@ -170,7 +156,11 @@ impl<R: Waits> Work for WaitLongest<R> {
 
     fn work(self) -> Answers {
         let WaitLongest { rx, tx } = self;
-        wait_longest(&rx, &tx)
+        let served = rx.recv_timeout(Duration::MAX);
+        let taken = tx.send_timeout(Parcel(2), Duration::MAX);
+        let closed = rx.recv_timeout(Duration::MAX);
+        let refused = tx.send_timeout(Parcel(3), Duration::MAX);
+        (served, taken, closed, refused)
     }
 }
 
@@ -198,14 +188,14 @@ fn try_until_given<R: Waits>(rt: &R, rx: &Receiver<Parcel, R>) -> Result<Parcel,
 }
 
 #[test]
-fn the_longest_timeout_waits_until_it_is_served_or_closed(rt: HostRuntime) -> Result<(), Fail> {
-    let (tx, there) = bounded::<Parcel, _, _>(rt, rt.alloc(), 1, 0)?;
-    let (back, rx) = bounded::<Parcel, _, _>(rt, rt.alloc(), 2, 0)?;
+fn the_longest_timeout_waits_until_it_is_served_or_closed(rt: HostRuntime) {
+    let (tx, there) = opened(rt, rt.alloc(), Some(0));
+    let (back, rx) = opened(rt, rt.alloc(), Some(0));
     let wait = WaitLongest {
         rx: there,
         tx: back,
     };
-    let waiting = started(&rt, wait)?;
+    let waiting = begun(&rt, wait);
     is(&rt, try_until_taken(&rt, &tx), true);
     is(&rt, try_until_given(&rt, &rx), Ok(Parcel(2)));
     drop(tx);
@@ -215,5 +205,4 @@ fn the_longest_timeout_waits_until_it_is_served_or_closed(rt: HostRuntime) -> Re
     is(&rt, taken, Ok(()));
     is(&rt, closed, Err(RecvTimeoutError::Disconnected));
     is(&rt, refused, Err(SendTimeoutError::Disconnected(Parcel(3))));
-    Ok(())
 }

@@ -1,16 +1,12 @@
 //! Nothing is leaked: each message is dropped once, and with its ends a channel gives back all the
 //! memory that it took.
 use crate::counting::Counting;
-use crate::fixtures::{is, long, present};
+use crate::fixtures::{had, is, long, opened, present};
 use flume::error::{RecvTimeoutError, SendError, SendTimeoutError, TrySendError};
-use flume::{Receiver, Sender, Waits, bounded, unbounded};
+use flume::{Receiver, Sender, Waits};
 use std::alloc::Allocator;
 use std::process::Abort;
 use std::sync::atomic::{AtomicU64, Ordering};
-use std::test::Fail;
-
-// What is wrong where a call is refused for memory.
-const MEMORY: &str = "there is memory";
 
 // A message that counts its drops.
 struct Counted<'a> {
@@ -94,10 +90,10 @@ fn closed_sends<'a, R: Waits + Abort, A: Allocator + Copy>(
 }
 
 #[test]
-fn a_message_that_is_handed_back_is_dropped_once(rt: HostRuntime) -> Result<(), Fail> {
+fn a_message_that_is_handed_back_is_dropped_once(rt: HostRuntime) {
     let drops = AtomicU64::new(0);
     let heap = Counting::new(rt.alloc());
-    let (tx, rx) = bounded::<Counted, _, _>(rt, &heap, 1, 2)?;
+    let (tx, rx) = opened(rt, &heap, Some(2));
     queue(&rt, &tx, &drops, 2);
     full_sends(&rt, &tx, &drops);
     drop(rx);
@@ -107,7 +103,6 @@ fn a_message_that_is_handed_back_is_dropped_once(rt: HostRuntime) -> Result<(), 
     drop(tx);
     dropped(&rt, &drops, 7);
     is(&rt, heap.live(), 0);
-    Ok(())
 }
 
 // Receives a message by each call, and drops it.
@@ -122,10 +117,10 @@ fn receive_four<'a, R: Waits + Abort, A: Allocator + Copy>(
 }
 
 #[test]
-fn a_received_message_is_dropped_once(rt: HostRuntime) -> Result<(), Fail> {
+fn a_received_message_is_dropped_once(rt: HostRuntime) {
     let drops = AtomicU64::new(0);
     let heap = Counting::new(rt.alloc());
-    let (tx, rx) = unbounded::<Counted, _, _>(rt, &heap, 1)?;
+    let (tx, rx) = opened(rt, &heap, None);
     queue(&rt, &tx, &drops, 9);
     receive_four(&rt, &rx);
     dropped(&rt, &drops, 4);
@@ -140,16 +135,15 @@ fn a_received_message_is_dropped_once(rt: HostRuntime) -> Result<(), Fail> {
     drop(messages);
     dropped(&rt, &drops, 9);
     is(&rt, heap.live(), 0);
-    Ok(())
 }
 
 #[test]
-fn a_drained_message_is_dropped_once(rt: HostRuntime) -> Result<(), Fail> {
+fn a_drained_message_is_dropped_once(rt: HostRuntime) {
     let drops = AtomicU64::new(0);
     let heap = Counting::new(rt.alloc());
-    let (tx, rx) = unbounded::<Counted, _, _>(rt, &heap, 1)?;
+    let (tx, rx) = opened(rt, &heap, None);
     queue(&rt, &tx, &drops, 3);
-    let mut drain = rx.drain().expect(&rt, MEMORY);
+    let mut drain = had(&rt, rx.drain());
     is(&rt, drain.next().is_some(), true);
     dropped(&rt, &drops, 1);
     // A message that comes after isn't of the drain.
@@ -160,14 +154,13 @@ fn a_drained_message_is_dropped_once(rt: HostRuntime) -> Result<(), Fail> {
     drop(rx);
     dropped(&rt, &drops, 4);
     is(&rt, heap.live(), 0);
-    Ok(())
 }
 
 #[test]
-fn calls_that_time_out_give_back_what_they_took(rt: HostRuntime) -> Result<(), Fail> {
+fn calls_that_time_out_give_back_what_they_took(rt: HostRuntime) {
     let drops = AtomicU64::new(0);
     let heap = Counting::new(rt.alloc());
-    let (tx, rx) = bounded::<Counted, _, _>(rt, &heap, 1, 1)?;
+    let (tx, rx) = opened(rt, &heap, Some(1));
     let now = present(&rt);
     for _ in 0..100 {
         let late = rx.recv_deadline(now).err();
@@ -179,14 +172,13 @@ fn calls_that_time_out_give_back_what_they_took(rt: HostRuntime) -> Result<(), F
         is(&rt, timed_is_late(&late), true);
     }
     dropped(&rt, &drops, 100);
-    let weak = tx.downgrade().expect(&rt, MEMORY);
-    let other = tx.clone().expect(&rt, MEMORY);
-    let another = rx.clone().expect(&rt, MEMORY);
+    let weak = had(&rt, tx.downgrade());
+    let other = had(&rt, tx.clone());
+    let another = had(&rt, rx.clone());
     drop((tx, rx, other, another));
     dropped(&rt, &drops, 101);
     // What the ends share goes with the last of them, one that doesn't count too.
     is(&rt, heap.live() == 0, false);
     drop(weak);
     is(&rt, heap.live(), 0);
-    Ok(())
 }

@@ -4,8 +4,6 @@
 #[cfg(test)]
 mod builder;
 #[cfg(test)]
-mod calls;
-#[cfg(test)]
 mod capacities;
 pub mod changes;
 #[cfg(test)]

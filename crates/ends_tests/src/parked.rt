@@ -1,13 +1,12 @@
 //! What a call takes as it parks is given back, whichever way it ends: a wait's memory, and its
 //! message.
 use crate::counting::Counting;
-use crate::fixtures::{is, long};
+use crate::fixtures::{had, is, later};
 use flume::{Receiver, Sender, Waits, bounded};
 use std::alloc::{Allocator, Global};
 use std::process::Abort;
 use std::sync::Wait;
 use std::sync::atomic::{AtomicU64, Ordering};
-use std::test::Fail;
 use std::thread::Threads;
 use std::time::{Clock, Duration, Instant};
 use std::{io, thread};
@@ -112,22 +111,21 @@ fn parked_receive_ends<
 }
 
 #[test]
-fn a_parked_receive_gives_back_what_it_took(rt: HostRuntime) -> Result<(), Fail> {
-    let later = Instant::now(&rt)?.checked_add(long());
-    let later = later.expect(&rt, "an hour has a sum");
+fn a_parked_receive_gives_back_what_it_took(rt: HostRuntime) {
+    let later = later(&rt);
     let counts = Counts::new(rt.alloc());
     let (readings, drops) = (&counts.readings, &counts.drops);
-    let ends = bounded(Noting { rt, readings }, &counts.heap, 1, 1)?;
+    let ends = had(&rt, bounded(Noting { rt, readings }, &counts.heap, 1, 1));
     let message = Some(Counted { drops });
     let got = parked_receive_ends(&rt, ends, (readings, later), message);
     is(&rt, got, true);
     all_given_back(&rt, &counts, 1);
 
-    let ends = bounded::<Counted, _, _>(Noting { rt, readings }, &counts.heap, 1, 1)?;
+    let noting = Noting { rt, readings };
+    let ends = had(&rt, bounded::<Counted, _, _>(noting, &counts.heap, 1, 1));
     let got = parked_receive_ends(&rt, ends, (readings, later), None);
     is(&rt, got, false);
     all_given_back(&rt, &counts, 0);
-    Ok(())
 }
 
 // What ends a blocked send.
@@ -140,6 +138,13 @@ enum Ending {
     // The receiver goes.
     Close,
 }
+
+// Each of them, and whether the send ends well.
+const ENDINGS: &[(Ending, bool)] = &[
+    (Ending::Receive, true),
+    (Ending::Drain, true),
+    (Ending::Close, false),
+];
 
 // Whether a send of this message that has parked, in a thread, ends well.
 fn parked_send_ends<
@@ -169,22 +174,16 @@ fn parked_send_ends<
 }
 
 #[test]
-fn a_blocked_send_gives_back_what_it_took(rt: HostRuntime) -> Result<(), Fail> {
-    let later = Instant::now(&rt)?.checked_add(long());
-    let later = later.expect(&rt, "an hour has a sum");
+fn a_blocked_send_gives_back_what_it_took(rt: HostRuntime) {
+    let later = later(&rt);
     let counts = Counts::new(rt.alloc());
     let (readings, drops) = (&counts.readings, &counts.drops);
-    for (ending, ok) in [
-        (Ending::Receive, true),
-        (Ending::Drain, true),
-        (Ending::Close, false),
-    ] {
-        let ends = bounded(Noting { rt, readings }, &counts.heap, 1, 1)?;
+    for &(ending, ok) in ENDINGS {
+        let ends = had(&rt, bounded(Noting { rt, readings }, &counts.heap, 1, 1));
         drop(ends.0.try_send(Counted { drops }));
         let sent = (Counted { drops }, ending);
         let ended = parked_send_ends(&rt, ends, (readings, later), sent);
         is(&rt, ended, ok);
         all_given_back(&rt, &counts, 2);
     }
-    Ok(())
 }

@@ -1,11 +1,12 @@
 //! What finds room while memory is refused: sends, with those that block, and receivers that park.
-use crate::calls::Heap;
 use crate::counting::Counting;
 use crate::fixtures::{Parcel, is};
 use flume_core::chan::Chan;
 use flume_core::step::{Kind, Reply};
-use std::alloc::Allocator;
-use std::test::Fail;
+use std::alloc::{Allocator, Global};
+
+// The allocator of a test's channel.
+type Heap<'h> = &'h Counting<Global>;
 
 // The ticket that the step was given.
 fn ticket_of<T: Drop, A: Allocator>(reply: Reply<T, A>) -> Option<u64> {
@@ -25,7 +26,7 @@ fn message_of<T: Drop, A: Allocator>(reply: Reply<T, A>) -> Option<T> {
 }
 
 #[test]
-fn a_send_takes_the_room_of_a_message_that_was_received(rt: HostRuntime) -> Result<(), Fail> {
+fn a_send_takes_the_room_of_a_message_that_was_received(rt: HostRuntime) {
     let heap = Counting::new(rt.alloc());
     let mut chan: Chan<Parcel, u32, Heap<'_>> = Chan::new(&heap, None);
     assert!(rt; chan.room() == 0);
@@ -35,11 +36,10 @@ fn a_send_takes_the_room_of_a_message_that_was_received(rt: HostRuntime) -> Resu
     assert!(rt; chan.room() > 0);
     assert!(rt; matches!(chan.try_send(Parcel(2)), Reply::Sent { .. }));
     is(&rt, message_of(chan.try_recv()), Some(Parcel(2)));
-    Ok(())
 }
 
 #[test]
-fn a_blocked_message_moves_in_while_memory_is_refused(rt: HostRuntime) -> Result<(), Fail> {
+fn a_blocked_message_moves_in_while_memory_is_refused(rt: HostRuntime) {
     let heap = Counting::new(rt.alloc());
     let mut chan: Chan<Parcel, u32, Heap<'_>> = Chan::new(&heap, Some(1));
     assert!(rt; matches!(chan.send(Parcel(1), 10), Reply::Sent { .. }));
@@ -48,11 +48,10 @@ fn a_blocked_message_moves_in_while_memory_is_refused(rt: HostRuntime) -> Result
     is(&rt, message_of(chan.try_recv()), Some(Parcel(1)));
     assert!(rt; matches!(chan.poll_send(1, None), Reply::Accepted));
     is(&rt, message_of(chan.try_recv()), Some(Parcel(2)));
-    Ok(())
 }
 
 #[test]
-fn a_send_that_blocks_where_there_is_room_needs_no_memory(rt: HostRuntime) -> Result<(), Fail> {
+fn a_send_that_blocks_where_there_is_room_needs_no_memory(rt: HostRuntime) {
     let heap = Counting::new(rt.alloc());
     let mut chan: Chan<Parcel, u32, Heap<'_>> = Chan::new(&heap, Some(0));
     is(&rt, ticket_of(chan.send(Parcel(1), 10)), Some(1));
@@ -61,26 +60,23 @@ fn a_send_that_blocks_where_there_is_room_needs_no_memory(rt: HostRuntime) -> Re
     heap.refuse(true);
     is(&rt, ticket_of(chan.send(Parcel(3), 30)), Some(3));
     is(&rt, message_of(chan.withdraw_send(3)), Some(Parcel(3)));
-    Ok(())
 }
 
 #[test]
-fn a_receiver_that_parks_where_there_is_room_needs_no_memory(rt: HostRuntime) -> Result<(), Fail> {
+fn a_receiver_that_parks_where_there_is_room_needs_no_memory(rt: HostRuntime) {
     let heap = Counting::new(rt.alloc());
     let mut chan: Chan<Parcel, u32, Heap<'_>> = Chan::new(&heap, Some(0));
     is(&rt, ticket_of(chan.recv(Kind::Block, 10)), Some(1));
     assert!(rt; matches!(chan.withdraw(1), Reply::Gone { .. }));
     heap.refuse(true);
     is(&rt, ticket_of(chan.recv(Kind::Block, 20)), Some(2));
-    Ok(())
 }
 
 #[test]
-fn a_step_that_has_no_room_and_no_memory_gives_back(rt: HostRuntime) -> Result<(), Fail> {
+fn a_step_that_has_no_room_and_no_memory_gives_back(rt: HostRuntime) {
     let heap = Counting::new(rt.alloc());
     let mut chan: Chan<Parcel, u32, Heap<'_>> = Chan::new(&heap, Some(0));
     heap.refuse(true);
     is(&rt, message_of(chan.send(Parcel(1), 10)), Some(Parcel(1)));
     assert!(rt; matches!(chan.recv(Kind::Block, 20), Reply::NoMemory(None)));
-    Ok(())
 }

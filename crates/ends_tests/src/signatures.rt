@@ -1,11 +1,10 @@
 //! The signatures that users of the ends write, each with one bound: a function that takes an end,
 //! a message that carries one, a struct that holds one, and a function that opens a channel and
 //! starts a thread. And `?` on each call, in a function that answers std's io result.
-use crate::fixtures::is;
+use crate::fixtures::{had, is};
 use flume::{Receiver, Runtime, Sender, Waits};
 use std::alloc::AllocError;
 use std::io::ErrorKind;
-use std::test::Fail;
 use std::thread::JoinHandle;
 use std::time::{Duration, Instant};
 use std::{io, thread};
@@ -50,26 +49,27 @@ fn start<R: Runtime>(rt: R) -> io::Result<(Sender<Request<R>, R>, JoinHandle<io:
 }
 
 #[test]
-fn a_request_carries_the_sender_of_its_reply(rt: HostRuntime) -> Result<(), Fail> {
-    let (reply, answers) = flume::on(rt).number(1).unbounded::<u64>()?;
-    let (tx, doubler) = start(rt)?;
-    let other = reply.clone()?;
+fn a_request_carries_the_sender_of_its_reply(rt: HostRuntime) {
+    let (reply, answers) = had(&rt, flume::on(rt).number(1).unbounded());
+    let (tx, doubler) = start(rt).expect(&rt, "a thread can be started");
+    let other = had(&rt, reply.clone());
     let first = tx.send(Request { number: 21, reply });
     let second = tx.send(Request {
         number: 4,
         reply: other,
     });
     drop(tx);
-    doubler.join(&rt)?;
-    is(&rt, (first.is_ok(), second.is_ok()), (true, true));
-    is(&rt, (answers.recv()?, answers.recv()?), (42, 8));
-    Ok(())
+    is(&rt, doubler.join(&rt).is_ok(), true);
+    is(&rt, first.is_ok(), true);
+    is(&rt, second.is_ok(), true);
+    is(&rt, answers.recv(), Ok(42));
+    is(&rt, answers.recv(), Ok(8));
 }
 
 #[test]
-fn a_function_takes_a_sender_and_its_caller_the_messages(rt: HostRuntime) -> Result<(), Fail> {
-    let (tx, rx) = flume::on(rt).bounded(3)?;
-    send_all(&tx, 3)?;
+fn a_function_takes_a_sender_and_its_caller_the_messages(rt: HostRuntime) {
+    let (tx, rx) = had(&rt, flume::on(rt).bounded(3));
+    is(&rt, send_all(&tx, 3).is_ok(), true);
     let mut sum = 0u64;
     for number in rx.try_iter() {
         sum = sum.saturating_add(number);
@@ -78,7 +78,6 @@ fn a_function_takes_a_sender_and_its_caller_the_messages(rt: HostRuntime) -> Res
     drop(rx);
     let refused = send_all(&tx, 1).map_err(|error| error.kind());
     is(&rt, refused, Err(ErrorKind::BrokenPipe));
-    Ok(())
 }
 
 // Each call of an end that may fail, with `?`. The messages are 1 to 4, and their sum is answered.
@@ -103,9 +102,8 @@ fn every_call<R: Runtime>(rt: R) -> io::Result<u64> {
 }
 
 #[test]
-fn each_call_answers_an_error_that_the_io_result_takes(rt: HostRuntime) -> Result<(), Fail> {
-    is(&rt, every_call(rt)?, 10);
-    Ok(())
+fn each_call_answers_an_error_that_the_io_result_takes(rt: HostRuntime) {
+    is(&rt, every_call(rt).ok(), Some(10));
 }
 
 // Each call that fails by memory alone, with `?`.
@@ -121,9 +119,6 @@ fn opening_calls<R: Runtime>(rt: R) -> Result<usize, AllocError> {
 }
 
 #[test]
-fn each_call_that_fails_by_memory_alone_answers_what_an_allocation_does(
-    rt: HostRuntime,
-) -> Result<(), Fail> {
-    is(&rt, opening_calls(rt)?, 3);
-    Ok(())
+fn each_call_that_fails_by_memory_alone_answers_what_an_allocation_does(rt: HostRuntime) {
+    is(&rt, opening_calls(rt), Ok(3));
 }

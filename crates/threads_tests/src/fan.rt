@@ -1,11 +1,11 @@
 //! Threads that receive from one channel and send into another.
-use crate::fixtures::is;
+use crate::fixtures::{begun, had, is, opened};
 use crate::works::{SendHundred, send_hundred};
-use ends_tests::works::{Work, started};
-use flume::{Receiver, Sender, Waits, bounded, unbounded};
+use ends_tests::works::Work;
+use flume::{Receiver, Sender, Waits};
 use flume_core::error::RecvError;
+use std::alloc::Global;
 use std::process::Abort;
-use std::test::Fail;
 use std::thread::{JoinHandle, Threads};
 
 // How many threads forward.
@@ -44,57 +44,37 @@ impl<R: Waits> Work for ForwardUntilClosed<R> {
     }
 }
 
-// Starts a thread that forwards from the one channel into the other.
-fn start_forwarder<R>(
+// Eight threads that forward from the one channel into the other.
+fn begin_fan<R: Waits + Threads + Abort + Send + Sync + 'static>(
     rt: R,
-    rx: &Receiver<u64, R>,
-    tx: &Sender<u64, R>,
-) -> Result<JoinHandle<Ending>, Fail>
-where
-    R: Waits + Threads + Send + Sync + 'static,
-{
-    let rx = rx.clone()?;
-    let tx = tx.clone()?;
-    started(&rt, ForwardUntilClosed { rt, rx, tx })
-}
-
-// Starts eight threads that forward from the one channel into the other.
-fn start_fan<R>(rt: R, rx: Receiver<u64, R>, tx: Sender<u64, R>) -> Result<Forwarders, Fail>
-where
-    R: Waits + AllocGlobal + Threads + Send + Sync + 'static,
-{
-    let mut forwarders = Vec::new(rt.alloc());
+    alloc: Global,
+    first: Receiver<u64, R>,
+    second: Sender<u64, R>,
+) -> Forwarders {
+    let mut forwarders = Vec::new(alloc);
     for _ in 0..FORWARDERS {
-        forwarders.push(start_forwarder(rt, &rx, &tx)?)?;
+        let (rx, tx) = (had(&rt, first.clone()), had(&rt, second.clone()));
+        let forwarder = begun(&rt, ForwardUntilClosed { rt, rx, tx });
+        had(&rt, forwarders.push(forwarder));
     }
-    Ok(forwarders)
+    forwarders
 }
 
-// Starts a thread that forwards into a new channel.
-fn start_link<R>(
+// Eight threads, of which each receives what the one before it sends. Answers the receiver at the
+// end of the chain too.
+fn begin_chain<R: Waits + Threads + Abort + Send + Sync + 'static>(
     rt: R,
-    rx: Receiver<u64, R>,
-) -> Result<(JoinHandle<Ending>, Receiver<u64, R>), Fail>
-where
-    R: Waits + AllocGlobal + Threads + Send + Sync + 'static,
-{
-    let (tx, next) = bounded::<u64, _, _>(rt, rt.alloc(), 1, 4)?;
-    Ok((started(&rt, ForwardUntilClosed { rt, rx, tx })?, next))
-}
-
-// Starts eight threads, of which each receives what the one before it sends. Answers the receiver
-// at the end of the chain too.
-fn start_chain<R>(rt: R, mut rx: Receiver<u64, R>) -> Result<(Forwarders, Receiver<u64, R>), Fail>
-where
-    R: Waits + AllocGlobal + Threads + Send + Sync + 'static,
-{
-    let mut forwarders = Vec::new(rt.alloc());
+    alloc: Global,
+    mut rx: Receiver<u64, R>,
+) -> (Forwarders, Receiver<u64, R>) {
+    let mut forwarders = Vec::new(alloc);
     for _ in 0..FORWARDERS {
-        let (forwarder, next) = start_link(rt, rx)?;
+        let (tx, next) = opened(rt, alloc, Some(4));
+        let forwarder = begun(&rt, ForwardUntilClosed { rt, rx, tx });
+        had(&rt, forwarders.push(forwarder));
         rx = next;
-        forwarders.push(forwarder)?;
     }
-    Ok((forwarders, rx))
+    (forwarders, rx)
 }
 
 // Joins threads that forward. Each has ended as its senders went.
@@ -117,10 +97,10 @@ fn count_and_sum<R: Waits>(rx: &Receiver<u64, R>) -> (u64, u64) {
 }
 
 #[test]
-fn eight_threads_forward_from_one_channel_into_another(rt: HostRuntime) -> Result<(), Fail> {
-    let (tx, first) = unbounded::<u64, _, _>(rt, rt.alloc(), 1)?;
-    let (second, rx) = unbounded::<u64, _, _>(rt, rt.alloc(), 2)?;
-    let forwarders = start_fan(rt, first, second)?;
+fn eight_threads_forward_from_one_channel_into_another(rt: HostRuntime) {
+    let (tx, first) = opened(rt, rt.alloc(), None);
+    let (second, rx) = opened(rt, rt.alloc(), None);
+    let forwarders = begin_fan(rt, rt.alloc(), first, second);
     for _ in 0..3 {
         send_hundred(&tx);
         is(&rt, count_and_sum(&rx), (100, 4950));
@@ -128,19 +108,17 @@ fn eight_threads_forward_from_one_channel_into_another(rt: HostRuntime) -> Resul
     drop(tx);
     is(&rt, rx.recv(), Err(RecvError::Disconnected));
     join_all(&rt, forwarders);
-    Ok(())
 }
 
 #[test]
-fn a_chain_of_eight_keeps_the_order(rt: HostRuntime) -> Result<(), Fail> {
-    let (tx, first) = bounded::<u64, _, _>(rt, rt.alloc(), 1, 4)?;
-    let (forwarders, last) = start_chain(rt, first)?;
-    let sender = started(&rt, SendHundred { tx })?;
+fn a_chain_of_eight_keeps_the_order(rt: HostRuntime) {
+    let (tx, first) = opened(rt, rt.alloc(), Some(4));
+    let (forwarders, last) = begin_chain(rt, rt.alloc(), first);
+    let sender = begun(&rt, SendHundred { tx });
     for message in 0..100 {
         is(&rt, last.recv(), Ok(message));
     }
     is(&rt, last.recv(), Err(RecvError::Disconnected));
     sender.join(&rt);
     join_all(&rt, forwarders);
-    Ok(())
 }

@@ -1,40 +1,73 @@
-//! What several tests use: answers compared in one place, channels of any capacity, a message, and
-//! a long time.
-use flume::error::NoMemory;
+//! What several tests use: answers compared in one place, channels of any capacity, threads, and
+//! a long time. What can't be had fails the test here: a `?` in a test costs the prover a second,
+//! and an abort none.
+use crate::works::Stuck;
+use ends_tests::watch::{Watch, begin_watch};
+use ends_tests::works::Work;
 use flume::{Receiver, Sender, Waits, bounded, unbounded};
 use std::alloc::Global;
 use std::fmt::Debug;
 use std::process::Abort;
 use std::thread;
-use std::time::Duration;
+use std::thread::{JoinHandle, Threads};
+use std::time::{Clock, Duration, Instant};
 
 /// The answer is the wanted one.
 pub(crate) fn is<T: Debug + PartialEq + Drop>(rt: &impl Abort, answer: T, wanted: T) {
     assert_eq!(rt; answer, wanted);
 }
 
+/// What a call answers that fails by memory alone.
+pub(crate) fn had<T, E: Debug + Drop>(rt: &impl Abort, answer: Result<T, E>) -> T {
+    answer.expect(rt, "there is memory")
+}
+
 /// The capacities at which several threads meet; `None` is unbounded.
 pub(crate) const CAPACITIES: &[Option<usize>] = &[None, Some(0), Some(1), Some(3)];
 
-/// A message that can't be copied.
-#[derive(Debug, PartialEq, Eq, Drop)]
-pub(crate) struct Parcel(pub(crate) u64);
-
 /// The ends of a new channel of this capacity: `None` is unbounded.
-pub(crate) fn opened<T: Drop, R: Waits>(
+pub(crate) fn opened<T: Drop, R: Waits + Abort>(
     rt: R,
     alloc: Global,
     capacity: Option<usize>,
-) -> Result<(Sender<T, R>, Receiver<T, R>), NoMemory> {
+) -> (Sender<T, R>, Receiver<T, R>) {
     match capacity {
-        Some(capacity) => bounded(rt, alloc, 1, capacity),
-        None => unbounded(rt, alloc, 1),
+        Some(capacity) => had(&rt, bounded(rt, alloc, 1, capacity)),
+        None => had(&rt, unbounded(rt, alloc, 1)),
+    }
+}
+
+/// A thread that does this.
+pub(crate) fn begun<R: Threads + Abort, W: Work + Send + Drop + 'static>(
+    rt: &R,
+    work: W,
+) -> JoinHandle<W::Answer>
+where
+    W::Answer: Send + Drop + 'static,
+{
+    thread::spawn(rt, move || work.work()).expect(rt, "a thread can be started")
+}
+
+/// The thread that watches over a test.
+pub(crate) fn watching<R: Waits + Threads + Abort + Send + Sync + 'static>(
+    rt: R,
+    alloc: Global,
+) -> Watch {
+    match begin_watch(rt, alloc, Stuck(rt)) {
+        Ok(watch) => watch,
+        Err(_) => panic!(rt; "a test can be watched"),
     }
 }
 
 /// So long that no test waits for its end.
 pub(crate) fn long() -> Duration {
     Duration::from_secs(3600)
+}
+
+/// The end of that time.
+pub(crate) fn later<R: Clock + Abort>(rt: &R) -> Instant {
+    let now = Instant::now(rt).expect(rt, "the clock can be read");
+    now.checked_add(long()).expect(rt, "an hour has a sum")
 }
 
 /// A drop that runs against a call comes after a number of yields below this one.

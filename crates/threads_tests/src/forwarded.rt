@@ -1,11 +1,11 @@
 //! Threads that read by iterators, and send on.
-use crate::fixtures::{CAPACITIES, is, opened};
+use crate::fixtures::{CAPACITIES, begun, had, is, opened};
 use crate::works::{SendHundred, send_hundred, starts_in};
-use ends_tests::works::{Work, started};
+use ends_tests::works::Work;
 use flume::{Iter, Receiver, Sender, Waits};
+use std::alloc::Global;
 use std::process::Abort;
 use std::sync::Mutex;
-use std::test::Fail;
 use std::thread;
 use std::thread::{JoinHandle, Threads};
 
@@ -36,30 +36,20 @@ impl<R: Waits> Work for AnswerRequests<R> {
     }
 }
 
-// A worker answers a hundred requests on another channel.
-fn ask_a_worker<R>(rt: R, capacity: Option<usize>) -> Result<(), Fail>
-where
-    R: Waits + AllocGlobal + Threads + Abort + Send + Sync + 'static,
-{
-    let (requests, work) = opened::<u64, _>(rt, rt.alloc(), capacity)?;
-    let (answers, results) = opened::<u64, _>(rt, rt.alloc(), capacity)?;
-    let worker = started(&rt, AnswerRequests { work, answers })?;
-    let asking = started(&rt, SendHundred { tx: requests })?;
-    for request in 0..100u64 {
-        is(&rt, results.recv(), Ok(2 * request));
-    }
-    is(&rt, results.iter().next(), None);
-    asking.join(&rt);
-    worker.join(&rt);
-    Ok(())
-}
-
 #[test]
-fn a_worker_answers_on_another_channel(rt: HostRuntime) -> Result<(), Fail> {
+fn a_worker_answers_on_another_channel(rt: HostRuntime) {
     for &capacity in CAPACITIES {
-        ask_a_worker(rt, capacity)?;
+        let (requests, work) = opened(rt, rt.alloc(), capacity);
+        let (answers, results) = opened(rt, rt.alloc(), capacity);
+        let worker = begun(&rt, AnswerRequests { work, answers });
+        let asking = begun(&rt, SendHundred { tx: requests });
+        for request in 0..100u64 {
+            is(&rt, results.recv(), Ok(2 * request));
+        }
+        is(&rt, results.iter().next(), None);
+        asking.join(&rt);
+        worker.join(&rt);
     }
-    Ok(())
 }
 
 // The first message that an iterator finds which doesn't wait.
@@ -73,30 +63,20 @@ fn first_tried<R: Waits>(rt: &R, rx: &Receiver<u64, R>) -> u64 {
     unreachable!()
 }
 
-// Two threads play ping-pong over two channels.
-fn play_ping_pong<R>(rt: R, capacity: Option<usize>) -> Result<(), Fail>
-where
-    R: Waits + AllocGlobal + Threads + Abort + Send + Sync + 'static,
-{
-    let (pings, work) = opened(rt, rt.alloc(), capacity)?;
-    let (answers, answered) = opened(rt, rt.alloc(), capacity)?;
-    let other = started(&rt, AnswerRequests { work, answers })?;
-    for ping in 0..ANSWERS {
-        assert!(rt; pings.send(ping).is_ok());
-        is(&rt, first_tried(&rt, &answered), 2 * ping);
-    }
-    drop(pings);
-    other.join(&rt);
-    is(&rt, answered.try_iter().next(), None);
-    Ok(())
-}
-
 #[test]
-fn tried_iterators_play_ping_pong(rt: HostRuntime) -> Result<(), Fail> {
+fn tried_iterators_play_ping_pong(rt: HostRuntime) {
     for &capacity in CAPACITIES {
-        play_ping_pong(rt, capacity)?;
+        let (pings, work) = opened(rt, rt.alloc(), capacity);
+        let (answers, answered) = opened(rt, rt.alloc(), capacity);
+        let other = begun(&rt, AnswerRequests { work, answers });
+        for ping in 0..ANSWERS {
+            is(&rt, pings.send(ping), Ok(()));
+            is(&rt, first_tried(&rt, &answered), 2 * ping);
+        }
+        drop(pings);
+        other.join(&rt);
+        is(&rt, answered.try_iter().next(), None);
     }
-    Ok(())
 }
 
 // Counts each number that comes, until none does.
@@ -146,24 +126,14 @@ fn read_by_eight<R: Waits + Threads + Send + Sync>(
     })
 }
 
-// Eight threads share a hundred messages.
-fn share_among_eight<R>(rt: R, capacity: Option<usize>) -> Result<(), Fail>
-where
-    R: Waits + AllocGlobal + Threads + Abort + Send + Sync + 'static,
-{
-    let ends = opened::<u64, _>(rt, rt.alloc(), capacity)?;
-    let counts = Mutex::new([0; MESSAGES]);
-    assert!(rt; read_by_eight(rt, ends, &counts));
-    assert!(rt; counts.into_inner().iter().all(|&count| count == 1));
-    Ok(())
-}
-
 #[test]
-fn iterators_in_eight_threads_share_the_messages(rt: HostRuntime) -> Result<(), Fail> {
+fn iterators_in_eight_threads_share_the_messages(rt: HostRuntime) {
     for &capacity in CAPACITIES {
-        share_among_eight(rt, capacity)?;
+        let ends = opened(rt, rt.alloc(), capacity);
+        let counts = Mutex::new([0; MESSAGES]);
+        assert!(rt; read_by_eight(rt, ends, &counts));
+        assert!(rt; counts.into_inner().iter().all(|&count| count == 1));
     }
-    Ok(())
 }
 
 // Sends on what it receives, until nothing comes.
@@ -184,28 +154,19 @@ impl<R: Waits> Work for Forward<R> {
     }
 }
 
-// Starts a thread that forwards from the one channel into the other.
-fn start_forwarder<R: Waits + Threads + Send + Sync + 'static>(
+// Eight threads that forward from the one channel into the other.
+fn begin_forwarders<R: Waits + Threads + Abort + Send + Sync + 'static>(
     rt: R,
-    from: &Receiver<u64, R>,
-    to: &Sender<u64, R>,
-) -> Result<JoinHandle<()>, Fail> {
-    let from = from.clone()?;
-    let to = to.clone()?;
-    started(&rt, Forward { from, to })
-}
-
-// Starts eight threads that forward from the one channel into the other.
-fn start_forwarders<R: Waits + AllocGlobal + Threads + Send + Sync + 'static>(
-    rt: R,
-    from: Receiver<u64, R>,
-    to: Sender<u64, R>,
-) -> Result<Vec<JoinHandle<()>>, Fail> {
-    let mut forwarders = Vec::new(rt.alloc());
+    alloc: Global,
+    source: Receiver<u64, R>,
+    target: Sender<u64, R>,
+) -> Vec<JoinHandle<()>> {
+    let mut forwarders = Vec::new(alloc);
     for _ in 0..THREADS {
-        forwarders.push(start_forwarder(rt, &from, &to)?)?;
+        let (from, to) = (had(&rt, source.clone()), had(&rt, target.clone()));
+        had(&rt, forwarders.push(begun(&rt, Forward { from, to })));
     }
-    Ok(forwarders)
+    forwarders
 }
 
 // The sum of the next hundred messages of an iterator.
@@ -217,26 +178,6 @@ fn sum_of_hundred<R: Waits>(messages: &mut Iter<'_, u64, R>) -> u64 {
     sum
 }
 
-// Three times 0 to 99, of another thread, through eight.
-fn forward_three_times<R>(rt: R, capacity: Option<usize>) -> Result<(), Fail>
-where
-    R: Waits + AllocGlobal + Threads + Abort + Send + Sync + 'static,
-{
-    let (tx, from) = opened::<u64, _>(rt, rt.alloc(), capacity)?;
-    let (to, rx) = opened::<u64, _>(rt, rt.alloc(), capacity)?;
-    let forwarders = start_forwarders(rt, from, to)?;
-    let mut forwarded = rx.iter();
-    for _ in 0..3 {
-        let sending = started(&rt, SendHundred { tx: tx.clone()? })?;
-        is(&rt, sum_of_hundred(&mut forwarded), 4950);
-        sending.join(&rt);
-    }
-    drop(tx);
-    is(&rt, forwarded.next(), None);
-    join_all(&rt, forwarders);
-    Ok(())
-}
-
 // Joins threads that forward.
 fn join_all<R: Threads>(rt: &R, forwarders: Vec<JoinHandle<()>>) {
     for forwarder in forwarders {
@@ -244,10 +185,22 @@ fn join_all<R: Threads>(rt: &R, forwarders: Vec<JoinHandle<()>>) {
     }
 }
 
+// Three times 0 to 99, of another thread, go through eight.
 #[test]
-fn eight_forwarders_lead_into_one_channel(rt: HostRuntime) -> Result<(), Fail> {
+fn eight_forwarders_lead_into_one_channel(rt: HostRuntime) {
     for &capacity in CAPACITIES {
-        forward_three_times(rt, capacity)?;
+        let (tx, from) = opened(rt, rt.alloc(), capacity);
+        let (to, rx) = opened(rt, rt.alloc(), capacity);
+        let forwarders = begin_forwarders(rt, rt.alloc(), from, to);
+        let mut forwarded = rx.iter();
+        for _ in 0..3 {
+            let other = had(&rt, tx.clone());
+            let sending = begun(&rt, SendHundred { tx: other });
+            is(&rt, sum_of_hundred(&mut forwarded), 4950);
+            sending.join(&rt);
+        }
+        drop(tx);
+        is(&rt, forwarded.next(), None);
+        join_all(&rt, forwarders);
     }
-    Ok(())
 }

@@ -1,14 +1,11 @@
 //! Many threads that send to many, or share what one sends.
-use crate::fixtures::{CAPACITIES, is, opened};
-use crate::works::{Stuck, starts_in};
-use ends_tests::watch::begin_watch;
+use crate::fixtures::{CAPACITIES, had, is, opened, watching};
+use crate::works::starts_in;
 use ends_tests::works::Work;
 use flume::error::TryRecvError;
 use flume::{Receiver, Sender, Waits};
-use std::alloc::{AllocError, Global};
 use std::process::Abort;
 use std::sync::Mutex;
-use std::test::Fail;
 use std::thread;
 use std::thread::{Scope, Threads};
 
@@ -125,55 +122,34 @@ fn two_receive<'s, E, R: Waits + Send + Sync + 's>(
 }
 
 // Four threads send to four: two on each side share an end, and two have one of their own.
-fn four_to_four<R: Waits + Threads + Send + Sync + 'static>(
+fn four_to_four<R: Waits + Threads + Abort + Send + Sync + 'static>(
     rt: R,
     tx: &Sender<usize, R>,
     rx: &Receiver<usize, R>,
     counts: &Mutex<[u32; EACH]>,
-) -> Result<bool, AllocError> {
-    let (tx2, tx3) = (tx.clone()?, tx.clone()?);
-    let (rx2, rx3) = (rx.clone()?, rx.clone()?);
+) -> bool {
+    let (tx2, tx3) = (had(&rt, tx.clone()), had(&rt, tx.clone()));
+    let (rx2, rx3) = (had(&rt, rx.clone()), had(&rt, rx.clone()));
     let (tx2, tx3, rx2, rx3) = (&tx2, &tx3, &rx2, &rx3);
-    let started = thread::scope(thread::scope_env(), &rt, move |scope| {
+    thread::scope(thread::scope_env(), &rt, move |scope| {
         two_start(scope, SendEach { tx }, SendEach { tx })
             && two_start(scope, SendEach { tx: tx2 }, SendEach { tx: tx3 })
             && two_receive(scope, rt, (rx, rx), counts)
             && two_receive(scope, rt, (rx2, rx3), counts)
-    });
-    Ok(started)
-}
-
-// Each number arrives from each of the four that send, at this capacity.
-fn arrive_once<R: Waits + Threads + Abort + Send + Sync + 'static>(
-    rt: R,
-    alloc: Global,
-    capacity: Option<usize>,
-) -> Result<(), Fail> {
-    let (tx, rx) = opened(rt, alloc, capacity)?;
-    let counts = Mutex::new([0; EACH]);
-    assert!(rt; four_to_four(rt, &tx, &rx, &counts)?);
-    assert!(rt; is_each_counted(counts, 4));
-    is(&rt, rx.try_recv(), Err(TryRecvError::Empty));
-    Ok(())
-}
-
-// The same at each capacity.
-fn all_arrive_once<R: Waits + Threads + Abort + Send + Sync + 'static>(
-    rt: R,
-    alloc: Global,
-) -> Result<(), Fail> {
-    for &capacity in CAPACITIES {
-        arrive_once(rt, alloc, capacity)?;
-    }
-    Ok(())
+    })
 }
 
 #[test]
-fn each_message_arrives_once(rt: HostRuntime) -> Result<(), Fail> {
-    let watch = begin_watch(rt, rt.alloc(), Stuck(rt))?;
-    let ended = all_arrive_once(rt, rt.alloc());
+fn each_message_arrives_once(rt: HostRuntime) {
+    let watch = watching(rt, rt.alloc());
+    for &capacity in CAPACITIES {
+        let (tx, rx) = opened(rt, rt.alloc(), capacity);
+        let counts = Mutex::new([0; EACH]);
+        assert!(rt; four_to_four(rt, &tx, &rx, &counts));
+        assert!(rt; is_each_counted(counts, 4));
+        is(&rt, rx.try_recv(), Err(TryRecvError::Empty));
+    }
     watch.end(&rt);
-    ended
 }
 
 // Eight threads, each with a receiver of its own, share what one sends.
@@ -198,35 +174,15 @@ fn one_to_eight<R: Waits + Threads + Send + Sync + 'static>(
     })
 }
 
-// Each number arrives at one of the eight that receive, at this capacity.
-fn share_once<R: Waits + Threads + Abort + Send + Sync + 'static>(
-    rt: R,
-    alloc: Global,
-    capacity: Option<usize>,
-) -> Result<(), Fail> {
-    let (tx, rx) = opened(rt, alloc, capacity)?;
-    let counts = Mutex::new([0; EACH]);
-    assert!(rt; one_to_eight(rt, tx, &rx, &counts));
-    assert!(rt; is_each_counted(counts, 1));
-    is(&rt, rx.try_recv(), Err(TryRecvError::Disconnected));
-    Ok(())
-}
-
-// The same at each capacity.
-fn all_share_once<R: Waits + Threads + Abort + Send + Sync + 'static>(
-    rt: R,
-    alloc: Global,
-) -> Result<(), Fail> {
-    for &capacity in CAPACITIES {
-        share_once(rt, alloc, capacity)?;
-    }
-    Ok(())
-}
-
 #[test]
-fn eight_receivers_share_the_messages_until_the_sender_goes(rt: HostRuntime) -> Result<(), Fail> {
-    let watch = begin_watch(rt, rt.alloc(), Stuck(rt))?;
-    let ended = all_share_once(rt, rt.alloc());
+fn eight_receivers_share_the_messages_until_the_sender_goes(rt: HostRuntime) {
+    let watch = watching(rt, rt.alloc());
+    for &capacity in CAPACITIES {
+        let (tx, rx) = opened(rt, rt.alloc(), capacity);
+        let counts = Mutex::new([0; EACH]);
+        assert!(rt; one_to_eight(rt, tx, &rx, &counts));
+        assert!(rt; is_each_counted(counts, 1));
+        is(&rt, rx.try_recv(), Err(TryRecvError::Disconnected));
+    }
     watch.end(&rt);
-    ended
 }

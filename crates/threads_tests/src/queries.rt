@@ -1,13 +1,9 @@
 //! Queries of both ends, and a change of the capacity, while a send waits.
-use crate::fixtures::{is, long};
-use crate::works::Stuck;
-use ends_tests::watch::begin_watch;
-use flume::{Receiver, Sender, Waits, bounded, unbounded};
-use flume_core::error::NoMemory;
+use crate::fixtures::{had, is, later, opened, watching};
+use flume::{Receiver, Sender, Waits, bounded};
 use std::alloc::Global;
 use std::process::Abort;
 use std::sync::Wait;
-use std::test::Fail;
 use std::thread::Threads;
 use std::time::{Clock, Duration, Instant};
 use std::{io, thread};
@@ -18,17 +14,20 @@ const ROUNDS: usize = 1000;
 // Asks both ends of a channel of capacity 0 that has two senders and two receivers. Nothing is
 // ever queued there.
 fn ask_both<R: Waits + Abort, Q: Waits>(rt: R, tx: &Sender<u64, Q>, rx: &Receiver<u64, Q>) {
-    is(&rt, (tx.len(), rx.len()), (0, 0));
-    is(&rt, (tx.is_empty(), rx.is_empty()), (true, true));
-    is(&rt, (tx.is_full(), rx.is_full()), (true, true));
-    is(&rt, (tx.capacity(), rx.capacity()), (Some(0), Some(0)));
-    is(&rt, (tx.sender_count(), rx.sender_count()), (2, 2));
-    is(&rt, (tx.receiver_count(), rx.receiver_count()), (2, 2));
-    is(
-        &rt,
-        (tx.is_disconnected(), rx.is_disconnected()),
-        (false, false),
-    );
+    is(&rt, tx.len(), 0);
+    is(&rt, rx.len(), 0);
+    is(&rt, tx.is_empty(), true);
+    is(&rt, rx.is_empty(), true);
+    is(&rt, tx.is_full(), true);
+    is(&rt, rx.is_full(), true);
+    is(&rt, tx.capacity(), Some(0));
+    is(&rt, rx.capacity(), Some(0));
+    is(&rt, tx.sender_count(), 2);
+    is(&rt, rx.sender_count(), 2);
+    is(&rt, tx.receiver_count(), 2);
+    is(&rt, rx.receiver_count(), 2);
+    is(&rt, tx.is_disconnected(), false);
+    is(&rt, rx.is_disconnected(), false);
 }
 
 // A runtime whose clock says that it is read, and gives an answer only once it may: then `go_on`
@@ -67,7 +66,8 @@ fn ask_often<R: Waits + Abort, Q: Waits>(
     is(&rt, read.recv(), Ok(()));
     for _ in 0..ROUNDS {
         ask_both(rt, tx, rx);
-        assert!(rt; tx.same_channel(other_tx) && rx.same_channel(other_rx));
+        is(&rt, tx.same_channel(other_tx), true);
+        is(&rt, rx.same_channel(other_rx), true);
     }
     is(&rt, rx.try_recv(), Ok(7));
 }
@@ -81,15 +81,18 @@ fn raise_and_lower<R: Waits + Abort, Q: Waits>(
     read: &Receiver<(), R>,
 ) {
     is(&rt, read.recv(), Ok(()));
-    is(&rt, (tx.len(), rx.capacity()), (0, Some(0)));
+    is(&rt, tx.len(), 0);
+    is(&rt, rx.capacity(), Some(0));
     is(&rt, tx.set_capacity(1), Ok(()));
-    is(&rt, (tx.len(), rx.capacity()), (1, Some(1)));
+    is(&rt, tx.len(), 1);
+    is(&rt, rx.capacity(), Some(1));
     is(&rt, rx.set_capacity(0), Ok(()));
-    is(&rt, (tx.len(), rx.capacity()), (1, Some(0)));
+    is(&rt, tx.len(), 1);
+    is(&rt, rx.capacity(), Some(0));
 }
 
 // What is done while a send waits.
-#[derive(Clone, Copy, PartialEq, Drop)]
+#[derive(Clone, Copy)]
 enum Meanwhile {
     Asks,
     Raises,
@@ -117,57 +120,34 @@ fn done_while_it_waits<R: Waits + Threads + Abort + Send + Sync, Q: Waits + Send
     })
 }
 
-// The ends of one channel.
-type Ends<R> = (Sender<u64, R>, Receiver<u64, R>);
-
-// A channel of capacity 0, with two senders and two receivers.
-fn two_of_each<R: Waits>(rt: R, alloc: Global) -> Result<(Ends<R>, Ends<R>), NoMemory> {
-    let (tx, rx) = bounded::<u64, _, _>(rt, alloc, 3, 0)?;
-    let others = (tx.clone()?, rx.clone()?);
-    Ok(((tx, rx), others))
-}
-
-// A send waits in a thread that reads a paused clock, while this is done.
+// A send waits in a thread that reads a paused clock, on a channel of capacity 0 with two senders
+// and two receivers, while this is done.
 fn do_while_it_waits<R: Waits + Threads + Abort + Send + Sync + 'static>(
     rt: R,
     alloc: Global,
-    (meanwhile, deadline): (Meanwhile, Instant),
-) -> Result<(), Fail> {
-    let (reads, read) = unbounded::<(), _, _>(rt, alloc, 1)?;
-    let (release, go_on) = unbounded::<(), _, _>(rt, alloc, 2)?;
-    let paused = Paused {
-        rt,
-        reads: &reads,
-        go_on: &go_on,
-    };
-    let ((tx, rx), (blocked, idle)) = two_of_each(paused, alloc)?;
-    let (ends, others) = ((&tx, &rx), (&blocked, &idle));
-    let timed = (meanwhile, deadline);
-    let sent = done_while_it_waits(rt, ends, others, (&read, release), timed);
-    assert!(rt; sent);
-    Ok(())
-}
-
-// The same, over before long.
-fn watched<R: Waits + Threads + Abort + Send + Sync + 'static>(
-    rt: R,
-    alloc: Global,
     meanwhile: Meanwhile,
-) -> Result<(), Fail> {
-    let deadline = Instant::now(&rt)?.checked_add(long());
-    let deadline = deadline.expect(&rt, "an hour has a sum");
-    let watch = begin_watch(rt, alloc, Stuck(rt))?;
-    let ended = do_while_it_waits(rt, alloc, (meanwhile, deadline));
+) {
+    let timed = (meanwhile, later(&rt));
+    let (reads, read) = opened(rt, alloc, None);
+    let (release, go_on) = opened(rt, alloc, None);
+    let (reads, go_on) = (&reads, &go_on);
+    let (tx, rx) = had(&rt, bounded(Paused { rt, reads, go_on }, alloc, 3, 0));
+    let (blocked, idle) = (had(&rt, tx.clone()), had(&rt, rx.clone()));
+    let (ends, others) = ((&tx, &rx), (&blocked, &idle));
+    let sent = done_while_it_waits(rt, ends, others, (&read, release), timed);
+    is(&rt, sent, true);
+}
+
+#[test]
+fn asking_leaves_a_blocked_send_blocked(rt: HostRuntime) {
+    let watch = watching(rt, rt.alloc());
+    do_while_it_waits(rt, rt.alloc(), Meanwhile::Asks);
     watch.end(&rt);
-    ended
 }
 
 #[test]
-fn asking_leaves_a_blocked_send_blocked(rt: HostRuntime) -> Result<(), Fail> {
-    watched(rt, rt.alloc(), Meanwhile::Asks)
-}
-
-#[test]
-fn a_raised_capacity_lets_a_blocked_send_in(rt: HostRuntime) -> Result<(), Fail> {
-    watched(rt, rt.alloc(), Meanwhile::Raises)
+fn a_raised_capacity_lets_a_blocked_send_in(rt: HostRuntime) {
+    let watch = watching(rt, rt.alloc());
+    do_while_it_waits(rt, rt.alloc(), Meanwhile::Raises);
+    watch.end(&rt);
 }

@@ -1,11 +1,10 @@
 //! Ends that threads take with them, or share by reference.
-use crate::fixtures::is;
+use crate::fixtures::{begun, had, is, opened};
 use crate::works::{ReceiveThree, SendOne, starts_in};
-use ends_tests::works::{Work, started};
-use flume::{Receiver, Sender, Waits, WeakSender, bounded, unbounded};
+use ends_tests::works::Work;
+use flume::{Receiver, Sender, Waits, WeakSender};
 use flume_core::error::RecvError;
 use std::sync::atomic::{AtomicU64, Ordering};
-use std::test::Fail;
 use std::thread;
 use std::thread::Threads;
 
@@ -54,12 +53,11 @@ fn found_by_four<R: Waits + Threads + Send + Sync>(
 }
 
 #[test]
-fn a_send_is_seen_by_the_next_try(rt: HostRuntime) -> Result<(), Fail> {
-    let (tx, rx) = unbounded::<u64, _, _>(rt, rt.alloc(), 1)?;
+fn a_send_is_seen_by_the_next_try(rt: HostRuntime) {
+    let (tx, rx) = opened(rt, rt.alloc(), None);
     is(&rt, found_by_four(&rt, &tx, &rx), 4000);
-    let (tx, rx) = bounded::<u64, _, _>(rt, rt.alloc(), 2, 4)?;
+    let (tx, rx) = opened(rt, rt.alloc(), Some(4));
     is(&rt, found_by_four(&rt, &tx, &rx), 4000);
-    Ok(())
 }
 
 // Sends by way of a weak sender.
@@ -87,22 +85,21 @@ impl<R: Waits> Work for SendByWeak<R> {
 }
 
 #[test]
-fn each_end_goes_with_its_thread(rt: HostRuntime) -> Result<(), Fail> {
-    let (tx, rx) = unbounded::<u64, _, _>(rt, rt.alloc(), 1)?;
-    let weak = tx.downgrade()?;
-    let upgrading = started(&rt, SendByWeak { weak, message: 1 })?;
-    assert!(rt; upgrading.join(&rt));
+fn each_end_goes_with_its_thread(rt: HostRuntime) {
+    let (tx, rx) = opened(rt, rt.alloc(), None);
+    let weak = had(&rt, tx.downgrade());
+    let upgrading = begun(&rt, SendByWeak { weak, message: 1 });
+    is(&rt, upgrading.join(&rt), true);
     let send = SendOne {
         begins: None,
         tx,
         message: 2,
     };
-    let sending = started(&rt, send)?;
-    let receiving = started(&rt, ReceiveThree { rx })?;
+    let sending = begun(&rt, send);
+    let receiving = begun(&rt, ReceiveThree { rx });
     is(&rt, sending.join(&rt), Ok(()));
     let received = receiving.join(&rt);
     is(&rt, received, (Ok(1), Ok(2), Err(RecvError::Disconnected)));
-    Ok(())
 }
 
 // The first message of each thread that sends.
@@ -181,9 +178,8 @@ fn sum_by_reference<R: Waits + Threads + Send + Sync>(
 }
 
 #[test]
-fn two_threads_use_each_end_by_reference(rt: HostRuntime) -> Result<(), Fail> {
-    let (tx, rx) = bounded::<u64, _, _>(rt, rt.alloc(), 1, 0)?;
-    let weak = tx.downgrade()?;
+fn two_threads_use_each_end_by_reference(rt: HostRuntime) {
+    let (tx, rx) = opened(rt, rt.alloc(), Some(0));
+    let weak = had(&rt, tx.downgrade());
     is(&rt, sum_by_reference(&rt, &tx, &weak, &rx), Some(1111));
-    Ok(())
 }

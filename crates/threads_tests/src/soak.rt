@@ -1,11 +1,11 @@
 //! Many messages through one channel, by calls of every kind, with ends that come and go, and with
 //! a capacity that stays or that all senders change.
-use crate::fixtures::opened;
-use ends_tests::works::{Work, started};
+use crate::fixtures::{begun, had, opened};
+use ends_tests::works::Work;
 use flume::{Receiver, Sender, Waits};
 use flume_core::error::RecvError;
+use std::alloc::Global;
 use std::process::Abort;
-use std::test::Fail;
 use std::thread::{JoinHandle, Threads};
 use std::time::{Duration, Instant};
 
@@ -208,46 +208,29 @@ impl<R: Waits + AllocGlobal> Work for ReceiveAll<R> {
     }
 }
 
-// Starts a thread that sends, with a sender of its own.
-fn start_sender<R: Waits + Threads + Send + Sync + 'static>(
-    rt: R,
-    tx: &Sender<Message, R>,
-    (sender, changes): (usize, bool),
-) -> Result<JoinHandle<bool>, Fail> {
-    let tx = tx.clone()?;
-    let sends = SendAll {
-        rt,
-        tx,
-        sender,
-        changes,
-    };
-    started(&rt, sends)
-}
-
-// Starts a thread that receives, with a receiver of its own.
-fn start_receiver<R>(rt: R, rx: &Receiver<Message, R>) -> Result<JoinHandle<Received>, Fail>
-where
-    R: Waits + AllocGlobal + Threads + Send + Sync + 'static,
-{
-    let rx = rx.clone()?;
-    started(&rt, ReceiveAll { rt, rx })
-}
-
-// Starts the threads.
+// Starts the threads, each with an end of its own.
 fn start_all<R>(
     rt: R,
+    alloc: Global,
     (tx, rx): (Sender<Message, R>, Receiver<Message, R>),
     changes: bool,
-) -> Result<Started, Fail>
+) -> Started
 where
-    R: Waits + AllocGlobal + Threads + Send + Sync + 'static,
+    R: Waits + AllocGlobal + Threads + Abort + Send + Sync + 'static,
 {
-    let (mut senders, mut receivers) = (Vec::new(rt.alloc()), Vec::new(rt.alloc()));
+    let (mut senders, mut receivers) = (Vec::new(alloc), Vec::new(alloc));
     for sender in 0..THREADS {
-        senders.push(start_sender(rt, &tx, (sender, changes))?)?;
-        receivers.push(start_receiver(rt, &rx)?)?;
+        let sends = SendAll {
+            rt,
+            tx: had(&rt, tx.clone()),
+            sender,
+            changes,
+        };
+        had(&rt, senders.push(begun(&rt, sends)));
+        let rx = had(&rt, rx.clone());
+        had(&rt, receivers.push(begun(&rt, ReceiveAll { rt, rx })));
     }
-    Ok(Started { senders, receivers })
+    Started { senders, receivers }
 }
 
 // Joins the threads that send, each of which sent all its messages.
@@ -272,42 +255,39 @@ fn join_receivers<R: Threads + Abort>(
 }
 
 // Each message arrives once, and each receiver gets those of one sender in order.
-fn soak<R>(rt: R, capacity: Option<usize>, changes: bool) -> Result<(), Fail>
+fn soak<R>(rt: R, alloc: Global, capacity: Option<usize>, changes: bool)
 where
     R: Waits + AllocGlobal + Threads + Abort + Send + Sync + 'static,
 {
-    let ends = opened::<Message, _>(rt, rt.alloc(), capacity)?;
-    let Started { senders, receivers } = start_all(rt, ends, changes)?;
+    let ends = opened(rt, alloc, capacity);
+    let Started { senders, receivers } = start_all(rt, alloc, ends, changes);
     join_senders(&rt, senders);
-    let mut counts = vec![in rt.alloc(); 0u32; THREADS * EACH]?;
+    let mut counts = had(&rt, vec![in alloc; 0u32; THREADS * EACH]);
     join_receivers(&rt, receivers, counts.as_mut_slice());
     assert!(rt; counts.iter().all(|&count| count == 1));
-    Ok(())
 }
 
 #[test]
-fn each_message_arrives_once_and_in_order_unbounded(rt: HostRuntime) -> Result<(), Fail> {
-    soak(rt, None, false)
+fn each_message_arrives_once_and_in_order_unbounded(rt: HostRuntime) {
+    soak(rt, rt.alloc(), None, false);
 }
 
 #[test]
-fn each_message_arrives_once_and_in_order_at_capacity_0(rt: HostRuntime) -> Result<(), Fail> {
-    soak(rt, Some(0), false)
+fn each_message_arrives_once_and_in_order_at_capacity_0(rt: HostRuntime) {
+    soak(rt, rt.alloc(), Some(0), false);
 }
 
 #[test]
-fn each_message_arrives_once_and_in_order_at_capacity_1(rt: HostRuntime) -> Result<(), Fail> {
-    soak(rt, Some(1), false)
+fn each_message_arrives_once_and_in_order_at_capacity_1(rt: HostRuntime) {
+    soak(rt, rt.alloc(), Some(1), false);
 }
 
 #[test]
-fn each_message_arrives_once_and_in_order_at_capacity_7(rt: HostRuntime) -> Result<(), Fail> {
-    soak(rt, Some(7), false)
+fn each_message_arrives_once_and_in_order_at_capacity_7(rt: HostRuntime) {
+    soak(rt, rt.alloc(), Some(7), false);
 }
 
 #[test]
-fn each_message_arrives_once_and_in_order_while_the_capacity_changes(
-    rt: HostRuntime,
-) -> Result<(), Fail> {
-    soak(rt, Some(0), true)
+fn each_message_arrives_once_and_in_order_while_the_capacity_changes(rt: HostRuntime) {
+    soak(rt, rt.alloc(), Some(0), true);
 }

@@ -1,12 +1,11 @@
 //! Calls with a deadline: served, or closed, while they wait, and two that race.
-use crate::fixtures::{is, long, opened};
+use crate::fixtures::{begun, is, later, long, opened};
 use crate::works::ReceiveOne;
-use ends_tests::works::{Work, started};
+use ends_tests::works::Work;
 use flume::error::{RecvTimeoutError, SendTimeoutError, TrySendError};
 use flume::{Receiver, Sender, Waits};
 use std::alloc::Global;
 use std::process::Abort;
-use std::test::Fail;
 use std::thread;
 use std::thread::Threads;
 use std::time::{Duration, Instant};
@@ -54,12 +53,11 @@ fn try_until_taken<R: Waits>(rt: &R, tx: &Sender<u64, R>, mut message: u64) -> b
 }
 
 #[test]
-fn a_tried_send_meets_a_blocked_receive(rt: HostRuntime) -> Result<(), Fail> {
-    let (tx, rx) = opened(rt, rt.alloc(), Some(0))?;
-    let receiver = started(&rt, ReceiveOne { begins: None, rx })?;
-    assert!(rt; try_until_taken(&rt, &tx, 7));
+fn a_tried_send_meets_a_blocked_receive(rt: HostRuntime) {
+    let (tx, rx) = opened(rt, rt.alloc(), Some(0));
+    let receiver = begun(&rt, ReceiveOne { begins: None, rx });
+    is(&rt, try_until_taken(&rt, &tx, 7), true);
     is(&rt, receiver.join(&rt), Ok(7));
-    Ok(())
 }
 
 // What a receive answers that waits no longer than up to a deadline.
@@ -94,39 +92,36 @@ fn served_and_closed<R: Waits + Threads + Abort + Send + Sync + 'static>(
     alloc: Global,
     capacity: Option<usize>,
     deadline: Option<Instant>,
-) -> Result<(), Fail> {
-    let (tx, rx) = opened(rt, alloc, capacity)?;
-    let (announce, begins) = opened(rt, alloc, None)?;
+) {
+    let (tx, rx) = opened(rt, alloc, capacity);
+    let (announce, begins) = opened(rt, alloc, None);
     let receive = ReceiveTwice {
         rx,
         announce,
         deadline,
     };
-    let receiver = started(&rt, receive)?;
-    assert!(rt; try_until_taken(&rt, &tx, 7));
+    let receiver = begun(&rt, receive);
+    is(&rt, try_until_taken(&rt, &tx, 7), true);
     is(&rt, begins.recv(), Ok(()));
     drop(tx);
     let (served, closed) = receiver.join(&rt);
     is(&rt, served, Ok(7));
     is(&rt, closed, Err(RecvTimeoutError::Disconnected));
-    Ok(())
 }
 
 #[test]
-fn receives_with_a_far_deadline_are_served_or_closed(rt: HostRuntime) -> Result<(), Fail> {
-    let deadline = Instant::now(&rt)?.checked_add(long());
-    assert!(rt; deadline.is_some());
+fn receives_with_a_far_deadline_are_served_or_closed(rt: HostRuntime) {
+    let deadline = Some(later(&rt));
     for &capacity in CAPACITIES {
-        served_and_closed(rt, rt.alloc(), capacity, None)?;
-        served_and_closed(rt, rt.alloc(), capacity, deadline)?;
+        served_and_closed(rt, rt.alloc(), capacity, None);
+        served_and_closed(rt, rt.alloc(), capacity, deadline);
     }
-    Ok(())
 }
 
 // Queues as many messages as the channel holds: 0, 1 and so on.
 fn fill<R: Waits + Abort>(rt: R, tx: &Sender<u64, R>, capacity: usize) {
     for number in 0..capacity {
-        assert!(rt; tx.try_send(number as u64).is_ok());
+        is(&rt, tx.try_send(number as u64), Ok(()));
     }
 }
 
@@ -163,34 +158,31 @@ fn taken_and_closed<R: Waits + Threads + Abort + Send + Sync + 'static>(
     alloc: Global,
     (capacity, first): (usize, u64),
     deadline: Option<Instant>,
-) -> Result<(), Fail> {
-    let (tx, rx) = opened(rt, alloc, Some(capacity))?;
-    let (announce, begins) = opened(rt, alloc, None)?;
+) {
+    let (tx, rx) = opened(rt, alloc, Some(capacity));
+    let (announce, begins) = opened(rt, alloc, None);
     fill(rt, &tx, capacity);
     let send = SendTwice {
         tx,
         announce,
         deadline,
     };
-    let sender = started(&rt, send)?;
+    let sender = begun(&rt, send);
     is(&rt, rx.recv(), Ok(first));
     is(&rt, begins.recv(), Ok(()));
     drop(rx);
     let (taken, closed) = sender.join(&rt);
     is(&rt, taken, Ok(()));
     is(&rt, closed, Err(SendTimeoutError::Disconnected(11)));
-    Ok(())
 }
 
 #[test]
-fn sends_with_a_far_deadline_are_taken_or_closed(rt: HostRuntime) -> Result<(), Fail> {
-    let deadline = Instant::now(&rt)?.checked_add(long());
-    assert!(rt; deadline.is_some());
-    taken_and_closed(rt, rt.alloc(), (0, 10), None)?;
-    taken_and_closed(rt, rt.alloc(), (0, 10), deadline)?;
-    taken_and_closed(rt, rt.alloc(), (2, 0), None)?;
-    taken_and_closed(rt, rt.alloc(), (2, 0), deadline)?;
-    Ok(())
+fn sends_with_a_far_deadline_are_taken_or_closed(rt: HostRuntime) {
+    let deadline = Some(later(&rt));
+    taken_and_closed(rt, rt.alloc(), (0, 10), None);
+    taken_and_closed(rt, rt.alloc(), (0, 10), deadline);
+    taken_and_closed(rt, rt.alloc(), (2, 0), None);
+    taken_and_closed(rt, rt.alloc(), (2, 0), deadline);
 }
 
 // Sends again for so long each time, until the message is taken.
@@ -258,23 +250,21 @@ fn race<R: Waits + Threads + Abort + Send + Sync + 'static>(
     alloc: Global,
     capacity: Option<usize>,
     timeout: Duration,
-) -> Result<(), Fail> {
-    let (tx, rx) = opened(rt, alloc, capacity)?;
-    let sender = started(&rt, SendAll { rt, tx, timeout })?;
+) {
+    let (tx, rx) = opened(rt, alloc, capacity);
+    let sender = begun(&rt, SendAll { rt, tx, timeout });
     for number in 0..RACE {
         is(&rt, receive_at_last(&rt, &rx, timeout), Ok(number));
     }
     let last = receive_at_last(&rt, &rx, timeout);
     is(&rt, last, Err(RecvTimeoutError::Disconnected));
-    assert!(rt; sender.join(&rt));
-    Ok(())
+    is(&rt, sender.join(&rt), true);
 }
 
 #[test]
-fn timed_calls_that_race_neither_lose_nor_double_a_message(rt: HostRuntime) -> Result<(), Fail> {
+fn timed_calls_that_race_neither_lose_nor_double_a_message(rt: HostRuntime) {
     for &capacity in CAPACITIES {
-        race(rt, rt.alloc(), capacity, Duration::from_millis(1))?;
-        race(rt, rt.alloc(), capacity, Duration::from_micros(20))?;
+        race(rt, rt.alloc(), capacity, Duration::from_millis(1));
+        race(rt, rt.alloc(), capacity, Duration::from_micros(20));
     }
-    Ok(())
 }
