@@ -31,6 +31,8 @@ mod many;
 #[cfg(test)]
 mod memory;
 #[cfg(test)]
+mod message;
+#[cfg(test)]
 mod moved;
 #[cfg(test)]
 mod order;

@@ -10,6 +10,7 @@ use futures::test::MockTask;
 use std::alloc::{AllocGlobal, Global};
 use std::process::Abort;
 use std::random::RandomSource;
+use std::sync::atomic::{AtomicU64, Ordering};
 use std::test::Fail;
 use std::time::Instant;
 
@@ -18,20 +19,31 @@ pub(crate) trait Replays: Waits + RandomSource + AllocGlobal + Abort {}
 
 impl<R: Waits + RandomSource + AllocGlobal + Abort> Replays for R {}
 
-// Which growths of a line `! call` are refused, from the first to the last, counted from 1; and by
-// which call it is made, where it waits a short time.
+// How a script is played: which growths of a line `! call` are refused, from the first to the last,
+// counted from 1, and by which call it is made, where it waits a short time; and whether a line
+// `? call` is left out.
 #[derive(Clone, Copy, Drop)]
-struct Refused {
+struct Version {
     first: u64,
     last: u64,
     how: How,
+    leaves_out: bool,
 }
 
-// No growth.
-const NONE: Refused = Refused {
+// As it stands: no growth is refused, and no line is left out.
+const AS_IT_STANDS: Version = Version {
     first: 1,
     last: 0,
     how: How::Short,
+    leaves_out: false,
+};
+
+// The same without the lines `? call`.
+const SHORTER: Version = Version {
+    first: 1,
+    last: 0,
+    how: How::Short,
+    leaves_out: true,
 };
 
 // More growths than a call has.
@@ -124,13 +136,13 @@ fn wrong_refusal<R: Waits>(
     alloc: Global,
     heap: Heap<'_>,
     stage: &mut Stage<'_, '_, '_, R>,
-    (line, refused): (&str, Refused),
+    (line, version): (&str, Version),
 ) -> Result<Option<String>, Fail> {
     let (asks, wanted) = line.split_once(" -> ").unwrap_or((line, ""));
     let (granted, denied) = wanted.split_once(" | ").unwrap_or((wanted, ""));
     let before = seen(alloc, stage)?;
-    heap.refuse_between(refused.first, refused.last);
-    let text = answered(alloc, stage, asks, refused.how)?;
+    heap.refuse_between(version.first, version.last);
+    let text = answered(alloc, stage, asks, version.how)?;
     heap.refuse(false);
     let is_refused = heap.refusals() > 0;
     let wanted = if is_refused { denied } else { granted };
@@ -149,12 +161,19 @@ fn first_wrong<R: Waits>(
     alloc: Global,
     heap: Heap<'_>,
     stage: &mut Stage<'_, '_, '_, R>,
-    (lines, refused): (&str, Refused),
+    (lines, version): (&str, Version),
 ) -> Result<Option<String>, Fail> {
     for (at, line) in lines.split("\n").enumerate() {
+        let (line, may_go) = match line.strip_prefix("? ") {
+            Some(line) => (line, true),
+            None => (line, false),
+        };
+        if may_go && version.leaves_out {
+            continue;
+        }
         let (wrong, ends) = match line.strip_prefix("! ") {
             Some(line) => {
-                let wrong = wrong_refusal(alloc, heap, stage, (line, refused))?;
+                let wrong = wrong_refusal(alloc, heap, stage, (line, version))?;
                 (wrong, heap.refusals() == 0)
             }
             None => (wrong_answer(alloc, stage, line)?, false),
@@ -180,12 +199,12 @@ fn names<'t, 'r, 'h, R: Waits>(alloc: Global) -> Result<Vec<Held<'t, 'r, 'h, R>>
 }
 
 // Replays the lines below an opening line on a new channel.
-fn play<R: Replays>(
+fn play<'h, R: Replays>(
     rt: R,
     alloc: Global,
-    heap: Heap<'_>,
+    (heap, left): (Heap<'h>, &'h AtomicU64),
     (opening, lines): (&str, &str),
-    refused: Refused,
+    version: Version,
 ) -> Result<Option<String>, Fail> {
     let (tx, rx) = opened(rt, heap, opening)?;
     let (tx, own_tx) = parted(tx, lines.contains("own_sender"));
@@ -193,8 +212,8 @@ fn play<R: Replays>(
     let (sender, receiver) = ((tx.as_ref(), own_tx), (rx.as_ref(), own_rx));
     let tasks = (MockTask::new(&rt)?, MockTask::new(&rt)?);
     let now = Instant::now(&rt)?;
-    let mut stage = Stage::new((heap, now), tasks, sender, receiver, names(alloc)?);
-    let wrong = first_wrong(alloc, heap, &mut stage, (lines, refused));
+    let mut stage = Stage::new((heap, left, now), tasks, sender, receiver, names(alloc)?);
+    let wrong = first_wrong(alloc, heap, &mut stage, (lines, version));
     drop(stage);
     wrong
 }
@@ -204,40 +223,56 @@ fn play<R: Replays>(
 fn fault<R: Replays>(
     rt: R,
     alloc: Global,
-    (script, refused): (&str, Refused),
+    (script, version): (&str, Version),
 ) -> Result<(Option<String>, bool), Fail> {
     let heap = Counting::new(alloc);
+    let left = AtomicU64::new(0);
     let parts = script.split_once("\n").unwrap_or((script, ""));
-    let wrong = play(rt, alloc, &heap, parts, refused)?;
+    let wrong = play(rt, alloc, (&heap, &left), parts, version)?;
     let is_refused = heap.refusals() > 0;
+    if wrong.is_none() && left.load(Ordering::SeqCst) != 0 {
+        return Ok((Some(format!(in alloc; "messages are left")?), is_refused));
+    }
     if wrong.is_none() && heap.live() != 0 {
         return Ok((Some(format!(in alloc; "blocks are left")?), is_refused));
     }
     Ok((wrong, is_refused))
 }
 
-// What is wrong with the script of a title: nothing, or what the title says.
-fn judge<R: Replays>(rt: R, alloc: Global, block: &str, is_faulty: bool) -> Result<(), Fail> {
+// What is wrong with the script of a title, played so: nothing, or what the title says.
+fn judge<R: Replays>(
+    rt: R,
+    alloc: Global,
+    block: &str,
+    (version, is_faulty): (Version, bool),
+) -> Result<(), Fail> {
     let (title, script) = block.split_once("\n").unwrap_or((block, ""));
-    let (fault, _) = fault(rt, alloc, (script, NONE))?;
+    let (fault, _) = fault(rt, alloc, (script, version))?;
     let wanted = if is_faulty { title } else { "" };
     is_so(&rt, title, fault.as_deref().unwrap_or(""), wanted);
     Ok(())
 }
 
 /// Replays scripts, each a line `= title`, an opening line, and a line for each call. Each answers
-/// as it says.
+/// as it says. A script with a line `? call` is replayed once more without it.
 pub(crate) fn replay<R: Replays>(rt: R, alloc: Global, scripts: &str) -> Result<(), Fail> {
     for block in scripts.trim_end().split("\n= ").skip(1) {
-        judge(rt, alloc, block, false)?;
+        judge(rt, alloc, block, (AS_IT_STANDS, false))?;
+        if block.contains("\n? ") {
+            judge(rt, alloc, block, (SHORTER, false))?;
+        }
     }
     Ok(())
 }
 
-/// Replays scripts of which each has a line with a wrong answer. Its title says what is found.
+/// Replays scripts of which each has a line with a wrong answer. Its title says what is found. Where
+/// that is a line `? call`, nothing is wrong without it.
 pub(crate) fn replay_faulty<R: Replays>(rt: R, alloc: Global, scripts: &str) -> Result<(), Fail> {
     for block in scripts.trim_end().split("\n= ").skip(1) {
-        judge(rt, alloc, block, true)?;
+        judge(rt, alloc, block, (AS_IT_STANDS, true))?;
+        if block.contains("\n? ") {
+            judge(rt, alloc, block, (SHORTER, false))?;
+        }
     }
     Ok(())
 }
@@ -252,8 +287,13 @@ fn is_refused<R: Replays>(
     let mut all = true;
     for last in [growth, u64::MAX] {
         let first = growth;
-        let refused = Refused { first, last, how };
-        let (fault, is_refused) = fault(rt, alloc, (script, refused))?;
+        let version = Version {
+            first,
+            last,
+            how,
+            leaves_out: false,
+        };
+        let (fault, is_refused) = fault(rt, alloc, (script, version))?;
         is_so(&rt, title, fault.as_deref().unwrap_or(""), "");
         all = all && is_refused;
     }
