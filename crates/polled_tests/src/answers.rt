@@ -43,24 +43,34 @@ pub(crate) struct Seen {
     pub(crate) capacity: Option<usize>,
 }
 
-impl fmt::Display for Seen {
-    fn fmt<W: fmt::Write>(&self, f: &mut fmt::Formatter<W>) -> fmt::Result {
-        let open = if self.is_disconnected {
+impl Seen {
+    // Whether the channel is open.
+    fn state(&self) -> &'static str {
+        if self.is_disconnected {
             "closed"
         } else {
             "open"
-        };
+        }
+    }
+
+    // Whether it is empty, and whether it is full.
+    fn fill(&self) -> &'static str {
+        match (self.is_empty, self.is_full) {
+            (false, false) => "",
+            (true, false) => ", empty",
+            (false, true) => ", full",
+            (true, true) => ", empty, full",
+        }
+    }
+}
+
+impl fmt::Display for Seen {
+    fn fmt<W: fmt::Write>(&self, f: &mut fmt::Formatter<W>) -> fmt::Result {
+        let (state, len, fill) = (self.state(), self.len, self.fill());
         match self.capacity {
-            Some(capacity) => write!(f, "{open}, {} of {capacity}", self.len)?,
-            None => write!(f, "{open}, {} of any", self.len)?,
+            Some(capacity) => write!(f, "{state}, {len} of {capacity}{fill}"),
+            None => write!(f, "{state}, {len} of any{fill}"),
         }
-        if self.is_empty {
-            f.write_str(", empty")?;
-        }
-        if self.is_full {
-            f.write_str(", full")?;
-        }
-        Ok(())
     }
 }
 

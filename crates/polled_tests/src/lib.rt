@@ -27,6 +27,8 @@ mod hand;
 #[cfg(test)]
 mod held;
 #[cfg(test)]
+mod lines;
+#[cfg(test)]
 mod many;
 #[cfg(test)]
 mod memory;

@@ -1,9 +1,10 @@
 //! Scripts of calls and polls by hand on one channel, replayed line by line.
-use crate::answers::{Answer, Heap, Rx, Tx};
-use crate::asked::{Asked, How};
+use crate::answers::{Heap, Rx, Tx};
+use crate::asked::How;
 use crate::fixtures::is_so;
 use crate::hand::Stage;
 use crate::held::Held;
+use crate::lines::{AS_IT_STANDS, SHORTER, Version, first_wrong};
 use ends_tests::counting::Counting;
 use flume::{Waits, bounded, unbounded};
 use futures::test::MockTask;
@@ -18,33 +19,6 @@ use std::time::Instant;
 pub(crate) trait Replays: Waits + RandomSource + AllocGlobal + Abort {}
 
 impl<R: Waits + RandomSource + AllocGlobal + Abort> Replays for R {}
-
-// How a script is played: which growths of a line `! call` are refused, from the first to the last,
-// counted from 1, and by which call it is made, where it waits a short time; and whether a line
-// `? call` is left out.
-#[derive(Clone, Copy, Drop)]
-struct Version {
-    first: u64,
-    last: u64,
-    how: How,
-    leaves_out: bool,
-}
-
-// As it stands: no growth is refused, and no line is left out.
-const AS_IT_STANDS: Version = Version {
-    first: 1,
-    last: 0,
-    how: How::Short,
-    leaves_out: false,
-};
-
-// The same without the lines `? call`.
-const SHORTER: Version = Version {
-    first: 1,
-    last: 0,
-    how: How::Short,
-    leaves_out: true,
-};
 
 // More growths than a call has.
 const MOST: u64 = 100;
@@ -80,115 +54,6 @@ fn parted<E>(end: E, is_own: bool) -> (Option<E>, Option<E>) {
     }
 }
 
-// Does what a line asks, by this call where it waits a short time. What that is answered.
-fn answered<R: Waits>(
-    alloc: Global,
-    stage: &mut Stage<'_, '_, '_, R>,
-    asks: &str,
-    how: How,
-) -> Result<String, Fail> {
-    let answer = match Asked::read(asks) {
-        Some(asked) => {
-            let asked = asked.in_place_of_short(how);
-            stage.answer(&asked).unwrap_or(Answer::Word("impossible"))
-        }
-        None => Answer::Word("unreadable"),
-    };
-    Ok(format!(in alloc; "{answer}")?)
-}
-
-// Does what a line asks. `None`: the answer is the wanted one. A line that names none wants `done`.
-fn wrong_answer<R: Waits>(
-    alloc: Global,
-    stage: &mut Stage<'_, '_, '_, R>,
-    line: &str,
-) -> Result<Option<String>, Fail> {
-    let (asks, wanted) = line.split_once(" -> ").unwrap_or((line, "done"));
-    let text = answered(alloc, stage, asks, How::Short)?;
-    if text.as_str() == wanted {
-        return Ok(None);
-    }
-    Ok(Some(format!(in alloc; "`{line}` answers {text}")?))
-}
-
-// The lines that ask both ends of the channel.
-const LOOKS: &[&str] = &[
-    "look sender",
-    "look receiver",
-    "counts sender",
-    "counts receiver",
-];
-
-// What both ends tell of the channel.
-fn seen<R: Waits>(alloc: Global, stage: &mut Stage<'_, '_, '_, R>) -> Result<String, Fail> {
-    let mut seen = String::new(alloc);
-    for &asks in LOOKS {
-        seen.push_str(answered(alloc, stage, asks, How::Short)?.as_str())?;
-        seen.push_str("; ")?;
-    }
-    Ok(seen)
-}
-
-// Does what a line asks while these growths are refused. Where one was, the answer is the last one
-// that the line names, and both ends tell the same of the channel as before; and else the first.
-// `None`: that is so.
-fn wrong_refusal<R: Waits>(
-    alloc: Global,
-    heap: Heap<'_>,
-    stage: &mut Stage<'_, '_, '_, R>,
-    (line, version): (&str, Version),
-) -> Result<Option<String>, Fail> {
-    let (asks, wanted) = line.split_once(" -> ").unwrap_or((line, ""));
-    let (granted, denied) = wanted.split_once(" | ").unwrap_or((wanted, ""));
-    let before = seen(alloc, stage)?;
-    heap.refuse_between(version.first, version.last);
-    let text = answered(alloc, stage, asks, version.how)?;
-    heap.refuse(false);
-    let is_refused = heap.refusals() > 0;
-    let wanted = if is_refused { denied } else { granted };
-    if text.as_str() != wanted {
-        return Ok(Some(format!(in alloc; "`{line}` answers {text}")?));
-    }
-    if is_refused && seen(alloc, stage)?.as_str() != before.as_str() {
-        return Ok(Some(format!(in alloc; "`{line}` changes the channel")?));
-    }
-    Ok(None)
-}
-
-// The first line whose answer isn't the wanted one, with its number and its answer. The opening
-// line is the first. Those below a line of which no growth was refused aren't looked at.
-fn first_wrong<R: Waits>(
-    alloc: Global,
-    heap: Heap<'_>,
-    stage: &mut Stage<'_, '_, '_, R>,
-    (lines, version): (&str, Version),
-) -> Result<Option<String>, Fail> {
-    for (at, line) in lines.split("\n").enumerate() {
-        let (line, may_go) = match line.strip_prefix("? ") {
-            Some(line) => (line, true),
-            None => (line, false),
-        };
-        if may_go && version.leaves_out {
-            continue;
-        }
-        let (wrong, ends) = match line.strip_prefix("! ") {
-            Some(line) => {
-                let wrong = wrong_refusal(alloc, heap, stage, (line, version))?;
-                (wrong, heap.refusals() == 0)
-            }
-            None => (wrong_answer(alloc, stage, line)?, false),
-        };
-        if let Some(wrong) = wrong {
-            let number = at.saturating_add(2);
-            return Ok(Some(format!(in alloc; "line {number}: {wrong}")?));
-        }
-        if ends {
-            break;
-        }
-    }
-    Ok(None)
-}
-
 // As many names as a script may give, which stand for nothing yet.
 fn names<'t, 'r, 'h, R: Waits>(alloc: Global) -> Result<Vec<Held<'t, 'r, 'h, R>>, Fail> {
     let mut held = Vec::new(alloc);
@@ -218,8 +83,23 @@ fn play<'h, R: Replays>(
     wrong
 }
 
-// What is wrong with a script: its first line with another answer than it wants, or that blocks are
-// out once all is dropped. And whether a growth of a line was refused.
+// What was found, or else that this many messages or blocks are left, where any is.
+fn or_left(
+    alloc: Global,
+    wrong: Option<String>,
+    (messages, blocks): (u64, u64),
+) -> Result<Option<String>, Fail> {
+    match (wrong, messages, blocks) {
+        (Some(wrong), _, _) => Ok(Some(wrong)),
+        (None, 0, 0) => Ok(None),
+        (None, _, _) => Ok(Some(format!(in alloc;
+            "{messages} messages and {blocks} blocks are left"
+        )?)),
+    }
+}
+
+// What is wrong with a script: its first line with another answer than it wants, or that messages or
+// blocks are left once all is dropped. And whether a growth of a line was refused.
 fn fault<R: Replays>(
     rt: R,
     alloc: Global,
@@ -229,14 +109,8 @@ fn fault<R: Replays>(
     let left = AtomicU64::new(0);
     let parts = script.split_once("\n").unwrap_or((script, ""));
     let wrong = play(rt, alloc, (&heap, &left), parts, version)?;
-    let is_refused = heap.refusals() > 0;
-    if wrong.is_none() && left.load(Ordering::SeqCst) != 0 {
-        return Ok((Some(format!(in alloc; "messages are left")?), is_refused));
-    }
-    if wrong.is_none() && heap.live() != 0 {
-        return Ok((Some(format!(in alloc; "blocks are left")?), is_refused));
-    }
-    Ok((wrong, is_refused))
+    let found = or_left(alloc, wrong, (left.load(Ordering::SeqCst), heap.live()))?;
+    Ok((found, heap.refusals() > 0))
 }
 
 // What is wrong with the script of a title, played so: nothing, or what the title says.
