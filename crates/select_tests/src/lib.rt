@@ -2,11 +2,17 @@
 #![tactic(auto)]
 
 #[cfg(test)]
-mod dropped;
+mod answers;
+#[cfg(test)]
+mod asked;
 #[cfg(test)]
 mod examples;
 #[cfg(test)]
 mod fixtures;
+#[cfg(test)]
+mod hand;
+#[cfg(test)]
+mod judged;
 #[cfg(test)]
 mod mappers;
 #[cfg(test)]
@@ -14,9 +20,15 @@ mod meeting;
 #[cfg(test)]
 mod memory;
 #[cfg(test)]
+mod planted;
+#[cfg(test)]
+mod replay;
+#[cfg(test)]
 mod rows;
 #[cfg(test)]
-mod selections;
+mod shapes;
+#[cfg(test)]
+mod stage;
 #[cfg(test)]
 mod standing;
 #[cfg(test)]
