@@ -186,21 +186,17 @@ fn an_iterator_tells_the_end_as_in_its_example(rt: HostRuntime) -> Result<(), Fa
 
 #[test]
 fn a_weak_sender_answers_as_in_its_example(rt: HostRuntime) -> Result<(), Fail> {
-    {
-        let (tx, _rx) = flume::on(rt).unbounded::<u64>()?;
-        let weak = tx.downgrade()?;
-        is(&rt, weak.upgrade()?.is_some(), true);
-        drop(tx);
-        is(&rt, weak.upgrade()?.is_none(), true);
+    let (tx, _rx) = flume::on(rt).unbounded::<u64>()?;
+    let weak = tx.downgrade()?;
+    is(&rt, weak.upgrade()?.is_some(), true);
+    drop(tx);
+    is(&rt, weak.upgrade()?.is_none(), true);
+    let (tx, rx) = flume::on(rt).unbounded()?;
+    let weak = tx.downgrade()?;
+    if let Some(tx) = weak.upgrade()? {
+        tx.send(7)?;
     }
-    {
-        let (tx, rx) = flume::on(rt).unbounded()?;
-        let weak = tx.downgrade()?;
-        if let Some(tx) = weak.upgrade()? {
-            tx.send(7)?;
-        }
-        is(&rt, rx.recv(), Ok(7));
-    }
+    is(&rt, rx.recv(), Ok(7));
     Ok(())
 }
 

@@ -5,6 +5,7 @@ use crate::fixtures::{had, is};
 use flume::{Receiver, Runtime, Sender, Waits};
 use std::alloc::AllocError;
 use std::io::ErrorKind;
+use std::test::Fail;
 use std::thread::JoinHandle;
 use std::time::{Duration, Instant};
 use std::{io, thread};
@@ -102,8 +103,9 @@ fn every_call<R: Runtime>(rt: R) -> io::Result<u64> {
 }
 
 #[test]
-fn each_call_answers_an_error_that_the_io_result_takes(rt: HostRuntime) {
-    is(&rt, every_call(rt).ok(), Some(10));
+fn each_call_answers_an_error_that_the_io_result_takes(rt: HostRuntime) -> Result<(), Fail> {
+    is(&rt, every_call(rt)?, 10);
+    Ok(())
 }
 
 // Each call that fails by memory alone, with `?`.
