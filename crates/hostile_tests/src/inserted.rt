@@ -121,20 +121,15 @@ fn halves(alloc: Global, script: &str) -> Result<(String, String), Fail> {
 }
 
 // The ends that go before the step of this number.
-fn going(places: Places, at: usize) -> &'static [Step<u64>] {
-    match (places.sender == at, places.receiver == at) {
-        (true, true) if places.is_sender_first => &[Step::DropSender, Step::DropReceiver],
-        (true, true) => &[Step::DropReceiver, Step::DropSender],
-        (true, false) => &[Step::DropSender],
-        (false, true) => &[Step::DropReceiver],
-        (false, false) => &[],
-    }
-}
-
-// Adds the ends that go before the step of this number.
 fn insert(steps: &mut Vec<Step<u64>>, places: Places, at: usize) -> Result<(), Fail> {
-    for end in going(places, at) {
-        steps.push(*end)?;
+    if places.is_sender_first && places.sender == at {
+        steps.push(Step::DropSender)?;
+    }
+    if places.receiver == at {
+        steps.push(Step::DropReceiver)?;
+    }
+    if !places.is_sender_first && places.sender == at {
+        steps.push(Step::DropSender)?;
     }
     Ok(())
 }

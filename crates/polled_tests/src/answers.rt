@@ -1,6 +1,5 @@
 //! What the lines of a script are answered, as words and numbers.
 use crate::asked::How;
-use crate::message::Message;
 use ends_tests::counting::Counting;
 use flume::error::{
     CapacityError, RecvError, RecvTimeoutError, SendError, SendTimeoutError, TryRecvError,
@@ -15,17 +14,16 @@ use std::time::{Duration, Instant};
 /// The allocator of a script's channel.
 pub(crate) type Heap<'h> = &'h Counting<Global>;
 
-/// A sender of a script.
-pub(crate) type Tx<'h, R> = Sender<Message<'h>, R, Heap<'h>>;
+/// A sender of numbers.
+pub(crate) type Tx<'h, R> = Sender<u64, R, Heap<'h>>;
 
-/// A receiver of a script.
-pub(crate) type Rx<'h, R> = Receiver<Message<'h>, R, Heap<'h>>;
+/// A receiver of numbers.
+pub(crate) type Rx<'h, R> = Receiver<u64, R, Heap<'h>>;
 
 /// What a line is answered.
 #[derive(Clone, Copy, Drop)]
 pub(crate) enum Answer {
     Word(&'static str),
-    Number(u64),
     Message(&'static str, u64),
     /// How many senders and receivers there are.
     Counts(usize, usize),
@@ -43,34 +41,24 @@ pub(crate) struct Seen {
     pub(crate) capacity: Option<usize>,
 }
 
-impl Seen {
-    // Whether the channel is open.
-    fn state(&self) -> &'static str {
-        if self.is_disconnected {
+impl fmt::Display for Seen {
+    fn fmt<W: fmt::Write>(&self, f: &mut fmt::Formatter<W>) -> fmt::Result {
+        let open = if self.is_disconnected {
             "closed"
         } else {
             "open"
-        }
-    }
-
-    // Whether it is empty, and whether it is full.
-    fn fill(&self) -> &'static str {
-        match (self.is_empty, self.is_full) {
-            (false, false) => "",
-            (true, false) => ", empty",
-            (false, true) => ", full",
-            (true, true) => ", empty, full",
-        }
-    }
-}
-
-impl fmt::Display for Seen {
-    fn fmt<W: fmt::Write>(&self, f: &mut fmt::Formatter<W>) -> fmt::Result {
-        let (state, len, fill) = (self.state(), self.len, self.fill());
+        };
         match self.capacity {
-            Some(capacity) => write!(f, "{state}, {len} of {capacity}{fill}"),
-            None => write!(f, "{state}, {len} of any{fill}"),
+            Some(capacity) => write!(f, "{open}, {} of {capacity}", self.len)?,
+            None => write!(f, "{open}, {} of any", self.len)?,
         }
+        if self.is_empty {
+            f.write_str(", empty")?;
+        }
+        if self.is_full {
+            f.write_str(", full")?;
+        }
+        Ok(())
     }
 }
 
@@ -78,18 +66,10 @@ impl fmt::Display for Answer {
     fn fmt<W: fmt::Write>(&self, f: &mut fmt::Formatter<W>) -> fmt::Result {
         match *self {
             Answer::Word(word) => f.write_str(word),
-            Answer::Number(number) => write!(f, "{number}"),
             Answer::Message(word, message) => write!(f, "{word} {message}"),
             Answer::Counts(senders, receivers) => write!(f, "{senders} and {receivers}"),
             Answer::Seen(seen) => write!(f, "{seen}"),
         }
-    }
-}
-
-impl Answer {
-    /// An answer with a message, which is dropped.
-    pub(crate) fn message(word: &'static str, message: Message<'_>) -> Answer {
-        Answer::Message(word, message.into_number())
     }
 }
 
@@ -105,38 +85,38 @@ pub(crate) fn truth(is: bool) -> Answer {
 }
 
 // What a tried send answered.
-fn after_try_send(answer: Result<(), TrySendError<Message<'_>>>) -> Answer {
+fn after_try_send(answer: Result<(), TrySendError<u64>>) -> Answer {
     match answer {
         Ok(()) => Answer::Word("sent"),
-        Err(TrySendError::Full(back)) => Answer::message("full", back),
-        Err(TrySendError::Disconnected(back)) => Answer::message("disconnected", back),
-        Err(TrySendError::NoMemory(back)) => Answer::message("no memory", back),
+        Err(TrySendError::Full(back)) => Answer::Message("full", back),
+        Err(TrySendError::Disconnected(back)) => Answer::Message("disconnected", back),
+        Err(TrySendError::NoMemory(back)) => Answer::Message("no memory", back),
     }
 }
 
 /// What a send that blocks, or a start of a sink's, answered.
-pub(crate) fn after_send(answer: Result<(), SendError<Message<'_>>>) -> Answer {
+pub(crate) fn after_send(answer: Result<(), SendError<u64>>) -> Answer {
     match answer {
         Ok(()) => Answer::Word("sent"),
-        Err(SendError::Disconnected(back)) => Answer::message("disconnected", back),
-        Err(SendError::NoMemory(back)) => Answer::message("no memory", back),
+        Err(SendError::Disconnected(back)) => Answer::Message("disconnected", back),
+        Err(SendError::NoMemory(back)) => Answer::Message("no memory", back),
     }
 }
 
 // What a send up to a deadline answered.
-fn after_timed_send(answer: Result<(), SendTimeoutError<Message<'_>>>) -> Answer {
+fn after_timed_send(answer: Result<(), SendTimeoutError<u64>>) -> Answer {
     match answer {
         Ok(()) => Answer::Word("sent"),
-        Err(SendTimeoutError::Timeout(back)) => Answer::message("late", back),
-        Err(SendTimeoutError::Disconnected(back)) => Answer::message("disconnected", back),
-        Err(SendTimeoutError::NoMemory(back)) => Answer::message("no memory", back),
+        Err(SendTimeoutError::Timeout(back)) => Answer::Message("late", back),
+        Err(SendTimeoutError::Disconnected(back)) => Answer::Message("disconnected", back),
+        Err(SendTimeoutError::NoMemory(back)) => Answer::Message("no memory", back),
     }
 }
 
 // What a tried receive answered.
-fn after_try_recv(answer: Result<Message<'_>, TryRecvError>) -> Answer {
+fn after_try_recv(answer: Result<u64, TryRecvError>) -> Answer {
     match answer {
-        Ok(message) => Answer::message("got", message),
+        Ok(message) => Answer::Message("got", message),
         Err(TryRecvError::Empty) => Answer::Word("empty"),
         Err(TryRecvError::Disconnected) => Answer::Word("disconnected"),
         Err(TryRecvError::NoMemory) => Answer::Word("no memory"),
@@ -144,18 +124,18 @@ fn after_try_recv(answer: Result<Message<'_>, TryRecvError>) -> Answer {
 }
 
 /// What a receive that blocks, or is polled, answered.
-pub(crate) fn after_recv(answer: Result<Message<'_>, RecvError>) -> Answer {
+pub(crate) fn after_recv(answer: Result<u64, RecvError>) -> Answer {
     match answer {
-        Ok(message) => Answer::message("got", message),
+        Ok(message) => Answer::Message("got", message),
         Err(RecvError::Disconnected) => Answer::Word("disconnected"),
         Err(RecvError::NoMemory) => Answer::Word("no memory"),
     }
 }
 
 // What a receive up to a deadline answered.
-fn after_timed_recv(answer: Result<Message<'_>, RecvTimeoutError>) -> Answer {
+fn after_timed_recv(answer: Result<u64, RecvTimeoutError>) -> Answer {
     match answer {
-        Ok(message) => Answer::message("got", message),
+        Ok(message) => Answer::Message("got", message),
         Err(RecvTimeoutError::Timeout) => Answer::Word("late"),
         Err(RecvTimeoutError::Disconnected) => Answer::Word("disconnected"),
         Err(RecvTimeoutError::NoMemory) => Answer::Word("no memory"),
@@ -163,15 +143,15 @@ fn after_timed_recv(answer: Result<Message<'_>, RecvTimeoutError>) -> Answer {
 }
 
 /// What a stream gave.
-pub(crate) fn after_next(answer: Option<Message<'_>>) -> Answer {
+pub(crate) fn after_next(answer: Option<u64>) -> Answer {
     match answer {
-        Some(message) => Answer::message("got", message),
+        Some(message) => Answer::Message("got", message),
         None => Answer::Word("ended"),
     }
 }
 
 /// What a poll of a send or of a sink answered.
-pub(crate) fn after_sending(answer: Poll<Result<(), SendError<Message<'_>>>>) -> Answer {
+pub(crate) fn after_sending(answer: Poll<Result<(), SendError<u64>>>) -> Answer {
     match answer {
         Poll::Ready(answer) => after_send(answer),
         Poll::Pending => PENDING,
@@ -179,12 +159,7 @@ pub(crate) fn after_sending(answer: Poll<Result<(), SendError<Message<'_>>>>) ->
 }
 
 /// A send by this call.
-pub(crate) fn sent<'h, R: Waits>(
-    tx: &Tx<'h, R>,
-    how: How,
-    message: Message<'h>,
-    now: Instant,
-) -> Answer {
+pub(crate) fn sent<R: Waits>(tx: &Tx<'_, R>, how: How, message: u64, now: Instant) -> Answer {
     match how {
         How::Tries => after_try_send(tx.try_send(message)),
         How::Waits | How::Iterates | How::IntoIterates => after_send(tx.send(message)),
@@ -196,9 +171,9 @@ pub(crate) fn sent<'h, R: Waits>(
 }
 
 // What an iterator gave first, which says whether it met a fault.
-fn after_first(first: Option<Message<'_>>, is_fault: bool) -> Answer {
+fn after_first(first: Option<u64>, is_fault: bool) -> Answer {
     match first {
-        Some(message) => Answer::message("got", message),
+        Some(message) => Answer::Message("got", message),
         None if is_fault => Answer::Word("no memory"),
         None => Answer::Word("disconnected"),
     }
@@ -251,7 +226,7 @@ pub(crate) fn drained<R: Waits>(rx: &Rx<'_, R>) -> Answer {
     };
     match (drain.next(), drain.next()) {
         (None, _) => Answer::Word("nothing"),
-        (Some(message), None) => Answer::message("only", message),
-        (Some(message), Some(_)) => Answer::message("more than", message),
+        (Some(message), None) => Answer::Message("only", message),
+        (Some(message), Some(_)) => Answer::Message("more than", message),
     }
 }

@@ -36,8 +36,6 @@ pub(crate) enum Call {
     IntoRecvAsync,
     IntoStream,
     Clone,
-    CloneIntoSendAsync,
-    CloneIntoRecvAsync,
     CloneIntoSink,
     CloneIntoStream,
     /// A clone of a weak sender.
@@ -62,8 +60,6 @@ pub(crate) enum Call {
     CountBlocks,
     /// Whether as many are out as were then.
     SameBlocks,
-    /// How many messages were made, and not dropped.
-    Messages,
     Woken,
     /// Which ends aren't lent: it is looked for before the first line.
     Own,
@@ -110,8 +106,6 @@ const CALLS: &[Named] = &[
     Named("into_recv_async", Call::IntoRecvAsync),
     Named("into_stream", Call::IntoStream),
     Named("clone", Call::Clone),
-    Named("clone_into_send_async", Call::CloneIntoSendAsync),
-    Named("clone_into_recv_async", Call::CloneIntoRecvAsync),
     Named("clone_into_sink", Call::CloneIntoSink),
     Named("clone_into_stream", Call::CloneIntoStream),
     Named("downgrade", Call::Downgrade),
@@ -131,7 +125,6 @@ const CALLS: &[Named] = &[
     Named("grant", Call::Grant),
     Named("count_blocks", Call::CountBlocks),
     Named("same_blocks", Call::SameBlocks),
-    Named("messages", Call::Messages),
     Named("woken", Call::Woken),
     Named("own_sender", Call::Own),
     Named("own_receiver", Call::Own),

@@ -2,24 +2,20 @@
 use crate::answers::{
     Answer, DONE, Heap, Rx, Tx, after_send, after_set_capacity, drained, received, sent, truth,
 };
-use crate::asked::{Asked, Call, How, RECEIVER, SENDER};
+use crate::asked::{Asked, Call, RECEIVER, SENDER};
 use crate::held::{
     Held, owned_receive, owned_send, owned_sink, owned_stream, polled, seen_by, seen_by_receiver,
     seen_by_sender,
 };
-use crate::message::Message;
 use flume::Waits;
 use futures::Sink;
 use futures::test::MockTask;
-use std::sync::atomic::{AtomicU64, Ordering};
 use std::time::Instant;
 
 /// What the lines of a script work on. An end is lent to what is polled, or the stage has it.
 #[derive(Drop)]
 pub(crate) struct Stage<'t, 'r, 'h, R: Waits> {
     heap: Heap<'h>,
-    // How many messages are left.
-    left: &'h AtomicU64,
     now: Instant,
     // How many blocks were out as a line counted them last.
     blocks: u64,
@@ -40,7 +36,7 @@ fn named_task<'a>(one: &'a MockTask, two: &'a MockTask, asked: &Asked) -> &'a Mo
 impl<'t, 'r, 'h, R: Waits> Stage<'t, 'r, 'h, R> {
     /// Each end is lent, or the stage's own. No name stands for anything yet.
     pub(crate) fn new(
-        (heap, left, now): (Heap<'h>, &'h AtomicU64, Instant),
+        (heap, now): (Heap<'h>, Instant),
         (one, two): (MockTask, MockTask),
         (lent_tx, tx): (Option<&'t Tx<'h, R>>, Option<Tx<'h, R>>),
         (lent_rx, rx): (Option<&'r Rx<'h, R>>, Option<Rx<'h, R>>),
@@ -48,7 +44,6 @@ impl<'t, 'r, 'h, R: Waits> Stage<'t, 'r, 'h, R> {
     ) -> Self {
         Stage {
             heap,
-            left,
             now,
             blocks: 0,
             one,
@@ -64,7 +59,7 @@ impl<'t, 'r, 'h, R: Waits> Stage<'t, 'r, 'h, R> {
     /// Does what a line asks. `None`: it can't be done as things stand.
     pub(crate) fn answer(&mut self, asked: &Asked) -> Option<Answer> {
         match asked.call {
-            Call::Send(how) => self.send(how, asked),
+            Call::Send(how) => Some(sent(self.sender()?, how, asked.number, self.now)),
             Call::Recv(how) => Some(received(self.receiver()?, how, self.now)),
             Call::SetCapacity => self.set_capacity(asked),
             Call::Drain => Some(drained(self.receiver()?)),
@@ -76,17 +71,15 @@ impl<'t, 'r, 'h, R: Waits> Stage<'t, 'r, 'h, R> {
             Call::SendAsync | Call::RecvAsync | Call::Sink | Call::Stream => self.borrow(asked),
             Call::IntoSendAsync | Call::IntoRecvAsync | Call::IntoStream => self.take(asked),
             Call::Clone | Call::Downgrade | Call::Upgrade => self.copy(asked),
-            Call::CloneIntoSendAsync
-            | Call::CloneIntoRecvAsync
-            | Call::CloneIntoSink
-            | Call::CloneIntoStream => self.take_clone(asked),
+            Call::CloneIntoSink | Call::CloneIntoStream => self.take_clone(asked),
             Call::Poll | Call::PollReady | Call::PollFlush | Call::PollClose => self.poll(asked),
             Call::IsTerminated | Call::Fault | Call::IsOfChannel | Call::StartSend => self.ask(
                 asked,
             ),
             Call::DropSender | Call::DropReceiver | Call::Drop => self.let_go(asked),
-            Call::Refuse | Call::Grant | Call::CountBlocks | Call::SameBlocks | Call::Messages =>
-                Some(self.counted(asked.call)),
+            Call::Refuse | Call::Grant | Call::CountBlocks | Call::SameBlocks => Some(self.by_heap(
+                asked.call,
+            )),
             Call::Woken => Some(truth(named_task(&self.one, &self.two, asked).is_woken())),
             Call::Own => Some(DONE),
         }
@@ -106,17 +99,6 @@ impl<'t, 'r, 'h, R: Waits> Stage<'t, 'r, 'h, R> {
             Some(rx) => Some(rx),
             None => self.rx.as_ref(),
         }
-    }
-
-    // A new message of the line's number.
-    fn message(&self, asked: &Asked) -> Message<'h> {
-        Message::new(asked.number, self.left)
-    }
-
-    // Sends the line's message, by this call.
-    fn send(&self, how: How, asked: &Asked) -> Option<Answer> {
-        let tx = self.sender()?;
-        Some(sent(tx, how, self.message(asked), self.now))
     }
 
     // Sets the capacity, by the end that is named.
@@ -154,7 +136,7 @@ impl<'t, 'r, 'h, R: Waits> Stage<'t, 'r, 'h, R> {
     // Makes what borrows a lent end.
     fn borrow(&mut self, asked: &Asked) -> Option<Answer> {
         let held = match asked.call {
-            Call::SendAsync => Held::Send(self.lent_tx?.send_async(self.message(asked))),
+            Call::SendAsync => Held::Send(self.lent_tx?.send_async(asked.number)),
             Call::Sink => Held::Sink(self.lent_tx?.sink()),
             Call::RecvAsync => Held::Receive(self.lent_rx?.recv_async()),
             _ => Held::Stream(self.lent_rx?.stream()),
@@ -165,20 +147,16 @@ impl<'t, 'r, 'h, R: Waits> Stage<'t, 'r, 'h, R> {
     // Makes what takes an end of the stage's own.
     fn take(&mut self, asked: &Asked) -> Option<Answer> {
         let held = match asked.call {
-            Call::IntoSendAsync => owned_send(self.tx.take()?, self.message(asked)),
+            Call::IntoSendAsync => owned_send(self.tx.take()?, asked.number),
             Call::IntoRecvAsync => owned_receive(self.rx.take()?),
             _ => owned_stream(self.rx.take()?),
         };
         self.hold(asked, held)
     }
 
-    // Makes what takes a clone of an end.
+    // Makes a sink or a stream that takes a clone of an end.
     fn take_clone(&mut self, asked: &Asked) -> Option<Answer> {
         let held = match asked.call {
-            Call::CloneIntoSendAsync => {
-                owned_send(self.sender()?.clone().ok()?, self.message(asked))
-            }
-            Call::CloneIntoRecvAsync => owned_receive(self.receiver()?.clone().ok()?),
             Call::CloneIntoSink => owned_sink(self.sender()?.clone().ok()?),
             _ => owned_stream(self.receiver()?.clone().ok()?),
         };
@@ -215,23 +193,12 @@ impl<'t, 'r, 'h, R: Waits> Stage<'t, 'r, 'h, R> {
         if asked.call == Call::IsOfChannel {
             return self.is_of_channel(asked);
         }
-        if asked.call == Call::StartSend {
-            return self.start_send(asked);
-        }
         match (self.held.get_mut(asked.slot)?, asked.call) {
             (Held::Send(send), Call::IsTerminated) => Some(truth(send.is_terminated())),
             (Held::Receive(receive), Call::IsTerminated) => Some(truth(receive.is_terminated())),
             (Held::Stream(stream), Call::IsTerminated) => Some(truth(stream.is_terminated())),
             (Held::Stream(stream), Call::Fault) => Some(truth(stream.fault())),
-            _ => None,
-        }
-    }
-
-    // Gives a sink the line's message.
-    fn start_send(&mut self, asked: &Asked) -> Option<Answer> {
-        let message = self.message(asked);
-        match self.held.get_mut(asked.slot)? {
-            Held::Sink(sink) => Some(match sink.start_send(message) {
+            (Held::Sink(sink), Call::StartSend) => Some(match sink.start_send(asked.number) {
                 Ok(()) => Answer::Word("kept"),
                 refused => after_send(refused),
             }),
@@ -256,13 +223,11 @@ impl<'t, 'r, 'h, R: Waits> Stage<'t, 'r, 'h, R> {
         Some(DONE)
     }
 
-    // Has the allocator refuse or not, or counts.
-    fn counted(&mut self, call: Call) -> Answer {
+    fn by_heap(&mut self, call: Call) -> Answer {
         match call {
             Call::Refuse => self.heap.refuse(true),
             Call::Grant => self.heap.refuse(false),
             Call::CountBlocks => self.blocks = self.heap.live(),
-            Call::Messages => return Answer::Number(self.left.load(Ordering::SeqCst)),
             _ => return truth(self.heap.live() == self.blocks),
         }
         DONE

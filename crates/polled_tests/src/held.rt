@@ -1,7 +1,6 @@
 //! What a script gave a name: what it tells of its channel, and its polls.
 use crate::answers::{Answer, Heap, PENDING, Rx, Seen, Tx, after_next, after_recv, after_sending};
 use crate::asked::Call;
-use crate::message::Message;
 use flume::polled::{RecvFut, RecvStream, SendFut, SendSink};
 use flume::{Waits, WeakSender};
 use futures::task::{Context, Poll};
@@ -12,38 +11,35 @@ use futures::{Future, Sink, Stream};
 pub(crate) enum Held<'t, 'r, 'h, R: Waits> {
     Nothing,
     Sender(Tx<'h, R>),
-    Weak(WeakSender<Message<'h>, R, Heap<'h>>),
+    Weak(WeakSender<u64, R, Heap<'h>>),
     Receiver(Rx<'h, R>),
-    Send(SendFut<'t, Message<'h>, R, Heap<'h>>),
-    Receive(RecvFut<'r, Message<'h>, R, Heap<'h>>),
-    Sink(SendSink<'t, Message<'h>, R, Heap<'h>>),
-    Stream(RecvStream<'r, Message<'h>, R, Heap<'h>>),
+    Send(SendFut<'t, u64, R, Heap<'h>>),
+    Receive(RecvFut<'r, u64, R, Heap<'h>>),
+    Sink(SendSink<'t, u64, R, Heap<'h>>),
+    Stream(RecvStream<'r, u64, R, Heap<'h>>),
 }
 
 /// A send that takes this sender.
-pub(crate) fn owned_send<'t, 'r, 'h, R: Waits>(
-    tx: Tx<'h, R>,
-    message: Message<'h>,
-) -> Held<'t, 'r, 'h, R> {
-    let send: SendFut<'t, Message<'h>, R, Heap<'h>> = tx.into_send_async(message);
+pub(crate) fn owned_send<'t, 'r, 'h, R: Waits>(tx: Tx<'h, R>, message: u64) -> Held<'t, 'r, 'h, R> {
+    let send: SendFut<'t, u64, R, Heap<'h>> = tx.into_send_async(message);
     Held::Send(send)
 }
 
 /// A receive that takes this receiver.
 pub(crate) fn owned_receive<'t, 'r, 'h, R: Waits>(rx: Rx<'h, R>) -> Held<'t, 'r, 'h, R> {
-    let receive: RecvFut<'r, Message<'h>, R, Heap<'h>> = rx.into_recv_async();
+    let receive: RecvFut<'r, u64, R, Heap<'h>> = rx.into_recv_async();
     Held::Receive(receive)
 }
 
 /// A stream that takes this receiver.
 pub(crate) fn owned_stream<'t, 'r, 'h, R: Waits>(rx: Rx<'h, R>) -> Held<'t, 'r, 'h, R> {
-    let stream: RecvStream<'r, Message<'h>, R, Heap<'h>> = rx.into_stream();
+    let stream: RecvStream<'r, u64, R, Heap<'h>> = rx.into_stream();
     Held::Stream(stream)
 }
 
 /// A sink that takes this sender.
 pub(crate) fn owned_sink<'t, 'r, 'h, R: Waits>(tx: Tx<'h, R>) -> Held<'t, 'r, 'h, R> {
-    let sink: SendSink<'t, Message<'h>, R, Heap<'h>> = tx.into_sink();
+    let sink: SendSink<'t, u64, R, Heap<'h>> = tx.into_sink();
     Held::Sink(sink)
 }
 
@@ -70,7 +66,7 @@ pub(crate) fn seen_by_receiver<R: Waits>(it: &Rx<'_, R>) -> Seen {
 }
 
 /// What a send tells of its channel.
-pub(crate) fn seen_by_send<'h, R: Waits>(it: &SendFut<'_, Message<'h>, R, Heap<'h>>) -> Seen {
+pub(crate) fn seen_by_send<R: Waits>(it: &SendFut<'_, u64, R, Heap<'_>>) -> Seen {
     Seen {
         is_disconnected: it.is_disconnected(),
         is_empty: it.is_empty(),
@@ -81,7 +77,7 @@ pub(crate) fn seen_by_send<'h, R: Waits>(it: &SendFut<'_, Message<'h>, R, Heap<'
 }
 
 /// What a receive tells of its channel.
-pub(crate) fn seen_by_receive<'h, R: Waits>(it: &RecvFut<'_, Message<'h>, R, Heap<'h>>) -> Seen {
+pub(crate) fn seen_by_receive<R: Waits>(it: &RecvFut<'_, u64, R, Heap<'_>>) -> Seen {
     Seen {
         is_disconnected: it.is_disconnected(),
         is_empty: it.is_empty(),
@@ -92,7 +88,7 @@ pub(crate) fn seen_by_receive<'h, R: Waits>(it: &RecvFut<'_, Message<'h>, R, Hea
 }
 
 /// What a sink tells of its channel.
-pub(crate) fn seen_by_sink<'h, R: Waits>(it: &SendSink<'_, Message<'h>, R, Heap<'h>>) -> Seen {
+pub(crate) fn seen_by_sink<R: Waits>(it: &SendSink<'_, u64, R, Heap<'_>>) -> Seen {
     Seen {
         is_disconnected: it.is_disconnected(),
         is_empty: it.is_empty(),
@@ -103,7 +99,7 @@ pub(crate) fn seen_by_sink<'h, R: Waits>(it: &SendSink<'_, Message<'h>, R, Heap<
 }
 
 /// What a stream tells of its channel.
-pub(crate) fn seen_by_stream<'h, R: Waits>(it: &RecvStream<'_, Message<'h>, R, Heap<'h>>) -> Seen {
+pub(crate) fn seen_by_stream<R: Waits>(it: &RecvStream<'_, u64, R, Heap<'_>>) -> Seen {
     Seen {
         is_disconnected: it.is_disconnected(),
         is_empty: it.is_empty(),

@@ -27,13 +27,9 @@ mod hand;
 #[cfg(test)]
 mod held;
 #[cfg(test)]
-mod lines;
-#[cfg(test)]
 mod many;
 #[cfg(test)]
 mod memory;
-#[cfg(test)]
-mod message;
 #[cfg(test)]
 mod moved;
 #[cfg(test)]

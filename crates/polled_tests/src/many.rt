@@ -79,15 +79,6 @@ impl<R: Waits> Future for UntilClosed<'_, R> {
     }
 }
 
-// The messages of a channel, by futures or by a stream.
-fn messages_of<R: Waits>(rx: &Receiver<u64, R>, by_futures: bool) -> Messages<'_, R> {
-    if by_futures {
-        Messages::Futures(rx.recv_async())
-    } else {
-        Messages::Stream(rx.stream())
-    }
-}
-
 // The loops, half of them by futures and half by streams.
 fn loops<'a, R: Waits>(
     alloc: Global,
@@ -95,7 +86,11 @@ fn loops<'a, R: Waits>(
 ) -> Result<FuturesUnordered<UntilClosed<'a, R>>, Fail> {
     let mut set = FuturesUnordered::new(alloc)?;
     for number in 0..LOOPS {
-        let messages = messages_of(rx, number % 2 == 0);
+        let messages = if number % 2 == 0 {
+            Messages::Futures(rx.recv_async())
+        } else {
+            Messages::Stream(rx.stream())
+        };
         let came = Some(Vec::new(alloc));
         set.push(UntilClosed { messages, came })?;
     }

@@ -66,21 +66,16 @@ impl<R: Waits> Future for InOrder<'_, R> {
     }
 }
 
-// The numbers of a channel, by a stream or by futures.
-fn numbers_of<R: Waits>(rx: &Receiver<u64, R>, by_stream: bool) -> Numbers<'_, R> {
-    if by_stream {
-        Numbers::Stream(rx.stream())
-    } else {
-        Numbers::Futures(rx.recv_async())
-    }
-}
-
 // Numbers of a thread, received by futures or by a stream.
 fn of_a_thread<R: Runs>(rt: R, alloc: Global) -> Result<(), Fail> {
     for by_stream in [false, true] {
         let (tx, rx) = unbounded::<u64, _, _>(rt, alloc, 1)?;
         let sender = started(&rt, SendUpTo { tx, end: ALL })?;
-        let numbers = numbers_of(&rx, by_stream);
+        let numbers = if by_stream {
+            Numbers::Stream(rx.stream())
+        } else {
+            Numbers::Futures(rx.recv_async())
+        };
         let received = InOrder { numbers, next: 0 };
         is(&rt, block_on(&rt, received)?, Some(ALL));
         sender.join(&rt);

@@ -61,14 +61,6 @@ poll nobody -> pending
 unbounded
 own_receiver
 recv_async first
-= line 3: `messages -> 2` answers 1
-unbounded
-send_async first 1
-messages -> 2
-= line 3: `try_recv -> got 2` answers got 1
-unbounded
-send 1 -> sent
-? try_recv -> got 2
 ";
 
 #[test]

@@ -1,12 +1,15 @@
 //! Polls of receives on a lent channel: parked or not, with a signal and without.
+use crate::fixtures::is;
 use crate::rows::Asked::{
-    Due, EndReceive, FirstTicket, NewReceive, NewSend, PollReceive, PollSend, Signal, Told,
+    Due, EndReceive, NewReceive, NewSend, PollReceive, PollSend, Signal, Told,
 };
 use crate::rows::Call::{DropSender, TryRecv, TrySend};
 use crate::rows::ReceiveAnswer::{Ended, Gives, Parked, Refused};
 use crate::rows::SendAnswer::{Blocked, Taken};
 use crate::rows::Tells::{Done, Filled, Got, Sent};
-use crate::rows::{Left, PASSES, Row, WAITS, replay};
+use crate::rows::{Left, PASSES, Row, WAITS, after_receive, replay};
+use flume_calls::polled::{Polled, PolledReceive};
+use flume_core::chan::Chan;
 use flume_core::step::Kind;
 
 const POLLS: &[Row] = &[
@@ -146,15 +149,6 @@ const POLLS: &[Row] = &[
             PollSend(0, None, PASSES, Taken),
         ],
     },
-    Row {
-        title: "where every ticket was issued a receive that would wait finds no memory",
-        capacity: Some(0),
-        asked: &[
-            FirstTicket(u64::MAX),
-            NewReceive(0, Kind::Plain),
-            PollReceive(0, Some(10), WAITS, Refused),
-        ],
-    },
 ];
 
 const ENDS: &[Row] = &[
@@ -237,4 +231,13 @@ fn each_poll_of_a_receive_answers_as_its_row_says(rt: HostRuntime) {
 #[test]
 fn each_end_of_a_receive_leaves_what_its_row_says(rt: HostRuntime) {
     replay(&rt, rt.alloc(), ENDS);
+}
+
+#[test]
+fn where_every_ticket_was_issued_a_receive_that_would_wait_finds_no_memory(rt: HostRuntime) {
+    let mut chan: Chan<u64, u64> = Chan::starting_at(rt.alloc(), Some(0), u64::MAX);
+    let mut receive = PolledReceive::new(Kind::Plain);
+    let mut signal = Some(10);
+    let answer = after_receive(receive.poll(&mut chan, &mut signal));
+    is(&rt, answer, Refused);
 }

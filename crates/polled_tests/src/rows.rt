@@ -21,8 +21,6 @@ pub(crate) struct Row {
 /// sends and two receives.
 #[derive(Clone, Copy, Drop)]
 pub(crate) enum Asked {
-    /// The channel is a new one whose first ticket is this.
-    FirstTicket(u64),
     /// This call is a new send of this message.
     NewSend(usize, u64),
     /// This call is a new receive of this kind.
@@ -114,8 +112,6 @@ pub(crate) const PASSES: bool = false;
 // What a row works on.
 #[derive(Drop)]
 struct Stage {
-    alloc: Global,
-    capacity: Option<usize>,
     chan: Chan<u64, u64>,
     sends: [PolledSend<u64>; 2],
     receives: [PolledReceive; 2],
@@ -152,8 +148,8 @@ fn told(reply: Reply<u64>) -> Tells {
     }
 }
 
-// What the poll of a send answered.
-fn after_send(answer: Option<Result<(), SendError<u64>>>) -> SendAnswer {
+/// What the poll of a send answered.
+pub(crate) fn after_send(answer: Option<Result<(), SendError<u64>>>) -> SendAnswer {
     match answer {
         None => SendAnswer::Blocked,
         Some(Ok(())) => SendAnswer::Taken,
@@ -162,8 +158,8 @@ fn after_send(answer: Option<Result<(), SendError<u64>>>) -> SendAnswer {
     }
 }
 
-// What the poll of a receive answered.
-fn after_receive(answer: Option<Result<u64, RecvError>>) -> ReceiveAnswer {
+/// What the poll of a receive answered.
+pub(crate) fn after_receive(answer: Option<Result<u64, RecvError>>) -> ReceiveAnswer {
     match answer {
         None => ReceiveAnswer::Parked,
         Some(Ok(message)) => ReceiveAnswer::Gives(message),
@@ -201,8 +197,6 @@ fn end_receive(receive: &mut PolledReceive, chan: &mut Chan<u64, u64>) -> Left<u
 impl Stage {
     fn new(alloc: Global, capacity: Option<usize>) -> Stage {
         Stage {
-            alloc,
-            capacity,
             chan: Chan::new(alloc, capacity),
             sends: [PolledSend::Finished, PolledSend::Finished],
             receives: [
@@ -262,9 +256,6 @@ impl Stage {
     // Asks, and compares the answer.
     fn ask<R: Abort>(&mut self, rt: &R, title: &str, asked: &Asked) {
         match *asked {
-            Asked::FirstTicket(ticket) => {
-                self.chan = Chan::starting_at(self.alloc, self.capacity, ticket);
-            }
             Asked::NewSend(at, _) | Asked::PollSend(at, _, _, _) | Asked::EndSend(at, _) => {
                 self.ask_send(rt, title, at, asked);
             }

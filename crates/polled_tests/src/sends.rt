@@ -1,12 +1,13 @@
 //! Polls of sends on a lent channel: not sent, parked and finished, with a signal and without.
-use crate::rows::Asked::{
-    Due, EndSend, FirstTicket, NewReceive, NewSend, PollReceive, PollSend, Signal, Told,
-};
+use crate::fixtures::is;
+use crate::rows::Asked::{Due, EndSend, NewReceive, NewSend, PollReceive, PollSend, Signal, Told};
 use crate::rows::Call::{Drain, DropReceiver, DropSender, Len, TryRecv, TrySend};
 use crate::rows::ReceiveAnswer::{Gives, Parked};
 use crate::rows::SendAnswer::{Blocked, Closed, Refused, Taken};
 use crate::rows::Tells::{Done, Drained, Empty, Full, Got, Number, Sent};
-use crate::rows::{Left, PASSES, Row, WAITS, replay};
+use crate::rows::{Left, PASSES, Row, WAITS, after_send, replay};
+use flume_calls::polled::{Polled, PolledSend};
+use flume_core::chan::Chan;
 use flume_core::step::Kind;
 
 const POLLS: &[Row] = &[
@@ -145,15 +146,6 @@ const POLLS: &[Row] = &[
             PollSend(0, None, PASSES, Taken),
         ],
     },
-    Row {
-        title: "where every ticket was issued a send that would wait comes back",
-        capacity: Some(0),
-        asked: &[
-            FirstTicket(u64::MAX),
-            NewSend(0, 7),
-            PollSend(0, Some(10), WAITS, Refused(7)),
-        ],
-    },
 ];
 
 const ENDS: &[Row] = &[
@@ -221,4 +213,13 @@ fn each_poll_of_a_send_answers_as_its_row_says(rt: HostRuntime) {
 #[test]
 fn each_end_of_a_send_leaves_what_its_row_says(rt: HostRuntime) {
     replay(&rt, rt.alloc(), ENDS);
+}
+
+#[test]
+fn where_every_ticket_was_issued_a_send_that_would_wait_comes_back(rt: HostRuntime) {
+    let mut chan: Chan<u64, u64> = Chan::starting_at(rt.alloc(), Some(0), u64::MAX);
+    let mut send = PolledSend::Unsent(7);
+    let mut signal = Some(10);
+    let answer = after_send(send.poll(&mut chan, &mut signal));
+    is(&rt, answer, Refused(7));
 }
