@@ -2,17 +2,11 @@
 #![tactic(auto)]
 
 #[cfg(test)]
-mod answers;
-#[cfg(test)]
-mod asked;
+mod dropped;
 #[cfg(test)]
 mod examples;
 #[cfg(test)]
 mod fixtures;
-#[cfg(test)]
-mod hand;
-#[cfg(test)]
-mod judged;
 #[cfg(test)]
 mod mappers;
 #[cfg(test)]
@@ -20,15 +14,9 @@ mod meeting;
 #[cfg(test)]
 mod memory;
 #[cfg(test)]
-mod planted;
-#[cfg(test)]
-mod replay;
-#[cfg(test)]
 mod rows;
 #[cfg(test)]
-mod shapes;
-#[cfg(test)]
-mod stage;
+mod selections;
 #[cfg(test)]
 mod standing;
 #[cfg(test)]

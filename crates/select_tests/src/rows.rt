@@ -1,166 +1,179 @@
-//! Scripts of selections in one thread that needn't wait, and what else one thread can see of them.
-use crate::fixtures::{amounts_to, holds};
-use crate::judged::replay;
+//! Selections in one thread that needn't wait.
+use crate::fixtures::{Won, amounts_to, gave, holds, offered, queued, received, selected, tried};
+use crate::selections::{
+    Until, receive_from_two, receive_from_two_until, receive_or_send, receive_until,
+    send_or_receive, send_until,
+};
+use flume::error::{RecvError, SelectError, SendError, TryRecvError, TrySendError};
 use flume::{Receiver, Selector, Sender, Waits};
 use std::alloc::Global;
 use std::fmt::Debug;
 use std::process::Abort;
 use std::test::Fail;
-
-// One selection, or a few.
-const ROWS: &str = "
-= the first arm that has a message wins, and another takes none
-unbounded a
-unbounded b
-try_send a 1 -> sent
-try_send b 2 -> sent
-select_recv_or_recv a b -> first: got 1
-len b -> 1
-select_recv_or_recv a b -> second: got 2
-= a send arm that loses takes its message back
-unbounded a
-bounded b 0
-try_send a 5 -> sent
-select_send_or_recv b a 9 -> second: got 5
-try_recv b -> empty
-= a receive arm that loses leaves nobody waiting, who would let a message in
-bounded a 0
-bounded b 1
-try_send b 5 -> sent
-select_recv_or_recv a b -> second: got 5
-try_send a 7 -> full 7
-= a selection whose time is up times out and leaves nobody waiting
-bounded a 0
-bounded b 0
-select_recv_or_recv a b at_once -> timeout
-select_recv_or_recv a b now -> timeout
-select_recv_or_recv a b past -> timeout
-try_send a 7 -> full 7
-try_send b 8 -> full 8
-= a receive arm of an empty channel times out; of a closed one it gets what is queued, and is told
-unbounded a
-select_recv a at_once -> timeout
-select_recv a now -> timeout
-try_send a 5 -> sent
-drop_sender a
-select_recv a at_once -> first: got 5
-select_recv a at_once -> first: disconnected
-select_recv a now -> first: disconnected
-= a send arm that times out takes its message back
-bounded a 0
-select_send a 5 at_once -> timeout
-select_send a 6 now -> timeout
-try_recv a -> empty
-= a send arm of a closed channel gives its message back, alone, before and behind an arm that waits
-bounded a 0
-bounded b 0
-drop_receiver a
-select_send a 5 at_once -> first: disconnected 5
-select_send_or_recv a b 6 -> first: disconnected 6
-select_recv_or_send b a 7 -> second: disconnected 7
-= a send arm with room sends even where no time is left
-bounded a 2
-select_send a 5 at_once -> first: sent
-select_send a 6 now -> first: sent
-recv a -> got 5
-recv a -> got 6
-= a selector may send to itself: a send that is there first loses, and one that comes second wins
-bounded a 0
-select_send_or_recv a a 5 -> second: got 5
-len a -> 0
-select_recv_or_send a a 6 -> second: sent
-len a -> 1
-try_recv a -> got 6
-= a send arm that loses may have been delivered, where the other arm makes room
-bounded a 1
-try_send a 1 -> sent
-select_send_or_recv a a 2 -> second: got 1
-try_recv a -> got 2
-= three arms of one channel take one message
-bounded a 3
-try_send a 1 -> sent
-try_send a 2 -> sent
-select_recv_thrice a a a -> first: got 1
-try_recv a -> got 2
-= an arm between two of its channel sends to the first
-bounded a 0
-select_send_between a a a 3 -> second: sent
-try_recv a -> got 3
-try_send a 4 -> full 4
-= the winner's mapper is called once and no other, of closed arms too
-unbounded a
-unbounded b
-bounded c 1
-select_send_last a b c 7 at_once -> third: sent
-calls -> 0, 0, 1
-select_send_last a b c 7 at_once -> timeout
-calls -> 0, 0, 0
-try_send b 1 -> sent
-select_send_last a b c 7 at_once -> second: got 1
-calls -> 0, 1, 0
-drop_receiver c
-select_send_last a b c 7 at_once -> third: disconnected 7
-calls -> 0, 0, 1
-drop_sender a
-select_send_last a b c 7 at_once -> first: disconnected
-calls -> 1, 0, 0
-";
-
-// A message is dropped once, whichever way its selection ends. One that is received is dropped as
-// it is, and counts too.
-const DROPPED: &str = "
-= a message that is sent goes as it is received
-bounded a 1
-bounded b 1
-select_send_or_recv a b 5 at_once -> first: sent
-dropped -> 0
-try_recv a -> got 5
-dropped -> 1
-drop_sender a
-drop_receiver a
-dropped -> 1
-= a message that times out, loses as it is blocked, or loses before its arm is started, goes once
-bounded a 0
-bounded b 3
-select_send_or_recv a b 5 at_once -> timeout
-dropped -> 1
-try_send b 1 -> sent
-try_send b 2 -> sent
-select_send_or_recv a b 6 at_once -> second: got 1
-dropped -> 3
-select_recv_or_send b a 7 at_once -> first: got 2
-dropped -> 5
-try_recv a -> empty
-drop_sender a
-drop_receiver a
-dropped -> 5
-= a message that a closed channel gives back goes with its mapper
-bounded a 0
-bounded b 0
-drop_receiver a
-select_send_or_recv a b 5 at_once -> first: disconnected 5
-dropped -> 1
-select_recv_or_send b a 6 at_once -> second: disconnected 6
-dropped -> 2
-= a message that loses and was delivered goes once
-bounded a 0
-select_send_or_recv a a 5 at_once -> second: got 5
-dropped -> 1
-try_recv a -> empty
-drop_sender a
-drop_receiver a
-dropped -> 1
-= a selector that is dropped sends nothing, and its message goes with it, not before
-bounded a 1
-drop_selector a 5 -> 0
-dropped -> 1
-try_recv a -> empty
-";
+use std::time::{Duration, Instant};
 
 #[test]
-fn each_script_of_selections_answers_as_it_says(rt: HostRuntime) -> Result<(), Fail> {
-    replay(rt, rt.alloc(), ROWS)?;
-    replay(rt, rt.alloc(), DROPPED)
+fn the_first_arm_that_has_a_message_wins_and_another_takes_none(
+    rt: HostRuntime,
+) -> Result<(), Fail> {
+    let (tx0, rx0) = flume::on(rt).unbounded()?;
+    let (tx1, rx1) = flume::on(rt).unbounded()?;
+    offered(&rt, tx0.try_send(1), Ok(()));
+    offered(&rt, tx1.try_send(2), Ok(()));
+    gave(&rt, receive_from_two(&rx0, &rx1), Won::First(Ok(1)));
+    queued(&rt, rx1.len(), 1);
+    gave(&rt, receive_from_two(&rx0, &rx1), Won::Second(Ok(2)));
+    Ok(())
+}
+
+#[test]
+fn a_send_arm_that_loses_takes_its_message_back(rt: HostRuntime) -> Result<(), Fail> {
+    let (tx, rx) = flume::on(rt).unbounded()?;
+    let (tx2, rx2) = flume::on(rt).bounded(0)?;
+    offered(&rt, tx.try_send(5), Ok(()));
+    gave(&rt, send_or_receive(&tx2, 9, &rx), Won::First(Ok(5)));
+    tried(&rt, rx2.try_recv(), Err(TryRecvError::Empty));
+    Ok(())
+}
+
+#[test]
+fn a_receive_arm_that_loses_leaves_nobody_waiting(rt: HostRuntime) -> Result<(), Fail> {
+    let (tx0, rx0) = flume::on(rt).bounded(0)?;
+    let (tx1, rx1) = flume::on(rt).bounded(1)?;
+    offered(&rt, tx1.try_send(5), Ok(()));
+    gave(&rt, receive_from_two(&rx0, &rx1), Won::Second(Ok(5)));
+    // A receiver that waits would let it in.
+    offered(&rt, tx0.try_send(7), Err(TrySendError::Full(7)));
+    Ok(())
+}
+
+#[test]
+fn a_selection_whose_time_is_up_times_out_and_leaves_nobody_waiting(
+    rt: HostRuntime,
+) -> Result<(), Fail> {
+    let (tx0, rx0) = flume::on(rt).bounded(0)?;
+    let (tx1, rx1) = flume::on(rt).bounded(0)?;
+    let timeout = Until::Timeout(Duration::ZERO);
+    let timed = receive_from_two_until(&rx0, &rx1, timeout);
+    selected(&rt, timed, Err(SelectError::Timeout));
+    let now = Instant::now(&rt)?;
+    let timed = receive_from_two_until(&rx0, &rx1, Until::Deadline(now));
+    selected(&rt, timed, Err(SelectError::Timeout));
+    let past = now.checked_sub(Duration::from_nanos(1)).unwrap_or(now);
+    let timed = receive_from_two_until(&rx0, &rx1, Until::Deadline(past));
+    selected(&rt, timed, Err(SelectError::Timeout));
+    offered(&rt, tx0.try_send(7), Err(TrySendError::Full(7)));
+    offered(&rt, tx1.try_send(8), Err(TrySendError::Full(8)));
+    Ok(())
+}
+
+#[test]
+fn a_receive_arm_of_an_empty_channel_times_out_and_of_a_closed_one_is_told_so(
+    rt: HostRuntime,
+) -> Result<(), Fail> {
+    let (tx, rx) = flume::on(rt).unbounded()?;
+    let timeout = Until::Timeout(Duration::ZERO);
+    let deadline = Until::Deadline(Instant::now(&rt)?);
+    selected(&rt, receive_until(&rx, timeout), Err(SelectError::Timeout));
+    selected(&rt, receive_until(&rx, deadline), Err(SelectError::Timeout));
+    offered(&rt, tx.try_send(5), Ok(()));
+    drop(tx);
+    let closed = Won::First(Err(RecvError::Disconnected));
+    let also_closed = Won::First(Err(RecvError::Disconnected));
+    // What was queued comes first.
+    selected(&rt, receive_until(&rx, timeout), Ok(Won::First(Ok(5))));
+    selected(&rt, receive_until(&rx, timeout), Ok(closed));
+    selected(&rt, receive_until(&rx, deadline), Ok(also_closed));
+    Ok(())
+}
+
+#[test]
+fn a_send_arm_that_times_out_takes_its_message_back(rt: HostRuntime) -> Result<(), Fail> {
+    let (tx, rx) = flume::on(rt).bounded(0)?;
+    let timeout = Until::Timeout(Duration::ZERO);
+    let deadline = Until::Deadline(Instant::now(&rt)?);
+    selected(&rt, send_until(&tx, 5, timeout), Err(SelectError::Timeout));
+    selected(&rt, send_until(&tx, 6, deadline), Err(SelectError::Timeout));
+    tried(&rt, rx.try_recv(), Err(TryRecvError::Empty));
+    Ok(())
+}
+
+#[test]
+fn a_send_arm_of_a_closed_channel_gives_its_message_back(rt: HostRuntime) -> Result<(), Fail> {
+    let (tx, rx) = flume::on(rt).bounded(0)?;
+    let (_other, empty) = flume::on(rt).bounded(0)?;
+    drop(rx);
+    let timeout = Until::Timeout(Duration::ZERO);
+    let back = Won::Sent(Err(SendError::Disconnected(5)));
+    selected(&rt, send_until(&tx, 5, timeout), Ok(back));
+    // It wins over an arm that would wait, whichever comes first.
+    let back = Won::Sent(Err(SendError::Disconnected(6)));
+    gave(&rt, send_or_receive(&tx, 6, &empty), back);
+    let back = Won::Sent(Err(SendError::Disconnected(7)));
+    gave(&rt, receive_or_send(&empty, &tx, 7), back);
+    Ok(())
+}
+
+#[test]
+fn a_send_arm_with_room_sends_even_where_no_time_is_left(rt: HostRuntime) -> Result<(), Fail> {
+    let (tx, rx) = flume::on(rt).bounded(2)?;
+    let timeout = Until::Timeout(Duration::ZERO);
+    let deadline = Until::Deadline(Instant::now(&rt)?);
+    selected(&rt, send_until(&tx, 5, timeout), Ok(Won::Sent(Ok(()))));
+    selected(&rt, send_until(&tx, 6, deadline), Ok(Won::Sent(Ok(()))));
+    received(&rt, rx.recv(), Ok(5));
+    received(&rt, rx.recv(), Ok(6));
+    Ok(())
+}
+
+#[test]
+fn a_selector_may_send_to_itself(rt: HostRuntime) -> Result<(), Fail> {
+    let (tx, rx) = flume::on(rt).bounded(0)?;
+    // The send is there first: its message is delivered, and yet the send loses.
+    gave(&rt, send_or_receive(&tx, 5, &rx), Won::First(Ok(5)));
+    queued(&rt, rx.len(), 0);
+    // The receive is there first: so the send finds who waits, and wins.
+    gave(&rt, receive_or_send(&rx, &tx, 6), Won::Sent(Ok(())));
+    queued(&rt, rx.len(), 1);
+    tried(&rt, rx.try_recv(), Ok(6));
+    Ok(())
+}
+
+#[test]
+fn a_send_arm_that_loses_may_have_been_delivered(rt: HostRuntime) -> Result<(), Fail> {
+    let (tx, rx) = flume::on(rt).bounded(1)?;
+    offered(&rt, tx.try_send(1), Ok(()));
+    // The receive arm makes room for the message that is blocked.
+    gave(&rt, send_or_receive(&tx, 2, &rx), Won::First(Ok(1)));
+    tried(&rt, rx.try_recv(), Ok(2));
+    Ok(())
+}
+
+#[test]
+fn three_arms_of_one_channel_take_one_message(rt: HostRuntime) -> Result<(), Fail> {
+    let (tx, rx) = flume::on(rt).bounded(3)?;
+    offered(&rt, tx.try_send(1), Ok(()));
+    offered(&rt, tx.try_send(2), Ok(()));
+    let three = Selector::new()
+        .recv(&rx, Won::First)
+        .recv(&rx, Won::Second)
+        .recv(&rx, Won::Third);
+    gave(&rt, three.wait(), Won::First(Ok(1)));
+    tried(&rt, rx.try_recv(), Ok(2));
+    Ok(())
+}
+
+#[test]
+fn an_arm_between_two_of_its_channel_sends_to_the_first(rt: HostRuntime) -> Result<(), Fail> {
+    let (tx, rx) = flume::on(rt).bounded(0)?;
+    let three = Selector::new()
+        .recv(&rx, Won::First)
+        .send(&tx, 3, Won::Sent)
+        .recv(&rx, Won::Third);
+    gave(&rt, three.wait(), Won::Sent(Ok(())));
+    tried(&rt, rx.try_recv(), Ok(3));
+    offered(&rt, tx.try_send(4), Err(TrySendError::Full(4)));
+    Ok(())
 }
 
 #[test]
@@ -192,13 +205,13 @@ fn two_arms_show_it<R: Waits + Abort>(
     tx: &Sender<u64, R>,
     rx: &Receiver<u64, R>,
 ) -> Result<(), Fail> {
-    let selector = Selector::new().recv(rx, |_| ()).send(tx, 1, |_| ());
+    let selector = Selector::new().recv(rx, Won::First).send(tx, 1, Won::Sent);
     shows_its_name(rt, alloc, &selector)
 }
 
 #[test]
 fn a_selector_shows_its_name(rt: HostRuntime) -> Result<(), Fail> {
     let (tx, rx) = flume::on(rt).unbounded::<u64>()?;
-    shows_its_name(&rt, rt.alloc(), &Selector::<'_, ()>::default())?;
+    shows_its_name(&rt, rt.alloc(), &Selector::<'_, Won>::default())?;
     two_arms_show_it(&rt, rt.alloc(), &tx, &rx)
 }

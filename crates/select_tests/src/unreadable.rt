@@ -1,10 +1,13 @@
 //! Selections over a clock that can't be read.
-use crate::judged::replay_over;
+use crate::fixtures::{Won, long, offered, selected};
+use crate::selections::{Until, receive_until, send_until};
+use flume::bounded;
+use flume::error::SelectError;
 use std::io;
 use std::io::ErrorKind;
 use std::sync::Wait;
 use std::test::Fail;
-use std::time::{Clock, Duration};
+use std::time::{Clock, Duration, Instant};
 
 // A runtime whose clock can't be read.
 #[derive(Clone, Copy)]
@@ -24,19 +27,19 @@ impl<R> Clock for Unreadable<R> {
     }
 }
 
-const LATE: &str = "
-= a selection is late where the clock can't be read, but for an arm that needn't wait
-bounded a 1
-select_recv a far -> timeout
-select_recv a hour -> timeout
-select_send a 1 far -> first: sent
-select_send a 2 far -> timeout
-select_send a 3 hour -> timeout
-select_recv a hour -> first: got 1
-try_send a 4 -> sent
-";
-
 #[test]
 fn a_selection_is_late_where_the_clock_cannot_be_read(rt: HostRuntime) -> Result<(), Fail> {
-    replay_over(rt, Unreadable { rt }, rt.alloc(), LATE)
+    let far = Instant::now(&rt)?.checked_add(long());
+    let far = Until::Deadline(far.expect(&rt, "an hour has a sum"));
+    let timeout = Until::Timeout(long());
+    let (tx, rx) = bounded(Unreadable { rt }, rt.alloc(), 1, 1)?;
+    selected(&rt, receive_until(&rx, far), Err(SelectError::Timeout));
+    selected(&rt, receive_until(&rx, timeout), Err(SelectError::Timeout));
+    // An arm that can go on does.
+    selected(&rt, send_until(&tx, 1, far), Ok(Won::Sent(Ok(()))));
+    selected(&rt, send_until(&tx, 2, far), Err(SelectError::Timeout));
+    selected(&rt, send_until(&tx, 3, timeout), Err(SelectError::Timeout));
+    selected(&rt, receive_until(&rx, timeout), Ok(Won::First(Ok(1))));
+    offered(&rt, tx.try_send(4), Ok(()));
+    Ok(())
 }
