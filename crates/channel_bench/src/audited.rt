@@ -75,7 +75,7 @@ impl<R: Waits> Bench<R> {
         self.audit_pair_under::<Brand>(Blank::new(1))
     }
 
-    // The same, under this ledger.
+    // Each message sent, and received before the next, as steps of a channel under this ledger.
     fn audit_pair_under<L: Ledger>(&self, blank: Blank) -> Result<Duration, Fault>
         requires name { blank.name ≡ L.name }
         requires parts { blank.parts ≡ L.parts }

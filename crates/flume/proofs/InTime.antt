@@ -16,8 +16,8 @@ use Rattle.flume_calls.specs.ReceiveTurns as receive_turn
 use Rattle.flume_calls.specs.ReceiveGates as receive
 
 -- what waiting does to the gate of an end
-abbrev Waits : Deadline → Deadline → Bool → Type 0
-Waits old new late = (new ≡ old) × (late ≡ true → old ≢ Never)
+abbrev InWait : Deadline → Deadline → Bool → Type 0
+InWait old new late = (new ≡ old) × (late ≡ true → old ≢ Never)
 
 -- what making its parker does
 abbrev Arms : Deadline → Deadline → Bool → Type 0
@@ -38,14 +38,14 @@ module _ {T : Type 0} where
 
   -- a parked send with no deadline is never too late
   parked_send : {old new : Deadline} {ticket : ℕ} {result : Result (Unit {0}) (SendTimeoutError T)}
-      → send.ParkedSend SendAgains Waits old ticket new result → old ≡ Never → (back : T) → result ≢ Err (SendTimeout back)
+      → send.ParkedSend SendAgains InWait old ticket new result → old ≡ Never → (back : T) → result ≢ Err (SendTimeout back)
   parked_send {ticket = ticket} (send.Asked a) never back late = subst (λ r. send_turn.IsLater ticket (SendDone r)) late a.1
   parked_send (send.Late a w b) never back late = w.1 refl (a.0 ∙ never)
   parked_send (send.Waited a w rest) never back late = parked_send rest (w.0 ∙ a.0 ∙ never) back late
 
   -- a whole send with no deadline is never too late
   pub send_in_time : {old new : Deadline} {message : T} {result : Result (Unit {0}) (SendTimeoutError T)}
-      → send.WholeSend SendFirsts Arms SendParks SendAgains Waits old message new result → old ≡ Never
+      → send.WholeSend SendFirsts Arms SendParks SendAgains InWait old message new result → old ≡ Never
       → (back : T) → result ≢ Err (SendTimeout back)
   send_in_time {message = message} (send.AtFirst f) never back late = subst (λ r. send_turn.IsFirst message (SendDone r)) late f.1
   send_in_time (send.Unarmed f a e) never back late = absurd (let none : ⊥ = cc in none)
@@ -66,7 +66,7 @@ module _ {T : Type 0} where
 
   -- a parked receive with no deadline is never too late
   parked_receive : {old new : Deadline} {ticket : ℕ} {result : Result T RecvTimeoutError}
-      → receive.ParkedReceive RecvAgains Waits old ticket new result → old ≡ Never → result ≢ Err RecvTimeout
+      → receive.ParkedReceive RecvAgains InWait old ticket new result → old ≡ Never → result ≢ Err RecvTimeout
   parked_receive {ticket = ticket} (receive.Asked a) never late = subst (λ r. receive_turn.IsLater ticket (RecvDone r)) late a.1
   parked_receive (receive.Withdrawn a b e) never late = absurd a.2
   parked_receive (receive.Late a w b) never late = w.1 refl (a.0 ∙ never)
@@ -74,7 +74,7 @@ module _ {T : Type 0} where
 
   -- a whole receive with no deadline is never too late
   pub receive_in_time : {old new : Deadline} {result : Result T RecvTimeoutError}
-      → receive.WholeReceive RecvFirsts Arms RecvParks RecvAgains Waits old new result → old ≡ Never → result ≢ Err RecvTimeout
+      → receive.WholeReceive RecvFirsts Arms RecvParks RecvAgains InWait old new result → old ≡ Never → result ≢ Err RecvTimeout
   receive_in_time (receive.AtFirst f) never late = subst (λ r. receive_turn.IsFirst (RecvDone r)) late f.1
   receive_in_time (receive.Unarmed f a e) never late = absurd (let none : ⊥ = cc in none)
   receive_in_time (receive.AtPark f a p) never late = subst (λ r. receive_turn.IsParking (RecvDone r)) late p.1

@@ -20,12 +20,12 @@ module _ {T : Type 0} where
   -- is polled. A message that comes back from its start is its own. A turn that isn't in the table
   -- never comes.
   abbrev pub SendTurn : SendState T → ArmNext → SendState T → Type 0
-  SendTurn (sending.Unstarted message) next.Waits (sending.Parked ticket) = Unit {0}
+  SendTurn (sending.Unstarted message) next.Parked (sending.Parked ticket) = Unit {0}
   SendTurn (sending.Unstarted message) next.Completed (sending.Completed (Ok sent)) = Unit {0}
   SendTurn (sending.Unstarted message) next.Completed (sending.Completed (Err back)) =
       back ≡ message
   SendTurn (sending.Unstarted message) next.NoMemory sending.Over = Unit {0}
-  SendTurn (sending.Parked ticket) next.Waits (sending.Parked same) = same ≡ ticket
+  SendTurn (sending.Parked ticket) next.Parked (sending.Parked same) = same ≡ ticket
   SendTurn (sending.Parked ticket) next.Completed (sending.Completed result) = Unit {0}
   SendTurn (sending.Completed result) next.Completed new = new ≡ sending.Completed result
   SendTurn sending.Over next.NoMemory new = new ≡ sending.Over
@@ -33,10 +33,10 @@ module _ {T : Type 0} where
 
   -- a turn of a receive arm, the same way
   abbrev pub ReceiveTurn : ReceiveState T → ArmNext → ReceiveState T → Type 0
-  ReceiveTurn receiving.Unstarted next.Waits (receiving.Parked ticket) = Unit {0}
+  ReceiveTurn receiving.Unstarted next.Parked (receiving.Parked ticket) = Unit {0}
   ReceiveTurn receiving.Unstarted next.Completed (receiving.Completed message) = Unit {0}
   ReceiveTurn receiving.Unstarted next.NoMemory receiving.Over = Unit {0}
-  ReceiveTurn (receiving.Parked ticket) next.Waits (receiving.Parked same) = same ≡ ticket
+  ReceiveTurn (receiving.Parked ticket) next.Parked (receiving.Parked same) = same ≡ ticket
   ReceiveTurn (receiving.Parked ticket) next.Completed (receiving.Completed message) = Unit {0}
   ReceiveTurn (receiving.Completed message) next.Completed new =
       new ≡ receiving.Completed message
@@ -93,7 +93,7 @@ module _ {T : Type 0} where
 
   -- where a step takes a send arm
   abbrev pub TakesSend : SendNext T → ArmNext → SendState T → Type 0
-  TakesSend (SendNext.Park ticket) next.Waits new = new ≡ sending.Parked ticket
+  TakesSend (SendNext.Park ticket) next.Parked new = new ≡ sending.Parked ticket
   TakesSend (SendNext.Done (Ok sent)) next.Completed new = new ≡ sending.Completed (Ok tt)
   TakesSend (SendNext.Done (Err (SendTimeoutError.Disconnected back))) next.Completed new =
       new ≡ sending.Completed (Err back)
@@ -103,7 +103,7 @@ module _ {T : Type 0} where
 
   -- where a step takes a receive arm
   abbrev pub TakesReceive : RecvNext T → ArmNext → ReceiveState T → Type 0
-  TakesReceive (RecvNext.Park ticket) next.Waits new = new ≡ receiving.Parked ticket
+  TakesReceive (RecvNext.Park ticket) next.Parked new = new ≡ receiving.Parked ticket
   TakesReceive (RecvNext.Done (Ok message)) next.Completed new =
       new ≡ receiving.Completed (Some message)
   TakesReceive (RecvNext.Done (Err RecvTimeoutError.Disconnected)) next.Completed new =

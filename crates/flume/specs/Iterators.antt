@@ -2,7 +2,8 @@
 use Rattle.std.specs.Prelude.{◌≡◌, ℕ, ◌+◌, ◌-◌, ◌^◌, Bool, true, false, List}
 use Rattle.std.specs.Prelude.{Option, None, Result, Ok, Err}
 use Rattle.flume_model.specs.declared.step.Reply.{Reply}
-use Rattle.flume_model.specs.declared.step.Reply.TheVariants.{Drained, NoMemory as NoneLeft}
+use Rattle.flume_model.specs.declared.step.Reply.TheVariants.{Drained}
+use Rattle.flume_model.specs.declared.step.Reply.TheVariants as reply
 use Rattle.flume_core.specs.declared.error.RecvError.{RecvError}
 use Rattle.flume_core.specs.declared.error.RecvError.TheVariants as recv_error
 use Rattle.flume_core.specs.declared.error.NoMemory.{NoMemory}
@@ -37,5 +38,5 @@ module _ {T A : Type 0} where
   -- the answer of a drain to its step's reply: the list that the step took
   abbrev pub after_drain : Reply T A → Result (List T) NoMemory → Type 0
   after_drain (Drained list) answer = answer ≡ Ok list.items
-  after_drain (NoneLeft back) answer = answer ≡ Err (record {})
+  after_drain (reply.NoMemory back) answer = answer ≡ Err (record {})
   after_drain _ answer = ⊥

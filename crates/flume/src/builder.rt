@@ -64,7 +64,7 @@ where
 }
 
 impl<R: Waits, A: Allocator + Copy> Builder<R, A> {
-    /// The same with this number, for those who compare channels: `same_channel` of two ends
+    /// Opens the channel under this number, for those who compare channels: `same_channel` of two ends
     /// compares the numbers of their channels and nothing else. So two channels that are opened
     /// with equal numbers, as with the 0 of those that were given none, count as the same.
     ///
@@ -81,7 +81,7 @@ impl<R: Waits, A: Allocator + Copy> Builder<R, A> {
         Builder { id: number, ..self }
     }
 
-    /// The same with this allocator, from which the channel takes all its memory.
+    /// Opens the channel with this allocator, from which it takes all its memory.
     ///
     /// ```
     /// let (tx, rx) = flume::on(rt).allocator(rt.alloc()).bounded(16)?;

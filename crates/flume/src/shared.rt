@@ -120,6 +120,7 @@ impl<T: Drop, R: Waits, A: Allocator + Copy> Shared<T, R, A> {
 
     /// What a call waits on, and the copy of it that the call leaves as it parks. Both are made
     /// outside the lock, and then the call pauses. `None`: there was no memory for them.
+    #[cold]
     #[inline(never)]
     pub(crate) fn new_parker(&self) -> Option<(Arc<Parker, A>, Signal<A>)> {
         let backoff = self.backoff();
@@ -161,6 +162,7 @@ impl<T: Drop, R: Waits, A: Allocator + Copy> Shared<T, R, A> {
 
     // The channel, locked, where somebody else has the lock. They are let be for longer and longer,
     // since each try takes the lock's memory from them; then the call sleeps for it.
+    #[cold]
     #[inline(never)]
     fn wait_for_lock(&self) -> MutexGuard<'_, Locked<T, Signal<A>, A>> {
         let mut pauses = FIRST_PAUSES;
@@ -184,6 +186,7 @@ impl<T: Drop, R: Waits, A: Allocator + Copy> Shared<T, R, A> {
 
     /// Makes the turn under the lock, in code of its own: so a turn that is seldom made costs the
     /// other turns of its caller nothing.
+    #[cold]
     #[inline(never)]
     pub(crate) fn make_seldom<C: Turn<T, Signal<A>, A>>(&self, turn: C) -> C::Answer
         ensures answers { C.answers turn result }
@@ -208,7 +211,7 @@ impl<T: Drop, R: Waits, A: Allocator + Copy> Shared<T, R, A> {
         let mut locked = self.lock();
         let mut signal = None;
         if locked.would_wait(call) {
-            signal = task.signal(locked.left(call), cx);
+            signal = task.signal(locked.parked_signal(call), cx);
         }
         locked.poll(call, &mut signal, &mut Firing { rt: self.rt })
     }

@@ -27,14 +27,14 @@ impl Task {
     #[inline(never)]
     pub(crate) fn signal<A: Allocator>(
         &self,
-        left: Option<&Signal<A>>,
+        parked: Option<&Signal<A>>,
         cx: &mut Context<'_>,
     ) -> Option<Signal<A>>
         ensures armed { IsArmed cx.new }
         ensures heard { Hears cx.new self.now.source.id }
         ensures kept { Keeps cx.old cx.new }
     {
-        let mut waker = match left {
+        let mut waker = match parked {
             Some(Signal::Task(signal)) => signal.take(),
             _ => None,
         };

@@ -53,7 +53,7 @@ fn first_misplaced<T, A: Allocator, H: Receipts<T, A>>(length: usize, seats: &[H
     least
 }
 
-// The same of one list: the least number that is misplaced in it.
+// The least number that is misplaced in one list.
 fn misplaced_in<T, A: Allocator>(length: usize, list: &[Receipt<T, A>]) -> Option<usize>
     ensures least { IsLeast (λ number. Misplaced length number list.now) result }
 {

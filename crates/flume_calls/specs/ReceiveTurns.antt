@@ -3,7 +3,7 @@ use Rattle.std.specs.Prelude.{◌≡◌, ℕ, Bool, true, false, Ok, Err}
 use Rattle.flume_model.specs.declared.step.Step.{Step}
 use Rattle.flume_model.specs.declared.step.Step.TheVariants.{Poll, Withdraw}
 use Rattle.flume_model.specs.declared.step.Reply.{Reply}
-use Rattle.flume_model.specs.declared.step.Reply.TheVariants.{NoMemory as NoneLeft}
+use Rattle.flume_model.specs.declared.step.Reply.TheVariants as reply
 use Rattle.flume_model.specs.declared.step.Reply.TheVariants.{Spent, Waiting, NoTicket, Got}
 use Rattle.flume_model.specs.declared.step.Reply.TheVariants.{Empty, Ended, Parked, Gone}
 use Rattle.flume_core.specs.declared.error.RecvTimeoutError.TheVariants.{Timeout, Disconnected}
@@ -80,7 +80,7 @@ module _ {T A : Type 0} where
   after_recv (Got message) next = next ≡ Done (Ok message)
   after_recv (Parked ticket) next = next ≡ Park ticket
   after_recv Ended next = next ≡ Done (Err Disconnected)
-  after_recv (NoneLeft back) next = next ≡ Done (Err NoMemory)
+  after_recv (reply.NoMemory back) next = next ≡ Done (Err NoMemory)
   after_recv (Spent back) next = next ≡ Done (Err NoMemory)
   after_recv _ next = ⊥
 
@@ -91,7 +91,7 @@ module _ {T A : Type 0} where
   after_poll ticket Waiting next = next ≡ Park ticket
   after_poll ticket Ended next = next ≡ Done (Err Disconnected)
   after_poll ticket NoTicket next = next ≡ Done (Err Disconnected)
-  after_poll ticket (NoneLeft back) next = next ≡ Refused ticket
+  after_poll ticket (reply.NoMemory back) next = next ≡ Refused ticket
   after_poll ticket _ next = ⊥
 
   -- the turn at its deadline, to the reply of a `withdraw`

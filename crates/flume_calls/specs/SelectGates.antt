@@ -16,7 +16,7 @@ module _ {G : Type 0} (turns : G → ℕ → G → ArmNext → Type 0) (count st
   pub data Waiting : G → (made next : ℕ) → G → Type 0 where
     NoTurn : {gate : G} → Waiting gate 0 start gate
     OneMore : {old between new : G} {made arm : ℕ} → Waiting old made arm between
-        → turns between arm new ArmNext.Waits
+        → turns between arm new ArmNext.Parked
         → Waiting old (made + 1) (next_arm count arm) new
 
   -- a round, from its gate to the gate after it, by how it ends: one turn of each arm, in cyclic

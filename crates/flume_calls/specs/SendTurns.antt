@@ -4,7 +4,7 @@ use Rattle.flume_model.specs.declared.step.Step.{Step}
 use Rattle.flume_model.specs.declared.step.Step.TheVariants.{PollSend, WithdrawSend}
 use Rattle.flume_model.specs.declared.step.Reply.{Reply}
 use Rattle.flume_model.specs.declared.step.Reply.TheVariants.{Sent, Full, Closed, Spent, Pending}
-use Rattle.flume_model.specs.declared.step.Reply.TheVariants.{NoMemory as NoneLeft}
+use Rattle.flume_model.specs.declared.step.Reply.TheVariants as reply
 use Rattle.flume_model.specs.declared.step.Reply.TheVariants.{Accepted, Waiting, Returned, NoTicket}
 use Rattle.flume_core.specs.declared.error.SendTimeoutError.TheVariants.{Timeout, Disconnected}
 use Rattle.flume_core.specs.declared.error.SendTimeoutError.TheVariants.{NoMemory}
@@ -67,7 +67,7 @@ module _ {T A : Type 0} where
   after_try_send (Sent filled) next = next ≡ Done (Ok tt)
   after_try_send (Full back) next = next ≡ NeedSignal back
   after_try_send (Closed back) next = next ≡ Done (Err (Disconnected back))
-  after_try_send (NoneLeft (Some back)) next = next ≡ Done (Err (NoMemory back))
+  after_try_send (reply.NoMemory (Some back)) next = next ≡ Done (Err (NoMemory back))
   after_try_send _ next = ⊥
 
   -- the turn that may park, to the reply of a `send`
@@ -75,7 +75,7 @@ module _ {T A : Type 0} where
   after_send (Sent filled) next = next ≡ Done (Ok tt)
   after_send (Pending ticket) next = next ≡ Park ticket
   after_send (Closed back) next = next ≡ Done (Err (Disconnected back))
-  after_send (NoneLeft (Some back)) next = next ≡ Done (Err (NoMemory back))
+  after_send (reply.NoMemory (Some back)) next = next ≡ Done (Err (NoMemory back))
   after_send (Spent (Some back)) next = next ≡ Done (Err (NoMemory back))
   after_send _ next = ⊥
 

@@ -47,6 +47,7 @@ pub fn fire_due<T: Drop, S: Drop, A: Allocator + Copy, B: Bell<S>>(
 }
 
 // One ring for a live ticket, with the signal that it left last.
+#[cold]
 #[inline(never)]
 fn ring_for<T: Drop, S: Drop, A: Allocator + Copy, B: Bell<S>>(
     chan: &Chan<T, S, A>,

@@ -93,8 +93,8 @@ impl<T: Drop, S: Drop, A: Allocator + Copy> Locked<T, S, A> {
 
     /// The signal that the call left last, where it is parked. It changes nothing, and is no step.
     #[inline(always)]
-    pub fn left<P: Polled<T, S, A>>(&self, polled: &P) -> Option<&S>
-        ensures left { option_copied result
+    pub fn parked_signal<P: Polled<T, S, A>>(&self, polled: &P) -> Option<&S>
+        ensures signal { option_copied result
             ≡ option_and_then (signal_of self.now) (P.parked polled.now) }
     {
         match polled.ticket() {

@@ -14,6 +14,6 @@ module _ (E A : RattleType) (alloc : Ghosts A.Denot) (s : MutBor (Chained E.Deno
   abbrev pub lends_element : MutBor E.Denot → Fml
   lends_element r = Lends (the_row E A alloc) E s r with_value
 
-  -- the same where r is a reference, and at `None` the chain stays as it is
+  -- at a reference r it is so; at `None` the chain stays as it is
   abbrev pub lends_get : Option (MutBor E.Denot) → Fml
   lends_get r = LendsIf (the_row E A alloc) E s r with_value s.now

@@ -11,7 +11,7 @@ use Rattle.flume_model.specs.declared.entry.Mark.TheVariants.{Filled}
 use Rattle.flume_state.specs.declared.notice.Notice.{Notice}
 use Rattle.flume_state.specs.declared.entries.Standing.{Standing}
 use Rattle.flume_state.specs.declared.entries.Standing.TheVariants.{Filled as IsFilled, BlockWaiting}
-use Rattle.flume_state.specs.declared.entries.Standing.TheVariants.{Waiting as Waits, Woken as IsWoken}
+use Rattle.flume_state.specs.declared.entries.Standing.TheVariants.{Waiting as IsWaiting, Woken as IsWoken}
 use Rattle.flume_model.specs.Log.{Log, Opening, was_filled}
 use Rattle.flume_model.specs.Counts.{senders, receivers}
 use Rattle.flume_model.specs.Limits.{IsOpen, IsClosed, is_closed}
@@ -196,7 +196,7 @@ module _ {T A S : Type 0} where
 
   -- one of another kind leaves, and passes its wake on
   pub withdraw_passes : (o : Opening) (log : Log T A) (s new : State T S) (t : ℕ) (st : Standing) (closed : Bool) (filled : Option ℕ)
-      → StandsFor o log s → standing t s.entries ≡ Some st → (st ≡ Waits) ⊎ (st ≡ IsWoken)
+      → StandsFor o log s → standing t s.entries ≡ Some st → (st ≡ IsWaiting) ⊎ (st ≡ IsWoken)
       → closed ≡ is_closed s.senders s.receivers → filled ≡ leave_fills t s.queue s.entries → new ≡ departed t s
       → StandsFor o ((Withdraw t, Gone closed filled) ∷ log) new
   withdraw_passes o log s new t st closed filled h stands other told fills is =

@@ -8,7 +8,7 @@ use Rattle.flume_model.specs.declared.entry.Mark.{Mark}
 use Rattle.flume_model.specs.declared.entry.Mark.TheVariants.{Waiting, Woken, Filled}
 use Rattle.flume_state.specs.declared.entries.Standing.{Standing}
 use Rattle.flume_state.specs.declared.entries.Standing.TheVariants.{Filled as IsFilled, BlockWaiting, BlockWoken}
-use Rattle.flume_state.specs.declared.entries.Standing.TheVariants.{Waiting as Waits, Woken as IsWoken}
+use Rattle.flume_state.specs.declared.entries.Standing.TheVariants.{Waiting as IsWaiting, Woken as IsWoken}
 use Rattle.flume_model.specs.Limits.{IsOpen, IsClosed, is_closed}
 use Rattle.flume_model.specs.Entries.{is_woken, is_filled, leave_fills}
 use Rattle.flume_model.specs.Channel.{Channel, IsFront}
@@ -21,13 +21,13 @@ pub looks_else : (st : Standing) → st ≢ IsFilled → st ≢ BlockWaiting →
 looks_else IsFilled a b = absurd (a refl)
 looks_else BlockWaiting a b = absurd (b refl)
 looks_else BlockWoken a b = refl
-looks_else Waits a b = refl
+looks_else IsWaiting a b = refl
 looks_else IsWoken a b = refl
 
 -- one that neither is filled nor of another kind blocks
-pub blocks_else : (st : Standing) → st ≢ IsFilled → st ≢ Waits → st ≢ IsWoken → blocks (Some st) ≡ true
+pub blocks_else : (st : Standing) → st ≢ IsFilled → st ≢ IsWaiting → st ≢ IsWoken → blocks (Some st) ≡ true
 blocks_else IsFilled a b c = absurd (a refl)
-blocks_else Waits a b c = absurd (b refl)
+blocks_else IsWaiting a b c = absurd (b refl)
 blocks_else IsWoken a b c = absurd (c refl)
 blocks_else BlockWaiting a b c = refl
 blocks_else BlockWoken a b c = refl
@@ -50,9 +50,9 @@ module _ {T : Type 0} where
   unfilled_as k mark st e looking = looks_unfilled k mark (ap (λ x. looks (Some x)) e ∙ looking)
 
   -- one of another kind that isn't filled
-  pub other_parts : (k : Kind) (mark : Mark T) → (standing_as k mark ≡ Waits) ⊎ (standing_as k mark ≡ IsWoken)
+  pub other_parts : (k : Kind) (mark : Mark T) → (standing_as k mark ≡ IsWaiting) ⊎ (standing_as k mark ≡ IsWoken)
       → (blocks (Some (standing_as k mark)) ≡ false) × (is_filled mark ≡ false)
-  other_parts k mark (inl e) = (ap (λ x. blocks (Some x)) e, unfilled_as k mark Waits e refl)
+  other_parts k mark (inl e) = (ap (λ x. blocks (Some x)) e, unfilled_as k mark IsWaiting e refl)
   other_parts k mark (inr e) = (ap (λ x. blocks (Some x)) e, unfilled_as k mark IsWoken e refl)
 
   -- one that stands filled is filled with a message

@@ -20,7 +20,7 @@ use Rattle.flume_script.specs.Script.{IsCall, IsStepLine}
 abbrev pub NoHyphen : List ℕ → Type 0
 NoHyphen bytes = All (λ x. eqb x 45 ≡ false) bytes
 
--- the same, by recursion, which a tactic computes of a text that is written out
+-- no byte is a hyphen, by recursion, which a tactic computes of a text that is written out
 abbrev pub IsPlain : List ℕ → Type 0
 IsPlain bytes = AllByRecursion (λ x. eqb x 45 ≡ false) bytes
 

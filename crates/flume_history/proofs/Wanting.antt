@@ -135,7 +135,7 @@ module _ {T : Type 0} (A : Type 0) (c : Channel T) where
   gone_none t (Some e) back h = gone_never t e.kind e.mark back h
 
 module _ {T S : Type 0} (A : Type 0) (c : Channel T) where
-  -- the same of the entry that was found
+  -- a poll of the entry that was found wants memory there
   found_so : (found : Option (Entry T (Notice S))) → only_leaves (option_map standing_of found) ≡ true
       → c.boundary < length c.line → IsPolled {A = A} c (option_map bare found) (NoMemory None)
   found_so None looks on = absurd (let no : ⊥ = cc in no)

@@ -76,7 +76,7 @@ module _ {T S : Type 0} where
       three items due waits n s ∙ sym (mark_of_last tell m items due waits n s ∙ ap (λ l. entries_in s.quiet ++ (entries_in s.dues ++ l)) same)
 
   -- the first that waits, at its place alone
-  pub record Waits (items : Items T S) (due waits : Option ℕ) (n : ℕ) (k : ℕ) (s : Sorted items due waits n) : Type 0 where
+  pub record FirstWaiting (items : Items T S) (due waits : Option ℕ) (n : ℕ) (k : ℕ) (s : Sorted items due waits n) : Type 0 where
     pub element : Ticketed (Parked T S)
     pub after : Items T S
     pub last : s.last ≡ item k element ∷ after
@@ -88,7 +88,7 @@ module _ {T S : Type 0} where
     pub others : Each true false after
 
   pub waits_at : (items : Items T S) (due waits : Option ℕ) (n : ℕ) (k : ℕ) (s : Sorted items due waits n) → waits ≡ Some k
-      → Waits items due waits n k s
+      → FirstWaiting items due waits n k s
   waits_at items due waits n k s h =
       let f = front_at s.last k (sym h ∙ s.first_waits) in
       let is : items ≡ (s.quiet ++ s.dues) ++ item k f.element ∷ f.rest =
@@ -108,7 +108,7 @@ module _ {T S : Type 0} where
       }
 
   -- its entry is the first that waits
-  pub waits_first : (items : Items T S) (due waits : Option ℕ) (n : ℕ) (k : ℕ) (s : Sorted items due waits n) (w : Waits items due waits n k s)
+  pub waits_first : (items : Items T S) (due waits : Option ℕ) (n : ℕ) (k : ℕ) (s : Sorted items due waits n) (w : FirstWaiting items due waits n k s)
       → first_waiting (entries_in items) ≡ Some (entry_in (item k w.element))
   waits_first items due waits n k s w =
       first_of_last items due waits n s ∙ ap (λ l. first_waiting (entries_in l)) w.last ∙ rw w.class.1 refl
@@ -119,7 +119,7 @@ module _ {T S : Type 0} where
 
   -- the first that waits is due from now on, and the boundary is behind it
   pub sorted_woken : (items : Items T S) (due waits : Option ℕ) (n : ℕ) (k : ℕ) (m : Mark T) (s : Sorted items due waits n)
-      (w : Waits items due waits n k s) → is_waiting m ≡ false
+      (w : FirstWaiting items due waits n k s) → is_waiting m ≡ false
       → Sorted (revalued k items (woken_value m w.element.value)) due (place_after items k) (n - 1)
   sorted_woken items due waits n k m s w awake =
       let v = woken_value m w.element.value in
@@ -150,7 +150,7 @@ module _ {T S : Type 0} where
 
   -- and is marked among the entries
   pub woken_entries : (items : Items T S) (due waits : Option ℕ) (n : ℕ) (k : ℕ) (m : Mark T) (s : Sorted items due waits n)
-      (w : Waits items due waits n k s)
+      (w : FirstWaiting items due waits n k s)
       → entries_in (revalued k items (woken_value m w.element.value)) ≡ first_marked due_now m (entries_in items)
   woken_entries items due waits n k m s w =
       let v = woken_value m w.element.value in
@@ -162,7 +162,7 @@ module _ {T S : Type 0} where
       ∙ sym (mark_of_last due_now m items due waits n s ∙ ap (λ l. entries_in s.quiet ++ (entries_in s.dues ++ l)) here)
 
   -- some wait where one does
-  pub waits_some : (items : Items T S) (due waits : Option ℕ) (n : ℕ) (k : ℕ) (s : Sorted items due waits n) → Waits items due waits n k s → 1 ≤ n
+  pub waits_some : (items : Items T S) (due waits : Option ℕ) (n : ℕ) (k : ℕ) (s : Sorted items due waits n) → FirstWaiting items due waits n k s → 1 ≤ n
   waits_some items due waits n k s w =
       let one : weight (entry_in (item k w.element)) ≡ 1 = rw w.class.1 refl in
       let sum = ap (λ l. waiting_count (entries_in l)) w.is ∙ waits-append (s.quiet ++ s.dues) (item k w.element ∷ w.after) in

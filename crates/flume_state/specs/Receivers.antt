@@ -14,7 +14,7 @@ use Rattle.flume_state.specs.Notices.{fresh, told, resignalled}
 use Rattle.flume_state.specs.declared.entries.Standing.{Standing}
 use Rattle.flume_state.specs.declared.entries.Standing.TheVariants.{Filled as IsFilled}
 use Rattle.flume_state.specs.declared.entries.Standing.TheVariants.{BlockWaiting, BlockWoken}
-use Rattle.flume_state.specs.declared.entries.Standing.TheVariants.{Waiting as Waits}
+use Rattle.flume_state.specs.declared.entries.Standing.TheVariants.{Waiting as IsWaiting}
 use Rattle.flume_state.specs.declared.entries.Standing.TheVariants.{Woken as IsWoken}
 
 -- the entries of a state
@@ -30,7 +30,7 @@ unfilled (Some ticket) (front ∷ queue) = queue
 -- it asks by looking at the line
 abbrev pub looks : Option Standing → Bool
 looks (Some BlockWoken) = true
-looks (Some Waits) = true
+looks (Some IsWaiting) = true
 looks (Some IsWoken) = true
 looks _ = false
 
@@ -42,7 +42,7 @@ blocks _ = false
 
 -- it doesn't block, and isn't filled: it leaves with no message
 abbrev pub only_leaves : Option Standing → Bool
-only_leaves (Some Waits) = true
+only_leaves (Some IsWaiting) = true
 only_leaves (Some IsWoken) = true
 only_leaves _ = false
 
@@ -57,7 +57,7 @@ module _ {T : Type 0} where
   standing_as kind (Filled message) = IsFilled
   standing_as Block Waiting = BlockWaiting
   standing_as Block Woken = BlockWoken
-  standing_as kind Waiting = Waits
+  standing_as kind Waiting = IsWaiting
   standing_as kind Woken = IsWoken
 
 module _ {T S : Type 0} where

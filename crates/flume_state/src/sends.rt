@@ -190,7 +190,8 @@ impl<S: Drop, A: Allocator + Copy> Sends<S, A> {
         }
     }
 
-    // The same, out of line.
+    // What `next_due` does where some send is due, out of line.
+    #[cold]
     #[inline(never)]
     fn tell_first(&mut self) -> Option<u64>
         ensures was_due { IfSome result (λ t. is_due_send self.old t ≡ true) }

@@ -5,7 +5,7 @@ use Rattle.flume_model.specs.declared.step.Step.{Step}
 use Rattle.flume_model.specs.declared.step.Step.TheVariants.{TryRecv, Recv, Poll, Withdraw}
 use Rattle.flume_model.specs.declared.step.Reply.{Reply}
 use Rattle.flume_model.specs.declared.step.Reply.TheVariants.{Got, Empty, Ended, Parked as ParkedUnder, Gone, Waiting, NoTicket, Spent}
-use Rattle.flume_model.specs.declared.step.Reply.TheVariants.{NoMemory as NoneLeft}
+use Rattle.flume_model.specs.declared.step.Reply.TheVariants.{NoMemory}
 use Rattle.flume_model.specs.Log.{Log}
 use Rattle.flume_state.specs.State.{State}
 use Rattle.flume_core.specs.declared.error.RecvTimeoutError.{RecvTimeoutError}
@@ -52,7 +52,7 @@ module _ {T A : Type 0} where
   second_got m (Got same) result told is = cc
   second_got m (ParkedUnder ticket) result told is = absurd (let none : ⊥ = cc in none)
   second_got m Ended result told is = absurd (let none : ⊥ = cc in none)
-  second_got m (NoneLeft back) result told is = absurd (let none : ⊥ = cc in none)
+  second_got m (NoMemory back) result told is = absurd (let none : ⊥ = cc in none)
   second_got m (Spent back) result told is = absurd (let none : ⊥ = cc in none)
   second_got m _ result told is = absurd told
 
@@ -61,7 +61,7 @@ module _ {T A : Type 0} where
   second_in_time (Got same) result told is = cc
   second_in_time (ParkedUnder ticket) result told is = cc
   second_in_time Ended result told is = cc
-  second_in_time (NoneLeft back) result told is = cc
+  second_in_time (NoMemory back) result told is = cc
   second_in_time (Spent back) result told is = cc
   second_in_time _ result told is = absurd told
 
@@ -70,7 +70,7 @@ module _ {T A : Type 0} where
   parked ticket (ParkedUnder same) told = cc
   parked ticket (Got same) told = absurd (let none : ⊥ = cc in none)
   parked ticket Ended told = absurd (let none : ⊥ = cc in none)
-  parked ticket (NoneLeft back) told = absurd (let none : ⊥ = cc in none)
+  parked ticket (NoMemory back) told = absurd (let none : ⊥ = cc in none)
   parked ticket (Spent back) told = absurd (let none : ⊥ = cc in none)
   parked ticket _ told = absurd told
 
@@ -81,7 +81,7 @@ module _ {T A : Type 0} where
   polled_got t m Waiting result told is = absurd (let none : ⊥ = cc in none)
   polled_got t m Ended result told is = absurd (let none : ⊥ = cc in none)
   polled_got t m NoTicket result told is = absurd (let none : ⊥ = cc in none)
-  polled_got t m (NoneLeft back) result told is = absurd (let none : ⊥ = cc in none)
+  polled_got t m (NoMemory back) result told is = absurd (let none : ⊥ = cc in none)
   polled_got t m _ result told is = absurd told
 
   -- one that asked isn't late
@@ -90,7 +90,7 @@ module _ {T A : Type 0} where
   never_late t Waiting result told is = cc
   never_late t Ended result told is = cc
   never_late t NoTicket result told is = cc
-  never_late t (NoneLeft back) result told is = cc
+  never_late t (NoMemory back) result told is = cc
   never_late t _ result told is = absurd told
 
   -- one that waits on keeps its ticket
@@ -99,12 +99,12 @@ module _ {T A : Type 0} where
   same_ticket t same (Got m) told = absurd (let none : ⊥ = cc in none)
   same_ticket t same Ended told = absurd (let none : ⊥ = cc in none)
   same_ticket t same NoTicket told = absurd (let none : ⊥ = cc in none)
-  same_ticket t same (NoneLeft back) told = absurd (let none : ⊥ = cc in none)
+  same_ticket t same (NoMemory back) told = absurd (let none : ⊥ = cc in none)
   same_ticket t same _ told = absurd told
 
   -- and so does one that was refused
   refused_ticket : (t same : ℕ) (reply : Reply T A) → after_poll t reply (Refused same) → same ≡ t
-  refused_ticket t same (NoneLeft back) told = cc
+  refused_ticket t same (NoMemory back) told = cc
   refused_ticket t same Waiting told = absurd (let none : ⊥ = cc in none)
   refused_ticket t same (Got m) told = absurd (let none : ⊥ = cc in none)
   refused_ticket t same Ended told = absurd (let none : ⊥ = cc in none)
@@ -162,10 +162,10 @@ module _ {G T S : Type 0} (A : Type 0) (at : G → State T S) where
       Makes A (step_of_parked_receive ticket late) (after_parked_receive ticket late) (at old) (at new) answer
 
   -- what its waiting tells
-  abbrev pub Waits : G → G → Bool → Type 0
-  Waits old new answer = Others A (at old) (at new)
+  abbrev pub InWait : G → G → Bool → Type 0
+  InWait old new answer = Others A (at old) (at new)
 
-  parked_ended : {old new : G} {ticket : ℕ} {result : Ending T} → ParkedReceive Agains Waits old ticket new result
+  parked_ended : {old new : G} {ticket : ℕ} {result : Ending T} → ParkedReceive Agains InWait old ticket new result
       → EndedSo A ticket (at old) (at new) result
   parked_ended {ticket = ticket} {result = result} (Asked made) = record {
     others = [];
@@ -233,7 +233,7 @@ module _ {G T S : Type 0} (A : Type 0) (at : G → State T S) where
       let tried = rw (empty made.reply made.answered) at made.leads in
       chain ((TryRecv, Empty) ∷ []) ((Recv Block, next.reply) ∷ []) tried (rw arms at next.leads)
 
-  pub received : {old new : G} {result : Ending T} → WholeReceive Firsts Arms Parks Agains Waits old new result
+  pub received : {old new : G} {result : Ending T} → WholeReceive Firsts Arms Parks Agains InWait old new result
       → (m : T) → result ≡ Ok m → IsReceived A m (at old) (at new)
   received (AtFirst made) m ok = (_, rw (first_got m made.reply _ made.answered ok) at made.leads, First)
   received (Unarmed made arms is) m ok = absurd (let none : ⊥ = cc in none)
@@ -245,7 +245,7 @@ module _ {G T S : Type 0} (A : Type 0) (at : G → State T S) where
       let last = rw (end.got m ok) at end.leads in
       (_, chain (parks ticket) ((end.step, Got m) ∷ end.others) waits last, Later ticket end.others end.step end.own)
 
-  pub given_up : {old new : G} {result : Ending T} → WholeReceive Firsts Arms Parks Agains Waits old new result
+  pub given_up : {old new : G} {result : Ending T} → WholeReceive Firsts Arms Parks Agains InWait old new result
       → result ≡ Err Timeout → IsGivenUp A (at old) (at new)
   given_up (AtFirst made) late = absurd (first_in_time made.reply _ made.answered late)
   given_up (Unarmed made arms is) late = absurd (let none : ⊥ = cc in none)

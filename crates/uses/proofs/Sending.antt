@@ -6,7 +6,7 @@ use Rattle.flume_model.specs.declared.step.Step.TheVariants.{TrySend, Send, Poll
 use Rattle.flume_model.specs.declared.step.Reply.{Reply}
 use Rattle.flume_model.specs.declared.step.Reply.TheVariants.{Sent, Full, Closed, Pending, Accepted}
 use Rattle.flume_model.specs.declared.step.Reply.TheVariants.{Waiting, NoTicket, Returned, Spent}
-use Rattle.flume_model.specs.declared.step.Reply.TheVariants.{NoMemory as NoneLeft}
+use Rattle.flume_model.specs.declared.step.Reply.TheVariants.{NoMemory}
 use Rattle.flume_model.specs.Log.{Log}
 use Rattle.flume_state.specs.State.{State}
 use Rattle.flume_core.specs.StandsFor.{IsLedTo}
@@ -86,7 +86,7 @@ module _ {T A : Type 0} where
   full m (Full back) told = cc
   full m (Sent filled) told = absurd (let none : ⊥ = cc in none)
   full m (Closed back) told = absurd (let none : ⊥ = cc in none)
-  full m (NoneLeft (Some back)) told = absurd (let none : ⊥ = cc in none)
+  full m (NoMemory (Some back)) told = absurd (let none : ⊥ = cc in none)
   full m _ told = absurd told
 
   -- and where it parks its message blocks
@@ -94,7 +94,7 @@ module _ {T A : Type 0} where
   pending ticket (Pending same) told = cc
   pending ticket (Sent filled) told = absurd (let none : ⊥ = cc in none)
   pending ticket (Closed back) told = absurd (let none : ⊥ = cc in none)
-  pending ticket (NoneLeft (Some back)) told = absurd (let none : ⊥ = cc in none)
+  pending ticket (NoMemory (Some back)) told = absurd (let none : ⊥ = cc in none)
   pending ticket (Spent (Some back)) told = absurd (let none : ⊥ = cc in none)
   pending ticket _ told = absurd told
 
@@ -104,7 +104,7 @@ module _ {T A : Type 0} where
   first_in_time (Sent filled) result told back is = cc
   first_in_time (Full m) result told back is = cc
   first_in_time (Closed m) result told back is = cc
-  first_in_time (NoneLeft (Some m)) result told back is = cc
+  first_in_time (NoMemory (Some m)) result told back is = cc
   first_in_time _ result told back is = absurd told
 
   -- the turn that may park is never late
@@ -113,7 +113,7 @@ module _ {T A : Type 0} where
   second_in_time (Sent filled) result told back is = cc
   second_in_time (Pending ticket) result told back is = cc
   second_in_time (Closed m) result told back is = cc
-  second_in_time (NoneLeft (Some m)) result told back is = cc
+  second_in_time (NoMemory (Some m)) result told back is = cc
   second_in_time (Spent (Some m)) result told back is = cc
   second_in_time _ result told back is = absurd told
 
@@ -124,7 +124,7 @@ module _ {T A S : Type 0} where
   first_sent m old new (Sent filled) result leads told ok = (_, leads, First filled)
   first_sent m old new (Full back) result leads told ok = absurd (let none : ⊥ = cc in none)
   first_sent m old new (Closed back) result leads told ok = absurd (let none : ⊥ = cc in none)
-  first_sent m old new (NoneLeft (Some back)) result leads told ok = absurd (let none : ⊥ = cc in none)
+  first_sent m old new (NoMemory (Some back)) result leads told ok = absurd (let none : ⊥ = cc in none)
   first_sent m old new _ result leads told ok = absurd told
 
   -- a send that the turn that may park ended well
@@ -134,7 +134,7 @@ module _ {T A S : Type 0} where
   second_sent m old new (Sent filled) result leads told ok = (_, leads, Second filled)
   second_sent m old new (Pending ticket) result leads told ok = absurd (let none : ⊥ = cc in none)
   second_sent m old new (Closed back) result leads told ok = absurd (let none : ⊥ = cc in none)
-  second_sent m old new (NoneLeft (Some back)) result leads told ok = absurd (let none : ⊥ = cc in none)
+  second_sent m old new (NoMemory (Some back)) result leads told ok = absurd (let none : ⊥ = cc in none)
   second_sent m old new (Spent (Some back)) result leads told ok = absurd (let none : ⊥ = cc in none)
   second_sent m old new _ result leads told ok = absurd told
 
@@ -164,10 +164,10 @@ module _ {G T S : Type 0} (A : Type 0) (at : G → State T S) where
       Makes A (step_of_parked_send ticket late) (after_parked_send ticket late) (at old) (at new) answer
 
   -- what its waiting tells
-  abbrev pub Waits : G → G → Bool → Type 0
-  Waits old new answer = Others A (at old) (at new)
+  abbrev pub InWait : G → G → Bool → Type 0
+  InWait old new answer = Others A (at old) (at new)
 
-  parked_ended : {old new : G} {ticket : ℕ} {result : Ending T} → ParkedSend Agains Waits old ticket new result
+  parked_ended : {old new : G} {ticket : ℕ} {result : Ending T} → ParkedSend Agains InWait old ticket new result
       → Ended A ticket (at old) (at new) result
   parked_ended {ticket = ticket} {result = result} (Asked made) = record {
     others = [];
@@ -222,7 +222,7 @@ module _ {G T S : Type 0} (A : Type 0) (at : G → State T S) where
       let tried = rw (full m made.reply made.answered) at made.leads in
       chain ((TrySend m, Full m) ∷ []) ((Send m, parks.reply) ∷ []) tried (rw arms at parks.leads)
 
-  pub sent : {old new : G} {m : T} {result : Ending T} → WholeSend Firsts Arms Parks Agains Waits old m new result
+  pub sent : {old new : G} {m : T} {result : Ending T} → WholeSend Firsts Arms Parks Agains InWait old m new result
       → result ≡ Ok tt → IsSent A m (at old) (at new)
   sent {m = m} (AtFirst made) ok = first_sent m _ _ made.reply _ made.leads made.answered ok
   sent (Unarmed made arms is) ok = absurd (let none : ⊥ = cc in none)
@@ -237,7 +237,7 @@ module _ {G T S : Type 0} (A : Type 0) (at : G → State T S) where
       )
 
   pub taken_back : {old new : G} {m : T} {result : Ending T} → IsLedTo A (at old)
-      → WholeSend Firsts Arms Parks Agains Waits old m new result
+      → WholeSend Firsts Arms Parks Agains InWait old m new result
       → (back : T) → result ≡ Err (Timeout back) → IsTakenBack A m back (at old) (at new)
   taken_back led (AtFirst made) back late = absurd (first_in_time made.reply _ made.answered back late)
   taken_back led (Unarmed made arms is) back late = absurd (let none : ⊥ = cc in none)

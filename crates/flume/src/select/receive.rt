@@ -58,7 +58,7 @@ fn after<T: Drop>(next: RecvNext<T>) -> (ReceiveState<T>, ArmNext)
     ensures does { TakesReceive next result.1 result.0 }
 {
     match next {
-        RecvNext::Park(call) => (ReceiveState::Parked(call), ArmNext::Waits),
+        RecvNext::Park(call) => (ReceiveState::Parked(call), ArmNext::Parked),
         RecvNext::Done(Ok(message)) => {
             (ReceiveState::Completed(Some(message)), ArmNext::Completed)
         }

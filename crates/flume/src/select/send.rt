@@ -57,7 +57,7 @@ fn after<T: Drop>(next: SendNext<T>) -> (SendState<T>, ArmNext)
     ensures does { TakesSend next result.1 result.0 }
 {
     match next {
-        SendNext::Park(call) => (SendState::Parked(call), ArmNext::Waits),
+        SendNext::Park(call) => (SendState::Parked(call), ArmNext::Parked),
         SendNext::Done(Ok(())) => (SendState::Completed(Ok(())), ArmNext::Completed),
         SendNext::Done(Err(Disconnected(back))) => {
             (SendState::Completed(Err(back)), ArmNext::Completed)

@@ -15,8 +15,8 @@ use std::sync::Wait;
 pub enum ArmNext {
     /// The arm has completed.
     Completed,
-    /// The arm waits.
-    Waits,
+    /// The arm is parked.
+    Parked,
     /// Memory was wanted, and there was none.
     NoMemory,
 }
@@ -201,7 +201,7 @@ fn round<G: SelectGate>(gate: &mut G, waiter: &G::Waiter) -> RoundEnd
     let mut arm = gate.start();
     for before in 0..count {
         match gate.turn(arm, waiter) {
-            ArmNext::Waits => arm = next_arm(count, arm),
+            ArmNext::Parked => arm = next_arm(count, arm),
             ArmNext::Completed => return RoundEnd::Completed { before, arm },
             ArmNext::NoMemory => return RoundEnd::NoMemory { before },
         }

@@ -136,7 +136,8 @@ impl<T: Drop, S: Drop, A: Allocator + Copy> Chan<T, S, A> {
         self.take_front_and_refill()
     }
 
-    // The same, also where some are blocked.
+    // Hands out the message at the front, also where some are blocked.
+    #[cold]
     #[inline(never)]
     fn take_front_and_refill(&mut self) -> Option<T>
         ensures some { IfSome result (λ message. (rest : List T)

@@ -38,7 +38,7 @@ impl<T: Drop, S: Drop, A: Allocator + Copy> Chan<T, S, A> {
 
     // Whether the parked receiver with this ticket, which doesn't block, would look at the line.
     fn looks_anew(&self, ticket: u64) -> bool
-        ensures looks { IsTrue result ↔ (only_leaves (standing ticket self.now.entries) ≡ true) }
+        ensures leaves { IsTrue result ↔ (only_leaves (standing ticket self.now.entries) ≡ true) }
     {
         match self.entries.standing(ticket) {
             Some(Standing::Waiting | Standing::Woken) => true,

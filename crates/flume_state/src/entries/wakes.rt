@@ -34,6 +34,7 @@ impl<T: Drop, S: Drop, A: Allocator + Copy> Entries<T, S, A> {
     }
 
     // The round, where a message is queued.
+    #[cold]
     #[inline(never)]
     fn wake_round(&mut self, line: &mut Line<T, A>) -> Option<u64>
         requires queued { length line.old.queued ≢ 0 }
@@ -115,7 +116,8 @@ impl<T: Drop, S: Drop, A: Allocator + Copy> Entries<T, S, A> {
         self.tell_first()
     }
 
-    // The same, out of line.
+    // What `next_due` does where some receiver is due, out of line.
+    #[cold]
     #[inline(never)]
     fn tell_first(&mut self) -> Option<u64>
         ensures told { IfSome result (λ ticket. Tells self.old self.new ticket) }
