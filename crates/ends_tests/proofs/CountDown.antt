@@ -18,13 +18,16 @@ use denote.Triple.Spec.{triple_of}
 use Rattle.ends_tests.specs.contracts.counting.Blocks as CE
 use Rattle.ends_tests.specs.contracts.counting.count_down as TK
 
+-- the row of what counts the blocks
 abbrev pub Blocks : RattleType
 Blocks = CE.the_row
 
 module _ {M : Type 1} {𝓤 : Ura M} (𝓛 : Logic 𝓤) (at_mem : Memory → SProp 𝓤) (run : Routine → Fun 𝓤) where
+  -- what is proved of one call
   abbrev pub Tick : Contract 𝓤
   Tick = triple_of 𝓛 TK.signature (TK.spec 𝓛 at_mem run)
 
+  -- that call's ghosts: how long it is lent, and what it counts
   abbrev pub at_tick : Lft → Share → ℕ × ℕ → Blocks.Denot → Tick.Ghost
   at_tick κ q c k = (((κ, tt), (q, tt), tt, (record { ref_ptr = c; now = k }, tt), (vptr c.0 c.1 ∷ [], tt)), tt)
 

@@ -64,9 +64,9 @@ where
 }
 
 impl<R: Waits, A: Allocator + Copy> Builder<R, A> {
-    /// Opens the channel under this number, for those who compare channels: `same_channel` of two ends
-    /// compares the numbers of their channels and nothing else. So two channels that are opened
-    /// with equal numbers, as with the 0 of those that were given none, count as the same.
+    /// Opens the channel under this number, for those who compare channels: `same_channel` of two
+    /// ends compares the numbers of their channels and nothing else. So two channels that are
+    /// opened with equal numbers, as with the 0 of those that were given none, count as the same.
     ///
     /// ```
     /// let (first, _) = flume::on(rt).number(1).unbounded::<u64>()?;

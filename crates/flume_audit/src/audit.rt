@@ -94,8 +94,8 @@ impl<T: Copy, L: Ledger, R: Drop, W: Weigh<T, A>, A: Allocator + Copy> Audit<T, 
 }
 
 impl<T: Copy, L: Ledger, R: Wait, W: Weigh<T, A>, A: Allocator + Copy> Audit<T, L, R, W, A> {
-    /// Makes the step under the lock, as `Book::step` does: the seat gains a receipt of it, with the
-    /// reply that is answered. `NoMemory`: nothing was done.
+    /// Makes the step under the lock, as `Book::step` does: the seat gains a receipt of it, with
+    /// the reply that is answered. `NoMemory`: nothing was done.
     ///
     /// ```
     /// audit.step(&mut seat, Step::TrySend(5));         // Ok(Sent { filled: None })

@@ -48,7 +48,8 @@ module _ {E : Type 0} where
   without [] k = []
   without (x ∷ xs) k = if x.place == k then without xs k else x ∷ without xs k
 
-  -- the elements with one more ahead of that at a place, or behind all others where none stands there
+  -- the elements with one more ahead of that at a place, or behind all others where none stands
+  -- there
   abbrev pub put_before : List (Placed E) → ℕ → Placed E → List (Placed E)
   put_before [] k x = x ∷ []
   put_before (y ∷ ys) k x = if k == y.place then x ∷ y ∷ ys else y ∷ put_before ys k x
@@ -103,8 +104,8 @@ module _ {E : Type 0} where
   walk t k zero = []
   walk t k (suc n) = listed k (t.element k) (walk t (t.next k) n)
 
-  -- the table is one of these elements and these free places: `end` closes both into rings, and each
-  -- place below the size is of one element or free
+  -- the table is one of these elements and these free places: `end` closes both into rings, and
+  -- each place below the size is of one element or free
   pub record Holds (t : Table E) (items : List (Placed E)) (frees : List ℕ) : Type 0 where
     pub forward : map t.next (end ∷ places items) ≡ places items ++ end ∷ []
     pub backward : map t.previous (places items ++ end ∷ []) ≡ end ∷ places items

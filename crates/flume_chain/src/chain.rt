@@ -117,7 +117,8 @@ impl<E: Drop, A: Allocator> Chain<E, A> {
     #[inline(always)]
     fn element_mut(&mut self, place: u32) -> &mut E
         requires stands { IsSome (found self.old.items place) }
-        ensures* writes_back { sem 𝓛 (lends_element E.row A.row A.Allocator self.entry place result) }
+        ensures* writes_back { sem 𝓛
+            (lends_element E.row A.row A.Allocator self.entry place result) }
         ensures value { found self.old.items place ≡ Some result.now }
     {
         self.links.element_mut(place)
@@ -205,8 +206,9 @@ impl<E: Drop, A: Allocator> Chain<E, A> {
         Ok(place)
     }
 
-    /// Puts the element at a place behind all others. It keeps its place, and the others their order
-    /// and their places. `false` where none stands there, and then nothing changes. Takes no memory.
+    /// Puts the element at a place behind all others. It keeps its place, and the others their
+    /// order and their places. `false` where none stands there, and then nothing changes. Takes no
+    /// memory.
     #[inline(always)]
     pub fn move_back(&mut self, place: u32) -> bool
         ensures stood { result ≡ true ↔ IsSome (found self.old.items place) }

@@ -1,7 +1,8 @@
 -- Where memory may be wanted for a step: what a state says of it.
 use Rattle.std.specs.Prelude.{◌≡◌, ◌<◌, ◌⊎◌, true, length}
 use Rattle.flume_model.specs.declared.step.Step.{Step}
-use Rattle.flume_model.specs.declared.step.Step.TheVariants.{TrySend, Send, TryRecv, Recv, Poll, Drain}
+use Rattle.flume_model.specs.declared.step.Step.TheVariants.{TrySend, Send, TryRecv, Recv}
+use Rattle.flume_model.specs.declared.step.Step.TheVariants.{Poll, Drain}
 use Rattle.flume_model.specs.Limits.{IsOpen, most}
 use Rattle.flume_state.specs.Receivers.{standing, only_leaves}
 use Rattle.flume_state.specs.State.{State}

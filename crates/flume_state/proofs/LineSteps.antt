@@ -18,10 +18,11 @@ pub record Lays {T : Type 0} (items : List (Placed (Ticketed T))) (first : Optio
   pub view : line_of items line.space ≡ line
 
 module _ {T : Type 0} where
-  -- a message without a ticket, and one with a ticket
+  -- a message without a ticket, at its place
   abbrev pub queued_at : ℕ → T → Placed (Ticketed T)
   queued_at place m = record { place = place; element = record { ticket = None; value = m } }
 
+  -- a message with a ticket, at its place
   abbrev pub blocked_at : ℕ → ℕ → T → Placed (Ticketed T)
   blocked_at place t m = record { place = place; element = record { ticket = Some t; value = m } }
 

@@ -212,11 +212,12 @@ module _ {S : Type 0} where
   taken_view items new m t p (Some v) view is apart single at taken =
       ap by_ticket taken ∙ spent_view items m t p v view (stands t p v items is apart single at)
 
--- the place that is compared
+-- a place that is the one that it is compared with
 pub same_place : (d : Option ℕ) (p : ℕ) → option_eq nat_eq d (Some p) ≡ true → d ≡ Some p
 same_place None p e = absurd (let no : ⊥ = cc in no)
 same_place (Some k) p e = ap Some (eqb-true k p e)
 
+-- a place that isn't the one that it is compared with
 pub other_place : (d : Option ℕ) (p : ℕ) → option_eq nat_eq d (Some p) ≡ false → d ≢ Some p
 other_place d p e = λ is.
     let no : true ≡ false = sym (eq-eqb p p refl) ∙ sym (ap (λ o. option_eq nat_eq o (Some p)) is) ∙ e in

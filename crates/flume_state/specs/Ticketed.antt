@@ -51,7 +51,8 @@ module _ {E : Type 0} where
       (if k == x.place then record x { element = record x.element { ticket = None } } else x)
       ∷ released k items
 
-  -- each ticket is of one element at most, and so is each place, and the map has the tickets' places
+  -- each ticket is of one element at most, and so is each place, and the map has the tickets'
+  -- places
   pub record Agrees (items : List (Placed (Ticketed E))) (table : PlaceMap) : Type 0 where
     pub found : (t : ℕ) → get table t ≡ place_of t items
     pub single : (t : ℕ) → ticket_times t items ≤ 1

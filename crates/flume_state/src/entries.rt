@@ -2,7 +2,8 @@
 ghost use Rattle.std.specs.Prelude.{◌≡◌, ◌∷◌, [], ◌++◌, ◌==◌, true, false};
 ghost use Rattle.std.specs.Prelude.{Some, None, OnOk, OnErr, OnSome};
 ghost use Rattle.std.specs.Option.{option_map, option_copied};
-ghost use Rattle.flume_model.specs.Entries.{is_woken, some_wait, waiting_count, entry_of, held_by, held_in};
+ghost use Rattle.flume_model.specs.Entries.{is_woken, some_wait, waiting_count};
+ghost use Rattle.flume_model.specs.Entries.{entry_of, held_by, held_in};
 ghost use Rattle.flume_model.specs.Entries.{without, again};
 ghost use Rattle.flume_state.specs.Receivers.{begins, waits_on, noticed_receiver};
 ghost use Rattle.flume_state.specs.Receivers.{standing_as, standing_of};

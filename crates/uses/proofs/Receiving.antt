@@ -20,6 +20,7 @@ use Rattle.uses.specs.Lent.{Leads, Makes, Others}
 use Rattle.uses.specs.LentReceive.{IsOfReceiver, parks, First, Second, Later, IsReceived, IsGivenUp}
 use Rattle.uses.proofs.Sending.{chain}
 
+-- how a receive ends
 abbrev pub Ending : Type 0 → Type 0
 Ending T = Result T RecvTimeoutError
 

@@ -21,6 +21,7 @@ use Rattle.flume_calls.specs.SendGates.{ParkedSend, Asked, Late, Waited, WholeSe
 use Rattle.uses.specs.Lent.{Leads, Makes, Others, IsAccepted, blocks, First, Second, Later, IsSent, IsTakenBack}
 use Rattle.uses.proofs.Returning.{blocked_is}
 
+-- how a send ends
 abbrev pub Ending : Type 0 → Type 0
 Ending T = Result (Unit {0}) (SendTimeoutError T)
 

@@ -99,10 +99,10 @@ enum RoundEnd {
 }
 
 /// The first arm that completes, by its number. The arms are started in cyclic order, from the
-/// start arm on. Where none completes they are all polled in that order, and polled again after each
-/// wait; at the deadline they are polled once more. Then each arm that was started is withdrawn, but
-/// the one that completed. `Timeout`: the deadline is reached, and no arm completed. `NoMemory`:
-/// memory ran out in an arm, or before any was started for what the selection waits on.
+/// start arm on. Where none completes they are all polled in that order, and polled again after
+/// each wait; at the deadline they are polled once more. Then each arm that was started is
+/// withdrawn, but the one that completed. `Timeout`: the deadline is reached, and no arm completed.
+/// `NoMemory`: memory ran out in an arm, or before any was started for what the selection waits on.
 ///
 /// ```
 /// // The gate is of two arms, of which arm 0 starts.

@@ -14,10 +14,10 @@ use std::alloc::Allocator;
 
 impl<T: Drop, S: Drop, A: Allocator + Copy> Chan<T, S, A> {
     /// Sets the capacity of a bounded channel. `Done`: it is `capacity` from now on, and while the
-    /// queue is below it the first blocked message moves in: its ticket is accepted. A queue that is
-    /// longer stays as it is, and no receiver is woken. `Unbounded`: the channel has no capacity to
-    /// set. `Ended`: it has one, and is closed. The last two leave the channel as it was. Takes no
-    /// memory.
+    /// queue is below it the first blocked message moves in: its ticket is accepted. A queue that
+    /// is longer stays as it is, and no receiver is woken. `Unbounded`: the channel has no capacity
+    /// to set. `Ended`: it has one, and is closed. The last two leave the channel as it was. Takes
+    /// no memory.
     ///
     /// ```
     /// let mut chan: Chan<u64, u32> = Chan::new(alloc, Some(0));

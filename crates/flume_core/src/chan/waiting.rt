@@ -24,8 +24,8 @@ impl<T: Drop, S: Drop, A: Allocator + Copy> Chan<T, S, A> {
     }
 
     /// Whether an offer would find no room: the channel is open, no receiver waits, and the queue
-    /// is at its capacity. `try_send` answers `Full` then, and `send` blocks. It changes nothing, is
-    /// no step, and takes no memory.
+    /// is at its capacity. `try_send` answers `Full` then, and `send` blocks. It changes nothing,
+    /// is no step, and takes no memory.
     ///
     /// ```
     /// let mut chan: Chan<u64, u32> = Chan::new(alloc, Some(1));

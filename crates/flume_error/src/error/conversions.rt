@@ -1,8 +1,8 @@
 //! Conversions to the errors of std, which `?` makes: so a `main` that answers `io::Result<()>` can
 //! use `?` on each call of a channel, and one that answers `Result<(), AllocError>` on each that
-//! fails by memory alone. The io error has the text of the error that it was made of. A message that
-//! wasn't sent is dropped. A crate that uses them lists `flume_error` among its libraries, beside
-//! `flume`.
+//! fails by memory alone. The io error has the text of the error that it was made of. A message
+//! that wasn't sent is dropped. A crate that uses them lists `flume_error` among its libraries,
+//! beside `flume`.
 ghost use Rattle.std.specs.Prelude.{◌≡◌};
 ghost use Rattle.std.specs.Allocator.{alloc_error};
 ghost use Rattle.std.specs.IoError.{error_kind};
