@@ -31,9 +31,11 @@ impl<T: Copy, L: Ledger, R: Drop, W: Weigh<T, A>, A: Allocator + Copy> Audit<T, 
     /// new ledger of one part a seat. `NoMemory`: there was no room for the seats.
     ///
     /// ```
-    /// let (audit, mut seats) = Audit::new(rt, rt.alloc(), blank, None, 1)?;
-    /// audit.step(&mut seats[0], Step::TrySend(5));     // Ok(Sent { filled: None })
-    /// audit.step(&mut seats[0], Step::TryRecv);        // Ok(Got(5))
+    /// let (audit, mut seats) = Audit::<u64, L, _>::new(rt, alloc, blank, None, 1)?;
+    /// for seat in seats.iter_mut() {
+    ///     audit.step(seat, Step::TrySend(5));          // Ok(Sent { filled: None })
+    ///     audit.step(seat, Step::TryRecv);             // Ok(Got(5))
+    /// }
     /// let (closed, book) = audit.close(seats);         // Settled, with two entries
     /// ```
     pub fn new(
@@ -98,8 +100,8 @@ impl<T: Copy, L: Ledger, R: Wait, W: Weigh<T, A>, A: Allocator + Copy> Audit<T, 
     /// the reply that is answered. `NoMemory`: nothing was done.
     ///
     /// ```
-    /// audit.step(&mut seat, Step::TrySend(5));         // Ok(Sent { filled: None })
-    /// audit.step(&mut seat, Step::TryRecv);            // Ok(Got(5))
+    /// audit.step(seat, Step::TrySend(5));              // Ok(Sent { filled: None })
+    /// audit.step(seat, Step::TryRecv);                 // Ok(Got(5))
     /// ```
     pub fn step(&self, seat: &mut Seat<T, L, W, A>, step: Step<T>) -> Result<Reply<T, A>, NoMemory>
         ensures receipt { IfOk result (λ answer. GainsReceipt seat.old step answer seat.new) }

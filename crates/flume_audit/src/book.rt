@@ -68,9 +68,11 @@ impl<T: Copy, L: Ledger, W: Weigh<T, A>, A: Allocator + Copy> Book<T, L, W, A> {
     /// a new ledger of one part a seat. `NoMemory`: there was no room for the seats.
     ///
     /// ```
-    /// let (mut book, mut seats) = Book::new(rt.alloc(), blank, Some(1), 2)?;
-    /// book.step(&mut seats[0], Step::TrySend(1));      // Ok(Sent { filled: None })
-    /// book.step(&mut seats[1], Step::TryRecv);         // Ok(Got(1))
+    /// let (mut book, mut seats) = Book::<u64, L>::new(alloc, blank, Some(1), 2)?;
+    /// for seat in seats.iter_mut() {
+    ///     book.step(seat, Step::TrySend(5));           // Ok(Sent { filled: None })
+    ///     book.step(seat, Step::TryRecv);              // Ok(Got(5))
+    /// }
     /// book.close(seats);                               // Settled
     /// ```
     pub fn new(
@@ -105,8 +107,8 @@ impl<T: Copy, L: Ledger, W: Weigh<T, A>, A: Allocator + Copy> Book<T, L, W, A> {
     /// receipt or for the copies of a drained list; the book and the seat are as they were.
     ///
     /// ```
-    /// book.step(&mut seat, Step::TrySend(5));          // Ok(Sent { filled: None })
-    /// book.step(&mut seat, Step::TryRecv);             // Ok(Got(5))
+    /// book.step(seat, Step::TrySend(5));               // Ok(Sent { filled: None })
+    /// book.step(seat, Step::TryRecv);                  // Ok(Got(5))
     /// ```
     pub fn step(
         &mut self,
@@ -144,8 +146,7 @@ impl<T: Copy, L: Ledger, W: Weigh<T, A>, A: Allocator + Copy> Book<T, L, W, A> {
     /// in, the history weighs what their receipts weigh. Takes no memory.
     ///
     /// ```
-    /// let (mut book, seats) = Book::new(rt.alloc(), blank, None, 2)?;
-    /// book.close(seats);                               // Settled
+    /// book.close(seats);                               // Settled, where all seats are there
     /// ```
     pub fn close(&mut self, seats: Vec<Seat<T, L, W, A>, A>) -> Closed
     where

@@ -17,8 +17,9 @@ use std::alloc::Allocator;
 /// one past the end disagrees at the history's length. Takes no memory.
 ///
 /// ```
-/// let history = [(Step::TrySend(1), Reply::Sent { filled: None })];
-/// differs(&history, &[told]);        // None, where `told` has the one receipt of that
+/// let history: [(Step<u64>, Reply<u64>); 1] = [(Step::TrySend(1), Reply::Full(1))];
+/// let told: Vec<Receipt<u64>> = Vec::new(alloc);
+/// differs(&history, &[told]);        // Some(0): no receipt tells of the entry
 /// ```
 pub fn differs<T: Eq, A: Allocator, H: Receipts<T, A>>(
     history: &[(Step<T>, Reply<T, A>)],

@@ -127,7 +127,8 @@ impl<T: Drop, A: Allocator + Copy> Chan<T, (), A> {
     /// Does one step: the call of the same name, with its reply.
     ///
     /// ```
-    /// chan.step(Step::TrySend(42));      // what chan.try_send(42) answers
+    /// let mut chan: Chan<u64, ()> = Chan::new(alloc, None);
+    /// chan.step(Step::TrySend(42));      // Sent { filled: None }, as of chan.try_send(42)
     /// ```
     pub fn step(&mut self, step: Step<T>) -> Reply<T, A>
         ensures step { Extends self.old step result self.new }

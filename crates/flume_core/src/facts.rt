@@ -12,7 +12,8 @@ use std::alloc::Allocator;
 /// state, the messages that stand never pass the room that was taken for messages. Does nothing.
 ///
 /// ```
-/// chan.send(7, signal);
+/// let mut chan: Chan<u64, u32> = Chan::new(alloc, Some(0));
+/// chan.send(7, 10);                  // Pending(1)
 /// facts(&chan);
 /// ```
 pub fn facts<T: Drop, S: Drop, A: Allocator + Copy>(chan: &Chan<T, S, A>)

@@ -55,6 +55,7 @@ pub fn run<T: Drop, A: Allocator + Copy>(
 /// holds of that log and that state.
 ///
 /// ```
+/// let mut chan: Chan<u64, ()> = Chan::new(alloc, None);
 /// chan.try_send(7);
 /// headline_of_steps(&chan);
 /// ```

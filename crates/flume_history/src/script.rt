@@ -35,7 +35,8 @@ use std::alloc::Allocator;
 /// of the input, but for finding tickets.
 ///
 /// ```
-/// let script = check_script(alloc, b"unbounded\ntry_send 42 -> sent\ntry_recv -> got 41\n")?;
+/// let input = b"unbounded\ntry_send 42 -> sent\ntry_recv -> got 41\n";
+/// let script = check_script(alloc, input)?;
 /// // script.text is "line 3: got 41, but got 42\n", script.status is 1
 /// ```
 pub fn check_script<A: Allocator + Copy>(alloc: A, input: &[u8]) -> Result<Script<A>, NoMemory>

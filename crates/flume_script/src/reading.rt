@@ -34,8 +34,8 @@ pub enum Reading<A: Allocator> {
 /// What stands before the first such byte, and what after it.
 ///
 /// ```
-/// part_at(b"poll 2", b' ')           // Some((b"poll", b"2"))
-/// part_at(b"drain", b' ')            // None
+/// part_at(b"poll 2", b' ');          // Some((b"poll", b"2"))
+/// part_at(b"drain", b' ');           // None
 /// ```
 pub fn part_at(bytes: &[u8], byte: u8) -> Option<(&[u8], &[u8])>
     ensures none { IfNone result (All (λ x. (x == byte) ≡ false) bytes.now) }
@@ -59,8 +59,8 @@ fn without_return(line: &[u8]) -> &[u8]
 /// line feed, and the last one at the end too.
 ///
 /// ```
-/// next_line(b"len\ndrain\n")         // Some((b"len", b"drain\n"))
-/// next_line(b"drain")                // Some((b"drain", b""))
+/// next_line(b"len\ndrain\n");        // Some((b"len", b"drain\n"))
+/// next_line(b"drain");               // Some((b"drain", b""))
 /// ```
 #[tactic(auto, using(crate::proofs::ScriptLines::next_lines))]
 pub fn next_line(rest: &[u8]) -> Option<(&[u8], &[u8])>
@@ -161,8 +161,8 @@ fn recv_step(kind: &[u8]) -> Option<Step<u64>>
 /// The step that a line is.
 ///
 /// ```
-/// step_of(b"poll 2")                 // Some(Step::Poll(2))
-/// step_of(b"poll")                   // None
+/// step_of(b"poll 2");                // Some(Poll(2))
+/// step_of(b"poll");                  // None
 /// ```
 pub fn step_of(line: &[u8]) -> Option<Step<u64>>
     ensures value { MatchOption result (IsNoStep line.now) (IsStepLine line.now) }
@@ -177,9 +177,9 @@ pub fn step_of(line: &[u8]) -> Option<Step<u64>>
 /// The capacity at which a line opens a channel.
 ///
 /// ```
-/// opening_of(b"bounded 7")           // Some(Some(7))
-/// opening_of(b"unbounded")           // Some(None)
-/// opening_of(b"len")                 // None
+/// opening_of(b"bounded 7");          // Some(Some(7))
+/// opening_of(b"unbounded");          // Some(None)
+/// opening_of(b"len");                // None
 /// ```
 pub fn opening_of(line: &[u8]) -> Option<Option<usize>>
     ensures value { MatchOption result (IsNoOpening line.now) (IsOpeningLine line.now) }
@@ -215,8 +215,8 @@ fn read_steps<A: Allocator + Copy>(
 /// in the length of the input.
 ///
 /// ```
-/// read_script(alloc, b"bounded 7\nlen\n")?       // Right { capacity: Some(7), steps: [Len] }
-/// read_script(alloc, b"bounded 7\nlen\n\n")?     // Wrong { line: 3 }
+/// read_script(alloc, b"bounded 7\nlen\n")?;      // Right { capacity: Some(7), steps: [Len] }
+/// read_script(alloc, b"bounded 7\nlen\n\n")?;    // Wrong { line: 3 }
 /// ```
 pub fn read_script<A: Allocator + Copy>(alloc: A, input: &[u8]) -> Result<Reading<A>, NoMemory>
     ensures value { IfOk result (λ reading. IsReading input.now reading) }

@@ -121,7 +121,8 @@ fn write_capacity<A: Allocator>(
 /// may stand in it.
 ///
 /// ```
-/// write_reply(&mut text, &Reply::Got(12))?           // adds "got 12\n"
+/// let mut text = String::new(alloc);
+/// write_reply(&mut text, &Reply::Got(12))?;          // adds "got 12\n"
 /// ```
 pub fn write_reply<A: Allocator>(
     text: &mut String<A>,
@@ -162,7 +163,7 @@ pub fn write_reply<A: Allocator>(
 /// length of the text.
 ///
 /// ```
-/// write_replies(alloc, &[Reply::Got(12), Reply::Empty])?     // "got 12\nempty\n"
+/// write_replies(alloc, &[Reply::Got(12), Reply::Empty])?;    // "got 12\nempty\n"
 /// ```
 #[tactic(auto, using(crate::proofs::ScriptReplies::reply_texts_more))]
 pub fn write_replies<A: Allocator + Copy>(

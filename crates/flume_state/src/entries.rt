@@ -131,7 +131,7 @@ impl<T: Drop, S: Drop, A: Allocator + Copy> Entries<T, S, A> {
     /// Nobody is parked. Takes no memory.
     ///
     /// ```
-    /// let mut entries = Entries::new(alloc);
+    /// let mut entries: Entries<u64, (), Global> = Entries::new(alloc);
     /// entries.park(1, Kind::Plain, ());  // Ok(())
     /// entries.wake_all();
     /// entries.next_due();                // Some(1)

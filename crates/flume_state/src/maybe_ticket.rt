@@ -25,7 +25,9 @@ impl MaybeTicket {
     ///
     /// ```
     /// MaybeTicket::none().get();         // None
-    /// MaybeTicket::of(7)?.get();         // Some(7)
+    /// if let Some(ticket) = MaybeTicket::of(7) {
+    ///     ticket.get();                  // Some(7)
+    /// }
     /// ```
     #[inline(always)]
     pub fn none() -> Self

@@ -105,9 +105,10 @@ impl RecvCall {
     ///
     /// ```
     /// let mut chan: Chan<u64, u32> = Chan::new(alloc, None);
-    /// let next = RecvCall::park(Kind::Block, 10, &mut chan);   // Park(call)
-    /// chan.try_send(5);
-    /// call.again(&mut chan, true, None);                       // Done(Ok(5))
+    /// if let RecvNext::Park(call) = RecvCall::park(Kind::Block, 10, &mut chan) {
+    ///     chan.try_send(5);
+    ///     call.again(&mut chan, true, None);           // Done(Ok(5))
+    /// }
     /// ```
     pub fn again<T: Drop, S: Drop, A: Allocator + Copy>(
         self,

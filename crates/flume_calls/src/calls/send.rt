@@ -105,9 +105,9 @@ impl SendCall {
     ///
     /// ```
     /// let mut chan: Chan<u64, u32> = Chan::new(alloc, Some(0));
-    /// let next = SendCall::park(7, 10, &mut chan);     // Park(call)
-    /// let next = call.again(&mut chan, false, None);   // Park(call)
-    /// call.again(&mut chan, true, None);               // Done(Err(Timeout(7)))
+    /// if let SendNext::Park(call) = SendCall::park(7, 10, &mut chan) {
+    ///     call.again(&mut chan, true, None);           // Done(Err(Timeout(7)))
+    /// }
     /// ```
     pub fn again<T: Drop, S: Drop, A: Allocator + Copy>(
         self,

@@ -66,7 +66,7 @@ pub trait RecvGate<T> {
 ///
 /// ```
 /// // The gate is of an empty channel, and it has a deadline.
-/// recv_over(rt, &mut gate);
+/// let ended = recv_over(rt, &mut gate);
 /// // a message 7 comes before the deadline:    Ok(7)
 /// // it is reached before one does:            Err(Timeout)
 /// // the last sender leaves before either:     Err(Disconnected)

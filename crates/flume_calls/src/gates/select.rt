@@ -106,7 +106,7 @@ enum RoundEnd {
 ///
 /// ```
 /// // The gate is of two arms, of which arm 0 starts.
-/// select_over(rt, &mut gate);
+/// let ended = select_over(rt, &mut gate);
 /// // arm 0 completes as it is started:             Ok(0), and arm 1 was never started
 /// // both wait, and arm 1 completes after a wake:  Ok(1), and arm 0 was withdrawn
 /// // the deadline is reached before either does:   Err(Timeout), and both were withdrawn

@@ -64,7 +64,7 @@ pub trait SendGate<T> {
 ///
 /// ```
 /// // The gate is of a full channel, and it has a deadline.
-/// send_over(rt, &mut gate, 7);
+/// let ended = send_over(rt, &mut gate, 7);
 /// // a message is taken out before the deadline: Ok(())
 /// // it is reached before one is:                Err(Timeout(7))
 /// // no memory for what the call parks on:       Err(NoMemory(7))

@@ -26,9 +26,9 @@ impl PolledReceive {
     /// ```
     /// let mut chan: Chan<u64, u32> = Chan::new(alloc, None);
     /// let mut receive = PolledReceive::new(Kind::Plain);
-    /// receive.poll(&mut chan, Some(10)); // None: it waits, with the signal 10
+    /// receive.poll(&mut chan, &mut Some(10));      // None: it waits, with the signal 10
     /// chan.try_send(5);
-    /// receive.poll(&mut chan, None);     // Some(Ok(5))
+    /// receive.poll(&mut chan, &mut None);          // Some(Ok(5))
     /// ```
     pub const fn new(kind: Kind) -> Self
         ensures new { result ≡ record { kind = kind; call = None } }
@@ -40,8 +40,11 @@ impl PolledReceive {
     /// make. `None`: it isn't parked, and nothing is owed.
     ///
     /// ```
+    /// let mut chan: Chan<u64, u32> = Chan::new(alloc, None);
+    /// let mut receive = PolledReceive::new(Kind::Plain);
+    /// receive.poll(&mut chan, &mut Some(10));      // None: it waits, with the signal 10
     /// if let Some(leaves) = receive.end() {
-    ///     leaves.make(&mut chan);        // it leaves, and passes on a wake that it had
+    ///     leaves.make(&mut chan);                  // Done(Err(Timeout)): it leaves
     /// }
     /// ```
     pub fn end<S>(&mut self) -> Option<AgainReceive<S>>

@@ -26,8 +26,11 @@ impl<T: Drop> PolledSend<T> {
     /// takes its message back, which its owner is to make. `None`: nothing is owed.
     ///
     /// ```
+    /// let mut chan: Chan<u64, u32> = Chan::new(alloc, Some(0));
+    /// let mut send = PolledSend::Unsent(7);
+    /// send.poll(&mut chan, &mut Some(10));         // None: it waits, with the signal 10
     /// if let Some(takes_back) = send.end() {
-    ///     takes_back.make(&mut chan);    // a message that comes back is dropped
+    ///     takes_back.make(&mut chan);              // Done(Err(Timeout(7)))
     /// }
     /// ```
     pub fn end<S>(&mut self) -> Option<AgainSend<S>>

@@ -20,6 +20,7 @@ impl<T: Drop, S: Drop, A: Allocator + Copy> Chan<T, S, A> {
     /// `Empty`: there is none. `Ended`: there is none, and the channel is closed. Takes no memory.
     ///
     /// ```
+    /// let mut chan: Chan<u64, ()> = Chan::new(alloc, None);
     /// chan.try_send(42);
     /// chan.try_recv();                   // Got(42)
     /// chan.try_recv();                   // Empty
@@ -97,6 +98,7 @@ impl<T: Drop, S: Drop, A: Allocator + Copy> Chan<T, S, A> {
     /// queued and there was no room for their list; the channel is as it was.
     ///
     /// ```
+    /// let mut chan: Chan<u64, ()> = Chan::new(alloc, None);
     /// chan.try_send(1);
     /// chan.try_send(2);
     /// chan.drain();                      // Drained([1, 2])

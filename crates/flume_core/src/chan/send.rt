@@ -28,6 +28,7 @@ impl<T: Drop, S: Drop, A: Allocator + Copy> Chan<T, S, A> {
     /// channel as it was.
     ///
     /// ```
+    /// let mut chan: Chan<u64, ()> = Chan::new(alloc, None);
     /// chan.try_send(7);                  // Sent { filled: None }
     /// chan.drop_receiver();              // Done
     /// chan.try_send(8);                  // Closed(8)
