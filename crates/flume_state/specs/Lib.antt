@@ -1,3 +1,4 @@
+pub mod TicketHash
 pub mod Places
 pub mod Ticketed
 pub mod TicketedLends

@@ -4,6 +4,7 @@ ghost use Rattle.std.specs.FinMap.{empty, get, insert, remove};
 
 mod hashed;
 mod table;
+mod ticket_hash;
 
 use std::alloc::{AllocError, Allocator};
 use std::marker::Model;

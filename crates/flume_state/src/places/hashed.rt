@@ -2,15 +2,16 @@
 ghost use Rattle.std.specs.Prelude.{◌≡◌, true, None, OnOk, OnErr};
 ghost use Rattle.std.specs.FinMap.{empty, get, insert, remove};
 
+use crate::places::ticket_hash::TicketHasher;
 use std::alloc::{AllocError, Allocator};
 use std::collections::HashMap;
-use std::hash::{BuildHasherDefault, FoldHasher};
+use std::hash::BuildHasherDefault;
 use std::marker::Model;
 
 /// The place of each of some tickets, found by its hash.
 #[derive(Drop)]
 pub(super) struct HashedPlaces<A: Allocator> {
-    table: HashMap<u64, u32, BuildHasherDefault<FoldHasher>, A>,
+    table: HashMap<u64, u32, BuildHasherDefault<TicketHasher>, A>,
 }
 
 impl<A: Allocator> Model for HashedPlaces<A> {
@@ -38,7 +39,7 @@ impl<A: Allocator + Copy> HashedPlaces<A> {
         ensures empty { result ≡ empty }
     {
         HashedPlaces {
-            table: HashMap::new(alloc),
+            table: HashMap::with_hasher(alloc, BuildHasherDefault::new()),
         }
     }
 

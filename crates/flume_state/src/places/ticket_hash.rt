@@ -1,0 +1,57 @@
+//! The hash of a ticket.
+ghost use Rattle.std.specs.Prelude.{◌≡◌};
+ghost use Rattle.flume_state.specs.TicketHash.{hash_of};
+
+use std::hash::Hasher;
+
+/// Hashes a ticket. Eight that were issued one after another lie in one group of the table, so that
+/// what parks in turn, and is served in turn, is found in few lines of the processor's cache. The
+/// groups are spread by multiplication (D. Knuth, The Art of Computer Programming, volume 3, 6.4).
+#[derive(Clone, Copy)]
+pub(super) struct TicketHasher {
+    hash: u64,
+}
+
+// 2^64 times the golden ratio, which is below 1.
+const SPREAD: u64 = 0x9e37_79b9_7f4a_7c15;
+
+impl Default for TicketHasher {
+    ghost is_default = { λ hasher. hasher.hash ≡ 0 };
+
+    #[inline(always)]
+    fn default() -> Self {
+        TicketHasher { hash: 0 }
+    }
+}
+
+impl Hasher for TicketHasher {
+    ghost use Rattle.flume_state.specs.TicketHash.{written};
+
+    ghost write = { written };
+
+    ghost finish = { λ hasher. hasher.hash };
+
+    #[inline(always)]
+    fn finish(&self) -> u64 {
+        self.hash
+    }
+
+    #[inline(always)]
+    fn write(&mut self, bytes: &[u8]) {
+        if bytes.len() < 8 {
+            return;
+        }
+        self.hash = hash(u64::from_le_bytes([
+            bytes[0], bytes[1], bytes[2], bytes[3], bytes[4], bytes[5], bytes[6], bytes[7],
+        ]));
+    }
+}
+
+// A group of the table by its low bits, and in its bits 29 to 31 which of the eight it is: a group
+// tells its tickets apart by these.
+#[inline(always)]
+fn hash(ticket: u64) -> u64
+    ensures hash { result ≡ hash_of ticket }
+{
+    (ticket / 8).wrapping_mul(SPREAD) >> 32 ^ (ticket % 8) << 29
+}
