@@ -2,6 +2,9 @@
 use crate::counting::Counting;
 use crate::fixtures::{had, is};
 use flume::error::{NoMemory, TrySendError};
+use flume::{Builder, Waits};
+use std::alloc::Allocator;
+use std::process::Abort;
 
 #[test]
 fn a_builder_opens_channels_of_each_capacity(rt: HostRuntime) {
@@ -43,31 +46,53 @@ fn ends_of_channels_with_one_number_count_as_the_same(rt: HostRuntime) {
     is(&rt, second.same_channel(&third), true);
 }
 
-#[test]
-fn a_channel_has_its_memory_from_the_allocator_of_its_builder(rt: HostRuntime) {
-    let heap = Counting::new(rt.alloc());
-    let (tx, rx) = had(&rt, flume::on(rt).allocator(&heap).unbounded());
+// A channel of this builder has its memory from the allocator, and gives it back.
+fn has_its_memory<R: Waits + Abort, A: Allocator + Copy, B: Allocator>(
+    rt: R,
+    builder: Builder<R, A>,
+    heap: &Counting<B>,
+) {
+    let (tx, rx) = had(&rt, builder.unbounded());
     is(&rt, 0 < heap.live(), true);
     is(&rt, tx.send(1), Ok(()));
     is(&rt, rx.recv(), Ok(1));
     drop(tx);
     drop(rx);
     is(&rt, heap.live(), 0);
+}
 
-    heap.refuse(true);
-    let unbounded = flume::on(rt).allocator(&heap).unbounded::<u64>();
+// This builder finds no memory for a channel.
+fn opens_none<R: Waits + Abort, A: Allocator + Copy>(rt: R, builder: Builder<R, A>) {
+    let unbounded = builder.unbounded::<u64>();
     is(&rt, unbounded.err(), Some(NoMemory));
-    let bounded = flume::on(rt).allocator(&heap).bounded::<u64>(1);
+    let bounded = builder.bounded::<u64>(1);
     is(&rt, bounded.err(), Some(NoMemory));
+}
+
+#[test]
+fn a_channel_has_its_memory_from_the_allocator_of_its_builder(rt: HostRuntime) {
+    let heap = Counting::new(rt.alloc());
+    has_its_memory(rt, flume::on(rt).allocator(&heap), &heap);
+    heap.refuse(true);
+    opens_none(rt, flume::on(rt).allocator(&heap));
+}
+
+// A channel whose runtime is a pair with its allocator has its memory from that.
+fn stands_in_a_pair<R: Waits + Abort, A: Allocator, B: Allocator>(
+    rt: R,
+    alloc: &A,
+    heap: &Counting<B>,
+) {
+    let (tx, rx) = had(&rt, flume::on((rt, alloc)).bounded(1));
+    is(&rt, 0 < heap.live(), true);
+    is(&rt, tx.send(1), Ok(()));
+    is(&rt, rx.recv(), Ok(1));
 }
 
 #[test]
 fn a_runtime_that_gives_no_allocator_stands_in_a_pair_with_one(rt: HostRuntime) {
     let heap = Counting::new(rt.alloc());
-    let (tx, rx) = had(&rt, flume::on((rt, &heap)).bounded(1));
-    is(&rt, 0 < heap.live(), true);
-    is(&rt, tx.send(1), Ok(()));
-    is(&rt, rx.recv(), Ok(1));
+    stands_in_a_pair(rt, &heap, &heap);
 }
 
 #[test]

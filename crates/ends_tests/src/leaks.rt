@@ -7,6 +7,7 @@ use flume::{Receiver, Sender, Waits};
 use std::alloc::Allocator;
 use std::process::Abort;
 use std::sync::atomic::{AtomicU64, Ordering};
+use std::time::Instant;
 
 // A message that counts its drops.
 struct Counted<'a> {
@@ -89,11 +90,14 @@ fn closed_sends<'a, R: Waits + Abort, A: Allocator + Copy>(
     is(rt, timed_is_closed(&timed), true);
 }
 
-#[test]
-fn a_message_that_is_handed_back_is_dropped_once(rt: HostRuntime) {
+// Sends that are refused, into a full channel and then into a closed one.
+fn hands_back<R: Waits + Abort, A: Allocator + Copy, B: Allocator>(
+    rt: R,
+    alloc: A,
+    heap: &Counting<B>,
+) {
     let drops = AtomicU64::new(0);
-    let heap = Counting::new(rt.alloc());
-    let (tx, rx) = opened(rt, &heap, Some(2));
+    let (tx, rx) = opened(rt, alloc, Some(2));
     queue(&rt, &tx, &drops, 2);
     full_sends(&rt, &tx, &drops);
     drop(rx);
@@ -103,6 +107,12 @@ fn a_message_that_is_handed_back_is_dropped_once(rt: HostRuntime) {
     drop(tx);
     dropped(&rt, &drops, 7);
     is(&rt, heap.live(), 0);
+}
+
+#[test]
+fn a_message_that_is_handed_back_is_dropped_once(rt: HostRuntime) {
+    let heap = Counting::new(rt.alloc());
+    hands_back(rt, &heap, &heap);
 }
 
 // Receives a message by each call, and drops it.
@@ -116,11 +126,14 @@ fn receive_four<'a, R: Waits + Abort, A: Allocator + Copy>(
     is(rt, rx.recv_deadline(present(rt)).is_ok(), true);
 }
 
-#[test]
-fn a_received_message_is_dropped_once(rt: HostRuntime) {
+// Receives by each call and by each iterator, and what is left then.
+fn receives_all<R: Waits + Abort, A: Allocator + Copy, B: Allocator>(
+    rt: R,
+    alloc: A,
+    heap: &Counting<B>,
+) {
     let drops = AtomicU64::new(0);
-    let heap = Counting::new(rt.alloc());
-    let (tx, rx) = opened(rt, &heap, None);
+    let (tx, rx) = opened(rt, alloc, None);
     queue(&rt, &tx, &drops, 9);
     receive_four(&rt, &rx);
     dropped(&rt, &drops, 4);
@@ -138,10 +151,19 @@ fn a_received_message_is_dropped_once(rt: HostRuntime) {
 }
 
 #[test]
-fn a_drained_message_is_dropped_once(rt: HostRuntime) {
-    let drops = AtomicU64::new(0);
+fn a_received_message_is_dropped_once(rt: HostRuntime) {
     let heap = Counting::new(rt.alloc());
-    let (tx, rx) = opened(rt, &heap, None);
+    receives_all(rt, &heap, &heap);
+}
+
+// A drain that goes before it gave all, and a message that came after it.
+fn drains<R: Waits + Abort, A: Allocator + Copy, B: Allocator>(
+    rt: R,
+    alloc: A,
+    heap: &Counting<B>,
+) {
+    let drops = AtomicU64::new(0);
+    let (tx, rx) = opened(rt, alloc, None);
     queue(&rt, &tx, &drops, 3);
     let mut drain = had(&rt, rx.drain());
     is(&rt, drain.next().is_some(), true);
@@ -157,20 +179,48 @@ fn a_drained_message_is_dropped_once(rt: HostRuntime) {
 }
 
 #[test]
-fn calls_that_time_out_give_back_what_they_took(rt: HostRuntime) {
-    let drops = AtomicU64::new(0);
+fn a_drained_message_is_dropped_once(rt: HostRuntime) {
     let heap = Counting::new(rt.alloc());
-    let (tx, rx) = opened(rt, &heap, Some(1));
-    let now = present(&rt);
+    drains(rt, &heap, &heap);
+}
+
+// A hundred receives that come too late.
+fn late_receives<'a, R: Waits + Abort, A: Allocator + Copy>(
+    rt: &R,
+    rx: &Receiver<Counted<'a>, R, A>,
+    now: Instant,
+) {
     for _ in 0..100 {
         let late = rx.recv_deadline(now).err();
-        is(&rt, late, Some(RecvTimeoutError::Timeout));
+        is(rt, late, Some(RecvTimeoutError::Timeout));
     }
-    queue(&rt, &tx, &drops, 1);
+}
+
+// A hundred sends that come too late.
+fn late_sends<'a, R: Waits + Abort, A: Allocator + Copy>(
+    rt: &R,
+    tx: &Sender<Counted<'a>, R, A>,
+    drops: &'a AtomicU64,
+    now: Instant,
+) {
     for _ in 0..100 {
-        let late = tx.send_deadline(Counted { drops: &drops }, now);
-        is(&rt, timed_is_late(&late), true);
+        let late = tx.send_deadline(Counted { drops }, now);
+        is(rt, timed_is_late(&late), true);
     }
+}
+
+// Calls that come too late, and then all ends that a channel may have.
+fn times_out<R: Waits + Abort, A: Allocator + Copy, B: Allocator>(
+    rt: R,
+    alloc: A,
+    heap: &Counting<B>,
+) {
+    let drops = AtomicU64::new(0);
+    let (tx, rx) = opened(rt, alloc, Some(1));
+    let now = present(&rt);
+    late_receives(&rt, &rx, now);
+    queue(&rt, &tx, &drops, 1);
+    late_sends(&rt, &tx, &drops, now);
     dropped(&rt, &drops, 100);
     let weak = had(&rt, tx.downgrade());
     let other = had(&rt, tx.clone());
@@ -181,4 +231,10 @@ fn calls_that_time_out_give_back_what_they_took(rt: HostRuntime) {
     is(&rt, heap.live() == 0, false);
     drop(weak);
     is(&rt, heap.live(), 0);
+}
+
+#[test]
+fn calls_that_time_out_give_back_what_they_took(rt: HostRuntime) {
+    let heap = Counting::new(rt.alloc());
+    times_out(rt, &heap, &heap);
 }

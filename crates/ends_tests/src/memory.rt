@@ -50,10 +50,13 @@ fn receives_below<R: Waits + Abort, A: Allocator + Copy>(
     }
 }
 
-#[test]
-fn a_refused_growth_leaves_what_is_queued(rt: HostRuntime) {
-    let heap = Counting::new(rt.alloc());
-    let (tx, rx) = opened(rt, &heap, None);
+// A queue grows until it can't.
+fn grows_until_refused<R: Waits + Abort, A: Allocator + Copy, B: Allocator>(
+    rt: R,
+    alloc: A,
+    heap: &Counting<B>,
+) {
+    let (tx, rx) = opened(rt, alloc, None);
     is(&rt, tx.try_send(0), Ok(()));
     heap.refuse(true);
     let refused = sent_until_refused(&tx).expect(&rt, "the queue's room is used up");
@@ -63,13 +66,24 @@ fn a_refused_growth_leaves_what_is_queued(rt: HostRuntime) {
 }
 
 #[test]
+fn a_refused_growth_leaves_what_is_queued(rt: HostRuntime) {
+    let heap = Counting::new(rt.alloc());
+    grows_until_refused(rt, &heap, &heap);
+}
+
+// A channel isn't opened, whether it is unbounded or not.
+fn is_not_opened<R: Waits + Abort, A: Allocator + Copy>(rt: R, alloc: A) {
+    let refused = unbounded::<u64, _, _>(rt, alloc, 1).err();
+    is(&rt, refused, Some(NoMemory));
+    let refused = bounded::<u64, _, _>(rt, alloc, 1, 1).err();
+    is(&rt, refused, Some(NoMemory));
+}
+
+#[test]
 fn no_channel_is_opened_where_there_is_no_memory(rt: HostRuntime) {
     let heap = Counting::new(rt.alloc());
     heap.refuse(true);
-    let refused = unbounded::<u64, _, _>(rt, &heap, 1).err();
-    is(&rt, refused, Some(NoMemory));
-    let refused = bounded::<u64, _, _>(rt, &heap, 1, 1).err();
-    is(&rt, refused, Some(NoMemory));
+    is_not_opened(rt, &heap);
     is(&rt, heap.live(), 0);
 }
 
@@ -93,10 +107,13 @@ fn lent_iterators_go_on<R: Waits + Abort, A: Allocator + Copy>(
     is(rt, tried.fault(), false);
 }
 
-#[test]
-fn an_iterator_tells_want_of_memory_from_the_end(rt: HostRuntime) {
-    let heap = Counting::new(rt.alloc());
-    let (tx, rx) = opened(rt, &heap, Some(1));
+// Iterators while memory is refused, and then at the end.
+fn iterators_end<R: Waits + Abort, A: Allocator + Copy, B: Allocator>(
+    rt: R,
+    alloc: A,
+    heap: &Counting<B>,
+) {
+    let (tx, rx) = opened(rt, alloc, Some(1));
     is(&rt, tx.try_send(1), Ok(()));
     heap.refuse(true);
     lent_iterators_go_on(&rt, &tx, &rx);
@@ -109,4 +126,10 @@ fn an_iterator_tells_want_of_memory_from_the_end(rt: HostRuntime) {
     is(&rt, messages.fault(), false);
     is(&rt, messages.next(), None);
     is(&rt, messages.fault(), false);
+}
+
+#[test]
+fn an_iterator_tells_want_of_memory_from_the_end(rt: HostRuntime) {
+    let heap = Counting::new(rt.alloc());
+    iterators_end(rt, &heap, &heap);
 }

@@ -110,22 +110,32 @@ fn parked_receive_ends<
     })
 }
 
+// A parked receive, on a channel of a runtime that notes its readings, ends with a message, and
+// another without one.
+fn parked_receives<
+    H: Waits + Threads + Abort + Sync,
+    R: Waits + Send + Sync,
+    A: Allocator + Copy + Send + Sync,
+>(rt: &H, (noting, alloc): (R, A), counts: &Counts) {
+    let later = later(rt);
+    let (readings, drops) = (&counts.readings, &counts.drops);
+    let ends = had(rt, bounded(noting, alloc, 1, 1));
+    let message = Some(Counted { drops });
+    let got = parked_receive_ends(rt, ends, (readings, later), message);
+    is(rt, got, true);
+    all_given_back(rt, counts, 1);
+
+    let ends = had(rt, bounded::<Counted, _, _>(noting, alloc, 1, 1));
+    let got = parked_receive_ends(rt, ends, (readings, later), None);
+    is(rt, got, false);
+    all_given_back(rt, counts, 0);
+}
+
 #[test]
 fn a_parked_receive_gives_back_what_it_took(rt: HostRuntime) {
-    let later = later(&rt);
     let counts = Counts::new(rt.alloc());
-    let (readings, drops) = (&counts.readings, &counts.drops);
-    let ends = had(&rt, bounded(Noting { rt, readings }, &counts.heap, 1, 1));
-    let message = Some(Counted { drops });
-    let got = parked_receive_ends(&rt, ends, (readings, later), message);
-    is(&rt, got, true);
-    all_given_back(&rt, &counts, 1);
-
-    let noting = Noting { rt, readings };
-    let ends = had(&rt, bounded::<Counted, _, _>(noting, &counts.heap, 1, 1));
-    let got = parked_receive_ends(&rt, ends, (readings, later), None);
-    is(&rt, got, false);
-    all_given_back(&rt, &counts, 0);
+    let readings = &counts.readings;
+    parked_receives(&rt, (Noting { rt, readings }, &counts.heap), &counts);
 }
 
 // What ends a blocked send.
@@ -173,17 +183,32 @@ fn parked_send_ends<
     })
 }
 
+// A blocked send, on a channel of a runtime that notes its readings, ends in this way.
+fn blocked_send<
+    H: Waits + Threads + Abort + Sync,
+    R: Waits + Send + Sync,
+    A: Allocator + Copy + Send + Sync,
+>(rt: &H, (noting, alloc): (R, A), counts: &Counts, (ending, ok): (Ending, bool)) {
+    let later = later(rt);
+    let (readings, drops) = (&counts.readings, &counts.drops);
+    let ends = had(rt, bounded(noting, alloc, 1, 1));
+    drop(ends.0.try_send(Counted { drops }));
+    let sent = (Counted { drops }, ending);
+    let ended = parked_send_ends(rt, ends, (readings, later), sent);
+    is(rt, ended, ok);
+    all_given_back(rt, counts, 2);
+}
+
 #[test]
 fn a_blocked_send_gives_back_what_it_took(rt: HostRuntime) {
-    let later = later(&rt);
     let counts = Counts::new(rt.alloc());
-    let (readings, drops) = (&counts.readings, &counts.drops);
-    for &(ending, ok) in ENDINGS {
-        let ends = had(&rt, bounded(Noting { rt, readings }, &counts.heap, 1, 1));
-        drop(ends.0.try_send(Counted { drops }));
-        let sent = (Counted { drops }, ending);
-        let ended = parked_send_ends(&rt, ends, (readings, later), sent);
-        is(&rt, ended, ok);
-        all_given_back(&rt, &counts, 2);
+    let readings = &counts.readings;
+    for &ending in ENDINGS {
+        blocked_send(
+            &rt,
+            (Noting { rt, readings }, &counts.heap),
+            &counts,
+            ending,
+        );
     }
 }
