@@ -15,6 +15,8 @@ pub mod draws;
 #[cfg(test)]
 mod errors;
 #[cfg(test)]
+mod examples;
+#[cfg(test)]
 mod gates;
 #[cfg(test)]
 mod io_errors;
