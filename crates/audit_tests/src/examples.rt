@@ -1,5 +1,5 @@
-//! The examples in the documentation of `flume_audit` and `flume_history`, line by line, each answer
-//! compared with what stands behind it there.
+//! The examples in the documentation of `flume_audit` and `flume_history`, line by line, each
+//! answer compared with what stands behind it there.
 ghost use Rattle.std.specs.Prelude.{◌≡◌};
 
 use crate::fixtures::is;

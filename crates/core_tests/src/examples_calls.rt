@@ -1,5 +1,5 @@
-//! The examples in the documentation of `flume_calls` but for those of its gates, line by line, each
-//! answer compared with what stands behind it there.
+//! The examples in the documentation of `flume_calls` but for those of its gates, line by line,
+//! each answer compared with what stands behind it there.
 use crate::answers::is;
 use flume_calls::calls::{FirstReceive, FirstSend, RecvCall, RecvNext, SendCall, SendNext};
 use flume_calls::due::{Bell, fire_due};
