@@ -1,6 +1,6 @@
 //! The examples in the documentation of the gates of `flume_calls`, line by line: each call through
 //! a gate is made once for each way of ending that is written behind it there.
-ghost use Rattle.std.specs.Prelude.{◌≡◌, tt};
+ghost use Rattle.std.specs.Prelude.{◌≡◌};
 
 use crate::answers::is_so;
 use flume_calls::calls::{RecvCall, RecvNext, SendCall, SendNext};
