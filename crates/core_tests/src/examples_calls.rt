@@ -42,6 +42,7 @@ fn receives(rt: &impl Abort, next: RecvNext<u64>, wanted: RecvNext<u64>) {
     is(rt, of_receive(next), of_receive(wanted));
 }
 
+// After a call that parked, the next ticket is 2.
 #[test]
 fn a_turn_of_a_send_leads_on_as_in_its_examples(rt: HostRuntime) {
     let alloc = rt.alloc();
@@ -65,11 +66,11 @@ fn a_turn_of_a_send_leads_on_as_in_its_examples(rt: HostRuntime) {
                 SendNext::Done(Err(SendTimeoutError::Timeout(7))),
             );
         }
-        // The call had a ticket, which is spent.
         is(&rt, chan.send(8, 11), Reply::Pending(2));
     }
 }
 
+// The same of a receive.
 #[test]
 fn a_turn_of_a_receive_leads_on_as_in_its_examples(rt: HostRuntime) {
     let alloc = rt.alloc();
@@ -95,7 +96,6 @@ fn a_turn_of_a_receive_leads_on_as_in_its_examples(rt: HostRuntime) {
                 RecvNext::Done(Ok(5)),
             );
         }
-        // The call had a ticket, which is spent.
         is(&rt, chan.recv(Kind::Block, 11), Reply::Parked(2));
     }
 }
