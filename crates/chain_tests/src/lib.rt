@@ -8,4 +8,6 @@ mod chains;
 #[cfg(test)]
 mod draws;
 #[cfg(test)]
+mod examples;
+#[cfg(test)]
 mod ticket_chains;
