@@ -36,6 +36,8 @@ mod list_rows;
 #[cfg(test)]
 mod lists;
 #[cfg(test)]
+mod parked_scripts;
+#[cfg(test)]
 mod random_scripts;
 #[cfg(test)]
 mod rows;

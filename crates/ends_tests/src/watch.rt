@@ -1,7 +1,7 @@
 //! A thread that watches over a test, so that one in which nothing moves any more fails.
 use crate::works::{Work, started};
 use flume::Waits;
-use std::alloc::Global;
+use std::alloc::{AllocError, Global};
 use std::sync::atomic::{AtomicU64, Ordering};
 use std::sync::{Arc, Condvar, Mutex};
 use std::test::Fail;
@@ -122,6 +122,11 @@ impl Watch {
     /// What the test tells, for its threads.
     pub fn watched(&self) -> &Watched {
         &self.watched
+    }
+
+    /// The same, for a thread that no scope ends.
+    pub fn shared(&self) -> Result<Arc<Watched>, AllocError> {
+        self.watched.clone()
     }
 
     /// The test is over.

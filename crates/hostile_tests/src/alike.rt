@@ -1,5 +1,6 @@
 //! Drawn steps are answered alike over the global allocator and over one that counts and refuses
 //! nothing.
+use crate::fixtures::{bytes_are, had, holds, is_given_back};
 use crate::memory::Heap;
 use core_tests::draws::Draws;
 use ends_tests::counting::Counting;
@@ -8,25 +9,28 @@ use flume_core::step::{Reply, Step};
 use flume_script::writing::write_replies;
 use std::alloc::{Allocator, Global};
 use std::process::Abort;
-use std::test::Fail;
 
 // How many channels there are, and how many steps each makes: 10,000 in all.
 const CHANNELS: u64 = 250;
 
 const STEPS: u64 = 40;
 
+// What the tests here are of.
+const TITLE: &str = "drawn steps";
+
 // The replies to the steps, as texts.
 fn answered<A: Allocator + Copy>(
+    rt: &impl Abort,
     alloc: A,
     capacity: Option<usize>,
     steps: &Vec<Step<u64>>,
-) -> Result<Vec<u8, A>, Fail> {
+) -> Vec<u8, A> {
     let mut chan: Chan<u64, (), A> = Chan::new(alloc, capacity);
     let mut replies = Vec::new(alloc);
     for step in steps {
-        replies.push(chan.step(*step))?;
+        had(rt, replies.push(chan.step(*step)));
     }
-    Ok(write_replies(alloc, replies.as_slice())?)
+    had(rt, write_replies(alloc, replies.as_slice()))
 }
 
 // The ticket that a reply issues.
@@ -39,42 +43,33 @@ fn issued(reply: &Reply<u64>) -> Option<u64> {
 
 // So many steps, drawn as they are made, so that they name tickets that were issued.
 fn drawn(
+    rt: &impl Abort,
     alloc: Global,
     draws: &mut Draws,
     capacity: Option<usize>,
-) -> Result<Vec<Step<u64>>, Fail> {
+) -> Vec<Step<u64>> {
     let mut chan: Chan<u64, ()> = Chan::new(alloc, capacity);
     let mut steps = Vec::new(alloc);
     draws.issued = 0;
     for _ in 0..STEPS {
         let step = draws.step();
-        steps.push(step)?;
+        had(rt, steps.push(step));
         draws.issued = issued(&chan.step(step)).unwrap_or(draws.issued);
     }
-    Ok(steps)
+    steps
 }
 
 // The drawn steps of one channel are answered alike.
-fn are_alike<R: Abort>(
-    rt: &R,
-    alloc: Global,
-    draws: &mut Draws,
-    heap: Heap<'_>,
-) -> Result<(), Fail> {
+fn are_alike(rt: &impl Abort, alloc: Global, draws: &mut Draws, heap: Heap<'_>) {
     let capacity = draws.capacity();
-    let steps = drawn(alloc, draws, capacity)?;
-    let by_global = answered(alloc, capacity, &steps)?;
-    let by_counting = answered(heap, capacity, &steps)?;
-    assert!(rt;
-        by_global.as_slice() == by_counting.as_slice(),
-        "after {} messages",
-        draws.message
-    );
-    Ok(())
+    let steps = drawn(rt, alloc, draws, capacity);
+    let by_global = answered(rt, alloc, capacity, &steps);
+    let by_counting = answered(rt, heap, capacity, &steps);
+    bytes_are(rt, TITLE, by_counting.as_slice(), by_global.as_slice());
 }
 
 #[test]
-fn drawn_steps_are_answered_alike_with_either_allocator(rt: HostRuntime) -> Result<(), Fail> {
+fn drawn_steps_are_answered_alike_with_either_allocator(rt: HostRuntime) {
     let heap = Counting::new(rt.alloc());
     let mut draws = Draws {
         state: 20_261_125,
@@ -82,8 +77,9 @@ fn drawn_steps_are_answered_alike_with_either_allocator(rt: HostRuntime) -> Resu
         issued: 0,
     };
     for _ in 0..CHANNELS {
-        are_alike(&rt, rt.alloc(), &mut draws, &heap)?;
+        are_alike(&rt, rt.alloc(), &mut draws, &heap);
     }
-    assert!(rt; heap.asked() > CHANNELS && heap.live() == 0);
-    Ok(())
+    let is_asked = heap.asked() > CHANNELS;
+    holds(&rt, (TITLE, "the allocator was not asked"), is_asked);
+    is_given_back(&rt, TITLE, &heap);
 }

@@ -1,5 +1,6 @@
 //! The ends go at each place of a script, in both orders. A slow list that is kept from the replies
 //! alone says that the messages come in order, and each once.
+use crate::fixtures::{are_so_many, bytes_are, had, holds};
 use crate::texts::read;
 use core_tests::judge::Told;
 use flume_core::chan::Chan;
@@ -7,7 +8,6 @@ use flume_core::step::{Reply, Step};
 use flume_script::writing::write_replies;
 use std::alloc::Global;
 use std::process::Abort;
-use std::test::Fail;
 
 // Scripts, and what each step of them answers where no end goes.
 const SCRIPTS: &str = "
@@ -104,116 +104,126 @@ struct Places {
 
 // The two halves of each line of a script, each half with a line for each of them: what is asked,
 // and what is answered.
-fn halves(alloc: Global, script: &str) -> Result<(String, String), Fail> {
+fn halves(rt: &impl Abort, alloc: Global, script: &str) -> (String, String) {
     let (mut asked, mut answered) = (String::new(alloc), String::new(alloc));
     for line in script.split("\n") {
-        match line.split_once(" -> ") {
-            Some((asks, answer)) => {
-                asked.push_str(asks)?;
-                answered.push_str(answer)?;
-                answered.push_str("\n")?;
-            }
-            None => asked.push_str(line)?,
+        let (asks, answer) = match line.split_once(" -> ") {
+            Some((asks, answer)) => (asks, Some(answer)),
+            None => (line, None),
+        };
+        add_line(rt, &mut asked, asks);
+        if let Some(answer) = answer {
+            add_line(rt, &mut answered, answer);
         }
-        asked.push_str("\n")?;
     }
-    Ok((asked, answered))
+    (asked, answered)
+}
+
+// Adds a line.
+fn add_line(rt: &impl Abort, text: &mut String, line: &str) {
+    had(rt, text.push_str(line));
+    had(rt, text.push_str("\n"));
 }
 
 // The ends that go before the step of this number.
-fn insert(steps: &mut Vec<Step<u64>>, places: Places, at: usize) -> Result<(), Fail> {
+fn insert(rt: &impl Abort, steps: &mut Vec<Step<u64>>, places: Places, at: usize) {
     if places.is_sender_first && places.sender == at {
-        steps.push(Step::DropSender)?;
+        had(rt, steps.push(Step::DropSender));
     }
     if places.receiver == at {
-        steps.push(Step::DropReceiver)?;
+        had(rt, steps.push(Step::DropReceiver));
     }
     if !places.is_sender_first && places.sender == at {
-        steps.push(Step::DropSender)?;
+        had(rt, steps.push(Step::DropSender));
     }
-    Ok(())
 }
 
 // The steps of a script, with the ends that go.
-fn inserted(alloc: Global, script: &[Step<u64>], places: Places) -> Result<Vec<Step<u64>>, Fail> {
+fn inserted(
+    rt: &impl Abort,
+    alloc: Global,
+    script: &[Step<u64>],
+    places: Places,
+) -> Vec<Step<u64>> {
     let mut steps = Vec::new(alloc);
     for (at, step) in script.iter().enumerate() {
-        insert(&mut steps, places, at)?;
-        steps.push(*step)?;
+        insert(rt, &mut steps, places, at);
+        had(rt, steps.push(*step));
     }
-    insert(&mut steps, places, script.len())?;
-    Ok(steps)
+    insert(rt, &mut steps, places, script.len());
+    steps
 }
 
 // Every ticket that was issued, 0 and the next one are asked and withdrawn from both sides; then
 // all that is left is received.
-fn rest(alloc: Global, issued: u64) -> Result<Vec<Step<u64>>, Fail> {
-    let mut steps = vec![in alloc; Step::SenderCount, Step::ReceiverCount]?;
+fn rest(rt: &impl Abort, alloc: Global, issued: u64) -> Vec<Step<u64>> {
+    let mut steps = had(rt, vec![in alloc; Step::SenderCount, Step::ReceiverCount]);
     for ticket in 0..issued.saturating_add(2) {
-        steps.push(Step::Poll(ticket))?;
-        steps.push(Step::PollSend(ticket))?;
-        steps.push(Step::Withdraw(ticket))?;
-        steps.push(Step::WithdrawSend(ticket))?;
+        had(rt, steps.push(Step::Poll(ticket)));
+        had(rt, steps.push(Step::PollSend(ticket)));
+        had(rt, steps.push(Step::Withdraw(ticket)));
+        had(rt, steps.push(Step::WithdrawSend(ticket)));
     }
-    steps.push(Step::Drain)?;
+    had(rt, steps.push(Step::Drain));
     for _ in 0..TAKES {
-        steps.push(Step::TryRecv)?;
+        had(rt, steps.push(Step::TryRecv));
     }
-    Ok(steps)
+    steps
 }
 
 // Does the steps, and keeps what their replies tell. The replies.
 fn told_of(
+    rt: &impl Abort,
     alloc: Global,
     chan: &mut Chan<u64, ()>,
     steps: &Vec<Step<u64>>,
     told: &mut Told,
-) -> Result<Vec<Reply<u64>>, Fail> {
+) -> Vec<Reply<u64>> {
     let mut replies = Vec::new(alloc);
     for step in steps {
         let reply = chan.step(*step);
-        told.add(step, &reply)?;
-        replies.push(reply)?;
+        had(rt, told.add(step, &reply));
+        had(rt, replies.push(reply));
     }
-    Ok(replies)
+    replies
 }
 
 // Whether the replies of a script in which these ends go are right, by the slow list. Their text.
 fn judged(
+    rt: &impl Abort,
     alloc: Global,
     (capacity, script): (Option<usize>, &[Step<u64>]),
     places: Places,
-) -> Result<(bool, Vec<u8>), Fail> {
+) -> (bool, Vec<u8>) {
     let mut chan = Chan::new(alloc, capacity);
     let mut told = Told::nothing(alloc);
-    let steps = inserted(alloc, script, places)?;
-    let replies = told_of(alloc, &mut chan, &steps, &mut told)?;
-    let rest = rest(alloc, told.issued)?;
-    told_of(alloc, &mut chan, &rest, &mut told)?;
-    Ok((
-        told.is_right(alloc)?,
-        write_replies(alloc, replies.as_slice())?,
-    ))
+    let steps = inserted(rt, alloc, script, places);
+    let replies = told_of(rt, alloc, &mut chan, &steps, &mut told);
+    let rest = rest(rt, alloc, told.issued);
+    told_of(rt, alloc, &mut chan, &rest, &mut told);
+    let is_right = had(rt, told.is_right(alloc));
+    (is_right, had(rt, write_replies(alloc, replies.as_slice())))
 }
 
 // Whether they are right with the sender that goes here, first or last of what goes there, and the
 // receiver at each place.
 fn are_right_with(
+    rt: &impl Abort,
     alloc: Global,
     script: (Option<usize>, &[Step<u64>]),
     (sender, is_sender_first): (usize, bool),
-) -> Result<bool, Fail> {
+) -> bool {
     for receiver in 0..places_of(script.1) {
         let places = Places {
             sender,
             receiver,
             is_sender_first,
         };
-        if !judged(alloc, script, places)?.0 {
-            return Ok(false);
+        if !judged(rt, alloc, script, places).0 {
+            return false;
         }
     }
-    Ok(true)
+    true
 }
 
 // How many places there are for an end to go, with the one where it stays.
@@ -221,34 +231,46 @@ fn places_of(script: &[Step<u64>]) -> usize {
     script.len().saturating_add(2)
 }
 
+// At how many places, from the first on, the sender can go, so that the replies are right with the
+// receiver that goes at each place.
+fn places_that_are_right(
+    rt: &impl Abort,
+    alloc: Global,
+    script: (Option<usize>, &[Step<u64>]),
+) -> usize {
+    let places = places_of(script.1);
+    for sender in 0..places {
+        if !are_right_with(rt, alloc, script, (sender, true))
+            || !are_right_with(rt, alloc, script, (sender, false))
+        {
+            return sender;
+        }
+    }
+    places
+}
+
 // The replies to a script are those that it says, and are right wherever the ends go.
-fn script_is_right(rt: &impl Abort, alloc: Global, block: &str) -> Result<(), Fail> {
+fn script_is_right(rt: &impl Abort, alloc: Global, block: &str) {
     let (title, script) = block.split_once("\n").unwrap_or((block, ""));
-    let (asked, answered) = halves(alloc, script)?;
-    let (capacity, steps) = read(alloc, asked.as_str())?;
+    let (asked, answered) = halves(rt, alloc, script);
+    let (capacity, steps) = read(rt, alloc, asked.as_str());
     let script = (capacity, steps.as_slice());
     let stays = Places {
         sender: places_of(script.1),
         receiver: places_of(script.1),
         is_sender_first: true,
     };
-    let (is_right, text) = judged(alloc, script, stays)?;
-    assert!(rt;
-        is_right && text.as_slice() == answered.as_bytes(),
-        "{title}"
-    );
-    for sender in 0..places_of(script.1) {
-        let is_right = are_right_with(alloc, script, (sender, true))?
-            && are_right_with(alloc, script, (sender, false))?;
-        assert!(rt; is_right, "{title}: the sender goes at step {sender}");
-    }
-    Ok(())
+    let (is_right, text) = judged(rt, alloc, script, stays);
+    holds(rt, (title, "not right where the ends stay"), is_right);
+    bytes_are(rt, title, text.as_slice(), answered.as_bytes());
+    let right = places_that_are_right(rt, alloc, script);
+    let places = (title, "places before one where the sender can't go");
+    are_so_many(rt, places, right, places_of(script.1));
 }
 
 #[test]
-fn messages_come_in_order_and_once_wherever_the_ends_go(rt: HostRuntime) -> Result<(), Fail> {
+fn messages_come_in_order_and_once_wherever_the_ends_go(rt: HostRuntime) {
     for block in SCRIPTS.trim_end().split("\n= ").skip(1) {
-        script_is_right(&rt, rt.alloc(), block)?;
+        script_is_right(&rt, rt.alloc(), block);
     }
-    Ok(())
 }

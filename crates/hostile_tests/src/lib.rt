@@ -7,6 +7,8 @@ mod alike;
 #[cfg(test)]
 mod audited;
 #[cfg(test)]
+mod fixtures;
+#[cfg(test)]
 mod inserted;
 #[cfg(test)]
 mod lists;

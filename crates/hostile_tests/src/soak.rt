@@ -3,9 +3,9 @@
 //! upgraded and dropped and a capacity that changes all along.
 use crate::memory::Heap;
 use ends_tests::counting::Counting;
-use ends_tests::watch::{Watched, begin_watch};
+use ends_tests::watch::{Watch, Watched, begin_watch};
 use ends_tests::works::Work;
-use flume::error::{NoMemory, RecvError, RecvTimeoutError, TryRecvError};
+use flume::error::{RecvError, RecvTimeoutError, TryRecvError};
 use flume::{Receiver, Sender, Waits, bounded, unbounded};
 use futures::task::Poll;
 use futures::test::MockTask;
@@ -13,7 +13,6 @@ use std::alloc::{AllocGlobal, Allocator, Global};
 use std::process::Abort;
 use std::random::RandomSource;
 use std::sync::Mutex;
-use std::test::Fail;
 use std::thread;
 use std::thread::Threads;
 use std::time::Duration;
@@ -48,6 +47,7 @@ impl<R: Waits + Abort> Work for Stuck<R> {
     }
 }
 
+// How long a timed call waits.
 fn short() -> Duration {
     Duration::from_millis(1)
 }
@@ -247,47 +247,53 @@ fn are_right(counts: &[u32]) -> bool {
     true
 }
 
-fn opened<'h, R: Waits>(
+// The ends of a new channel of this capacity: `None` is unbounded.
+fn opened<'h, R: Runs>(
     rt: R,
     heap: Heap<'h>,
     capacity: Option<usize>,
-) -> Result<(Sender<u64, R, Heap<'h>>, Receiver<u64, R, Heap<'h>>), NoMemory> {
-    match capacity {
+) -> (Sender<u64, R, Heap<'h>>, Receiver<u64, R, Heap<'h>>) {
+    let ends = match capacity {
         Some(capacity) => bounded(rt, heap, 1, capacity),
         None => unbounded(rt, heap, 1),
-    }
+    };
+    ends.expect(&rt, "there is memory")
+}
+
+// It is so; what fails where it isn't.
+fn holds(rt: &impl Abort, fault: &str, is_so: bool) {
+    assert!(rt; is_so, "{fault}");
 }
 
 // All run at this capacity, and some message comes all along. Growths were refused, and no block is
 // left.
-fn soak<R: Runs>(
-    rt: R,
-    alloc: Global,
-    watched: &Watched,
-    capacity: Option<usize>,
-) -> Result<(), Fail> {
+fn soak<R: Runs>(rt: R, alloc: Global, watched: &Watched, capacity: Option<usize>) {
     let heap = Counting::new(alloc);
-    let counts = Mutex::new(vec![in alloc; 0u32; ALL]?);
+    let counts = vec![in alloc; 0u32; ALL].expect(&rt, "there is memory");
+    let counts = Mutex::new(counts);
     let tally = Tally { counts, watched };
-    let ends = opened(rt, &heap, capacity)?;
+    let ends = opened(rt, &heap, capacity);
     heap.refuse_one_in(100);
-    assert!(rt; all_run(rt, ends, &tally), "not all threads ran");
-    assert!(rt;
-        are_right(&tally.counts.into_inner()),
-        "a message is lost, or came twice"
-    );
-    assert!(rt; heap.refusals() > 0 && heap.live() == 0);
-    Ok(())
+    holds(&rt, "not all threads ran", all_run(rt, ends, &tally));
+    let are_right = are_right(&tally.counts.into_inner());
+    holds(&rt, "a message is lost, or came twice", are_right);
+    holds(&rt, "no growth was refused", heap.refusals() > 0);
+    holds(&rt, "blocks are left", heap.live() == 0);
+}
+
+// The thread that watches over a test.
+fn watching<R: Runs>(rt: R, alloc: Global) -> Watch {
+    match begin_watch(rt, alloc, Stuck(rt)) {
+        Ok(watch) => watch,
+        Err(_) => panic!(rt; "a test can be watched"),
+    }
 }
 
 #[test]
-fn no_message_is_lost_where_one_growth_in_a_hundred_is_refused(
-    rt: HostRuntime,
-) -> Result<(), Fail> {
-    let watch = begin_watch(rt, rt.alloc(), Stuck(rt))?;
+fn no_message_is_lost_where_one_growth_in_a_hundred_is_refused(rt: HostRuntime) {
+    let watch = watching(rt, rt.alloc());
     for capacity in [None, Some(0), Some(1), Some(7), Some(64)] {
-        soak(rt, rt.alloc(), watch.watched(), capacity)?;
+        soak(rt, rt.alloc(), watch.watched(), capacity);
     }
     watch.end(&rt);
-    Ok(())
 }

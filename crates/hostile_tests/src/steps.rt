@@ -1,6 +1,7 @@
 //! Each growth of a step of `Chan` refused in turn: the step says so, all that can be asked of the
 //! channel is as it was, and with memory again it answers, as all steps after it, as if nothing had
 //! been.
+use crate::fixtures::{had, holds, is_given_back, text_is};
 use crate::memory::{Heap, MOST, NONE, Window};
 use crate::texts::{read, written};
 use ends_tests::counting::Counting;
@@ -8,7 +9,7 @@ use flume_core::chan::Chan;
 use flume_core::step::{Reply, Step};
 use std::alloc::Global;
 use std::process::Abort;
-use std::test::Fail;
+use std::slice;
 
 type Tried<'h> = Chan<u64, (), Heap<'h>>;
 
@@ -97,49 +98,50 @@ const REST: &[Step<u64>] = &[
 
 // What these steps answer.
 fn answers<'h>(
+    rt: &impl Abort,
     (alloc, heap): (Global, Heap<'h>),
     chan: &mut Tried<'h>,
     steps: &[Step<u64>],
-) -> Result<String, Fail> {
+) -> String {
     let mut replies = Vec::new(heap);
     for step in steps {
-        replies.push(chan.step(*step))?;
+        had(rt, replies.push(chan.step(*step)));
     }
-    written(alloc, heap, replies.as_slice())
+    written(rt, alloc, heap, replies.as_slice())
 }
 
 // All that can be asked of a channel.
-fn told<'h>(memory: (Global, Heap<'h>), chan: &mut Tried<'h>) -> Result<String, Fail> {
-    let told = answers(memory, chan, QUERIES)?;
-    Ok(format!(in memory.0; "{told}; room for {}", chan.room())?)
+fn told<'h>(rt: &impl Abort, memory: (Global, Heap<'h>), chan: &mut Tried<'h>) -> String {
+    let told = answers(rt, memory, chan, QUERIES);
+    had(rt, format!(in memory.0; "{told}; room for {}", chan.room()))
 }
 
 // What a step answers of which these growths are refused.
 fn refused<'h>(
+    rt: &impl Abort,
     (alloc, heap): (Global, Heap<'h>),
     chan: &mut Tried<'h>,
-    step: Step<u64>,
-    window: Window,
-) -> Result<String, Fail> {
+    (step, window): (Step<u64>, Window),
+) -> String {
     heap.refuse_between(window.first, window.last);
     let reply = chan.step(step);
     heap.refuse(false);
-    let replies = vec![in heap; reply]?;
-    written(alloc, heap, replies.as_slice())
+    written(rt, alloc, heap, slice::from_ref(&reply))
 }
 
 // A channel on which all steps of a script but the last were made, and that step.
 fn begun<'h>(
+    rt: &impl Abort,
     (alloc, heap): (Global, Heap<'h>),
     script: &str,
-) -> Result<(Tried<'h>, Step<u64>), Fail> {
-    let (capacity, mut steps) = read(alloc, script)?;
+) -> (Tried<'h>, Step<u64>) {
+    let (capacity, mut steps) = read(rt, alloc, script);
     let last = steps.pop().unwrap_or(Step::Len);
     let mut chan: Tried<'h> = Chan::new(heap, capacity);
     for step in steps {
         let _: Reply<u64, Heap<'h>> = chan.step(step);
     }
-    Ok((chan, last))
+    (chan, last)
 }
 
 // Whether a growth was refused, and then what the step answered before; what it answers in the end,
@@ -152,79 +154,83 @@ struct Outcome {
     rest: String,
 }
 
-// Makes the last step of a script with these growths refused, and where one was, with memory again.
-fn seen<'h>(
+// What a step answers of which a growth was refused, as it is made with memory again. All that can
+// be asked of the channel is as it was.
+fn made_again<'h>(
     rt: &impl Abort,
     memory: (Global, Heap<'h>),
-    script: &str,
-    window: Window,
-) -> Result<Outcome, Fail> {
-    let (mut chan, last) = begun(memory, script)?;
-    let as_it_was = told(memory, &mut chan)?;
-    let before = refused(memory, &mut chan, last, window)?;
+    chan: &mut Tried<'h>,
+    (script, as_it_was): (&str, &str),
+    step: Step<u64>,
+) -> String {
+    let after = told(rt, memory, chan);
+    text_is(rt, script, after.as_str(), as_it_was);
+    refused(rt, memory, chan, (step, NONE))
+}
+
+// Makes the last step of a script with these growths refused, and where one was, with memory again.
+fn seen<'h>(rt: &impl Abort, memory: (Global, Heap<'h>), script: &str, window: Window) -> Outcome {
+    let (mut chan, last) = begun(rt, memory, script);
+    let as_it_was = told(rt, memory, &mut chan);
+    let before = refused(rt, memory, &mut chan, (last, window));
     let is_refused = memory.1.refusals() > 0;
     let answer = if is_refused {
-        let after = told(memory, &mut chan)?;
-        assert_eq!(rt; after.as_str(), as_it_was.as_str(), "{script}");
-        refused(memory, &mut chan, last, NONE)?
+        made_again(rt, memory, &mut chan, (script, as_it_was.as_str()), last)
     } else {
-        before.clone()?
+        had(rt, before.clone())
     };
-    let rest = answers(memory, &mut chan, REST)?;
-    Ok(Outcome {
+    let rest = answers(rt, memory, &mut chan, REST);
+    Outcome {
         is_refused,
         before,
         answer,
         rest,
-    })
+    }
 }
 
 // A row with these growths refused, beside one of which none was. Whether one was refused.
-fn is_so(rt: &impl Abort, alloc: Global, row: Row, window: Window) -> Result<bool, Fail> {
+fn is_so(rt: &impl Abort, alloc: Global, row: Row, window: Window) -> bool {
+    let Row(script, answer, refusal) = row;
     let heap = Counting::new(alloc);
-    let whole = seen(rt, (alloc, &heap), row.0, NONE)?;
-    let found = seen(rt, (alloc, &heap), row.0, window)?;
+    let whole = seen(rt, (alloc, &heap), script, NONE);
+    let found = seen(rt, (alloc, &heap), script, window);
     if found.is_refused {
-        assert_eq!(rt; found.before.as_str(), row.2, "{}", row.0);
+        text_is(rt, script, found.before.as_str(), refusal);
     }
-    assert_eq!(rt; found.answer.as_str(), row.1, "{}", row.0);
-    assert_eq!(rt; found.rest.as_str(), whole.rest.as_str(), "{}", row.0);
-    assert!(rt; heap.live() == 0, "{}: blocks are left", row.0);
-    Ok(found.is_refused)
+    text_is(rt, script, found.answer.as_str(), answer);
+    text_is(rt, script, found.rest.as_str(), whole.rest.as_str());
+    is_given_back(rt, script, &heap);
+    found.is_refused
 }
 
 // A row once for each growth of its last step. There is one at least.
-fn each_growth(rt: &impl Abort, alloc: Global, row: Row, is_one: bool) -> Result<(), Fail> {
+fn each_growth(rt: &impl Abort, alloc: Global, row: Row, is_one: bool) {
     for first in 1..MOST {
         let last = if is_one { first } else { u64::MAX };
-        if !is_so(rt, alloc, row, Window { first, last })? {
-            assert!(rt; first > 1, "{}: nothing was refused", row.0);
-            return Ok(());
+        if !is_so(rt, alloc, row, Window { first, last }) {
+            holds(rt, (row.0, "nothing was refused"), first > 1);
+            return;
         }
     }
-    assert!(rt; false, "{}: too many growths", row.0);
-    Ok(())
+    holds(rt, (row.0, "too many growths"), false);
 }
 
 #[test]
-fn each_step_that_is_refused_memory_leaves_the_channel_as_it_was(
-    rt: HostRuntime,
-) -> Result<(), Fail> {
+fn each_step_that_is_refused_memory_leaves_the_channel_as_it_was(rt: HostRuntime) {
     for row in ROWS {
-        each_growth(&rt, rt.alloc(), *row, false)?;
-        each_growth(&rt, rt.alloc(), *row, true)?;
+        each_growth(&rt, rt.alloc(), *row, false);
+        each_growth(&rt, rt.alloc(), *row, true);
     }
-    Ok(())
 }
 
 #[test]
-fn the_other_steps_are_never_refused(rt: HostRuntime) -> Result<(), Fail> {
+fn the_other_steps_are_never_refused(rt: HostRuntime) {
     let all = Window {
         first: 1,
         last: u64::MAX,
     };
     for row in FREE {
-        assert!(rt; !is_so(&rt, rt.alloc(), *row, all)?, "{}", row.0);
+        let is_refused = is_so(&rt, rt.alloc(), *row, all);
+        holds(&rt, (row.0, "a growth was refused"), !is_refused);
     }
-    Ok(())
 }

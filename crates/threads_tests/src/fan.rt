@@ -1,5 +1,5 @@
 //! Threads that receive from one channel and send into another.
-use crate::fixtures::{begun, had, is, opened};
+use crate::fixtures::{begun, had, is, opened, watching};
 use crate::works::{SendHundred, send_hundred};
 use ends_tests::works::Work;
 use flume::{Receiver, Sender, Waits};
@@ -98,6 +98,7 @@ fn count_and_sum<R: Waits>(rx: &Receiver<u64, R>) -> (u64, u64) {
 
 #[test]
 fn eight_threads_forward_from_one_channel_into_another(rt: HostRuntime) {
+    let watch = watching(rt, rt.alloc());
     let (tx, first) = opened(rt, rt.alloc(), None);
     let (second, rx) = opened(rt, rt.alloc(), None);
     let forwarders = begin_fan(rt, rt.alloc(), first, second);
@@ -108,10 +109,12 @@ fn eight_threads_forward_from_one_channel_into_another(rt: HostRuntime) {
     drop(tx);
     is(&rt, rx.recv(), Err(RecvError::Disconnected));
     join_all(&rt, forwarders);
+    watch.end(&rt);
 }
 
 #[test]
 fn a_chain_of_eight_keeps_the_order(rt: HostRuntime) {
+    let watch = watching(rt, rt.alloc());
     let (tx, first) = opened(rt, rt.alloc(), Some(4));
     let (forwarders, last) = begin_chain(rt, rt.alloc(), first);
     let sender = begun(&rt, SendHundred { tx });
@@ -121,4 +124,5 @@ fn a_chain_of_eight_keeps_the_order(rt: HostRuntime) {
     is(&rt, last.recv(), Err(RecvError::Disconnected));
     sender.join(&rt);
     join_all(&rt, forwarders);
+    watch.end(&rt);
 }

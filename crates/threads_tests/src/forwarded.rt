@@ -1,5 +1,5 @@
 //! Threads that read by iterators, and send on.
-use crate::fixtures::{CAPACITIES, begun, had, is, opened};
+use crate::fixtures::{CAPACITIES, begun, had, is, opened, watching};
 use crate::works::{SendHundred, send_hundred, starts_in};
 use ends_tests::works::Work;
 use flume::{Iter, Receiver, Sender, Waits};
@@ -38,6 +38,7 @@ impl<R: Waits> Work for AnswerRequests<R> {
 
 #[test]
 fn a_worker_answers_on_another_channel(rt: HostRuntime) {
+    let watch = watching(rt, rt.alloc());
     for &capacity in CAPACITIES {
         let (requests, work) = opened(rt, rt.alloc(), capacity);
         let (answers, results) = opened(rt, rt.alloc(), capacity);
@@ -50,6 +51,7 @@ fn a_worker_answers_on_another_channel(rt: HostRuntime) {
         asking.join(&rt);
         worker.join(&rt);
     }
+    watch.end(&rt);
 }
 
 // The first message that an iterator finds which doesn't wait.
@@ -65,6 +67,7 @@ fn first_tried<R: Waits>(rt: &R, rx: &Receiver<u64, R>) -> u64 {
 
 #[test]
 fn tried_iterators_play_ping_pong(rt: HostRuntime) {
+    let watch = watching(rt, rt.alloc());
     for &capacity in CAPACITIES {
         let (pings, work) = opened(rt, rt.alloc(), capacity);
         let (answers, answered) = opened(rt, rt.alloc(), capacity);
@@ -77,6 +80,7 @@ fn tried_iterators_play_ping_pong(rt: HostRuntime) {
         other.join(&rt);
         is(&rt, answered.try_iter().next(), None);
     }
+    watch.end(&rt);
 }
 
 // Counts each number that comes, until none does.
@@ -128,12 +132,14 @@ fn read_by_eight<R: Waits + Threads + Send + Sync>(
 
 #[test]
 fn iterators_in_eight_threads_share_the_messages(rt: HostRuntime) {
+    let watch = watching(rt, rt.alloc());
     for &capacity in CAPACITIES {
         let ends = opened(rt, rt.alloc(), capacity);
         let counts = Mutex::new([0; MESSAGES]);
         assert!(rt; read_by_eight(rt, ends, &counts));
         assert!(rt; counts.into_inner().iter().all(|&count| count == 1));
     }
+    watch.end(&rt);
 }
 
 // Sends on what it receives, until nothing comes.
@@ -188,6 +194,7 @@ fn join_all<R: Threads>(rt: &R, forwarders: Vec<JoinHandle<()>>) {
 // Three times 0 to 99, of another thread, go through eight.
 #[test]
 fn eight_forwarders_lead_into_one_channel(rt: HostRuntime) {
+    let watch = watching(rt, rt.alloc());
     for &capacity in CAPACITIES {
         let (tx, from) = opened(rt, rt.alloc(), capacity);
         let (to, rx) = opened(rt, rt.alloc(), capacity);
@@ -203,4 +210,5 @@ fn eight_forwarders_lead_into_one_channel(rt: HostRuntime) {
         is(&rt, forwarded.next(), None);
         join_all(&rt, forwarders);
     }
+    watch.end(&rt);
 }

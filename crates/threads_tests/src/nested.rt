@@ -65,6 +65,7 @@ impl<R: Waits> Work for ServeRequests<R> {
 
 #[test]
 fn a_server_answers_through_the_sender_in_a_request(rt: HostRuntime) {
+    let watch = watching(rt, rt.alloc());
     for &capacity in MEETING {
         let (requests, rx) = opened(rt, rt.alloc(), capacity);
         let server = begun(&rt, ServeRequests { rt, rx });
@@ -72,6 +73,7 @@ fn a_server_answers_through_the_sender_in_a_request(rt: HostRuntime) {
         drop(requests);
         server.join(&rt);
     }
+    watch.end(&rt);
 }
 
 // Receives a receiver, and what that one receives.
@@ -95,6 +97,7 @@ impl<R: Waits> Work for ReadInner<R> {
 // A receiver goes through one channel, and is read in another thread.
 #[test]
 fn a_receiver_is_received_and_read(rt: HostRuntime) {
+    let watch = watching(rt, rt.alloc());
     for &capacity in MEETING {
         let (outer, outer_rx) = opened(rt, rt.alloc(), capacity);
         let (tx, rx) = opened(rt, rt.alloc(), capacity);
@@ -106,6 +109,7 @@ fn a_receiver_is_received_and_read(rt: HostRuntime) {
         let read = reader.join(&rt);
         is(&rt, read, (Ok(1), Ok(2), Err(RecvError::Disconnected)));
     }
+    watch.end(&rt);
 }
 
 #[test]
@@ -186,12 +190,14 @@ impl<R: Waits> Work for SendSender<R> {
 
 #[test]
 fn a_blocked_sender_goes_with_its_send(rt: HostRuntime) {
+    let watch = watching(rt, rt.alloc());
     let (outer, outer_rx) = opened(rt, rt.alloc(), Some(0));
     let (tx, rx) = opened(rt, rt.alloc(), Some(0));
     let sending = begun(&rt, SendSender { outer, tx });
     drop(outer_rx);
     is(&rt, rx.recv(), Err(RecvError::Disconnected));
     is(&rt, sending.join(&rt), false);
+    watch.end(&rt);
 }
 
 #[test]
@@ -238,6 +244,7 @@ impl<R: Waits> Work for SendThrough<R> {
 // A weak sender is received twice: while a sender lives, and once none does.
 #[test]
 fn a_received_weak_sender_upgrades_while_a_sender_lives(rt: HostRuntime) {
+    let watch = watching(rt, rt.alloc());
     for &capacity in MEETING {
         let (outer, outer_rx) = opened(rt, rt.alloc(), capacity);
         let (tx, rx) = opened(rt, rt.alloc(), capacity);
@@ -251,4 +258,5 @@ fn a_received_weak_sender_upgrades_while_a_sender_lives(rt: HostRuntime) {
         is(&rt, outer.send(weak).is_ok(), true);
         is(&rt, sending.join(&rt), (true, false));
     }
+    watch.end(&rt);
 }

@@ -1,5 +1,5 @@
 //! Ends that threads take with them, or share by reference.
-use crate::fixtures::{begun, had, is, opened};
+use crate::fixtures::{begun, had, is, opened, watching};
 use crate::works::{ReceiveThree, SendOne, starts_in};
 use ends_tests::works::Work;
 use flume::{Receiver, Sender, Waits, WeakSender};
@@ -54,10 +54,12 @@ fn found_by_four<R: Waits + Threads + Send + Sync>(
 
 #[test]
 fn a_send_is_seen_by_the_next_try(rt: HostRuntime) {
+    let watch = watching(rt, rt.alloc());
     let (tx, rx) = opened(rt, rt.alloc(), None);
     is(&rt, found_by_four(&rt, &tx, &rx), 4000);
     let (tx, rx) = opened(rt, rt.alloc(), Some(4));
     is(&rt, found_by_four(&rt, &tx, &rx), 4000);
+    watch.end(&rt);
 }
 
 // Sends by way of a weak sender.
@@ -86,6 +88,7 @@ impl<R: Waits> Work for SendByWeak<R> {
 
 #[test]
 fn each_end_goes_with_its_thread(rt: HostRuntime) {
+    let watch = watching(rt, rt.alloc());
     let (tx, rx) = opened(rt, rt.alloc(), None);
     let weak = had(&rt, tx.downgrade());
     let upgrading = begun(&rt, SendByWeak { weak, message: 1 });
@@ -100,6 +103,7 @@ fn each_end_goes_with_its_thread(rt: HostRuntime) {
     is(&rt, sending.join(&rt), Ok(()));
     let received = receiving.join(&rt);
     is(&rt, received, (Ok(1), Ok(2), Err(RecvError::Disconnected)));
+    watch.end(&rt);
 }
 
 // The first message of each thread that sends.
@@ -179,7 +183,9 @@ fn sum_by_reference<R: Waits + Threads + Send + Sync>(
 
 #[test]
 fn two_threads_use_each_end_by_reference(rt: HostRuntime) {
+    let watch = watching(rt, rt.alloc());
     let (tx, rx) = opened(rt, rt.alloc(), Some(0));
     let weak = had(&rt, tx.downgrade());
     is(&rt, sum_by_reference(&rt, &tx, &weak, &rx), Some(1111));
+    watch.end(&rt);
 }

@@ -1,11 +1,13 @@
 //! Many messages through one channel, by calls of every kind, with ends that come and go, and with
 //! a capacity that stays or that all senders change.
-use crate::fixtures::{begun, had, opened};
+use crate::fixtures::{begun, had, opened, watching};
+use ends_tests::watch::{Watch, Watched};
 use ends_tests::works::Work;
 use flume::{Receiver, Sender, Waits};
 use flume_core::error::RecvError;
 use std::alloc::Global;
 use std::process::Abort;
+use std::sync::Arc;
 use std::thread::{JoinHandle, Threads};
 use std::time::{Duration, Instant};
 
@@ -130,14 +132,21 @@ fn receive_one<R: Waits>(
     }
 }
 
-// All that one receiver gets until all senders are gone. `None`: memory was wanted.
-fn receive_all<R: Waits + AllocGlobal>(rt: &R, mut rx: Receiver<Message, R>) -> Received {
+// All that one receiver gets until all senders are gone. `None`: memory was wanted. Of each message
+// it says that something moved.
+fn receive_all<R: Waits + AllocGlobal>(
+    rt: &R,
+    mut rx: Receiver<Message, R>,
+    watched: &Watched,
+) -> Received {
     let mut received = Vec::new(rt.alloc());
     for _ in rt.forever() {
         if received.len() % RENEWAL == 0 {
             rx = rx.clone().ok()?;
         }
-        match receive_one(rt, &rx, received.len()) {
+        let came = receive_one(rt, &rx, received.len());
+        watched.say_moved();
+        match came {
             Ok(message) => received.push(message).ok()?,
             Err(RecvError::Disconnected) => break,
             Err(RecvError::NoMemory) => return None,
@@ -197,23 +206,24 @@ impl<R: Waits> Work for SendAll<R> {
 struct ReceiveAll<R: Waits + AllocGlobal> {
     rt: R,
     rx: Receiver<Message, R>,
+    watched: Arc<Watched>,
 }
 
 impl<R: Waits + AllocGlobal> Work for ReceiveAll<R> {
     type Answer = Received;
 
     fn work(self) -> Received {
-        let ReceiveAll { rt, rx } = self;
-        receive_all(&rt, rx)
+        let ReceiveAll { rt, rx, watched } = self;
+        receive_all(&rt, rx, &watched)
     }
 }
 
-// Starts the threads, each with an end of its own.
+// Starts the threads, each with an end of its own, and those that receive under this watch.
 fn start_all<R>(
     rt: R,
     alloc: Global,
     (tx, rx): (Sender<Message, R>, Receiver<Message, R>),
-    changes: bool,
+    (changes, watch): (bool, &Watch),
 ) -> Started
 where
     R: Waits + AllocGlobal + Threads + Abort + Send + Sync + 'static,
@@ -227,8 +237,12 @@ where
             changes,
         };
         had(&rt, senders.push(begun(&rt, sends)));
-        let rx = had(&rt, rx.clone());
-        had(&rt, receivers.push(begun(&rt, ReceiveAll { rt, rx })));
+        let receives = ReceiveAll {
+            rt,
+            rx: had(&rt, rx.clone()),
+            watched: had(&rt, watch.shared()),
+        };
+        had(&rt, receivers.push(begun(&rt, receives)));
     }
     Started { senders, receivers }
 }
@@ -259,12 +273,14 @@ fn soak<R>(rt: R, alloc: Global, capacity: Option<usize>, changes: bool)
 where
     R: Waits + AllocGlobal + Threads + Abort + Send + Sync + 'static,
 {
+    let watch = watching(rt, alloc);
     let ends = opened(rt, alloc, capacity);
-    let Started { senders, receivers } = start_all(rt, alloc, ends, changes);
+    let Started { senders, receivers } = start_all(rt, alloc, ends, (changes, &watch));
     join_senders(&rt, senders);
     let mut counts = had(&rt, vec![in alloc; 0u32; THREADS * EACH]);
     join_receivers(&rt, receivers, counts.as_mut_slice());
     assert!(rt; counts.iter().all(|&count| count == 1));
+    watch.end(&rt);
 }
 
 #[test]

@@ -1,5 +1,5 @@
 //! Calls with a deadline: served, or closed, while they wait, and two that race.
-use crate::fixtures::{begun, is, later, long, opened};
+use crate::fixtures::{begun, is, later, long, opened, watching};
 use crate::works::ReceiveOne;
 use ends_tests::works::Work;
 use flume::error::{RecvTimeoutError, SendTimeoutError, TrySendError};
@@ -54,10 +54,12 @@ fn try_until_taken<R: Waits>(rt: &R, tx: &Sender<u64, R>, mut message: u64) -> b
 
 #[test]
 fn a_tried_send_meets_a_blocked_receive(rt: HostRuntime) {
+    let watch = watching(rt, rt.alloc());
     let (tx, rx) = opened(rt, rt.alloc(), Some(0));
     let receiver = begun(&rt, ReceiveOne { begins: None, rx });
     is(&rt, try_until_taken(&rt, &tx, 7), true);
     is(&rt, receiver.join(&rt), Ok(7));
+    watch.end(&rt);
 }
 
 // What a receive answers that waits no longer than up to a deadline.
@@ -111,11 +113,13 @@ fn served_and_closed<R: Waits + Threads + Abort + Send + Sync + 'static>(
 
 #[test]
 fn receives_with_a_far_deadline_are_served_or_closed(rt: HostRuntime) {
+    let watch = watching(rt, rt.alloc());
     let deadline = Some(later(&rt));
     for &capacity in CAPACITIES {
         served_and_closed(rt, rt.alloc(), capacity, None);
         served_and_closed(rt, rt.alloc(), capacity, deadline);
     }
+    watch.end(&rt);
 }
 
 // Queues as many messages as the channel holds: 0, 1 and so on.
@@ -178,11 +182,13 @@ fn taken_and_closed<R: Waits + Threads + Abort + Send + Sync + 'static>(
 
 #[test]
 fn sends_with_a_far_deadline_are_taken_or_closed(rt: HostRuntime) {
+    let watch = watching(rt, rt.alloc());
     let deadline = Some(later(&rt));
     taken_and_closed(rt, rt.alloc(), (0, 10), None);
     taken_and_closed(rt, rt.alloc(), (0, 10), deadline);
     taken_and_closed(rt, rt.alloc(), (2, 0), None);
     taken_and_closed(rt, rt.alloc(), (2, 0), deadline);
+    watch.end(&rt);
 }
 
 // Sends again for so long each time, until the message is taken.
@@ -263,8 +269,10 @@ fn race<R: Waits + Threads + Abort + Send + Sync + 'static>(
 
 #[test]
 fn timed_calls_that_race_neither_lose_nor_double_a_message(rt: HostRuntime) {
+    let watch = watching(rt, rt.alloc());
     for &capacity in CAPACITIES {
         race(rt, rt.alloc(), capacity, Duration::from_millis(1));
         race(rt, rt.alloc(), capacity, Duration::from_micros(20));
     }
+    watch.end(&rt);
 }
