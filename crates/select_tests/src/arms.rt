@@ -24,6 +24,11 @@ pub(crate) enum How<'g> {
     Drawn(&'g mut SmallRng),
 }
 
+/// With no time to wait.
+pub(crate) fn at_once() -> How<'static> {
+    How::Until(Until::Timeout(Duration::ZERO))
+}
+
 /// What a wait as long as it takes answers, as the other waits say it.
 fn without_end<V>(answer: Result<V, NoMemory>) -> Result<V, SelectError> {
     match answer {

@@ -1,6 +1,6 @@
 //! The message of a send arm is dropped once, whichever way its selection ends, and no block of
 //! memory is left.
-use crate::arms::{How, Until, recv_or_send, send_or_recv};
+use crate::arms::{at_once, recv_or_send, send_or_recv};
 use crate::fixtures::{Counted, amounts_to, dropped, holds, offered};
 use ends_tests::counting::Counting;
 use flume::error::{RecvError, SelectError, SendError};
@@ -8,18 +8,12 @@ use flume::{Receiver, Selector, Sender, Waits, bounded};
 use std::alloc::Allocator;
 use std::sync::atomic::AtomicU64;
 use std::test::Fail;
-use std::time::Duration;
 
 // Which arm won, and whether it sent or received.
 #[derive(Debug, PartialEq, Eq, Clone, Copy)]
 enum Way {
     Sent(bool),
     Received(bool),
-}
-
-// With no time to wait.
-fn at_once() -> How<'static> {
-    How::Until(Until::Timeout(Duration::ZERO))
 }
 
 // Sends a message that counts its drops, or receives, at once.

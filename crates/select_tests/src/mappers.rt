@@ -1,12 +1,11 @@
 //! Which mapper is called, when, and how often.
-use crate::arms::{How, Until, recv_or_recv, recv_or_send};
+use crate::arms::{How, at_once, recv_or_recv, recv_or_send};
 use crate::fixtures::{Counted, Won, amounts_to, dropped, holds, offered, queued, selected};
 use flume::error::{RecvError, SelectError, SendError, TrySendError};
 use flume::{Receiver, Selector, Sender, Waits};
 use std::process::Abort;
 use std::sync::atomic::{AtomicU64, Ordering};
 use std::test::Fail;
-use std::time::Duration;
 
 // How often each of three mappers was called.
 #[derive(Drop)]
@@ -31,11 +30,6 @@ impl Calls {
         amounts_to(rt, self.second.swap(0, Ordering::SeqCst), second);
         amounts_to(rt, self.sent.swap(0, Ordering::SeqCst), sent);
     }
-}
-
-// With no time to wait.
-fn at_once() -> How<'static> {
-    How::Until(Until::Timeout(Duration::ZERO))
 }
 
 // Receives by two arms or sends 7 by a third, at once, and counts the calls of each mapper.
