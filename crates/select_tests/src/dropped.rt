@@ -1,13 +1,13 @@
 //! The message of a send arm is dropped once, whichever way its selection ends, and no block of
 //! memory is left.
+use crate::arms::{at_once, recv_or_send, send_or_recv};
 use crate::fixtures::{Counted, amounts_to, dropped, holds, offered};
 use ends_tests::counting::Counting;
-use flume::error::SelectError;
+use flume::error::{RecvError, SelectError, SendError};
 use flume::{Receiver, Selector, Sender, Waits, bounded};
 use std::alloc::Allocator;
 use std::sync::atomic::AtomicU64;
 use std::test::Fail;
-use std::time::Duration;
 
 // Which arm won, and whether it sent or received.
 #[derive(Debug, PartialEq, Eq, Clone, Copy)]
@@ -17,15 +17,15 @@ enum Way {
 }
 
 // Sends a message that counts its drops, or receives, at once.
-fn send_counted<'a, R: Waits, A: Allocator + Copy>(
+fn send_counted<'a, T: Drop, R: Waits, A: Allocator + Copy>(
     tx: &Sender<Counted<'a>, R, A>,
-    rx: &Receiver<u64, R, A>,
+    rx: &Receiver<T, R, A>,
     drops: &'a AtomicU64,
 ) -> Result<Way, SelectError> {
-    Selector::new()
-        .send(tx, Counted { drops }, |answer| Way::Sent(answer.is_ok()))
-        .recv(rx, |answer| Way::Received(answer.is_ok()))
-        .wait_timeout(Duration::ZERO)
+    let sent = |answer: Result<(), SendError<Counted>>| Way::Sent(answer.is_ok());
+    let received = |answer: Result<T, RecvError>| Way::Received(answer.is_ok());
+    let message = Counted { drops };
+    send_or_recv(Selector::new(), tx, message, sent, rx, received, at_once())
 }
 
 // The same with the arms the other way round.
@@ -34,22 +34,10 @@ fn receive_or_send_counted<'a, R: Waits, A: Allocator + Copy>(
     tx: &Sender<Counted<'a>, R, A>,
     drops: &'a AtomicU64,
 ) -> Result<Way, SelectError> {
-    Selector::new()
-        .recv(rx, |answer| Way::Received(answer.is_ok()))
-        .send(tx, Counted { drops }, |answer| Way::Sent(answer.is_ok()))
-        .wait_timeout(Duration::ZERO)
-}
-
-// Sends a message that counts its drops, or receives such a one.
-fn send_or_receive_counted<'a, R: Waits, A: Allocator + Copy>(
-    tx: &Sender<Counted<'a>, R, A>,
-    rx: &Receiver<Counted<'a>, R, A>,
-    drops: &'a AtomicU64,
-) -> Result<Way, SelectError> {
-    Selector::new()
-        .send(tx, Counted { drops }, |answer| Way::Sent(answer.is_ok()))
-        .recv(rx, |answer| Way::Received(answer.is_ok()))
-        .wait_timeout(Duration::ZERO)
+    let received = |answer: Result<u64, RecvError>| Way::Received(answer.is_ok());
+    let sent = |answer: Result<(), SendError<Counted>>| Way::Sent(answer.is_ok());
+    let message = Counted { drops };
+    recv_or_send(Selector::new(), rx, received, tx, message, sent, at_once())
 }
 
 #[test]
@@ -127,7 +115,7 @@ fn a_message_that_loses_and_was_delivered_goes_once(rt: HostRuntime) -> Result<(
     let heap = Counting::new(rt.alloc());
     let (tx, rx) = bounded::<Counted, _, _>(rt, &heap, 1, 0)?;
     // The other arm of the selector receives it, and drops it in its mapper.
-    let delivered = send_or_receive_counted(&tx, &rx, &drops);
+    let delivered = send_counted(&tx, &rx, &drops);
     holds(&rt, delivered == Ok(Way::Received(true)));
     dropped(&rt, &drops, 1);
     holds(&rt, rx.try_recv().is_err());

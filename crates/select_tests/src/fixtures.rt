@@ -1,6 +1,6 @@
 //! What several tests use: what a selection gave, answers compared in one place for each type, a
 //! message that counts its drops, and a long time.
-use flume::error::{NoMemory, RecvError, SelectError, SendError, TryRecvError, TrySendError};
+use flume::error::{RecvError, SelectError, SendError, TryRecvError, TrySendError};
 use std::fmt::Debug;
 use std::process::Abort;
 use std::sync::atomic::{AtomicU64, Ordering};
@@ -16,7 +16,7 @@ pub(crate) enum Won {
 }
 
 /// The selection gave this.
-pub(crate) fn gave(rt: &impl Abort, answer: Result<Won, NoMemory>, wanted: Won) {
+pub(crate) fn gave(rt: &impl Abort, answer: Result<Won, SelectError>, wanted: Won) {
     assert_eq!(rt; answer, Ok(wanted));
 }
 

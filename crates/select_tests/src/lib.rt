@@ -2,6 +2,8 @@
 #![tactic(auto)]
 
 #[cfg(test)]
+mod arms;
+#[cfg(test)]
 mod dropped;
 #[cfg(test)]
 mod examples;

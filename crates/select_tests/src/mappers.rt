@@ -1,11 +1,11 @@
 //! Which mapper is called, when, and how often.
+use crate::arms::{How, at_once, recv_or_recv, recv_or_send};
 use crate::fixtures::{Counted, Won, amounts_to, dropped, holds, offered, queued, selected};
 use flume::error::{RecvError, SelectError, SendError, TrySendError};
 use flume::{Receiver, Selector, Sender, Waits};
 use std::process::Abort;
 use std::sync::atomic::{AtomicU64, Ordering};
 use std::test::Fail;
-use std::time::Duration;
 
 // How often each of three mappers was called.
 #[derive(Drop)]
@@ -50,11 +50,8 @@ fn select_at_once<R: Waits>(
         calls.sent.fetch_add(1, Ordering::SeqCst);
         Won::Sent(answer)
     };
-    Selector::new()
-        .recv(one, first)
-        .recv(other, second)
-        .send(tx, 7, sent)
-        .wait_timeout(Duration::ZERO)
+    let selector = Selector::new().recv(one, first);
+    recv_or_send(selector, other, second, tx, 7, sent, at_once())
 }
 
 #[test]
@@ -97,8 +94,8 @@ fn look_around<R: Waits>(
     rx: &Receiver<u64, R>,
 ) -> Option<Found> {
     let look = |answer| Some((answer, lost.0.try_send(7), rx.len()));
-    let selector = Selector::new().recv(lost.1, |_| None).recv(rx, look);
-    selector.wait().unwrap_or(None)
+    let none = Selector::new();
+    recv_or_recv(none, lost.1, |_| None, rx, look, How::Endless).unwrap_or(None)
 }
 
 #[test]
@@ -133,10 +130,7 @@ fn select_holding<R: Waits>(
         drop(there);
         answer.unwrap_or(9)
     };
-    Selector::new()
-        .recv(one, first)
-        .recv(other, second)
-        .wait_timeout(Duration::ZERO)
+    recv_or_recv(Selector::new(), one, first, other, second, at_once())
 }
 
 #[test]

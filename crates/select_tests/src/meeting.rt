@@ -1,8 +1,9 @@
 //! Two selectors against each other, in two threads.
+use crate::arms::{How, recv_or_send, send_or_recv};
 use crate::fixtures::{amounts_to, holds};
 use ends_tests::changes::{change_capacity, wait_for_change};
 use ends_tests::works::{Work, started};
-use flume::error::{NoMemory, RecvError, SendError};
+use flume::error::{RecvError, SelectError, SendError};
 use flume::{Receiver, Selector, Sender, Waits};
 use std::alloc::{AllocError, Global};
 use std::process::Abort;
@@ -41,14 +42,12 @@ fn select<R: Waits>(
     tx: &Sender<u64, R>,
     rx: &Receiver<u64, R>,
     round: u64,
-) -> Result<Turn, NoMemory> {
-    let selector = Selector::new();
+) -> Result<Turn, SelectError> {
+    let (none, how) = (Selector::new(), How::Endless);
     if round % 2 == 0 {
-        let selector = selector.send(tx, round, Turn::of_send);
-        selector.recv(rx, Turn::of_receive).wait()
+        send_or_recv(none, tx, round, Turn::of_send, rx, Turn::of_receive, how)
     } else {
-        let selector = selector.recv(rx, Turn::of_receive);
-        selector.send(tx, round, Turn::of_send).wait()
+        recv_or_send(none, rx, Turn::of_receive, tx, round, Turn::of_send, how)
     }
 }
 
@@ -67,10 +66,11 @@ impl<R: Waits> Log<R> {
     // Adds what each round did, until all are over or the other is gone.
     fn play(&mut self, tx: &Sender<u64, R>) -> Result<(), AllocError> {
         for round in 0..ROUNDS {
-            match select(tx, &self.rx, round)? {
-                Turn::Sent => self.sent.push(round)?,
-                Turn::Got(number) => self.got.push(number)?,
-                Turn::Closed => return Ok(()),
+            match select(tx, &self.rx, round) {
+                Ok(Turn::Sent) => self.sent.push(round)?,
+                Ok(Turn::Got(number)) => self.got.push(number)?,
+                Ok(Turn::Closed) => return Ok(()),
+                Err(_) => return Err(AllocError),
             }
             self.rounds = self.rounds.saturating_add(1);
         }

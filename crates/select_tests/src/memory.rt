@@ -1,9 +1,10 @@
 //! Want of memory: a selection that is refused leaves no arm behind and calls no mapper, and the
 //! next one goes on.
+use crate::arms::{How, Until, recv_or_send};
 use crate::fixtures::{Counted, Won, amounts_to, dropped, gave, holds, offered, selected, tried};
-use crate::selections::{receive_or_send, receive_or_send_until, send_or_receive};
+use crate::selections::{receive_or_send, receive_or_send_by, send_or_receive};
 use ends_tests::counting::Counting;
-use flume::error::{NoMemory, SelectError, TryRecvError, TrySendError};
+use flume::error::{SelectError, TryRecvError, TrySendError};
 use flume::{Receiver, Selector, Sender, Waits, bounded};
 use std::alloc::Allocator;
 use std::process::Abort;
@@ -12,8 +13,8 @@ use std::test::Fail;
 use std::time::{Duration, Instant};
 
 // The selection wanted memory.
-fn refused(rt: &impl Abort, answer: Result<Won, NoMemory>) {
-    assert_eq!(rt; answer, Err(NoMemory));
+fn refused(rt: &impl Abort, answer: Result<Won, SelectError>) {
+    assert_eq!(rt; answer, Err(SelectError::NoMemory));
 }
 
 // Receives, or sends a message that counts its drops. Both mappers count.
@@ -21,13 +22,11 @@ fn select_counted<'a, R: Waits, A: Allocator + Copy>(
     rx: &Receiver<u64, R, A>,
     tx: &Sender<Counted<'a>, R, A>,
     (drops, calls): (&'a AtomicU64, &AtomicU64),
-) -> Result<u64, NoMemory> {
-    let receive = |_| calls.fetch_add(1, Ordering::SeqCst);
-    let send = |_| calls.fetch_add(1, Ordering::SeqCst);
-    Selector::new()
-        .recv(rx, receive)
-        .send(tx, Counted { drops }, send)
-        .wait()
+) -> Result<u64, SelectError> {
+    let received = |_| calls.fetch_add(1, Ordering::SeqCst);
+    let sent = |_| calls.fetch_add(1, Ordering::SeqCst);
+    let (none, message, how) = (Selector::new(), Counted { drops }, How::Endless);
+    recv_or_send(none, rx, received, tx, message, sent, how)
 }
 
 #[test]
@@ -61,12 +60,10 @@ fn select_each_way<R: Waits + Abort, A: Allocator + Copy>(
     deadline: Instant,
 ) {
     refused(rt, send_or_receive(tx, 7, rx));
-    let selector = Selector::new().recv(rx, Won::First).send(tx, 7, Won::Sent);
-    let timed = selector.wait_timeout(Duration::MAX);
-    selected(rt, timed, Err(SelectError::NoMemory));
-    let selector = Selector::new().recv(rx, Won::First).send(tx, 7, Won::Sent);
-    let timed = selector.wait_deadline(deadline);
-    selected(rt, timed, Err(SelectError::NoMemory));
+    let timeout = Until::Timeout(Duration::MAX);
+    refused(rt, receive_or_send_by(rx, tx, 7, How::Until(timeout)));
+    let deadline = Until::Deadline(deadline);
+    refused(rt, receive_or_send_by(rx, tx, 7, How::Until(deadline)));
 }
 
 #[test]
@@ -139,7 +136,7 @@ fn is_refused<R: Waits + Abort>(
     let (tx0, rx0) = bounded::<u64, _, _>(rt, heap, 1, 0)?;
     let (tx1, rx1) = bounded::<u64, _, _>(rt, heap, 2, 0)?;
     heap.refuse_between(first, last);
-    let answer = receive_or_send_until(&rx0, (&tx1, 7), deadline);
+    let answer = receive_or_send_by(&rx0, &tx1, 7, How::Until(Until::Deadline(deadline)));
     heap.refuse(false);
     let is_refused = heap.refusals() > 0;
     let wanted = if is_refused {

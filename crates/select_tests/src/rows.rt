@@ -1,8 +1,9 @@
 //! Selections in one thread that needn't wait.
+use crate::arms::{How, Until, recv_thrice, send_or_recv};
 use crate::fixtures::{Won, amounts_to, gave, holds, offered, queued, received, selected, tried};
 use crate::selections::{
-    Until, receive_from_two, receive_from_two_until, receive_or_send, receive_until,
-    send_or_receive, send_until,
+    receive_from_three, receive_from_two, receive_or_send, receive_until, send_or_receive,
+    send_until,
 };
 use flume::error::{RecvError, SelectError, SendError, TryRecvError, TrySendError};
 use flume::{Receiver, Selector, Sender, Waits};
@@ -20,9 +21,11 @@ fn the_first_arm_that_has_a_message_wins_and_another_takes_none(
     let (tx1, rx1) = flume::on(rt).unbounded()?;
     offered(&rt, tx0.try_send(1), Ok(()));
     offered(&rt, tx1.try_send(2), Ok(()));
-    gave(&rt, receive_from_two(&rx0, &rx1), Won::First(Ok(1)));
+    let answer = receive_from_two(&rx0, &rx1, How::Endless);
+    gave(&rt, answer, Won::First(Ok(1)));
     queued(&rt, rx1.len(), 1);
-    gave(&rt, receive_from_two(&rx0, &rx1), Won::Second(Ok(2)));
+    let answer = receive_from_two(&rx0, &rx1, How::Endless);
+    gave(&rt, answer, Won::Second(Ok(2)));
     Ok(())
 }
 
@@ -41,7 +44,8 @@ fn a_receive_arm_that_loses_leaves_nobody_waiting(rt: HostRuntime) -> Result<(),
     let (tx0, rx0) = flume::on(rt).bounded(0)?;
     let (tx1, rx1) = flume::on(rt).bounded(1)?;
     offered(&rt, tx1.try_send(5), Ok(()));
-    gave(&rt, receive_from_two(&rx0, &rx1), Won::Second(Ok(5)));
+    let answer = receive_from_two(&rx0, &rx1, How::Endless);
+    gave(&rt, answer, Won::Second(Ok(5)));
     // A receiver that waits would let it in.
     offered(&rt, tx0.try_send(7), Err(TrySendError::Full(7)));
     Ok(())
@@ -53,14 +57,14 @@ fn a_selection_whose_time_is_up_times_out_and_leaves_nobody_waiting(
 ) -> Result<(), Fail> {
     let (tx0, rx0) = flume::on(rt).bounded(0)?;
     let (tx1, rx1) = flume::on(rt).bounded(0)?;
-    let timeout = Until::Timeout(Duration::ZERO);
-    let timed = receive_from_two_until(&rx0, &rx1, timeout);
+    let timeout = How::Until(Until::Timeout(Duration::ZERO));
+    let timed = receive_from_two(&rx0, &rx1, timeout);
     selected(&rt, timed, Err(SelectError::Timeout));
     let now = Instant::now(&rt)?;
-    let timed = receive_from_two_until(&rx0, &rx1, Until::Deadline(now));
+    let timed = receive_from_two(&rx0, &rx1, How::Until(Until::Deadline(now)));
     selected(&rt, timed, Err(SelectError::Timeout));
     let past = now.checked_sub(Duration::from_nanos(1)).unwrap_or(now);
-    let timed = receive_from_two_until(&rx0, &rx1, Until::Deadline(past));
+    let timed = receive_from_two(&rx0, &rx1, How::Until(Until::Deadline(past)));
     selected(&rt, timed, Err(SelectError::Timeout));
     offered(&rt, tx0.try_send(7), Err(TrySendError::Full(7)));
     offered(&rt, tx1.try_send(8), Err(TrySendError::Full(8)));
@@ -154,23 +158,27 @@ fn three_arms_of_one_channel_take_one_message(rt: HostRuntime) -> Result<(), Fai
     let (tx, rx) = flume::on(rt).bounded(3)?;
     offered(&rt, tx.try_send(1), Ok(()));
     offered(&rt, tx.try_send(2), Ok(()));
-    let three = Selector::new()
-        .recv(&rx, Won::First)
-        .recv(&rx, Won::Second)
-        .recv(&rx, Won::Third);
-    gave(&rt, three.wait(), Won::First(Ok(1)));
+    let answer = receive_from_three(&rx, &rx, &rx, How::Endless);
+    gave(&rt, answer, Won::First(Ok(1)));
     tried(&rt, rx.try_recv(), Ok(2));
     Ok(())
+}
+
+// Receives, sends this message, or receives by a third arm.
+fn send_between<R: Waits>(
+    rx: &Receiver<u64, R>,
+    tx: &Sender<u64, R>,
+    message: u64,
+) -> Result<Won, SelectError> {
+    let first = Selector::new().recv(rx, Won::First);
+    let how = How::Endless;
+    send_or_recv(first, tx, message, Won::Sent, rx, Won::Third, how)
 }
 
 #[test]
 fn an_arm_between_two_of_its_channel_sends_to_the_first(rt: HostRuntime) -> Result<(), Fail> {
     let (tx, rx) = flume::on(rt).bounded(0)?;
-    let three = Selector::new()
-        .recv(&rx, Won::First)
-        .send(&tx, 3, Won::Sent)
-        .recv(&rx, Won::Third);
-    gave(&rt, three.wait(), Won::Sent(Ok(())));
+    gave(&rt, send_between(&rx, &tx, 3), Won::Sent(Ok(())));
     tried(&rt, rx.try_recv(), Ok(3));
     offered(&rt, tx.try_send(4), Err(TrySendError::Full(4)));
     Ok(())
@@ -182,11 +190,17 @@ fn arms_of_different_types_give_one_type(rt: HostRuntime) -> Result<(), Fail> {
     let (numbers, number) = flume::on(rt).unbounded::<u64>()?;
     let (texts, text) = flume::on(rt).unbounded::<&'static str>()?;
     holds(&rt, texts.try_send("four").is_ok());
-    let selector = Selector::new()
-        .recv(&truth, |truth| if truth == Ok(true) { 1 } else { 2 })
-        .recv(&number, |number| number.unwrap_or(3))
-        .recv(&text, |text| if text == Ok("four") { 4 } else { 5 });
-    amounts_to(&rt, selector.wait().unwrap_or(6), 4);
+    let answer = recv_thrice(
+        Selector::new(),
+        &truth,
+        |truth| if truth == Ok(true) { 1 } else { 2 },
+        &number,
+        |number: Result<u64, RecvError>| number.unwrap_or(3),
+        &text,
+        |text| if text == Ok("four") { 4 } else { 5 },
+        How::Endless,
+    );
+    amounts_to(&rt, answer.unwrap_or(6), 4);
     drop((truths, numbers));
     Ok(())
 }

@@ -1,55 +1,39 @@
 //! Selections that several tests make, each proved once.
+use crate::arms::{
+    How, Until, last_recv, last_send, recv_or_recv, recv_or_send, recv_thrice, send_or_recv,
+};
 use crate::fixtures::Won;
-use flume::error::{NoMemory, SelectError};
+use flume::error::SelectError;
 use flume::{Receiver, Selector, Sender, Waits};
 use std::alloc::Allocator;
-use std::time::{Duration, Instant};
 
-/// Up to when a selection waits.
-#[derive(Clone, Copy)]
-pub(crate) enum Until {
-    Timeout(Duration),
-    Deadline(Instant),
-}
-
-/// Receives from one channel or another, and waits as long as it takes.
+/// Receives from one channel or another.
 pub(crate) fn receive_from_two<R: Waits>(
     one: &Receiver<u64, R>,
     other: &Receiver<u64, R>,
-) -> Result<Won, NoMemory> {
-    Selector::new()
-        .recv(one, Won::First)
-        .recv(other, Won::Second)
-        .wait()
-}
-
-/// The same, and waits no longer than this.
-pub(crate) fn receive_from_two_until<R: Waits>(
-    one: &Receiver<u64, R>,
-    other: &Receiver<u64, R>,
-    until: Until,
+    how: How<'_>,
 ) -> Result<Won, SelectError> {
-    let selector = Selector::new()
-        .recv(one, Won::First)
-        .recv(other, Won::Second);
-    match until {
-        Until::Timeout(timeout) => selector.wait_timeout(timeout),
-        Until::Deadline(deadline) => selector.wait_deadline(deadline),
-    }
+    let none = Selector::new();
+    recv_or_recv(none, one, Won::First, other, Won::Second, how)
 }
 
-/// Receives by three arms, and waits no longer than this.
-pub(crate) fn receive_from_three_until<R: Waits>(
+/// Receives by three arms.
+pub(crate) fn receive_from_three<R: Waits>(
     one: &Receiver<u64, R>,
     other: &Receiver<u64, R>,
     third: &Receiver<u64, R>,
-    deadline: Instant,
+    how: How<'_>,
 ) -> Result<Won, SelectError> {
-    Selector::new()
-        .recv(one, Won::First)
-        .recv(other, Won::Second)
-        .recv(third, Won::Third)
-        .wait_deadline(deadline)
+    recv_thrice(
+        Selector::new(),
+        one,
+        Won::First,
+        other,
+        Won::Second,
+        third,
+        Won::Third,
+        how,
+    )
 }
 
 /// Receives by one arm, and waits no longer than this.
@@ -57,11 +41,7 @@ pub(crate) fn receive_until<R: Waits>(
     rx: &Receiver<u64, R>,
     until: Until,
 ) -> Result<Won, SelectError> {
-    let selector = Selector::new().recv(rx, Won::First);
-    match until {
-        Until::Timeout(timeout) => selector.wait_timeout(timeout),
-        Until::Deadline(deadline) => selector.wait_deadline(deadline),
-    }
+    last_recv(Selector::new(), rx, Won::First, How::Until(until))
 }
 
 /// Sends by one arm, and waits no longer than this.
@@ -70,45 +50,45 @@ pub(crate) fn send_until<R: Waits>(
     message: u64,
     until: Until,
 ) -> Result<Won, SelectError> {
-    let selector = Selector::new().send(tx, message, Won::Sent);
-    match until {
-        Until::Timeout(timeout) => selector.wait_timeout(timeout),
-        Until::Deadline(deadline) => selector.wait_deadline(deadline),
-    }
+    last_send(Selector::new(), tx, message, Won::Sent, How::Until(until))
 }
 
-/// Sends this message, or receives, and waits as long as it takes.
+/// Sends this message, or receives.
+pub(crate) fn send_or_receive_by<R: Waits, A: Allocator + Copy>(
+    tx: &Sender<u64, R, A>,
+    message: u64,
+    rx: &Receiver<u64, R, A>,
+    how: How<'_>,
+) -> Result<Won, SelectError> {
+    let none = Selector::new();
+    send_or_recv(none, tx, message, Won::Sent, rx, Won::First, how)
+}
+
+/// The same, as long as it takes.
 pub(crate) fn send_or_receive<R: Waits, A: Allocator + Copy>(
     tx: &Sender<u64, R, A>,
     message: u64,
     rx: &Receiver<u64, R, A>,
-) -> Result<Won, NoMemory> {
-    Selector::new()
-        .send(tx, message, Won::Sent)
-        .recv(rx, Won::First)
-        .wait()
+) -> Result<Won, SelectError> {
+    send_or_receive_by(tx, message, rx, How::Endless)
 }
 
 /// The same with the arms the other way round.
+pub(crate) fn receive_or_send_by<R: Waits, A: Allocator + Copy>(
+    rx: &Receiver<u64, R, A>,
+    tx: &Sender<u64, R, A>,
+    message: u64,
+    how: How<'_>,
+) -> Result<Won, SelectError> {
+    let none = Selector::new();
+    recv_or_send(none, rx, Won::First, tx, message, Won::Sent, how)
+}
+
+/// The same, as long as it takes.
 pub(crate) fn receive_or_send<R: Waits, A: Allocator + Copy>(
     rx: &Receiver<u64, R, A>,
     tx: &Sender<u64, R, A>,
     message: u64,
-) -> Result<Won, NoMemory> {
-    Selector::new()
-        .recv(rx, Won::First)
-        .send(tx, message, Won::Sent)
-        .wait()
-}
-
-/// Receives, or sends this message, and waits no longer than this.
-pub(crate) fn receive_or_send_until<R: Waits, A: Allocator + Copy>(
-    rx: &Receiver<u64, R, A>,
-    (tx, message): (&Sender<u64, R, A>, u64),
-    deadline: Instant,
 ) -> Result<Won, SelectError> {
-    Selector::new()
-        .recv(rx, Won::First)
-        .send(tx, message, Won::Sent)
-        .wait_deadline(deadline)
+    receive_or_send_by(rx, tx, message, How::Endless)
 }

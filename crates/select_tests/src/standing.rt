@@ -1,7 +1,8 @@
 //! A clock that stands still, so that a test knows when a selection waits: with a deadline it reads
 //! its clock once it has parked its arms, and before it sleeps.
+use crate::arms::{How, Until};
 use crate::fixtures::Won;
-use crate::selections::{Until, receive_from_three_until, receive_from_two_until};
+use crate::selections::{receive_from_three, receive_from_two};
 use ends_tests::works::Work;
 use flume::error::{NoMemory, SelectError};
 use flume::{Receiver, Sender, Waits, unbounded};
@@ -68,7 +69,7 @@ impl<R: Waits> Work for SelectTwo<'_, R> {
             other,
             deadline,
         } = self;
-        receive_from_two_until(one, other, Until::Deadline(deadline))
+        receive_from_two(one, other, How::Until(Until::Deadline(deadline)))
     }
 }
 
@@ -84,6 +85,6 @@ impl<R: Waits> Work for SelectThrice<'_, R> {
 
     fn work(self) -> Result<Won, SelectError> {
         let SelectThrice { rx, deadline } = self;
-        receive_from_three_until(rx, rx, rx, deadline)
+        receive_from_three(rx, rx, rx, How::Until(Until::Deadline(deadline)))
     }
 }

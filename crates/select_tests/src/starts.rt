@@ -1,37 +1,13 @@
 //! Which arm a selection starts with.
+use crate::arms::{How, last_recv};
 use crate::fixtures::{Won, amounts_to, gave, holds, offered};
-use flume::error::NoMemory;
-use flume::{Receiver, Selector, Sender, Waits};
+use crate::selections::{receive_from_three, receive_from_two, send_or_receive_by};
+use flume::error::SelectError;
+use flume::{Receiver, Selector, Waits};
 use rand::RngExt;
 use rand::rngs::SmallRng;
 use rand_core::{Rng, SeedableRng};
 use std::test::Fail;
-
-// Receives from one channel or another, and starts with the arm that the generator draws.
-fn start_by<R: Waits>(
-    one: &Receiver<u64, R>,
-    other: &Receiver<u64, R>,
-    rng: &mut SmallRng,
-) -> Result<Won, NoMemory> {
-    Selector::new()
-        .recv(one, Won::First)
-        .recv(other, Won::Second)
-        .with_rng(rng)
-        .wait()
-}
-
-// Receives by three arms, and starts with the one that the generator draws.
-fn start_of_three_by<R: Waits>(
-    (one, other, third): (&Receiver<u64, R>, &Receiver<u64, R>, &Receiver<u64, R>),
-    rng: &mut SmallRng,
-) -> Result<Won, NoMemory> {
-    Selector::new()
-        .recv(one, Won::First)
-        .recv(other, Won::Second)
-        .recv(third, Won::Third)
-        .with_rng(rng)
-        .wait()
-}
 
 #[test]
 fn the_start_arm_is_the_one_that_an_equal_generator_draws(rt: HostRuntime) -> Result<(), Fail> {
@@ -42,7 +18,7 @@ fn the_start_arm_is_the_one_that_an_equal_generator_draws(rt: HostRuntime) -> Re
         offered(&rt, tx0.try_send(1), Ok(()));
         offered(&rt, tx1.try_send(2), Ok(()));
         let (mut rng, mut equal) = (SmallRng::seed_from_u64(seed), SmallRng::seed_from_u64(seed));
-        let answer = start_by(&rx0, &rx1, &mut rng);
+        let answer = receive_from_two(&rx0, &rx1, How::Drawn(&mut rng));
         if equal.random_range(0..2usize) == 0 {
             first = first.saturating_add(1);
             gave(&rt, answer, Won::First(Ok(1)));
@@ -68,7 +44,7 @@ fn arms_are_started_in_a_circle_from_the_start_arm(rt: HostRuntime) -> Result<()
         offered(&rt, tx0.try_send(1), Ok(()));
         offered(&rt, tx1.try_send(2), Ok(()));
         let (mut rng, mut equal) = (SmallRng::seed_from_u64(seed), SmallRng::seed_from_u64(seed));
-        let answer = start_of_three_by((&rx0, &rx1, &rx2), &mut rng);
+        let answer = receive_from_three(&rx0, &rx1, &rx2, How::Drawn(&mut rng));
         let start = equal.random_range(0..3usize);
         if start == 2 {
             last = last.saturating_add(1);
@@ -93,12 +69,9 @@ fn start_before_the_second<R: Waits>(
     one: &Receiver<u64, R>,
     other: &Receiver<u64, R>,
     rng: &mut SmallRng,
-) -> Result<Won, NoMemory> {
-    Selector::new()
-        .recv(one, Won::First)
-        .with_rng(rng)
-        .recv(other, Won::Second)
-        .wait()
+) -> Result<Won, SelectError> {
+    let first = Selector::new().recv(one, Won::First).with_rng(rng);
+    last_recv(first, other, Won::Second, How::Endless)
 }
 
 #[test]
@@ -118,25 +91,12 @@ fn the_start_arm_is_one_of_those_that_were_there(rt: HostRuntime) -> Result<(), 
     Ok(())
 }
 
-// Sends, or receives, in the order that the generator draws.
-fn send_or_receive_by<R: Waits>(
-    tx: &Sender<u64, R>,
-    rx: &Receiver<u64, R>,
-    rng: &mut SmallRng,
-) -> Result<Won, NoMemory> {
-    Selector::new()
-        .send(tx, 5, Won::Sent)
-        .recv(rx, Won::First)
-        .with_rng(rng)
-        .wait()
-}
-
 #[test]
 fn the_start_arm_tells_which_arm_of_one_channel_wins(rt: HostRuntime) -> Result<(), Fail> {
     for seed in 0..10 {
         let (tx, rx) = flume::on(rt).bounded(0)?;
         let (mut rng, mut equal) = (SmallRng::seed_from_u64(seed), SmallRng::seed_from_u64(seed));
-        let answer = send_or_receive_by(&tx, &rx, &mut rng);
+        let answer = send_or_receive_by(&tx, 5, &rx, How::Drawn(&mut rng));
         if equal.random_range(0..2usize) == 0 {
             gave(&rt, answer, Won::First(Ok(5)));
         } else {

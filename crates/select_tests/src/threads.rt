@@ -1,8 +1,9 @@
 //! Selections beside threads that send, receive or go.
+use crate::arms::{How, Until, recv_or_recv};
 use crate::fixtures::{Won, gave, holds, long, offered, received, selected, tried};
-use crate::selections::{Until, receive_from_two, receive_until, send_until};
+use crate::selections::{receive_from_two, receive_until, send_until};
 use ends_tests::works::{Work, started};
-use flume::error::{NoMemory, RecvError, SelectError, SendError, TryRecvError, TrySendError};
+use flume::error::{RecvError, SelectError, SendError, TryRecvError, TrySendError};
 use flume::{Receiver, Selector, Sender, Waits, bounded, unbounded};
 use std::alloc::Global;
 use std::process::Abort;
@@ -36,7 +37,8 @@ fn a_selection_waits_for_the_message_of_a_thread(rt: HostRuntime) -> Result<(), 
         };
         let (_other, empty) = bounded(rt, rt.alloc(), 2, 0)?;
         let sending = started(&rt, SendOne { tx, message: 4 })?;
-        gave(&rt, receive_from_two(&empty, &rx), Won::Second(Ok(4)));
+        let answer = receive_from_two(&empty, &rx, How::Endless);
+        gave(&rt, answer, Won::Second(Ok(4)));
         holds(&rt, sending.join(&rt).is_ok());
     }
     Ok(())
@@ -211,11 +213,9 @@ impl<T: Drop, R: Waits> Work for SendAny<T, R> {
 fn receive_either<R: Waits>(
     numbers: &Receiver<u64, R>,
     truths: &Receiver<bool, R>,
-) -> Result<Either, NoMemory> {
-    Selector::new()
-        .recv(numbers, Either::Number)
-        .recv(truths, Either::Truth)
-        .wait()
+) -> Result<Either, SelectError> {
+    let (none, how) = (Selector::new(), How::Endless);
+    recv_or_recv(none, numbers, Either::Number, truths, Either::Truth, how)
 }
 
 #[test]

@@ -1,6 +1,7 @@
 //! Selections over a clock that can't be read.
+use crate::arms::Until;
 use crate::fixtures::{Won, long, offered, selected};
-use crate::selections::{Until, receive_until, send_until};
+use crate::selections::{receive_until, send_until};
 use flume::bounded;
 use flume::error::SelectError;
 use std::io;
