@@ -33,8 +33,8 @@ impl<T: Copy, L: Ledger, R: Drop, W: Weigh<T, A>, A: Allocator + Copy> Audit<T, 
     /// ```
     /// let (audit, mut seats) = Audit::<u64, L, _>::new(rt, alloc, blank, None, 1)?;
     /// for seat in seats.iter_mut() {
-    ///     audit.step(seat, Step::TrySend(5));          // Ok(Sent { filled: None })
-    ///     audit.step(seat, Step::TryRecv);             // Ok(Got(5))
+    ///     let _ = audit.step(seat, Step::TrySend(5));  // Ok(Sent { filled: None })
+    ///     let _ = audit.step(seat, Step::TryRecv);     // Ok(Got(5))
     /// }
     /// let (closed, book) = audit.close(seats);         // Settled, with two entries
     /// ```
@@ -100,8 +100,8 @@ impl<T: Copy, L: Ledger, R: Wait, W: Weigh<T, A>, A: Allocator + Copy> Audit<T, 
     /// the reply that is answered. `NoMemory`: nothing was done.
     ///
     /// ```
-    /// audit.step(seat, Step::TrySend(5));              // Ok(Sent { filled: None })
-    /// audit.step(seat, Step::TryRecv);                 // Ok(Got(5))
+    /// let _ = audit.step(seat, Step::TrySend(5));      // Ok(Sent { filled: None })
+    /// let _ = audit.step(seat, Step::TryRecv);         // Ok(Got(5))
     /// ```
     pub fn step(&self, seat: &mut Seat<T, L, W, A>, step: Step<T>) -> Result<Reply<T, A>, NoMemory>
         ensures receipt { IfOk result (λ answer. GainsReceipt seat.old step answer seat.new) }

@@ -70,8 +70,8 @@ impl<T: Copy, L: Ledger, W: Weigh<T, A>, A: Allocator + Copy> Book<T, L, W, A> {
     /// ```
     /// let (mut book, mut seats) = Book::<u64, L>::new(alloc, blank, Some(1), 2)?;
     /// for seat in seats.iter_mut() {
-    ///     book.step(seat, Step::TrySend(5));           // Ok(Sent { filled: None })
-    ///     book.step(seat, Step::TryRecv);              // Ok(Got(5))
+    ///     let _ = book.step(seat, Step::TrySend(5));   // Ok(Sent { filled: None })
+    ///     let _ = book.step(seat, Step::TryRecv);      // Ok(Got(5))
     /// }
     /// book.close(seats);                               // Settled
     /// ```
@@ -107,8 +107,8 @@ impl<T: Copy, L: Ledger, W: Weigh<T, A>, A: Allocator + Copy> Book<T, L, W, A> {
     /// receipt or for the copies of a drained list; the book and the seat are as they were.
     ///
     /// ```
-    /// book.step(seat, Step::TrySend(5));               // Ok(Sent { filled: None })
-    /// book.step(seat, Step::TryRecv);                  // Ok(Got(5))
+    /// let _ = book.step(seat, Step::TrySend(5));       // Ok(Sent { filled: None })
+    /// let _ = book.step(seat, Step::TryRecv);          // Ok(Got(5))
     /// ```
     pub fn step(
         &mut self,

@@ -5,7 +5,8 @@ use Rattle.std.specs.declared.alloc.Allocator.{Ghosts}
 use Rattle.flume_chain.specs.Chained.{Chained, put_at}
 use Rattle.flume_chain.specs.contracts.chain.Chain.{the_row}
 
-module _ (E A : RattleType) (alloc : Ghosts A.Denot) (s : MutBor (Chained E.Denot)) (place : ℕ) where
+module _ (E A : RattleType) (alloc : Ghosts A.Denot)
+    (s : MutBor (Chained E.Denot)) (place : ℕ) where
   -- the chain with this element at the place
   abbrev pub with_value : E.Denot → Chained E.Denot
   with_value w = record s.now { items = put_at s.now.items place w }

@@ -39,8 +39,8 @@ impl<E: Drop, A: Allocator> Chain<E, A> {
     ///
     /// ```
     /// let mut chain = Chain::new(alloc);
-    /// chain.push_back('a');              // Ok(0)
-    /// chain.push_back('b');              // Ok(1)
+    /// let _ = chain.push_back('a');      // Ok(0)
+    /// let _ = chain.push_back('b');      // Ok(1)
     /// chain.remove(0);                   // Some('a')
     /// chain.first();                     // Some(1)
     /// ```

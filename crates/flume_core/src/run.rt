@@ -17,7 +17,7 @@ use std::collections::VecDeque;
 /// ```
 /// let mut chan: Chan<u64, ()> = Chan::new(alloc, None);
 /// let steps = vec![in alloc; Step::TrySend(1), Step::TryRecv]?;
-/// run(alloc, &mut chan, steps);      // Ok([Sent { filled: None }, Got(1)])
+/// let _ = run(alloc, &mut chan, steps); // Ok([Sent { filled: None }, Got(1)])
 /// ```
 pub fn run<T: Drop, A: Allocator + Copy>(
     alloc: A,

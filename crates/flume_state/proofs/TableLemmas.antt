@@ -1,9 +1,10 @@
 -- How a `HashMap` from tickets is seen as a finite map, and what a table that isn't made has.
-use Rattle.std.proofs.Common.{◌≡◌, ℕ, Bool, true, false, cond, nat_eq, List, [], ◌∷◌, Option, Some, None, refl, sym, ap, ◌∙◌}
+use Rattle.std.proofs.Common.{◌≡◌, ◌↔◌, ℕ, Bool, true, false, cond, nat_eq, List, [], ◌∷◌, length, Option, Some, None, refl, sym, ap, ◌∙◌}
 use Rattle.std.specs.HashMap as table
-use Rattle.std.specs.HashMap.{HashMap}
+use Rattle.std.specs.HashMap.{HashMap, hash_map_len}
 use Rattle.std.specs.Cmp.{nat_cmp_total, eq_by_cmp_equiv, unsigned_tied}
 use Rattle.std.specs.FinMap.{FinMap, empty, from_entries, find, get, insert, remove, get-empty, get-insert, get-remove, get-from_entries}
+use Rattle.std.specs.Bool.{IsTrue}
 use Rattle.std.specs.Map.{lookup}
 use Rattle.std.specs.Ordering.{nat_cmp, eq_by_cmp}
 use Rattle.flume_state.proofs.MapLaws.{same}
@@ -20,6 +21,21 @@ module _ {X : Type 0} where
       ap (cond (eq_by_cmp nat_cmp q e.0) (Some e.1)) (find-lookup q es)
       ∙ ap (λ b. cond b (Some e.1) (lookup (nat_eq q) es)) (unsigned_tied q e.0)
 
+  -- entries of which nothing is seen are none
+  none_seen : (es : List (ℕ × X)) → seen es ≡ empty → length es ≡ 0
+  none_seen [] _ = refl
+  none_seen (e ∷ es) is =
+      let here : get (seen (e ∷ es)) e.0 ≡ Some e.1 =
+          get-from_entries nat_cmp_total (e ∷ es) e.0
+          ∙ ap (λ b. cond b (Some e.1) (find nat_cmp e.0 es)) ((eq_by_cmp_equiv nat_cmp_total).refl e.0)
+      in let both : Some e.1 ≡ None = sym here ∙ ap (λ s. get s e.0) is ∙ get-empty nat_cmp e.0
+      in absurd (let no : ⊥ = cc in no)
+
+  -- no entries are seen as the empty map
+  seen_none : (es : List (ℕ × X)) → length es ≡ 0 → seen es ≡ empty
+  seen_none [] _ = refl
+  seen_none (e ∷ es) none = absurd (let no : ⊥ = cc in no)
+
 module _ {X S : Type 0} where
   -- the finite map of a table's entries has what the table has
   pub get_of_table : (m : HashMap ℕ X S) (s : FinMap nat_cmp X) → seen m.entries ≡ s → (q : ℕ) → get s q ≡ table.get nat_eq m q
@@ -32,6 +48,12 @@ module _ {X S : Type 0} where
       get_of_table n _ refl q ∙ u.0 q
       ∙ ap (λ b. cond b w (table.get nat_eq m q)) (sym (unsigned_tied k q) ∙ (eq_by_cmp_equiv nat_cmp_total).symm k q)
       ∙ ap (cond (eq_by_cmp nat_cmp q k) w) (sym (get_of_table m _ refl q))
+
+  -- a table is seen as empty exactly where it has no entries
+  pub nothing_seen : (m : HashMap ℕ X S) (s : FinMap nat_cmp X) (b : Bool) → seen m.entries ≡ s
+      → IsTrue b ↔ (hash_map_len m ≡ 0) → b ≡ true ↔ s ≡ empty
+  nothing_seen m s b is count =
+      ((λ t. sym is ∙ seen_none m.entries (count.0 t)), (λ e. count.1 (none_seen m.entries (is ∙ e))))
 
   -- to insert into the table is to insert into its finite map
   pub inserted : (m n : HashMap ℕ X S) (s : FinMap nat_cmp X) (k : ℕ) (v : X) → seen m.entries ≡ s

@@ -132,10 +132,10 @@ impl<T: Drop, S: Drop, A: Allocator + Copy> Entries<T, S, A> {
     ///
     /// ```
     /// let mut entries: Entries<u64, (), Global> = Entries::new(alloc);
-    /// entries.park(1, Kind::Plain, ());  // Ok(())
+    /// let _ = entries.park(1, Kind::Plain, ()); // Ok(())
     /// entries.wake_all();
-    /// entries.next_due();                // Some(1)
-    /// entries.next_due();                // None
+    /// entries.next_due();                       // Some(1)
+    /// entries.next_due();                       // None
     /// ```
     #[inline(always)]
     pub fn new(alloc: A) -> Self

@@ -55,8 +55,8 @@ impl<T: Drop, A: Allocator + Copy> Line<T, A> {
     ///
     /// ```
     /// let mut line = Line::new(alloc);
-    /// line.push_queued(7);               // Ok(())
-    /// line.push_blocked(1, 8);           // Ok(())
+    /// let _ = line.push_queued(7);       // Ok(())
+    /// let _ = line.push_blocked(1, 8);   // Ok(())
     /// line.take_queued();                // Some(7)
     /// line.take_queued();                // None: 8 is blocked
     /// ```

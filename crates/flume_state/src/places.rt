@@ -45,9 +45,9 @@ impl<A: Allocator + Copy> Places<A> {
     ///
     /// ```
     /// let mut places = Places::new(alloc);
-    /// places.insert(7, 2);               // Ok(())
+    /// let _ = places.insert(7, 2);       // Ok(())
     /// places.get(7);                     // Some(2)
-    /// places.insert(7, 5);               // Ok(())
+    /// let _ = places.insert(7, 5);       // Ok(())
     /// places.get(7);                     // Some(5)
     /// places.remove(7);
     /// places.get(7);                     // None

@@ -48,7 +48,7 @@ impl<S: Drop, A: Allocator + Copy> Sends<S, A> {
     ///
     /// ```
     /// let mut sends = Sends::new(alloc);
-    /// sends.block(7, ());                // Ok(())
+    /// let _ = sends.block(7, ());        // Ok(())
     /// sends.accepted(7);                 // Some(false)
     /// sends.accept(7);
     /// sends.accepted(7);                 // Some(true)

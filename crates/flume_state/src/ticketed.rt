@@ -53,10 +53,10 @@ impl<E: Drop, A: Allocator + Copy> TicketChain<E, A> {
     ///
     /// ```
     /// let mut chain = TicketChain::new(alloc);
-    /// chain.insert_ticket(None, 7, 'a'); // Ok(0)
-    /// chain.insert_before(Some(0), 'b'); // Ok(1), ahead of 'a'
-    /// chain.find(7);                     // Some(0)
-    /// chain.first();                     // Some(1)
+    /// let _ = chain.insert_ticket(None, 7, 'a'); // Ok(0)
+    /// let _ = chain.insert_before(Some(0), 'b'); // Ok(1), ahead of 'a'
+    /// chain.find(7);                             // Some(0)
+    /// chain.first();                             // Some(1)
     /// ```
     #[inline(always)]
     pub fn new(alloc: A) -> Self

@@ -148,8 +148,8 @@ impl<E: Drop, A: Allocator> Links<E, A> {
     #[inline(always)]
     pub fn element_mut(&mut self, place: u32) -> &mut E
         requires stands { IsSome (element_at self.old place) }
-        ensures* writes_back { sem 𝓛 (Lends (the_row E.row A.row A.Allocator) E.row self.entry result
-            (with_element self.old place)) }
+        ensures* writes_back { sem 𝓛 (Lends (the_row E.row A.row A.Allocator) E.row self.entry
+            result (with_element self.old place)) }
         ensures value { element_at self.old place ≡ Some result.now }
     {
         self.nodes[place as usize].element_mut()

@@ -1,5 +1,5 @@
 //! The places of tickets in a hash table.
-ghost use Rattle.std.specs.Prelude.{◌≡◌, true, None, OnOk, OnErr};
+ghost use Rattle.std.specs.Prelude.{◌≡◌, ◌↔◌, true, None, OnOk, OnErr};
 ghost use Rattle.std.specs.FinMap.{empty, get, insert, remove};
 
 use crate::places::ticket_hash::TicketHasher;
@@ -31,7 +31,7 @@ impl<A: Allocator + Copy> HashedPlaces<A> {
     ///
     /// ```
     /// let mut places = HashedPlaces::new(alloc);
-    /// places.insert(7, 2);               // Ok(())
+    /// let _ = places.insert(7, 2);       // Ok(())
     /// places.get(7);                     // Some(2)
     /// places.is_empty();                 // false
     /// ```
@@ -46,7 +46,7 @@ impl<A: Allocator + Copy> HashedPlaces<A> {
     /// Whether no ticket has a place. It reads a count, whatever the length.
     #[inline(always)]
     pub fn is_empty(&self) -> bool
-        ensures empty { result ≡ true → self.now ≡ empty }
+        ensures empty { result ≡ true ↔ self.now ≡ empty }
     {
         self.table.is_empty()
     }

@@ -37,7 +37,7 @@ pub invariant_of-self-2 : goal.invariant_of-self-2
 invariant_of-self-2 g c = elim c.match-self.branch [
   | in-None w ↦
       ap (λ i. get i.table c.args.ticket) w.self-inside-is
-      ∙ ap (λ m. get m c.args.ticket) (w.is_empty.ensures.empty w.if-is_empty.true) ∙ get-empty nat_cmp c.args.ticket
+      ∙ ap (λ m. get m c.args.ticket) (w.is_empty.ensures.empty.0 w.if-is_empty.true) ∙ get-empty nat_cmp c.args.ticket
   | in-Some w ↦
       ap (λ i. get i.table c.args.ticket) w.self-inside-is
       ∙ here_absent _ _ _ _ c.self.invariant w.in-Some.is w.if-near-ticket.true
