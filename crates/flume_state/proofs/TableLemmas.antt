@@ -26,8 +26,8 @@ module _ {X : Type 0} where
   none_seen [] _ = refl
   none_seen (e ∷ es) is =
       let here : get (seen (e ∷ es)) e.0 ≡ Some e.1 =
-          get-from_entries nat_cmp_total (e ∷ es) e.0
-          ∙ ap (λ b. cond b (Some e.1) (find nat_cmp e.0 es)) ((eq_by_cmp_equiv nat_cmp_total).refl e.0)
+      get-from_entries nat_cmp_total (e ∷ es) e.0
+      ∙ ap (λ b. cond b (Some e.1) (find nat_cmp e.0 es)) ((eq_by_cmp_equiv nat_cmp_total).refl e.0)
       in let both : Some e.1 ≡ None = sym here ∙ ap (λ s. get s e.0) is ∙ get-empty nat_cmp e.0
       in absurd (let no : ⊥ = cc in no)
 
