@@ -31,6 +31,9 @@ const SLOTS: &[&str] = &[
 /// How many names a script may give.
 pub(crate) const NAMES: usize = 6;
 
+/// The place of no name.
+const NOWHERE: usize = usize::MAX;
+
 /// The place of the sender's name.
 pub(crate) const SENDER: usize = 6;
 
@@ -88,8 +91,8 @@ impl<'a> Asked<'a> {
         let mut asked = Asked {
             call: words.next()?,
             is_other,
-            slot: 0,
-            before: 0,
+            slot: NOWHERE,
+            before: NOWHERE,
             task: 0,
             number: 0,
         };
@@ -99,13 +102,17 @@ impl<'a> Asked<'a> {
         Some(asked)
     }
 
-    /// The place of the sender that the call is made by.
+    /// The place of the sender of the call's channel.
     pub(crate) fn sender(&self) -> usize {
         self.of_channel(SENDER)
     }
 
-    /// The place of the receiver that the call is made by.
-    pub(crate) fn receiver(&self) -> usize {
-        self.of_channel(RECEIVER)
+    /// The place of the end that the call is made by: this one, where the line names none.
+    pub(crate) fn end_or(&self, end: usize) -> usize {
+        if self.slot == NOWHERE {
+            self.of_channel(end)
+        } else {
+            self.slot
+        }
     }
 }
