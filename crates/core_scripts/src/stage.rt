@@ -49,6 +49,34 @@ fn kind(text: &str) -> Option<Kind> {
     }
 }
 
+// A call, and the signal that it leaves, if it names one.
+fn parted(asks: &str) -> Option<(&str, Option<u64>)> {
+    match asks.split_once(" signal ") {
+        Some((call, digits)) => Some((call, Some(number(digits)?))),
+        None => Some((asks, None)),
+    }
+}
+
+// Whether a step may leave a signal.
+fn may_leave(step: &Step<u64>) -> bool {
+    matches!(
+        step,
+        Step::Send(_) | Step::Recv(_) | Step::PollSend(_) | Step::Poll(_)
+    )
+}
+
+// What a line asks of a call that is parked: `late`, or nothing.
+fn asked(rest: &str, signal: Option<u64>) -> Option<Asked> {
+    match rest {
+        "" => Some(Asked {
+            signal,
+            late: false,
+        }),
+        "late" => Some(Asked { signal, late: true }),
+        _ => None,
+    }
+}
+
 impl<'g> Stage<'g> {
     /// A new channel of this capacity, whose first ticket is this one. On a restless stage each
     /// poll leaves a new signal, and who is due is named after each line.
@@ -74,6 +102,9 @@ impl<'g> Stage<'g> {
         signal: Option<u64>,
         answer: &mut String,
     ) -> Result<(), AllocError> {
+        if signal.is_some() && !may_leave(&step) {
+            return answer.push_str("unreadable");
+        }
         let signal = if self.is_restless {
             signal.or(Some(0))
         } else {
@@ -85,18 +116,17 @@ impl<'g> Stage<'g> {
 
     // Does what one call of a line asks.
     fn one(&mut self, asks: &str, answer: &mut String) -> Result<(), AllocError> {
-        let (call, signal) = match asks.split_once(" signal ") {
-            Some((call, digits)) => (call, number(digits)),
-            None => (asks, None),
+        let Some((call, signal)) = parted(asks) else {
+            return answer.push_str("unreadable");
         };
         if let Some(step) = step_of(call.as_bytes()) {
             return self.step(step, signal, answer);
         }
         let (word, rest) = call.split_once(" ").unwrap_or((call, ""));
-        match word {
-            "due" => self.due(answer),
-            "fire_due" => self.fire_due(answer),
-            "ask" => self.ask(rest, signal, answer),
+        match (word, rest) {
+            ("due", "") => self.due(answer),
+            ("fire_due", "") => self.fire_due(answer),
+            ("ask", name) => self.ask(name, signal, answer),
             _ => {
                 let said = self.asked(word, rest, signal);
                 let said = said.unwrap_or(Answer::Word("unreadable"));
@@ -107,22 +137,18 @@ impl<'g> Stage<'g> {
 
     // What a line asks that is no step and answers no list.
     fn asked(&mut self, word: &str, rest: &str, signal: Option<u64>) -> Option<Answer> {
-        match word {
-            "next_due" => Some(number_or_none(self.chan.next_due())),
-            "signal" => {
-                let ticket = number(rest)?;
-                let signal = self.chan.signal(ticket);
+        match (word, rest) {
+            ("next_due", "") => Some(number_or_none(self.chan.next_due())),
+            ("signal", ticket) => {
+                let signal = self.chan.signal(number(ticket)?);
                 Some(number_or_none(signal.map(|signal| signal.number())))
             }
-            "room" => Some(Answer::Number(self.chan.room() as u64)),
-            "has_room" => Some(truth(self.chan.room() > 0)),
-            "live" => match rest {
-                "messages" => Some(Answer::Number(self.ground.messages.live())),
-                "signals" => Some(Answer::Number(self.ground.signals.live())),
-                _ => None,
-            },
-            "refuse" => Some(self.refuse_all(true)),
-            "grant" => Some(self.refuse_all(false)),
+            ("room", "") => Some(Answer::Number(self.chan.room() as u64)),
+            ("has_room", "") => Some(truth(self.chan.room() > 0)),
+            ("live", "messages") => Some(Answer::Number(self.ground.messages.live())),
+            ("live", "signals") => Some(Answer::Number(self.ground.signals.live())),
+            ("refuse", "") => Some(self.refuse_all(true)),
+            ("grant", "") => Some(self.refuse_all(false)),
             _ => self.turn(word, rest, signal),
         }
     }
@@ -136,8 +162,6 @@ impl<'g> Stage<'g> {
     // What a line asks that is a turn, or of a call that is polled.
     fn turn(&mut self, word: &str, rest: &str, signal: Option<u64>) -> Option<Answer> {
         let (ground, chan, calls) = (self.ground, &mut self.chan, &mut self.calls);
-        let late = rest == "late";
-        let asked = Asked { signal, late };
         match word {
             "first_send" => Some(calls.first_send(chan, ground.message(number(rest)?))),
             "park_send" => {
@@ -145,13 +169,13 @@ impl<'g> Stage<'g> {
                 let message = ground.message(message);
                 Some(calls.park_send(chan, message, ground.signal(signal)))
             }
-            "again_send" => calls.again_send(ground, chan, asked),
+            "again_send" => calls.again_send(ground, chan, asked(rest, signal)?),
             "first_receive" => Some(calls.first_receive(chan)),
             "park_receive" => {
                 let (kind, signal) = (kind(rest)?, signal?);
                 Some(calls.park_receive(chan, kind, ground.signal(signal)))
             }
-            "again_receive" => calls.again_receive(ground, chan, asked),
+            "again_receive" => calls.again_receive(ground, chan, asked(rest, signal)?),
             _ => self.named(word, rest),
         }
     }
