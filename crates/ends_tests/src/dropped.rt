@@ -1,8 +1,6 @@
 //! Each message is dropped once, wherever it ends up.
 use crate::fixtures::{had, is, opened};
 use flume::{Sender, Waits};
-use flume_core::chan::Chan;
-use flume_core::step::Reply;
 use std::process::Abort;
 use std::sync::atomic::{AtomicU64, Ordering};
 
@@ -65,34 +63,4 @@ fn what_an_iterator_did_not_give_goes_with_the_channel(rt: HostRuntime) {
     is(&rt, drops.load(Ordering::SeqCst), 1);
     drop(messages);
     is(&rt, drops.load(Ordering::SeqCst), 3);
-}
-
-// The message was sent, and filled no receiver.
-fn is_queued<T>(reply: &Reply<T>) -> bool {
-    matches!(reply, Reply::Sent { filled: None })
-}
-
-// The message blocks under the first ticket.
-fn is_blocked<T>(reply: &Reply<T>) -> bool {
-    matches!(reply, Reply::Pending(1))
-}
-
-// The step is done.
-fn is_done<T>(reply: &Reply<T>) -> bool {
-    matches!(reply, Reply::Done)
-}
-
-#[test]
-fn a_blocked_message_goes_with_the_last_end(rt: HostRuntime) {
-    let drops = AtomicU64::new(0);
-    let mut chan: Chan<Counted, ()> = Chan::new(rt.alloc(), Some(1));
-    // The first is queued, and the second blocks.
-    let queued = chan.send(Counted { drops: &drops }, ());
-    is(&rt, is_queued(&queued), true);
-    let blocked = chan.send(Counted { drops: &drops }, ());
-    is(&rt, is_blocked(&blocked), true);
-    is(&rt, is_done(&chan.drop_receiver()), true);
-    is(&rt, drops.load(Ordering::SeqCst), 0);
-    is(&rt, is_done(&chan.drop_sender()), true);
-    is(&rt, drops.load(Ordering::SeqCst), 2);
 }

@@ -30,8 +30,6 @@ mod one_thread;
 #[cfg(test)]
 mod parked;
 #[cfg(test)]
-mod room;
-#[cfg(test)]
 mod signatures;
 pub mod watch;
 pub mod works;

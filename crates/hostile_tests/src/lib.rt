@@ -17,6 +17,4 @@ mod memory;
 #[cfg(test)]
 mod soak;
 #[cfg(test)]
-mod steps;
-#[cfg(test)]
 mod texts;

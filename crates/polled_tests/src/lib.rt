@@ -37,22 +37,14 @@ mod order;
 #[cfg(test)]
 mod planted;
 #[cfg(test)]
-mod receives;
-#[cfg(test)]
 mod refused;
 #[cfg(test)]
 mod replay;
-#[cfg(test)]
-mod rows;
-#[cfg(test)]
-mod sends;
 #[cfg(test)]
 mod states;
 #[cfg(test)]
 mod views;
 #[cfg(test)]
 mod waiting;
-#[cfg(test)]
-mod wakes;
 #[cfg(test)]
 mod works;
