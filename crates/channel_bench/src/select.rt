@@ -1,0 +1,112 @@
+//! The shapes of selections over four channels.
+ghost use Rattle.std.specs.Prelude.{◌≡◌};
+
+use crate::bench::{Bench, Fault, send_each};
+use crate::threads::{End, SEVERAL};
+use flume::error::RecvError;
+use flume::select::Arms;
+use flume::{Receiver, Runtime, Selector, Sender, Waits};
+use std::alloc::Global;
+use std::time::{Duration, Instant};
+
+// The ends of four channels.
+type Ends<R> = (Vec<Sender<usize, R>>, Vec<Receiver<usize, R>>);
+
+impl<R: Runtime> Bench<R> {
+    /// Each message sent into one of the channels in turn, and received by a selection over all.
+    pub fn select_seq(&self) -> Result<Duration, Fault> {
+        let (senders, receivers) = self.open_four()?;
+        let start = Instant::now(&self.rt)?;
+        let sum = select_in_turn(&senders, &receivers, self.messages);
+        self.time_since(start, sum, 1)
+    }
+
+    /// Four threads send, each into a channel of its own, and this one receives all by selections.
+    /// Making the channels and the threads is in the time. No channel closes before.
+    pub fn select_rx(&self) -> Result<Duration, Fault> {
+        let start = Instant::now(&self.rt)?;
+        let each = self.messages / SEVERAL;
+        let (senders, receivers) = self.open_four()?;
+        let mut threads = Vec::new(self.rt.alloc());
+        for tx in &senders {
+            self.start(&mut threads, End::Sends(tx.clone()?), each)?;
+        }
+        let sum = select_each(&receivers, each.saturating_mul(SEVERAL));
+        self.time_since(start, sum.wrapping_add(self.joined(threads)), SEVERAL)
+    }
+
+    // Four channels.
+    fn open_four(&self) -> Result<Ends<R>, Fault> {
+        let (mut senders, mut receivers) = (Vec::new(self.rt.alloc()), Vec::new(self.rt.alloc()));
+        for _ in 0..SEVERAL {
+            let (tx, rx) = self.open()?;
+            senders.push(tx)?;
+            receivers.push(rx)?;
+        }
+        Ok((senders, receivers))
+    }
+}
+
+/// The sum of so many messages, each of which goes through one of the channels in turn.
+fn select_in_turn<R: Waits>(
+    senders: &[Sender<usize, R>],
+    receivers: &[Receiver<usize, R>],
+    messages: usize,
+) -> usize {
+    let mut sum = 0usize;
+    for message in 0..messages {
+        if let Some(tx) = senders.get(message % SEVERAL)
+            && tx.send(message).is_ok()
+        {
+            sum = sum.wrapping_add(select(receivers));
+        }
+    }
+    sum
+}
+
+/// The sum of what so many selections receive.
+fn select_each<R: Waits>(receivers: &[Receiver<usize, R>], messages: usize) -> usize {
+    let mut sum = 0usize;
+    for _ in 0..messages {
+        sum = sum.wrapping_add(select(receivers));
+    }
+    sum
+}
+
+/// What one selection over the four channels receives, 0 where that is nothing.
+fn select<R: Waits>(receivers: &[Receiver<usize, R>]) -> usize {
+    match receivers {
+        [one, two, three, four] => by_two_more(
+            Selector::new()
+                .recv(one, message_or_none)
+                .recv(two, message_or_none),
+            (three, four),
+            message_or_none,
+        ),
+        _ => 0,
+    }
+}
+
+/// What a selection receives with two arms more. It is proved once for whatever arms come before.
+fn by_two_more<'a, L, F, R: Waits>(
+    selector: Selector<'a, usize, L>,
+    last: (&'a Receiver<usize, R>, &'a Receiver<usize, R>),
+    mapper: F,
+) -> usize
+where
+    L: Arms<usize, Global> + Drop,
+    F: Fn(Result<usize, RecvError>) -> usize + Copy + Drop,
+    requires can_map { L.can_map (L.mappers selector.arms) }
+    requires mapper { F.IsAlwaysCallable mapper }
+{
+    selector
+        .recv(last.0, mapper)
+        .recv(last.1, mapper)
+        .wait()
+        .unwrap_or(0)
+}
+
+/// The message, 0 where there is none.
+fn message_or_none(answer: Result<usize, RecvError>) -> usize {
+    answer.unwrap_or(0)
+}
