@@ -175,9 +175,9 @@ fn renew_each<'a, R: Waits>(
     cx: &mut Context<'_>,
 ) -> usize {
     let mut sum = 0usize;
-    let standing = receives.len().max(1);
+    let standing = receives.len();
     for message in 0..messages {
-        if let Some(receive) = receives.get_mut(message % standing)
+        if let Some(receive) = receives.get_mut(message % standing.max(1))
             && fill(tx, receive, message, cx)
         {
             *receive = rx.recv_async();

@@ -1,6 +1,4 @@
 //! The shapes of selections over four channels.
-ghost use Rattle.std.specs.Prelude.{◌≡◌};
-
 use crate::bench::{Bench, Fault, send_each};
 use crate::threads::{End, SEVERAL};
 use flume::error::RecvError;
@@ -76,34 +74,33 @@ fn select_each<R: Waits>(receivers: &[Receiver<usize, R>], messages: usize) -> u
 /// What one selection over the four channels receives, 0 where that is nothing.
 fn select<R: Waits>(receivers: &[Receiver<usize, R>]) -> usize {
     match receivers {
-        [one, two, three, four] => by_two_more(
-            Selector::new()
-                .recv(one, message_or_none)
-                .recv(two, message_or_none),
-            (three, four),
-            message_or_none,
-        ),
+        [one, two, three, four] => {
+            let selector = Selector::new().recv(one, message_or_none);
+            by_two_more(selector.recv(two, message_or_none), three, four)
+        }
         _ => 0,
     }
 }
 
 /// What a selection receives with two arms more. It is proved once for whatever arms come before.
-fn by_two_more<'a, L, F, R: Waits>(
+fn by_two_more<'a, L: Arms<usize, Global> + Drop, R: Waits>(
     selector: Selector<'a, usize, L>,
-    last: (&'a Receiver<usize, R>, &'a Receiver<usize, R>),
-    mapper: F,
+    next: &'a Receiver<usize, R>,
+    last: &'a Receiver<usize, R>,
 ) -> usize
-where
-    L: Arms<usize, Global> + Drop,
-    F: Fn(Result<usize, RecvError>) -> usize + Copy + Drop,
     requires can_map { L.can_map (L.mappers selector.arms) }
-    requires mapper { F.IsAlwaysCallable mapper }
 {
-    selector
-        .recv(last.0, mapper)
-        .recv(last.1, mapper)
-        .wait()
-        .unwrap_or(0)
+    by_one_more(selector.recv(next, message_or_none), last)
+}
+
+/// The same with one arm more.
+fn by_one_more<'a, L: Arms<usize, Global> + Drop, R: Waits>(
+    selector: Selector<'a, usize, L>,
+    last: &'a Receiver<usize, R>,
+) -> usize
+    requires can_map { L.can_map (L.mappers selector.arms) }
+{
+    selector.recv(last, message_or_none).wait().unwrap_or(0)
 }
 
 /// The message, 0 where there is none.
