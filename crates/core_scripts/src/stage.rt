@@ -33,6 +33,9 @@ const QUERIES: &[Step<u64>] = &[
     Step::IsDisconnected,
 ];
 
+// More than are ever due at once in a script.
+const MOST: usize = 100;
+
 // The number of a text.
 fn number(text: &str) -> Option<u64> {
     text.parse::<u64>().ok()
@@ -211,12 +214,15 @@ impl<'g> Stage<'g> {
     // Who is due, in turn, each with its signal.
     fn due(&mut self, answer: &mut String) -> Result<(), AllocError> {
         let mut rings = Rings::new(self.alloc);
-        while let Some(ticket) = self.chan.next_due() {
+        for _ in 0..MOST {
+            let Some(ticket) = self.chan.next_due() else {
+                return rings.tell(answer);
+            };
             if let Some(signal) = self.chan.signal(ticket) {
                 rings.add(ticket, signal);
             }
         }
-        rings.tell(answer)
+        answer.push_str("no end of them")
     }
 
     // For whom the bell rings, each with its signal.
