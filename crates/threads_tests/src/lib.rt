@@ -2,24 +2,26 @@
 #![tactic(auto)]
 
 #[cfg(test)]
-mod fan;
+mod answers;
+#[cfg(test)]
+mod asked;
+#[cfg(test)]
+mod calls;
+#[cfg(test)]
+mod counted;
 #[cfg(test)]
 mod fixtures;
 #[cfg(test)]
-mod forwarded;
-#[cfg(test)]
-mod many;
-#[cfg(test)]
 mod nested;
+#[cfg(test)]
+mod play;
+#[cfg(test)]
+mod player;
 #[cfg(test)]
 mod queries;
 #[cfg(test)]
-mod shared;
+mod scripts;
 #[cfg(test)]
 mod soak;
-#[cfg(test)]
-mod threads;
-#[cfg(test)]
-mod timed;
 #[cfg(test)]
 mod works;

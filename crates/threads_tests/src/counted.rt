@@ -1,0 +1,91 @@
+//! What the threads of a script share: what they say to each other, and what they count.
+use crate::answers::{Answer, after_recv};
+use crate::calls::Rx;
+use flume::Waits;
+use std::sync::Mutex;
+use std::sync::atomic::{AtomicU64, Ordering};
+use std::thread;
+
+/// How many different numbers are counted: 0 and so on.
+pub(crate) const NUMBERS: usize = 250;
+
+/// What the threads of a script share.
+#[derive(Drop)]
+pub(crate) struct Shared {
+    said: AtomicU64,
+    counts: Mutex<[u64; NUMBERS]>,
+}
+
+impl Shared {
+    /// Nothing was said or counted.
+    pub(crate) fn new() -> Shared {
+        Shared {
+            said: AtomicU64::new(0),
+            counts: Mutex::new([0; NUMBERS]),
+        }
+    }
+
+    /// Says something.
+    pub(crate) fn say(&self) {
+        self.said.fetch_add(1, Ordering::SeqCst);
+    }
+
+    /// Waits until something was said so often.
+    pub(crate) fn wait_for<R: Waits>(&self, rt: &R, times: u64) {
+        for _ in rt.forever() {
+            if times <= self.said.load(Ordering::SeqCst) {
+                return;
+            }
+            thread::yield_now();
+        }
+        unreachable!()
+    }
+
+    // Counts a number that was received.
+    fn count_one<R: Waits>(&self, rt: &R, number: u64) {
+        if let Some(count) = self.counts.lock(rt).get_mut(number as usize) {
+            *count = count.saturating_add(1);
+        }
+    }
+
+    /// Counts so many numbers that are received. How many came.
+    pub(crate) fn count<R: Waits>(&self, rt: &R, rx: &Rx<R>, most: u64) -> u64 {
+        for before in 0..most {
+            let Ok(number) = rx.recv() else {
+                return before;
+            };
+            self.count_one(rt, number);
+        }
+        most
+    }
+
+    /// Counts all numbers that are received. What the last receive answers.
+    pub(crate) fn count_all<R: Waits>(&self, rt: &R, rx: &Rx<R>) -> Answer {
+        for _ in rt.forever() {
+            match rx.recv() {
+                Ok(number) => self.count_one(rt, number),
+                Err(error) => return after_recv(Err(error)),
+            }
+        }
+        unreachable!()
+    }
+
+    /// Counts all numbers that a loop over the receiver gives.
+    pub(crate) fn count_by_loop<R: Waits>(&self, rt: &R, rx: &Rx<R>) {
+        for number in rx {
+            self.count_one(rt, number);
+        }
+    }
+
+    /// How often each number was counted, if they were all counted equally often.
+    pub(crate) fn counts<R: Waits>(&self, rt: &R) -> Answer {
+        let counts = self.counts.lock(rt);
+        let wanted = counts[0];
+        for &count in counts.iter() {
+            if count != wanted {
+                return Answer::Word("not equally often");
+            }
+        }
+        Answer::Number(wanted)
+    }
+}
