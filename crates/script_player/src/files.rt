@@ -1,0 +1,102 @@
+//! Files of scripts, played one after the other.
+use crate::lines::Theatre;
+use crate::refused::wrong_if_refused;
+use crate::script::Script;
+use std::alloc::Global;
+use std::process::ExitCode;
+use std::{env, fs, io};
+
+// How many scripts and lines a file has, and how many of the scripts are wrong.
+#[derive(Clone, Copy, Drop)]
+struct Counts {
+    scripts: u64,
+    lines: u64,
+    wrong: u64,
+}
+
+/// Plays the files that the program's arguments name, in their order, and prints a line for each,
+/// and what is wrong. A file whose name ends in `.wrong` has scripts that are wrong, and whose titles
+/// say of it what is to be found. The status is 0 where all went as it should.
+pub fn play_all<T: Theatre>(rt: &HostRuntime, theatre: &T) -> io::Result<ExitCode> {
+    let mut wrong = 0u64;
+    let mut files = 0u64;
+    for name in env::args(rt)?.skip(1) {
+        files = files.saturating_add(1);
+        let counts = play_file(rt, theatre, name.as_str())?;
+        wrong = wrong.saturating_add(counts.wrong);
+    }
+    let is_right = files > 0 && wrong == 0;
+    Ok(if is_right {
+        ExitCode::SUCCESS
+    } else {
+        ExitCode::FAILURE
+    })
+}
+
+// Plays the scripts of a file.
+fn play_file<T: Theatre>(rt: &HostRuntime, theatre: &T, name: &str) -> io::Result<Counts> {
+    let text = fs::read_to_string(rt, name)?;
+    let text = format!(in rt.alloc(); "\n{text}")?;
+    let mut counts = Counts {
+        scripts: 0,
+        lines: 0,
+        wrong: 0,
+    };
+    let mut number = 0usize;
+    for (at, block) in text.as_str().trim_end().split("\n= ").enumerate() {
+        if at > 0 {
+            let script = Script::of(block, number);
+            play_one(rt, theatre, name, &script, &mut counts)?;
+        }
+        number = number.saturating_add(block.split("\n").count());
+    }
+    if counts.scripts == 0 {
+        println!(rt; "{name}: no script is in it")?;
+        counts.wrong = 1;
+    }
+    println!(rt;
+        "{name}: {} scripts, {} lines",
+        counts.scripts, counts.lines
+    )?;
+    Ok(counts)
+}
+
+// Plays a script, prints what is wrong, and counts.
+fn play_one<T: Theatre>(
+    rt: &HostRuntime,
+    theatre: &T,
+    name: &str,
+    script: &Script<'_>,
+    counts: &mut Counts,
+) -> io::Result<()> {
+    counts.scripts = counts.scripts.saturating_add(1);
+    let lines = script.lines.lines().count() as u64;
+    counts.lines = counts.lines.saturating_add(lines);
+    let wrong = wrong_of(rt.alloc(), theatre, script)?;
+    let said = wrong.as_deref().unwrap_or("nothing is wrong");
+    let is_as_wanted = if name.ends_with(".wrong") {
+        said == script.title
+    } else {
+        wrong.is_none()
+    };
+    if !is_as_wanted {
+        counts.wrong = counts.wrong.saturating_add(1);
+        println!(rt; "{name}: {}\n    {said}", script.title)?;
+    }
+    Ok(())
+}
+
+// What is wrong with a script.
+fn wrong_of<T: Theatre>(
+    alloc: Global,
+    theatre: &T,
+    script: &Script<'_>,
+) -> io::Result<Option<String>> {
+    if script.lines.is_empty() {
+        return Ok(Some("it has no line".to_string(alloc)?));
+    }
+    match script.rest_of("! ") {
+        Some(line) => wrong_if_refused(alloc, theatre, script, line),
+        None => Ok(theatre.play(script)?.wrong),
+    }
+}

@@ -1,0 +1,19 @@
+//! Plays scripts: texts that say what is done, line by line, and what each line answers. A file of
+//! scripts is free text up to the first line `= title`; below each title stand a line that says how
+//! the stage is opened, and the lines that are played on it, `call -> answer`. A line with no arrow
+//! wants the answer `done`.
+//!
+//! One line of a script may begin with `! `. It is played with each growth of memory refused in
+//! turn, alone and with all after it: `! call -> answer | answer when refused`. Then the stage shows
+//! what it showed before, and the lines below answer as they say. Calls behind ` or ` are made in
+//! its place, with the same growths refused: `! recv_short or recv -> late | no memory`.
+#![tactic(auto)]
+
+mod files;
+mod lines;
+mod refused;
+mod script;
+
+pub use files::play_all;
+pub use lines::{Played, Stage, Theatre};
+pub use script::Script;

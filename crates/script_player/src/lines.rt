@@ -1,0 +1,135 @@
+//! The lines of a script, played on a stage.
+use crate::script::Script;
+use std::alloc::{AllocError, Global};
+use std::io;
+
+/// What the lines of a script work on.
+pub trait Stage {
+    /// Does what a line asks, and writes what that answers.
+    fn answer(&mut self, asks: &str, answer: &mut String) -> Result<(), AllocError>;
+
+    /// From now on growths of memory are refused: those from the first to the last of these,
+    /// counted from 1.
+    fn refuse(&mut self, first: u64, last: u64);
+
+    /// From now on none is. How many were refused since the last `refuse`.
+    fn grant(&mut self) -> u64;
+
+    /// Writes what a call that is refused memory has to leave as it was.
+    fn show(&mut self, seen: &mut String) -> Result<(), AllocError>;
+}
+
+/// What makes a stage for each script.
+pub trait Theatre {
+    /// Opens the stage that the script asks for, has its lines played by `Script::play_on`, lets
+    /// the stage go, and sees whether something is left of it.
+    fn play(&self, script: &Script<'_>) -> io::Result<Played>;
+}
+
+/// How a script went.
+#[derive(Drop)]
+pub struct Played {
+    /// What is wrong: the first line with another answer than it wants, or what is left.
+    pub wrong: Option<String>,
+    /// Whether a growth of memory was refused.
+    pub is_refused: bool,
+}
+
+/// What a stage answers.
+fn said<S: Stage>(alloc: Global, stage: &mut S, asks: &str) -> io::Result<String> {
+    let mut text = String::new(alloc);
+    stage.answer(asks, &mut text)?;
+    Ok(text)
+}
+
+/// What a stage shows.
+fn shown<S: Stage>(alloc: Global, stage: &mut S) -> io::Result<String> {
+    let mut text = String::new(alloc);
+    stage.show(&mut text)?;
+    Ok(text)
+}
+
+// The one of the calls, parted by ` or `, that has this number.
+fn chosen(calls: &str, number: usize) -> &str {
+    calls.split(" or ").nth(number).unwrap_or("")
+}
+
+// What is wrong with an answer, in words.
+fn compared(
+    alloc: Global,
+    asks: &str,
+    answer: &str,
+    wanted: &str,
+) -> Result<Option<String>, AllocError> {
+    if answer == wanted {
+        return Ok(None);
+    }
+    Ok(Some(format!(in alloc; "`{asks}` answers {answer}, not {wanted}")?))
+}
+
+// What is wrong with a line that is played as it stands.
+fn wrong_answer<S: Stage>(alloc: Global, stage: &mut S, line: &str) -> io::Result<Option<String>> {
+    let (asks, wanted) = line.split_once(" -> ").unwrap_or((line, "done"));
+    let answer = said(alloc, stage, asks)?;
+    Ok(compared(alloc, asks, answer.as_str(), wanted)?)
+}
+
+impl Script<'_> {
+    // What is wrong with the line behind `! `, with the script's growths refused, and whether one
+    // was. Where none was, the first answer is wanted, else the last, and nothing may have changed.
+    fn wrong_refusal<S: Stage>(
+        &self,
+        alloc: Global,
+        stage: &mut S,
+        line: &str,
+    ) -> io::Result<Played> {
+        let (calls, answers) = line.split_once(" -> ").unwrap_or((line, ""));
+        let (granted, denied) = answers.split_once(" | ").unwrap_or((answers, ""));
+        let asks = chosen(calls, self.refused.call);
+        let before = shown(alloc, stage)?;
+        stage.refuse(self.refused.first, self.refused.last);
+        let answer = said(alloc, stage, asks)?;
+        let is_refused = stage.grant() > 0;
+        let wanted = if is_refused { denied } else { granted };
+        let mut wrong = compared(alloc, asks, answer.as_str(), wanted)?;
+        if wrong.is_none() && is_refused {
+            let after = shown(alloc, stage)?;
+            wrong = compared(alloc, "what is shown", after.as_str(), before.as_str())?;
+        }
+        Ok(Played { wrong, is_refused })
+    }
+
+    // What is wrong with this line, and whether a growth was refused by it.
+    fn play_line<S: Stage>(&self, alloc: Global, stage: &mut S, line: &str) -> io::Result<Played> {
+        match line.strip_prefix("! ") {
+            Some(rest) => self.wrong_refusal(alloc, stage, rest),
+            None => Ok(Played {
+                wrong: wrong_answer(alloc, stage, line)?,
+                is_refused: false,
+            }),
+        }
+    }
+
+    /// Plays the lines, up to the first whose answer isn't the wanted one. Those below a line
+    /// `! call` of which no growth was refused aren't played.
+    pub fn play_on<S: Stage>(&self, alloc: Global, stage: &mut S) -> io::Result<Played> {
+        let mut number = self.number.saturating_add(1);
+        let mut is_refused = false;
+        for line in self.lines.lines() {
+            number = number.saturating_add(1);
+            let played = self.play_line(alloc, stage, line)?;
+            is_refused = is_refused || played.is_refused;
+            if let Some(wrong) = played.wrong {
+                let wrong = Some(format!(in alloc; "line {number}: {wrong}")?);
+                return Ok(Played { wrong, is_refused });
+            }
+            if line.starts_with("! ") && !is_refused {
+                break;
+            }
+        }
+        Ok(Played {
+            wrong: None,
+            is_refused,
+        })
+    }
+}

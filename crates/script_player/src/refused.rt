@@ -1,0 +1,100 @@
+//! Scripts of which one line is refused memory: each of its growths in turn.
+use crate::lines::Theatre;
+use crate::script::{Refused, Script};
+use std::alloc::Global;
+use std::io;
+
+// More growths than a call has.
+const MOST: u64 = 100;
+
+// What is wrong with a script as a growth of its line `! call` is refused.
+#[derive(Drop)]
+enum Outcome {
+    Wrong(String),
+    Refused,
+    /// The line has no such growth.
+    NotRefused,
+}
+
+// Plays a script with this growth refused, alone and with all after it.
+fn with_growth<T: Theatre>(
+    alloc: Global,
+    theatre: &T,
+    script: &Script<'_>,
+    (growth, call): (u64, usize),
+) -> io::Result<Outcome> {
+    let mut outcome = Outcome::Refused;
+    for last in [growth, u64::MAX] {
+        let refused = Refused {
+            first: growth,
+            last,
+            call,
+        };
+        let played = theatre.play(&script.refusing(refused))?;
+        if let Some(wrong) = played.wrong {
+            let text = format!(in alloc; "{wrong}, with growths from {growth} to {last} refused")?;
+            return Ok(Outcome::Wrong(text));
+        }
+        if !played.is_refused {
+            outcome = Outcome::NotRefused;
+        }
+    }
+    Ok(outcome)
+}
+
+// Plays a script once for each growth of its line `! call`, by the first of the calls. What is
+// wrong, and how many growths there are and one more.
+fn each_growth<T: Theatre>(
+    alloc: Global,
+    theatre: &T,
+    script: &Script<'_>,
+) -> io::Result<(Option<String>, u64)> {
+    for growth in 1..MOST {
+        match with_growth(alloc, theatre, script, (growth, 0))? {
+            Outcome::Wrong(wrong) => return Ok((Some(wrong), growth)),
+            Outcome::Refused => {}
+            Outcome::NotRefused if growth > 1 => return Ok((None, growth)),
+            Outcome::NotRefused => break,
+        }
+    }
+    let wrong = "no growth can be refused, or there is no end of them";
+    Ok((Some(wrong.to_string(alloc)?), 1))
+}
+
+// Plays a script with each of these growths refused, by one of the other calls, of which each has
+// to be refused: with memory it would wait.
+fn by_other<T: Theatre>(
+    alloc: Global,
+    theatre: &T,
+    script: &Script<'_>,
+    (end, call): (u64, usize),
+) -> io::Result<Option<String>> {
+    for growth in 1..end {
+        match with_growth(alloc, theatre, script, (growth, call))? {
+            Outcome::Wrong(wrong) => return Ok(Some(wrong)),
+            Outcome::Refused => {}
+            Outcome::NotRefused => {
+                let text = format!(in alloc; "growth {growth} isn't one of call {call}")?;
+                return Ok(Some(text));
+            }
+        }
+    }
+    Ok(None)
+}
+
+/// What is wrong with a script whose line `! call` is this, without the `! `.
+pub(crate) fn wrong_if_refused<T: Theatre>(
+    alloc: Global,
+    theatre: &T,
+    script: &Script<'_>,
+    line: &str,
+) -> io::Result<Option<String>> {
+    let (mut wrong, end) = each_growth(alloc, theatre, script)?;
+    let calls = line.split(" or ").count();
+    for call in 1..calls {
+        if wrong.is_none() {
+            wrong = by_other(alloc, theatre, script, (end, call))?;
+        }
+    }
+    Ok(wrong)
+}
