@@ -6,6 +6,8 @@ pub(crate) struct Asked<'a> {
     pub(crate) call: &'a str,
     /// Whether the call is one of the second channel.
     pub(crate) is_other: bool,
+    /// Whether a name stands behind the call.
+    pub(crate) is_named: bool,
     /// The last name.
     pub(crate) slot: usize,
     /// The name before that one, where there are two.
@@ -63,6 +65,7 @@ impl<'a> Asked<'a> {
         } else if let Some(task) = place(TASKS, word) {
             self.task = task;
         } else {
+            self.is_named = true;
             self.before = self.slot;
             self.slot = self.of_channel(place(SLOTS, word)?);
         }
@@ -88,6 +91,7 @@ impl<'a> Asked<'a> {
         let mut asked = Asked {
             call: words.next()?,
             is_other,
+            is_named: false,
             slot: 0,
             before: 0,
             task: 0,
@@ -107,5 +111,23 @@ impl<'a> Asked<'a> {
     /// The place of the receiver that the call is made by.
     pub(crate) fn receiver(&self) -> usize {
         self.of_channel(RECEIVER)
+    }
+
+    /// The place of the sender that sends: the one that is named, or the channel's.
+    pub(crate) fn sends_by(&self) -> usize {
+        if self.is_named {
+            self.slot
+        } else {
+            self.sender()
+        }
+    }
+
+    /// The place of the receiver that receives: the one that is named, or the channel's.
+    pub(crate) fn receives_by(&self) -> usize {
+        if self.is_named {
+            self.slot
+        } else {
+            self.receiver()
+        }
     }
 }

@@ -35,14 +35,43 @@ pub struct Played {
     pub is_refused: bool,
 }
 
-/// What a stage answers.
+// A line `call 1 to 9`, in its parts.
+fn ranged(asks: &str) -> Option<(&str, u64, u64)> {
+    let (start, last) = asks.rsplit_once(" to ")?;
+    let (call, first) = start.rsplit_once(" ")?;
+    Some((call, first.parse::<u64>().ok()?, last.parse::<u64>().ok()?))
+}
+
+// What a stage answers to a call with each number from the first to the last: the one answer that
+// all have, or the first other one, with its number.
+fn said_to_each<S: Stage>(
+    alloc: Global,
+    stage: &mut S,
+    (call, first, last): (&str, u64, u64),
+) -> io::Result<String> {
+    let mut common = String::new(alloc);
+    for number in first..last.saturating_add(1) {
+        let mut text = String::new(alloc);
+        stage.answer(format!(in alloc; "{call} {number}")?.as_str(), &mut text)?;
+        if number > first && text.as_str() != common.as_str() {
+            return Ok(format!(in alloc; "{text} at {number}")?);
+        }
+        common = text;
+    }
+    Ok(common)
+}
+
+// What a stage answers.
 fn said<S: Stage>(alloc: Global, stage: &mut S, asks: &str) -> io::Result<String> {
+    if let Some(range) = ranged(asks) {
+        return said_to_each(alloc, stage, range);
+    }
     let mut text = String::new(alloc);
     stage.answer(asks, &mut text)?;
     Ok(text)
 }
 
-/// What a stage shows.
+// What a stage shows.
 fn shown<S: Stage>(alloc: Global, stage: &mut S) -> io::Result<String> {
     let mut text = String::new(alloc);
     stage.show(&mut text)?;

@@ -92,7 +92,9 @@ struct Run<R: Waits> {
 impl<R: Waits + Abort> Run<R> {
     // The ends of this channel.
     fn ends(&self, channel: usize) -> &(Tx<R>, Rx<R>) {
-        self.ends.get(channel).expect(&self.rt, "there is this channel")
+        self.ends
+            .get(channel)
+            .expect(&self.rt, "there is this channel")
     }
 
     // A sender of this channel.
@@ -204,7 +206,11 @@ fn begin_all<R: Waits + Threads + Abort + Send + Sync + 'static>(
 fn join_all<R: Threads + Abort>(rt: &R, title: &str, threads: Vec<JoinHandle<Ended>>) {
     for thread in threads {
         let wrong = had(rt, thread.join(rt));
-        assert!(rt; wrong.is_none(), "{title}: {}", wrong.as_deref().unwrap_or(""));
+        assert!(rt;
+            wrong.is_none(),
+            "{title}: {}",
+            wrong.as_deref().unwrap_or("")
+        );
     }
 }
 
@@ -238,12 +244,7 @@ fn play_block<R: Waits + Threads + Abort + Send + Sync + 'static>(
     let times = had(&rt, times.parse::<u32>());
     let capacities = capacities.strip_prefix("at ").unwrap_or(capacities);
     for round in 0..times {
-        play_at_each(
-            rt,
-            alloc,
-            (title, capacities, parts),
-            round % MOST_YIELDS,
-        );
+        play_at_each(rt, alloc, (title, capacities, parts), round % MOST_YIELDS);
     }
 }
 
