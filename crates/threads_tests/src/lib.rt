@@ -4,8 +4,6 @@
 #[cfg(test)]
 mod answers;
 #[cfg(test)]
-mod asked;
-#[cfg(test)]
 mod calls;
 #[cfg(test)]
 mod counted;
@@ -17,8 +15,6 @@ mod nested;
 mod play;
 #[cfg(test)]
 mod player;
-#[cfg(test)]
-mod queries;
 #[cfg(test)]
 mod scripts;
 #[cfg(test)]

@@ -6,6 +6,7 @@ use crate::fixtures::{MOST_YIELDS, begun, had, later, opened, watching};
 use crate::player::Player;
 use flume::{Waits, WeakSender};
 use std::alloc::{AllocError, Global};
+use std::fmt::Debug;
 use std::process::Abort;
 use std::sync::Arc;
 use std::thread::{JoinHandle, Threads};
@@ -70,12 +71,19 @@ fn open_all<R: Waits + Abort>(rt: R, alloc: Global, capacity: Option<usize>) -> 
     ends
 }
 
-// The same end, shared.
-fn shared_end<E: Drop>(rt: &impl Abort, end: &Option<Arc<E>>) -> Option<Arc<E>> {
-    match end {
-        Some(end) => Some(had(rt, end.clone())),
-        None => None,
-    }
+// The end of one more thread, of those that have this one: the same, or a clone of it.
+fn next_end<E: Clone + Drop>(
+    rt: &impl Abort,
+    alloc: Global,
+    end: &Option<Arc<E>>,
+    shares: bool,
+) -> Option<Arc<E>> {
+    let end = end.as_ref()?;
+    Some(if shares {
+        had(rt, end.clone())
+    } else {
+        had(rt, Arc::new(alloc, had(rt, (**end).clone())))
+    })
 }
 
 // What the threads of one run have in common.
@@ -97,26 +105,28 @@ impl<R: Waits + Abort> Run<R> {
             .expect(&self.rt, "there is this channel")
     }
 
+    // An end, in memory that threads may share.
+    fn kept<E: Drop>(&self, end: Result<E, impl Debug + Drop>) -> Option<Arc<E>> {
+        Some(had(&self.rt, Arc::new(self.alloc, had(&self.rt, end))))
+    }
+
     // A sender of this channel.
     fn sender(&self, channel: Option<usize>) -> Option<Arc<Tx<R>>> {
-        let tx = had(&self.rt, self.ends(channel?).0.clone());
-        Some(had(&self.rt, Arc::new(self.alloc, tx)))
+        self.kept(self.ends(channel?).0.clone())
     }
 
     // A receiver of this channel.
     fn receiver(&self, channel: Option<usize>) -> Option<Arc<Rx<R>>> {
-        let rx = had(&self.rt, self.ends(channel?).1.clone());
-        Some(had(&self.rt, Arc::new(self.alloc, rx)))
+        self.kept(self.ends(channel?).1.clone())
     }
 
     // A weak sender of this channel.
     fn weak(&self, channel: Option<usize>) -> Option<Arc<WeakSender<u64, R>>> {
-        let weak = had(&self.rt, self.ends(channel?).0.downgrade());
-        Some(had(&self.rt, Arc::new(self.alloc, weak)))
+        self.kept(self.ends(channel?).0.downgrade())
     }
 
-    // A thread with ends of its own.
-    fn player(&self, cast: Cast, lines: &'static str) -> Player<R> {
+    // The first thread of those that a line tells of.
+    fn first(&self, cast: Cast, lines: &'static str) -> Player<R> {
         Player {
             rt: self.rt,
             alloc: self.alloc,
@@ -130,17 +140,17 @@ impl<R: Waits + Abort> Run<R> {
         }
     }
 
-    // A thread that shares the ends of this one.
-    fn sharing(&self, player: &Player<R>) -> Player<R> {
-        let rt = &self.rt;
+    // One more of them.
+    fn next(&self, last: &Player<R>, shares: bool) -> Player<R> {
+        let (rt, alloc) = (&self.rt, self.alloc);
         Player {
             rt: self.rt,
-            alloc: self.alloc,
+            alloc,
             shared: had(rt, self.shared.clone()),
-            tx: shared_end(rt, &player.tx),
-            rx: shared_end(rt, &player.rx),
-            weak: shared_end(rt, &player.weak),
-            lines: player.lines,
+            tx: next_end(rt, alloc, &last.tx, shares),
+            rx: next_end(rt, alloc, &last.rx, shares),
+            weak: next_end(rt, alloc, &last.weak, shares),
+            lines: last.lines,
             yields: self.yields,
             later: self.later,
         }
@@ -150,13 +160,9 @@ impl<R: Waits + Abort> Run<R> {
     fn enlist(&self, players: &mut Vec<Player<R>>, part: &'static str) {
         let (line, lines) = part.split_once("\n").unwrap_or((part, ""));
         let cast = Cast::read(line);
-        let mut last = self.player(cast, lines);
+        let mut last = self.first(cast, lines);
         for _ in 1..cast.threads {
-            let next = if cast.shares {
-                self.sharing(&last)
-            } else {
-                self.player(cast, lines)
-            };
+            let next = self.next(&last, cast.shares);
             had(&self.rt, players.push(last));
             last = next;
         }

@@ -67,6 +67,20 @@ send 9 -> disconnected 9
 - rx0
 await 1
 yield
+= a send goes on as another thread raises the capacity, after so many yields, and lowers it again
+256 times at 0
+- tx0
+say
+send 7 -> sent
+await 2
+- rx0
+await 1
+yield
+set_capacity 1
+await_len 1
+set_capacity 0
+say
+recv -> got 7
 = a sender, a receiver and a weak sender each go into a thread
 at any
 - weak0
