@@ -6,8 +6,6 @@ pub(crate) struct Asked<'a> {
     pub(crate) call: &'a str,
     /// Whether the call is one of the second channel.
     pub(crate) is_other: bool,
-    /// Whether a name stands behind the call.
-    pub(crate) is_named: bool,
     /// The last name.
     pub(crate) slot: usize,
     /// The name before that one, where there are two.
@@ -32,6 +30,9 @@ const SLOTS: &[&str] = &[
 
 /// How many names a script may give.
 pub(crate) const NAMES: usize = 6;
+
+/// The place of no name.
+const NOWHERE: usize = usize::MAX;
 
 /// The place of the sender's name.
 pub(crate) const SENDER: usize = 6;
@@ -65,7 +66,6 @@ impl<'a> Asked<'a> {
         } else if let Some(task) = place(TASKS, word) {
             self.task = task;
         } else {
-            self.is_named = true;
             self.before = self.slot;
             self.slot = self.of_channel(place(SLOTS, word)?);
         }
@@ -91,9 +91,8 @@ impl<'a> Asked<'a> {
         let mut asked = Asked {
             call: words.next()?,
             is_other,
-            is_named: false,
-            slot: 0,
-            before: 0,
+            slot: NOWHERE,
+            before: NOWHERE,
             task: 0,
             number: 0,
         };
@@ -103,31 +102,17 @@ impl<'a> Asked<'a> {
         Some(asked)
     }
 
-    /// The place of the sender that the call is made by.
+    /// The place of the sender of the call's channel.
     pub(crate) fn sender(&self) -> usize {
         self.of_channel(SENDER)
     }
 
-    /// The place of the receiver that the call is made by.
-    pub(crate) fn receiver(&self) -> usize {
-        self.of_channel(RECEIVER)
-    }
-
-    /// The place of the sender that sends: the one that is named, or the channel's.
-    pub(crate) fn sends_by(&self) -> usize {
-        if self.is_named {
-            self.slot
+    /// The place of the end that the call is made by: this one, where the line names none.
+    pub(crate) fn end_or(&self, end: usize) -> usize {
+        if self.slot == NOWHERE {
+            self.of_channel(end)
         } else {
-            self.sender()
-        }
-    }
-
-    /// The place of the receiver that receives: the one that is named, or the channel's.
-    pub(crate) fn receives_by(&self) -> usize {
-        if self.is_named {
             self.slot
-        } else {
-            self.receiver()
         }
     }
 }

@@ -28,15 +28,11 @@ fn fault<R: Waits>(giver: &Giver<'_, '_, R>) -> Option<bool> {
 /// Says what is asked of what gives messages. False: it can't be asked so.
 pub(crate) fn ask_giver<R: Waits>(
     giver: &mut Giver<'_, '_, R>,
-    (call, number): (&str, u64),
+    call: &str,
     answer: &mut String,
 ) -> Result<bool, AllocError> {
     match (call, giver) {
         ("next", giver) => say_next(answer, next(giver))?,
-        ("next_is", giver) => {
-            let message = next(giver);
-            say_truth(answer, message.is_some_and(|it| it.number == number))?;
-        }
         ("fault", giver) => match fault(giver) {
             Some(is) => say_truth(answer, is)?,
             None => return Ok(false),

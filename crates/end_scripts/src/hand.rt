@@ -69,7 +69,7 @@ impl<'t, 'h, R: Waits> Hand<'t, 'h, R> {
 
     // Calls that send. False: it is none, here and below.
     fn sends(&self, asked: &Asked<'_>, answer: &mut String) -> Result<bool, AllocError> {
-        match self.sender(asked.sends_by()) {
+        match self.sender(asked.end_or(SENDER)) {
             Some(tx) => {
                 let message = Message::new(asked.number, self.live);
                 send(tx, (asked.call, self.now), message, answer)
@@ -80,7 +80,7 @@ impl<'t, 'h, R: Waits> Hand<'t, 'h, R> {
 
     // Calls that receive.
     fn receives(&self, asked: &Asked<'_>, answer: &mut String) -> Result<bool, AllocError> {
-        match self.receiver(asked.receives_by()) {
+        match self.receiver(asked.end_or(RECEIVER)) {
             Some(rx) => {
                 Ok(receive(rx, (asked.call, self.now), answer)? || empty(rx, asked.call, answer)?)
             }
@@ -116,7 +116,7 @@ impl<'t, 'h, R: Waits> Hand<'t, 'h, R> {
                 start_send(polled, Message::new(asked.number, self.live), answer)
             }
             (Some(Held::Polled(polled)), call) => ask_polled(polled, call, answer),
-            (Some(Held::Giver(giver)), call) => ask_giver(giver, (call, asked.number), answer),
+            (Some(Held::Giver(giver)), call) => ask_giver(giver, call, answer),
             _ => Ok(false),
         }
     }

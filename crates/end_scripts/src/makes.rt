@@ -1,5 +1,5 @@
 //! What is made from ends and given a name, and what is dropped.
-use crate::asked::{Asked, OTHER_SENDER, SENDER};
+use crate::asked::{Asked, OTHER_SENDER, RECEIVER, SENDER};
 use crate::ends::Both;
 use crate::hand::Hand;
 use crate::held::{End, Giver, Held, Polled};
@@ -113,6 +113,11 @@ impl<'t, 'h, R: Waits> Hand<'t, 'h, R> {
             "into_recv_async" | "into_stream" | "into_iter" => {
                 of_receiver(both.rx.take()?, asked.call)
             }
+            "clone_into_send_async" => {
+                let tx = both.sender()?.clone().ok()?;
+                Some(owned_send(tx, message))
+            }
+            "clone_into_recv_async" => Some(owned_receive(both.receiver()?.clone().ok()?)),
             "clone_into_sink" => Some(owned_sink(both.sender()?.clone().ok()?)),
             "clone_into_stream" => Some(owned_stream(both.receiver()?.clone().ok()?)),
             "downgrade" => Some(Held::End(End::Weak(both.sender()?.downgrade().ok()?))),
@@ -204,7 +209,7 @@ impl<'t, 'h, R: Waits> Hand<'t, 'h, R> {
 
     // Drops a drain that gave nothing.
     fn drop_drain(&self, asked: &Asked<'_>) -> &'static str {
-        match self.receiver(asked.receiver()) {
+        match self.receiver(asked.end_or(RECEIVER)) {
             Some(rx) => match rx.drain() {
                 Ok(_) => "done",
                 Err(_) => "no memory",

@@ -35,40 +35,51 @@ pub struct Played {
     pub is_refused: bool,
 }
 
-// A line `call 1 to 9`, in its parts.
-fn ranged(asks: &str) -> Option<(&str, u64, u64)> {
-    let (start, last) = asks.rsplit_once(" to ")?;
-    let (call, first) = start.rsplit_once(" ")?;
+// What a stage answers to a call.
+fn said_once<S: Stage>(alloc: Global, stage: &mut S, asks: &str) -> io::Result<String> {
+    let mut text = String::new(alloc);
+    stage.answer(asks, &mut text)?;
+    Ok(text)
+}
+
+// The parts of a line that asks for each number of a range, as `try_send 0 to 99` does: what stands
+// before the numbers, the first and the last.
+fn range_of(asks: &str) -> Option<(&str, u64, u64)> {
+    let (begin, last) = asks.rsplit_once(" to ")?;
+    let (call, first) = begin.rsplit_once(" ")?;
     Some((call, first.parse::<u64>().ok()?, last.parse::<u64>().ok()?))
 }
 
-// What a stage answers to a call with each number from the first to the last: the one answer that
-// all have, or the first other one, with its number.
-fn said_to_each<S: Stage>(
+// What a stage answers to a call with each of these numbers: the one answer that all have, where the
+// number itself is `each`, and else the first other one.
+fn said_each<S: Stage>(
     alloc: Global,
     stage: &mut S,
     (call, first, last): (&str, u64, u64),
 ) -> io::Result<String> {
-    let mut common = String::new(alloc);
-    for number in first..last.saturating_add(1) {
-        let mut text = String::new(alloc);
-        stage.answer(format!(in alloc; "{call} {number}")?.as_str(), &mut text)?;
-        if number > first && text.as_str() != common.as_str() {
+    let mut one = None;
+    for number in first..=last {
+        let asks = format!(in alloc; "{call} {number}")?;
+        let text = said_once(alloc, stage, asks.as_str())?;
+        let end = format!(in alloc; " {number}")?;
+        let text = match text.as_str().strip_suffix(end.as_str()) {
+            Some(begin) => format!(in alloc; "{begin} each")?,
+            None => text,
+        };
+        if one.is_some() && one.as_deref() != Some(text.as_str()) {
             return Ok(format!(in alloc; "{text} at {number}")?);
         }
-        common = text;
+        one = Some(text);
     }
-    Ok(common)
+    Ok(one.unwrap_or(String::new(alloc)))
 }
 
-// What a stage answers.
+// What a stage answers to a line.
 fn said<S: Stage>(alloc: Global, stage: &mut S, asks: &str) -> io::Result<String> {
-    if let Some(range) = ranged(asks) {
-        return said_to_each(alloc, stage, range);
+    match range_of(asks) {
+        Some(range) => said_each(alloc, stage, range),
+        None => said_once(alloc, stage, asks),
     }
-    let mut text = String::new(alloc);
-    stage.answer(asks, &mut text)?;
-    Ok(text)
 }
 
 // What a stage shows.
