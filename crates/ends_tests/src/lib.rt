@@ -3,33 +3,19 @@
 
 #[cfg(test)]
 mod builder;
-#[cfg(test)]
-mod capacities;
 pub mod changes;
 #[cfg(test)]
 mod clocks;
 pub mod counting;
 #[cfg(test)]
-mod draining;
-#[cfg(test)]
-mod dropped;
-#[cfg(test)]
 mod examples;
 #[cfg(test)]
 mod fixtures;
 #[cfg(test)]
-mod iterators;
-#[cfg(test)]
-mod leaks;
-#[cfg(test)]
-mod memory;
-#[cfg(test)]
-mod messages;
-#[cfg(test)]
-mod one_thread;
-#[cfg(test)]
 mod parked;
 #[cfg(test)]
-mod signatures;
+mod parkers;
+#[cfg(test)]
+mod types;
 pub mod watch;
 pub mod works;

@@ -22,9 +22,6 @@ pub(crate) fn had<T, E: Debug + Drop>(rt: &impl Abort, answer: Result<T, E>) -> 
     answer.expect(rt, "there is memory")
 }
 
-/// The capacities at which several threads meet; `None` is unbounded.
-pub(crate) const CAPACITIES: &[Option<usize>] = &[None, Some(0), Some(1), Some(3)];
-
 /// The ends of a new channel of this capacity: `None` is unbounded.
 pub(crate) fn opened<T: Drop, R: Waits + Abort>(
     rt: R,

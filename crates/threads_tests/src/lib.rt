@@ -2,24 +2,22 @@
 #![tactic(auto)]
 
 #[cfg(test)]
-mod fan;
+mod answers;
+#[cfg(test)]
+mod calls;
+#[cfg(test)]
+mod counted;
 #[cfg(test)]
 mod fixtures;
 #[cfg(test)]
-mod forwarded;
-#[cfg(test)]
-mod many;
-#[cfg(test)]
 mod nested;
 #[cfg(test)]
-mod queries;
+mod play;
 #[cfg(test)]
-mod shared;
+mod player;
+#[cfg(test)]
+mod scripts;
 #[cfg(test)]
 mod soak;
-#[cfg(test)]
-mod threads;
-#[cfg(test)]
-mod timed;
 #[cfg(test)]
 mod works;

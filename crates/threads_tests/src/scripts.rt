@@ -1,0 +1,326 @@
+//! Scripts of threads that meet over channels. A thread's lines are answered so in whatever order
+//! the threads run.
+use crate::play::play;
+
+const MEETINGS: &str = "
+= a send without room meets a receive
+at 0
+- tx0
+send 1 -> sent
+- rx0
+recv -> got 1
+= a tried send meets a receive that waits
+at 0
+- tx0
+until_taken 7 -> sent
+- rx0
+recv -> got 7
+= a tried receive takes a send that waits, and is then told that the sender is gone
+at 0
+- tx0
+send 1 -> sent
+- rx0
+until_given -> got 1
+until_given -> disconnected
+= each of many short-lived channels passes its message
+100 times at any 0 1
+- tx0
+send 7 -> sent
+- rx0
+recv -> got 7
+= one thread receives in the order of the other, and never more are queued than the channel holds
+at any 0 1 3
+- tx0
+send_all 1000 -> 1000
+- rx0
+receive_all 1000 -> 1000
+recv -> disconnected
+= no send passes one that a drain let in
+at 1
+- tx0
+try_send 1 -> sent
+say
+send 2 -> sent
+say
+await 3
+- tx0 rx0
+await 1
+drain -> 1
+await_len 1
+try_send 3 -> full 3
+recv -> got 2
+await 2
+say
+= a receive ends as the last sender goes, after so many yields
+256 times at any
+- rx0
+say
+recv -> disconnected
+- tx0
+await 1
+yield
+= a send ends as the last receiver goes, after so many yields
+256 times at 0
+- tx0
+say
+send 9 -> disconnected 9
+- rx0
+await 1
+yield
+= a send goes on as another thread raises the capacity, after so many yields, and lowers it again
+256 times at 0
+- tx0
+say
+send 7 -> sent
+await 2
+- rx0
+await 1
+yield
+set_capacity 1
+await_len 1
+set_capacity 0
+say
+recv -> got 7
+= a sender, a receiver and a weak sender each go into a thread
+at any
+- weak0
+weak_send 1 -> sent
+say
+- tx0
+await 1
+send 2 -> sent
+- rx0
+recv -> got 1
+recv -> got 2
+recv -> disconnected
+";
+
+const TIMED: &str = "
+= a receive with a timeout of an hour is served, or ends as the sender goes
+at any 0 2
+- rx0
+recv_hour -> got 7
+say
+recv_hour -> disconnected
+- tx0
+until_taken 7 -> sent
+await 1
+= a receive with a far deadline is served, or ends as the sender goes
+at any 0 2
+- rx0
+recv_far -> got 7
+say
+recv_far -> disconnected
+- tx0
+until_taken 7 -> sent
+await 1
+= a send with a timeout of an hour is taken, or ends as the receiver goes
+at 0
+- tx0
+send_hour 10 -> sent
+say
+send_hour 11 -> disconnected 11
+- rx0
+recv -> got 10
+await 1
+= a send with a far deadline is taken, or ends as the receiver goes
+at 0
+- tx0
+send_far 10 -> sent
+say
+send_far 11 -> disconnected 11
+- rx0
+recv -> got 10
+await 1
+= a send into a full channel with a timeout of an hour is taken, or ends as the receiver goes
+at 2
+- tx0
+try_send 0 -> sent
+try_send 1 -> sent
+say
+send_hour 10 -> sent
+say
+send_hour 11 -> disconnected 11
+- rx0
+await 1
+recv -> got 0
+await 2
+= a send into a full channel with a far deadline is taken, or ends as the receiver goes
+at 2
+- tx0
+try_send 0 -> sent
+try_send 1 -> sent
+say
+send_far 10 -> sent
+say
+send_far 11 -> disconnected 11
+- rx0
+await 1
+recv -> got 0
+await 2
+= timed calls of a millisecond that race neither lose nor double a message
+at any 0 2
+- tx0
+race_send_1000 100 -> 100
+- rx0
+race_receive_1000 100 -> 100
+recv_hour -> disconnected
+= timed calls of 20 microseconds that race neither lose nor double a message
+at any 0 2
+- tx0
+race_send_20 100 -> 100
+- rx0
+race_receive_20 100 -> 100
+recv_hour -> disconnected
+";
+
+const MANY: &str = "
+= four threads send each number to four others, of which it arrives four times; two on each side share an end
+at any 0 1 3
+- 2 sharing tx0
+send_all 250 -> 250
+- 2 tx0
+send_all 250 -> 250
+- 2 sharing rx0
+count 250 -> 250
+say
+- 2 rx0
+count 250 -> 250
+say
+- tx0 rx0
+await 4
+counts -> 4
+try_recv -> empty
+= eight threads share what one sends, until it is gone
+at any 0 1 3
+- 8 rx0
+count_all -> disconnected
+say
+- tx0
+send_all 250 -> 250
+- rx0
+await 8
+counts -> 1
+try_recv -> disconnected
+= iterators in eight threads share what one sends, until it is gone
+at any 0 1 3
+- 8 rx0
+count_by_loop
+say
+- tx0
+send_all 250 -> 250
+- rx0
+await 8
+counts -> 1
+try_recv -> disconnected
+= a send is seen by the next try
+at any 4
+- 4 sharing tx0 rx0
+found 1000 -> 1000
+= two threads use one sender and one weak sender, and two others one receiver
+at 0
+- 2 sharing tx0 weak0
+send_all 250 -> 250
+weak_send_all 250 -> 250
+- 2 sharing rx0
+count 500 -> 500
+say
+- rx0
+await 2
+counts -> 4
+";
+
+const FORWARDED: &str = "
+= a worker in a loop over its receiver answers on another channel
+at any 0 1 3
+- tx0
+send_all 100 -> 100
+- rx0 tx1
+forward_by_loop -> 100
+- rx1
+receive_all 100 -> 100
+recv -> disconnected
+= iterators that only try play ping-pong
+at any 0 1 3
+- tx0 rx1
+ping_pong 1000 -> 1000
+- rx0 tx1
+forward_by_loop -> 1000
+= eight threads forward from one channel into another
+at any
+- 8 rx0 tx1
+forward -> disconnected
+- tx0
+send_all 100 -> 100
+await 1
+send_all 100 -> 100
+await 2
+send_all 100 -> 100
+- rx1
+sum 100 -> 4950
+say
+sum 100 -> 4950
+say
+sum 100 -> 4950
+recv -> disconnected
+= eight iterators lead into one channel, which an iterator reads
+at any 0 1 3
+- 8 rx0 tx1
+forward_by_iterator
+- tx0
+send_all 100 -> 100
+await 1
+send_all 100 -> 100
+await 2
+send_all 100 -> 100
+- rx1
+sum 100 -> 4950
+say
+sum 100 -> 4950
+say
+sum 100 -> 4950
+recv -> disconnected
+= a chain of eight keeps the order
+at 4
+- tx0
+send_all 100 -> 100
+- rx0 tx1
+forward -> disconnected
+- rx1 tx2
+forward -> disconnected
+- rx2 tx3
+forward -> disconnected
+- rx3 tx4
+forward -> disconnected
+- rx4 tx5
+forward -> disconnected
+- rx5 tx6
+forward -> disconnected
+- rx6 tx7
+forward -> disconnected
+- rx7 tx8
+forward -> disconnected
+- rx8
+receive_all 100 -> 100
+recv -> disconnected
+";
+
+#[test]
+fn each_script_of_threads_that_meet_answers_as_it_says(rt: HostRuntime) {
+    play(rt, rt.alloc(), MEETINGS);
+}
+
+#[test]
+fn each_script_of_calls_with_a_deadline_answers_as_it_says(rt: HostRuntime) {
+    play(rt, rt.alloc(), TIMED);
+}
+
+#[test]
+fn each_script_of_many_threads_answers_as_it_says(rt: HostRuntime) {
+    play(rt, rt.alloc(), MANY);
+}
+
+#[test]
+fn each_script_of_messages_sent_on_answers_as_it_says(rt: HostRuntime) {
+    play(rt, rt.alloc(), FORWARDED);
+}
