@@ -1,8 +1,11 @@
-//! When a winner's mapper is called.
+//! When a winner's mapper is called, and the debug text of a selector.
 use crate::arms::{How, recv_or_recv};
-use crate::fixtures::{holds, is, offered, opened};
+use crate::fixtures::{Won, had, holds, is, offered, opened};
 use flume::error::{RecvError, TrySendError};
 use flume::{Receiver, Selector, Sender, Waits};
+use std::alloc::Global;
+use std::fmt::Debug;
+use std::process::Abort;
 
 // What a mapper found in the channels: an offer to the arm that lost, and how many messages were
 // queued where its own came from.
@@ -29,4 +32,25 @@ fn a_mapper_is_called_once_the_others_left_and_may_use_the_channels(rt: HostRunt
     holds(&rt, message == Ok(1));
     offered(&rt, offer, Err(TrySendError::Full(7)));
     is(&rt, len, 1);
+}
+
+// It shows as the name of its type.
+fn shows_its_name(rt: &impl Abort, alloc: Global, selector: &impl Debug) {
+    let shown = had(rt, format!(in alloc; "{selector:?}"));
+    holds(rt, shown.as_str() == "Selector");
+}
+
+// One with two arms does.
+fn two_arms_show_it<R: Waits + Abort>(rt: R, alloc: Global) {
+    let (tx, rx) = opened(rt, alloc, None);
+    let selector = Selector::new()
+        .recv(&rx, Won::First)
+        .send(&tx, 1, Won::Sent);
+    shows_its_name(&rt, alloc, &selector);
+}
+
+#[test]
+fn a_selector_shows_its_name(rt: HostRuntime) {
+    shows_its_name(&rt, rt.alloc(), &Selector::<'_, Won>::default());
+    two_arms_show_it(rt, rt.alloc());
 }
