@@ -1,8 +1,6 @@
 //! Selections beside threads that send, receive or go.
 use crate::arms::{How, Until, recv_or_recv};
-use crate::fixtures::{
-    Won, begun, holds, is, later, long, offered, opened, received, selected, tried,
-};
+use crate::fixtures::{Won, begun, holds, later, long, offered, opened, received, selected, tried};
 use crate::selections::{receive_from_two, receive_until, send_until};
 use ends_tests::works::{SendOne, Work};
 use flume::error::{RecvError, SelectError, SendError, TryRecvError, TrySendError};
@@ -257,7 +255,7 @@ where
     let receiving = begun(&rt, ReceiveTwo { rx, sent, raises });
     let answer = send_until(&tx, 2, Until::Timeout(long()));
     selected(&rt, answer, Ok(Won::Sent(Ok(()))));
-    is(&rt, say.send(()).is_ok() || !raises, true);
+    holds(&rt, say.send(()).is_ok() || !raises);
     let (first, second) = receiving.join(&rt);
     received(&rt, first, Ok(1));
     received(&rt, second, Ok(2));
