@@ -1,17 +1,12 @@
 //! Many futures and streams of one channel, polled together.
-ghost use Rattle.futures.specs.Poll.{OnPending};
-ghost use Rattle.futures.specs.Task.{IsArmed, Keeps};
-
-use crate::fixtures::is;
+use crate::fixtures::{begun, had, is, opened, ran};
+use crate::numbers::Numbers;
 use crate::works::{Runs, SendUpTo, Stuck};
 use ends_tests::watch::begin_watch;
-use ends_tests::works::started;
-use flume::polled::{RecvFut, RecvStream};
-use flume::{Receiver, Waits, bounded};
-use futures::executor::block_on;
+use flume::{Receiver, Waits};
 use futures::stream::FuturesUnordered;
 use futures::task::{Context, Poll};
-use futures::{Future, Stream, StreamExt};
+use futures::{Future, StreamExt};
 use std::alloc::Global;
 use std::process::Abort;
 use std::test::Fail;
@@ -22,33 +17,10 @@ const ALL: u64 = 1000;
 // How many loops receive them.
 const LOOPS: usize = 20;
 
-// A loop by futures, or by a stream.
-#[derive(Drop)]
-enum Messages<'a, R: Waits> {
-    Futures(RecvFut<'a, u64, R>),
-    Stream(RecvStream<'a, u64, R>),
-}
-
-impl<R: Waits> Messages<'_, R> {
-    // The next message, or none once all senders are gone.
-    fn poll_message(&mut self, cx: &mut Context<'_>) -> Poll<Option<u64>>
-        ensures armed { OnPending result (IsArmed cx.new) }
-        ensures kept { Keeps cx.old cx.new }
-    {
-        match self {
-            Messages::Futures(future) => match future.poll(cx) {
-                Poll::Ready(received) => Poll::Ready(received.ok()),
-                Poll::Pending => Poll::Pending,
-            },
-            Messages::Stream(stream) => stream.poll_next(cx),
-        }
-    }
-}
-
 // Receives until all senders are gone. Its output is what came, or none where there was no memory.
 #[derive(Drop)]
 struct UntilClosed<'a, R: Waits> {
-    messages: Messages<'a, R>,
+    numbers: Numbers<'a, R>,
     came: Option<Vec<u64>>,
 }
 
@@ -68,7 +40,7 @@ impl<R: Waits> Future for UntilClosed<'_, R> {
     type Output = Option<Vec<u64>>;
 
     fn poll(&mut self, cx: &mut Context<'_>) -> Poll<Option<Vec<u64>>> {
-        match self.messages.poll_message(cx) {
+        match self.numbers.poll_number(cx) {
             Poll::Ready(Some(message)) => {
                 self.keep(message);
                 cx.yield_now()
@@ -80,21 +52,17 @@ impl<R: Waits> Future for UntilClosed<'_, R> {
 }
 
 // The loops, half of them by futures and half by streams.
-fn loops<'a, R: Waits>(
-    alloc: Global,
+fn loops<'a, R: Runs>(
+    (rt, alloc): (R, Global),
     rx: &'a Receiver<u64, R>,
-) -> Result<FuturesUnordered<UntilClosed<'a, R>>, Fail> {
-    let mut set = FuturesUnordered::new(alloc)?;
+) -> FuturesUnordered<UntilClosed<'a, R>> {
+    let mut set = had(&rt, FuturesUnordered::new(alloc));
     for number in 0..LOOPS {
-        let messages = if number % 2 == 0 {
-            Messages::Futures(rx.recv_async())
-        } else {
-            Messages::Stream(rx.stream())
-        };
+        let numbers = Numbers::of(rx, number % 2 == 1);
         let came = Some(Vec::new(alloc));
-        set.push(UntilClosed { messages, came })?;
+        had(&rt, set.push(UntilClosed { numbers, came }));
     }
-    Ok(set)
+    set
 }
 
 // Counts each message of a loop.
@@ -116,22 +84,21 @@ fn count_all(rt: &impl Abort, ended: Vec<Option<Vec<u64>>>, counts: &mut [u32]) 
 }
 
 // A thread sends, and the loops receive each message once.
-fn receive_all<R: Runs>(rt: R, alloc: Global) -> Result<(), Fail> {
-    let (tx, rx) = bounded::<u64, _, _>(rt, alloc, 1, 10)?;
-    let set = loops(alloc, &rx)?;
-    let sender = started(&rt, SendUpTo { tx, end: ALL })?;
-    let ended = block_on(&rt, set.collect(alloc))??;
+fn receive_all<R: Runs>(rt: R, alloc: Global) {
+    let (tx, rx) = opened::<u64, _>(rt, alloc, Some(10));
+    let set = loops((rt, alloc), &rx);
+    let sender = begun(&rt, SendUpTo { tx, end: ALL });
+    let ended = had(&rt, ran(&rt, set.collect(alloc)));
     sender.join(&rt);
-    let mut counts = vec![in alloc; 0u32; ALL as usize]?;
+    let mut counts = had(&rt, vec![in alloc; 0u32; ALL as usize]);
     count_all(&rt, ended, counts.as_mut_slice());
     is(&rt, counts.iter().all(|&count| count == 1), true);
-    Ok(())
 }
 
 #[test]
 fn twenty_loops_on_one_thread_share_the_messages_of_another(rt: HostRuntime) -> Result<(), Fail> {
     let watch = begin_watch(rt, rt.alloc(), Stuck(rt))?;
-    let ended = receive_all(rt, rt.alloc());
+    receive_all(rt, rt.alloc());
     watch.end(&rt);
-    ended
+    Ok(())
 }

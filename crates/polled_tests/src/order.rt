@@ -1,47 +1,20 @@
 //! Messages in their order, and each once, through futures, sinks and streams: from a thread, on
 //! one thread, and by many that are polled together.
-ghost use Rattle.futures.specs.Poll.{OnPending};
-ghost use Rattle.futures.specs.Task.{IsArmed, Keeps};
-
-use crate::fixtures::is;
+use crate::fixtures::{begun, had, is, opened, ran};
+use crate::numbers::Numbers;
 use crate::works::{ChangeCapacity, Runs, SendUpTo, Stuck};
 use ends_tests::changes::wait_for_change;
 use ends_tests::watch::begin_watch;
-use ends_tests::works::started;
-use flume::polled::{RecvFut, RecvStream, SendFut};
-use flume::{Receiver, Sender, Waits, bounded, unbounded};
-use futures::executor::block_on;
+use flume::polled::SendFut;
+use flume::{Receiver, Sender, Waits};
+use futures::Future;
 use futures::future::join;
 use futures::task::{Context, Poll};
-use futures::{Future, Stream};
 use std::alloc::Global;
 use std::test::Fail;
 
 // How many numbers one side sends to the other.
 const ALL: u64 = 10_000;
-
-// Where numbers come from.
-#[derive(Drop)]
-enum Numbers<'a, R: Waits> {
-    Futures(RecvFut<'a, u64, R>),
-    Stream(RecvStream<'a, u64, R>),
-}
-
-impl<R: Waits> Numbers<'_, R> {
-    // The next number, or none once all senders are gone.
-    fn poll_number(&mut self, cx: &mut Context<'_>) -> Poll<Option<u64>>
-        ensures armed { OnPending result (IsArmed cx.new) }
-        ensures kept { Keeps cx.old cx.new }
-    {
-        match self {
-            Numbers::Futures(future) => match future.poll(cx) {
-                Poll::Ready(received) => Poll::Ready(received.ok()),
-                Poll::Pending => Poll::Pending,
-            },
-            Numbers::Stream(stream) => stream.poll_next(cx),
-        }
-    }
-}
 
 // Receives until all senders are gone. Its output says how many numbers came, each in its order.
 #[derive(Drop)]
@@ -67,28 +40,25 @@ impl<R: Waits> Future for InOrder<'_, R> {
 }
 
 // Numbers of a thread, received by futures or by a stream.
-fn of_a_thread<R: Runs>(rt: R, alloc: Global) -> Result<(), Fail> {
+fn of_a_thread<R: Runs>(rt: R, alloc: Global) {
     for by_stream in [false, true] {
-        let (tx, rx) = unbounded::<u64, _, _>(rt, alloc, 1)?;
-        let sender = started(&rt, SendUpTo { tx, end: ALL })?;
-        let numbers = if by_stream {
-            Numbers::Stream(rx.stream())
-        } else {
-            Numbers::Futures(rx.recv_async())
+        let (tx, rx) = opened::<u64, _>(rt, alloc, None);
+        let sender = begun(&rt, SendUpTo { tx, end: ALL });
+        let received = InOrder {
+            numbers: Numbers::of(&rx, by_stream),
+            next: 0,
         };
-        let received = InOrder { numbers, next: 0 };
-        is(&rt, block_on(&rt, received)?, Some(ALL));
+        is(&rt, ran(&rt, received), Some(ALL));
         sender.join(&rt);
     }
-    Ok(())
 }
 
 #[test]
 fn futures_and_a_stream_receive_in_the_order_of_a_thread(rt: HostRuntime) -> Result<(), Fail> {
     let watch = begin_watch(rt, rt.alloc(), Stuck(rt))?;
-    let ended = of_a_thread(rt, rt.alloc());
+    of_a_thread(rt, rt.alloc());
     watch.end(&rt);
-    ended
+    Ok(())
 }
 
 // Sends 0, 1, 2 and so on up to an end, each by a future of its own. Its output says whether each
@@ -118,7 +88,7 @@ impl<R: Waits> Future for InTurn<'_, R> {
 }
 
 // One future sends and the other receives, on one thread, until all numbers came.
-fn pass_all<R: Runs>(rt: R, tx: &Sender<u64, R>, rx: Receiver<u64, R>) -> Result<(), Fail> {
+fn pass_all<R: Runs>(rt: R, tx: &Sender<u64, R>, rx: &Receiver<u64, R>) {
     let sends = InTurn {
         tx,
         send: tx.send_async(0),
@@ -126,32 +96,27 @@ fn pass_all<R: Runs>(rt: R, tx: &Sender<u64, R>, rx: Receiver<u64, R>) -> Result
         end: ALL,
     };
     let received = UpTo {
-        numbers: Numbers::Futures(rx.into_recv_async()),
+        numbers: Numbers::of(rx, false),
         next: 0,
     };
-    is(&rt, block_on(&rt, join(sends, received))?, (true, true));
-    Ok(())
+    is(&rt, ran(&rt, join(sends, received)), (true, true));
 }
 
 // The same while another thread changes the capacity, before the first number and all along.
-fn pass_all_while_it_changes<R: Runs>(rt: R, alloc: Global) -> Result<(), Fail> {
-    let (tx, rx) = bounded::<u64, _, _>(rt, alloc, 1, 4)?;
-    let changes = ChangeCapacity {
-        rt,
-        rx: rx.clone()?,
-    };
-    let changing = started(&rt, changes)?;
+fn pass_all_while_it_changes<R: Runs>(rt: R, alloc: Global) {
+    let (tx, rx) = opened::<u64, _>(rt, alloc, Some(4));
+    let other = had(&rt, rx.clone());
+    let changing = begun(&rt, ChangeCapacity { rt, rx: other });
     wait_for_change(&rt, &rx, 4);
-    pass_all(rt, &tx, rx)?;
-    drop(tx);
+    pass_all(rt, &tx, &rx);
+    drop((tx, rx));
     is(&rt, changing.join(&rt) > 0, true);
-    Ok(())
 }
 
 // The same at a capacity that stays.
-fn pass_all_at_4<R: Runs>(rt: R, alloc: Global) -> Result<(), Fail> {
-    let (tx, rx) = bounded::<u64, _, _>(rt, alloc, 1, 4)?;
-    pass_all(rt, &tx, rx)
+fn pass_all_at_4<R: Runs>(rt: R, alloc: Global) {
+    let (tx, rx) = opened::<u64, _>(rt, alloc, Some(4));
+    pass_all(rt, &tx, &rx);
 }
 
 // Receives as many numbers as are sent. Its output says whether each came in its order.
@@ -182,9 +147,9 @@ impl<R: Waits> Future for UpTo<'_, R> {
 #[test]
 fn two_futures_on_one_thread_pass_numbers_in_order(rt: HostRuntime) -> Result<(), Fail> {
     let watch = begin_watch(rt, rt.alloc(), Stuck(rt))?;
-    let ended = pass_all_at_4(rt, rt.alloc());
+    pass_all_at_4(rt, rt.alloc());
     watch.end(&rt);
-    ended
+    Ok(())
 }
 
 #[test]
@@ -192,7 +157,7 @@ fn two_futures_pass_numbers_in_order_while_a_thread_changes_the_capacity(
     rt: HostRuntime,
 ) -> Result<(), Fail> {
     let watch = begin_watch(rt, rt.alloc(), Stuck(rt))?;
-    let ended = pass_all_while_it_changes(rt, rt.alloc());
+    pass_all_while_it_changes(rt, rt.alloc());
     watch.end(&rt);
-    ended
+    Ok(())
 }
