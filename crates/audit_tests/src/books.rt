@@ -59,6 +59,9 @@ const MOST: u64 = 1000;
 // Which growths of a step are refused: from the first to the last, counted from 1.
 type Window = (u64, u64);
 
+// No growth.
+const NONE: Window = (1, 0);
+
 type Audited<'h, L> = Book<u64, L, Ones, Heap<'h>>;
 
 type Seats<'h, L> = Vec<Seat<u64, L, Ones, Heap<'h>>, Heap<'h>>;
@@ -205,29 +208,30 @@ fn played<L: Ledger, R: Abort>(
     let capacity = opening_of(script.opening.as_bytes()).expect(rt, "there is an opening");
     let opened = Book::<u64, L, Ones, Heap<'_>>::new(heap, blank, capacity, 2);
     let (mut book, mut seats) = had(rt, opened);
-    let mut refused = Refused::Not;
-    let mut lines = script.lines.split("\n").peekable();
-    while let Some(line) = lines.next() {
+    let (before, last) = script.lines.rsplit_once("\n").unwrap_or(("", script.lines));
+    for line in before.lines() {
         let line = line_of(rt, line);
-        let window = if lines.peek().is_none() {
-            window
-        } else {
-            (1, 0)
-        };
-        refused = made(
+        made(
             rt,
             (script.title, heap),
             (&mut book, &mut seats),
-            (line, window),
+            (line, NONE),
         );
-        if !matches!(refused, Refused::Not) {
-            made(
-                rt,
-                (script.title, heap),
-                (&mut book, &mut seats),
-                (line, (1, 0)),
-            );
-        }
+    }
+    let last = line_of(rt, last);
+    let refused = made(
+        rt,
+        (script.title, heap),
+        (&mut book, &mut seats),
+        (last, window),
+    );
+    if !matches!(refused, Refused::Not) {
+        made(
+            rt,
+            (script.title, heap),
+            (&mut book, &mut seats),
+            (last, NONE),
+        );
     }
     seats.reverse();
     let is_settled = matches!(book.close(seats), Closed::Settled);

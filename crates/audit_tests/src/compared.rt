@@ -11,24 +11,24 @@ use std::process::Abort;
 // `d` is `c` with another reply, and `e` is `b` with another step.
 const ROWS: &str = "
 0: -> none
-0: 0d -> 0
-1: 0a -> none
+0: 0=d -> 0
+1: 0=a -> none
 1: -> 0
-1: 0d -> 0
-1: 0a, 0a -> 0
-1: 0a 0a -> 0
-3: 0a 2c, 1b -> none
-3: 1b, 0a 2c -> none
-3: 0a 2c, -> 1
-3: 0a, 1b -> 2
-3: 0a 1b 2d -> 2
-3: 0a 1e 2c -> 1
-3: 0a 2b 1c -> 1
-3: 0b 2c, 1a -> 0
-3: 1b 2c 0a -> 0
-3: 0a 1b 2c 9c -> 3
-3: 0a 1b 2c, 3a -> 3
-3: 0a 2c 7c -> 1
+1: 0=d -> 0
+1: 0=a, 0=a -> 0
+1: 0=a 0=a -> 0
+3: 0=a 2=c, 1=b -> none
+3: 1=b, 0=a 2=c -> none
+3: 0=a 2=c, -> 1
+3: 0=a, 1=b -> 2
+3: 0=a 1=b 2=d -> 2
+3: 0=a 1=e 2=c -> 1
+3: 0=a 2=b 1=c -> 1
+3: 0=b 2=c, 1=a -> 0
+3: 1=b 2=c 0=a -> 0
+3: 0=a 1=b 2=c 9=c -> 3
+3: 0=a 1=b 2=c, 3=a -> 3
+3: 0=a 2=c 7=c -> 1
 ";
 
 // The step and the reply that a letter stands for.
@@ -47,7 +47,7 @@ fn entry(letter: &str) -> (Step<u64>, Reply<u64>) {
 fn listed(rt: &impl Abort, alloc: Global, told: &str) -> Vec<Receipt<u64>> {
     let mut list = Vec::new(alloc);
     for receipt in told.split_whitespace() {
-        let (number, letter) = receipt.split_at(1);
+        let (number, letter) = receipt.split_once("=").expect(rt, "a receipt");
         let (step, reply) = entry(letter);
         let number = number.parse().expect(rt, "a number");
         had(
