@@ -1,6 +1,5 @@
 //! Tests of `flume_audit`: seats in one thread and in several, drawn steps, receipts that disagree
-//! with a history, and want of memory. And the examples of its documentation, and of that of
-//! `flume_history`.
+//! with a history, and want of memory.
 #![tactic(auto)]
 
 #[cfg(test)]
@@ -9,8 +8,6 @@ mod at_once;
 mod compared;
 #[cfg(test)]
 mod drawn;
-#[cfg(test)]
-mod examples;
 #[cfg(test)]
 mod fixtures;
 #[cfg(test)]

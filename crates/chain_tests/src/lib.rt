@@ -8,6 +8,4 @@ mod chains;
 #[cfg(test)]
 mod draws;
 #[cfg(test)]
-mod examples;
-#[cfg(test)]
 mod ticket_chains;

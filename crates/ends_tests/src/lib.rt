@@ -14,8 +14,6 @@ mod draining;
 #[cfg(test)]
 mod dropped;
 #[cfg(test)]
-mod examples;
-#[cfg(test)]
 mod fixtures;
 #[cfg(test)]
 mod iterators;

@@ -17,8 +17,6 @@ mod dropped;
 #[cfg(test)]
 mod ends;
 #[cfg(test)]
-mod examples;
-#[cfg(test)]
 mod fixtures;
 #[cfg(test)]
 mod forwarded;

@@ -6,8 +6,6 @@ mod arms;
 #[cfg(test)]
 mod dropped;
 #[cfg(test)]
-mod examples;
-#[cfg(test)]
 mod fixtures;
 #[cfg(test)]
 mod mappers;
