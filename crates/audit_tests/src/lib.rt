@@ -1,14 +1,11 @@
 //! Tests of `flume_audit`: seats in one thread and in several, receipts that disagree with a
-//! history, and refused memory. And the examples of its documentation, and of that of
-//! `flume_history`.
+//! history, and refused memory.
 #![tactic(auto)]
 
 #[cfg(test)]
 mod books;
 #[cfg(test)]
 mod compared;
-#[cfg(test)]
-mod examples;
 #[cfg(test)]
 mod fixtures;
 #[cfg(test)]

@@ -7,6 +7,4 @@ mod answers;
 #[cfg(test)]
 mod draws;
 #[cfg(test)]
-mod examples;
-#[cfg(test)]
 mod ticket_chains;

@@ -11,14 +11,6 @@ pub mod draws;
 #[cfg(test)]
 mod errors;
 #[cfg(test)]
-mod examples;
-#[cfg(test)]
-mod examples_calls;
-#[cfg(test)]
-mod examples_gates;
-#[cfg(test)]
-mod examples_script;
-#[cfg(test)]
 mod gates;
 #[cfg(test)]
 mod io_errors;

@@ -8,8 +8,6 @@ pub mod changes;
 mod clocks;
 pub mod counting;
 #[cfg(test)]
-mod examples;
-#[cfg(test)]
 mod fixtures;
 #[cfg(test)]
 mod parked;

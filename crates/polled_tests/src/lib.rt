@@ -5,8 +5,6 @@
 #[cfg(test)]
 mod beside;
 #[cfg(test)]
-mod examples;
-#[cfg(test)]
 mod fixtures;
 #[cfg(test)]
 mod forwarded;

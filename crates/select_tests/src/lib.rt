@@ -5,8 +5,6 @@
 #[cfg(test)]
 mod arms;
 #[cfg(test)]
-mod examples;
-#[cfg(test)]
 mod fixtures;
 #[cfg(test)]
 mod mappers;
