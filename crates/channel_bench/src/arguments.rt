@@ -170,6 +170,6 @@ fn shape_named(word: &str) -> Option<(Shape, At)> {
     None
 }
 
-fn number(word: &String) -> Option<usize> {
-    word.as_str().parse().ok()
+fn number(word: &str) -> Option<usize> {
+    word.parse().ok()
 }

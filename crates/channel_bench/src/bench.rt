@@ -130,8 +130,7 @@ impl<R: Runtime + RandomSource> Bench<R> {
             Shape::CheckPair => self.check_pair(),
             Shape::SelectSeq => self.select_seq(),
             Shape::SelectRx => self.select_rx(),
-            Shape::AsyncPair => self.async_pair(),
-            Shape::AsyncJoin => self.async_join(),
+            Shape::AsyncPair | Shape::AsyncJoin => self.in_one_task(shape),
             Shape::AsyncPing => self.async_ping(),
             Shape::PollPair
             | Shape::PollRecvPark

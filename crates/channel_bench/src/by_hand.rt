@@ -40,11 +40,23 @@ impl<R: Runtime> Bench<R> {
         if let Shape::PollSendPark = shape {
             send_each(tx, self.capacity.unwrap_or(0));
         }
+        self.poll_each(shape, tx, rx, &mut receives, cx)
+    }
+
+    // The polls of the shape, timed.
+    fn poll_each<'a>(
+        &self,
+        shape: Shape,
+        tx: &Sender<usize, R>,
+        rx: &'a Receiver<usize, R>,
+        receives: &mut Vec<RecvFut<'a, usize, R>>,
+        cx: &mut Context<'_>,
+    ) -> Result<Duration, Fault> {
         let start = Instant::now(&self.rt)?;
         let sum = match shape {
-            Shape::PendingDrop => drop_each(&mut receives),
-            Shape::Pending => fill_each(tx, &mut receives, cx),
-            Shape::CrowdFutures => renew_each(tx, rx, &mut receives, self.messages, cx),
+            Shape::PendingDrop => drop_each(receives),
+            Shape::Pending => fill_each(tx, receives, cx),
+            Shape::CrowdFutures => renew_each(tx, rx, receives, self.messages, cx),
             _ => pass_each(shape, tx, rx, self.messages, cx),
         };
         self.time_since(start, sum, 1)

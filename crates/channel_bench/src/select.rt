@@ -5,6 +5,7 @@ use flume::error::RecvError;
 use flume::select::Arms;
 use flume::{Receiver, Runtime, Selector, Sender, Waits};
 use std::alloc::Global;
+use std::thread::JoinHandle;
 use std::time::{Duration, Instant};
 
 // The ends of four channels.
@@ -25,12 +26,22 @@ impl<R: Runtime> Bench<R> {
         let start = Instant::now(&self.rt)?;
         let each = self.messages / SEVERAL;
         let (senders, receivers) = self.open_four()?;
-        let mut threads = Vec::new(self.rt.alloc());
-        for tx in &senders {
-            self.start(&mut threads, End::Sends(tx.clone()?), each)?;
-        }
+        let threads = self.start_senders(&senders, each)?;
         let sum = select_each(&receivers, each.saturating_mul(SEVERAL));
         self.time_since(start, sum.wrapping_add(self.joined(threads)), SEVERAL)
+    }
+
+    // A thread for each sender, which sends so many messages.
+    fn start_senders(
+        &self,
+        senders: &[Sender<usize, R>],
+        each: usize,
+    ) -> Result<Vec<JoinHandle<usize>>, Fault> {
+        let mut threads = Vec::new(self.rt.alloc());
+        for tx in senders {
+            self.start(&mut threads, End::Sends(tx.clone()?), each)?;
+        }
+        Ok(threads)
     }
 
     // Four channels.
