@@ -25,19 +25,30 @@ fn fault<R: Waits>(giver: &Giver<'_, '_, R>) -> Option<bool> {
     }
 }
 
+// How many messages it has left. `None`: it doesn't know.
+fn left<R: Waits>(giver: &Giver<'_, '_, R>) -> Option<usize> {
+    match giver {
+        Giver::Drain(messages) => Some(messages.len()),
+        _ => None,
+    }
+}
+
 /// Says what is asked of what gives messages. False: it can't be asked so.
 pub(crate) fn ask_giver<R: Waits>(
     giver: &mut Giver<'_, '_, R>,
     call: &str,
     answer: &mut String,
 ) -> Result<bool, AllocError> {
-    match (call, giver) {
-        ("next", giver) => say_next(answer, next(giver))?,
-        ("fault", giver) => match fault(giver) {
+    match call {
+        "next" => say_next(answer, next(giver))?,
+        "fault" => match fault(giver) {
             Some(is) => say_truth(answer, is)?,
             None => return Ok(false),
         },
-        ("len", Giver::Drain(messages)) => write!(answer, "{}", messages.len())?,
+        "len" => match left(giver) {
+            Some(left) => write!(answer, "{left}")?,
+            None => return Ok(false),
+        },
         _ => return Ok(false),
     }
     Ok(true)

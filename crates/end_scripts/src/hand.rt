@@ -42,6 +42,11 @@ pub(crate) fn no_names<'t, 'h, R: Waits>(
     Ok(held)
 }
 
+// The task that a line names.
+fn named_task<'a>(one: &'a MockTask, two: &'a MockTask, asked: &Asked<'_>) -> &'a MockTask {
+    if asked.task == 0 { one } else { two }
+}
+
 impl<'t, 'h, R: Waits> Hand<'t, 'h, R> {
     /// The sender of this name.
     pub(crate) fn sender(&self, slot: usize) -> Option<&Tx<'h, R>> {
@@ -90,11 +95,7 @@ impl<'t, 'h, R: Waits> Hand<'t, 'h, R> {
 
     // Polls.
     fn polls(&mut self, asked: &Asked<'_>, answer: &mut String) -> Result<bool, AllocError> {
-        let task = if asked.task == 0 {
-            &self.one
-        } else {
-            &self.two
-        };
+        let task = named_task(&self.one, &self.two, asked);
         let call = asked.call;
         if !call.starts_with("poll") {
             return Ok(false);
@@ -182,11 +183,7 @@ impl<'t, 'h, R: Waits> Hand<'t, 'h, R> {
 
     // The allocator, the counts and the tasks.
     fn watches(&mut self, asked: &Asked<'_>, answer: &mut String) -> Result<bool, AllocError> {
-        let task = if asked.task == 0 {
-            &self.one
-        } else {
-            &self.two
-        };
+        let task = named_task(&self.one, &self.two, asked);
         match asked.call {
             "woken" => say_truth(answer, task.is_woken())?,
             "live" => write!(answer, "{}", self.live.load(Ordering::SeqCst))?,
@@ -263,16 +260,17 @@ impl<R: Waits> Stage for Hand<'_, '_, R> {
     }
 
     fn show(&mut self, seen: &mut String) -> Result<(), AllocError> {
-        for both in [&self.here, &self.there] {
-            show_both(both, seen)?;
-        }
-        Ok(())
+        show_both(&self.here, seen)?;
+        show_both(&self.there, seen)
     }
 }
 
+// What ends are asked of their channel.
+const LOOKS: &[&str] = &["look", "counts"];
+
 // Writes what both ends tell of their channel.
 fn show_both<R: Waits>(both: &Both<'_, '_, R>, seen: &mut String) -> Result<(), AllocError> {
-    for call in ["look", "counts"] {
+    for &call in LOOKS {
         if let Some(tx) = both.sender() {
             look_by_sender(tx, call, seen)?;
             seen.push_str("; ")?;

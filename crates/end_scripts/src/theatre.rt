@@ -61,19 +61,35 @@ fn unplayed(alloc: Global, wrong: &str) -> io::Result<Played> {
     })
 }
 
-// Plays a script on the ends of two channels, of which the second may have none.
-fn played<'h, R: Plays>(
+// The ends that a script's futures, sinks, streams and iterators can borrow.
+#[derive(Drop)]
+struct Lent<'h, R: Waits> {
+    tx: Option<Tx<'h, R>>,
+    rx: Option<Rx<'h, R>>,
+    other_tx: Option<Tx<'h, R>>,
+    other_rx: Option<Rx<'h, R>>,
+}
+
+// Plays a script on ends that are lent, and on those that are its own.
+fn played_on<'t, 'h, R: Plays>(
     (rt, alloc): (R, Global),
     (heap, live): (Heap<'h>, Live<'h>),
+    lent: &'t Lent<'h, R>,
     ((tx, rx), (other_tx, other_rx)): (Opened<'h, R>, Opened<'h, R>),
     script: &Script<'_>,
 ) -> io::Result<Played> {
-    let (lent_tx, tx) = parted(tx, script.has("own_sender"));
-    let (lent_rx, rx) = parted(rx, script.has("own_receiver"));
-    let (other_lent_tx, other_tx) = parted(other_tx, script.has("other own_sender"));
-    let (other_lent_rx, other_rx) = parted(other_rx, script.has("other own_receiver"));
-    let here = both((&lent_tx, &lent_rx), (tx, rx));
-    let there = both((&other_lent_tx, &other_lent_rx), (other_tx, other_rx));
+    let here = Both {
+        lent_tx: lent.tx.as_ref(),
+        lent_rx: lent.rx.as_ref(),
+        tx,
+        rx,
+    };
+    let there = Both {
+        lent_tx: lent.other_tx.as_ref(),
+        lent_rx: lent.other_rx.as_ref(),
+        tx: other_tx,
+        rx: other_rx,
+    };
     let mut hand = Hand {
         heap,
         live,
@@ -89,17 +105,25 @@ fn played<'h, R: Plays>(
     script.play_on(alloc, &mut hand)
 }
 
-// Ends, lent and own.
-fn both<'t, 'h, R: Waits>(
-    (lent_tx, lent_rx): (&'t Option<Tx<'h, R>>, &'t Option<Rx<'h, R>>),
-    (tx, rx): Opened<'h, R>,
-) -> Both<'t, 'h, R> {
-    Both {
-        lent_tx: lent_tx.as_ref(),
-        lent_rx: lent_rx.as_ref(),
-        tx,
-        rx,
-    }
+// Plays a script on the ends of two channels, of which the second may have none.
+fn played<'h, R: Plays>(
+    (rt, alloc): (R, Global),
+    (heap, live): (Heap<'h>, Live<'h>),
+    ((tx, rx), (other_tx, other_rx)): (Opened<'h, R>, Opened<'h, R>),
+    script: &Script<'_>,
+) -> io::Result<Played> {
+    let (lent_tx, tx) = parted(tx, script.has("own_sender"));
+    let (lent_rx, rx) = parted(rx, script.has("own_receiver"));
+    let (other_lent_tx, other_tx) = parted(other_tx, script.has("other own_sender"));
+    let (other_lent_rx, other_rx) = parted(other_rx, script.has("other own_receiver"));
+    let lent = Lent {
+        tx: lent_tx,
+        rx: lent_rx,
+        other_tx: other_lent_tx,
+        other_rx: other_lent_rx,
+    };
+    let own = ((tx, rx), (other_tx, other_rx));
+    played_on((rt, alloc), (heap, live), &lent, own, script)
 }
 
 impl<R: Plays> Theatre for Ends<R> {
