@@ -25,14 +25,18 @@ impl<R: Runtime> Account<R> {
     /// Adds so much, and answers the balance.
     fn pay_in(&self, amount: u64) -> io::Result<u64> {
         let (reply, answer) = flume::on(self.rt).bounded(1)?;
-        self.requests.send(Request::PayIn { amount, reply })?;
-        Ok(answer.recv()?)
+        self.ask(Request::PayIn { amount, reply }, &answer)
     }
 
     /// Takes so much away, and answers whether there was so much. If not, all stays as it was.
     fn pay_out(&self, amount: u64) -> io::Result<bool> {
         let (reply, answer) = flume::on(self.rt).bounded(1)?;
-        self.requests.send(Request::PayOut { amount, reply })?;
+        self.ask(Request::PayOut { amount, reply }, &answer)
+    }
+
+    /// Sends the request to the owner, and waits for its answer.
+    fn ask<T: Drop>(&self, request: Request<R>, answer: &Receiver<T, R>) -> io::Result<T> {
+        self.requests.send(request)?;
         Ok(answer.recv()?)
     }
 }
@@ -41,17 +45,26 @@ fn main(rt: HostRuntime) -> io::Result<()> {
     let (requests, received) = flume::on(rt).bounded(4)?;
     let owner = thread::spawn(&rt, move || own(&received))?;
     let account = Account { rt, requests };
+    visit(&rt, &account)?;
+    save_twice(account)?;
+    println!(rt; "two saved 10 each: {} left", owner.join(&rt)?)
+}
+
+/// Pays in and out, and prints the answers.
+fn visit<R: Runtime + Print>(rt: &R, account: &Account<R>) -> io::Result<()> {
     println!(rt; "100 in: now {}", account.pay_in(100)?)?;
     println!(rt; "70 out: {}", account.pay_out(70)?)?;
-    println!(rt; "50 out: {}", account.pay_out(50)?)?;
+    println!(rt; "50 out: {}", account.pay_out(50)?)
+}
+
+/// Saves in two threads. The last sender of requests goes as this returns, so the owner ends.
+fn save_twice<R: Runtime>(account: Account<R>) -> io::Result<()> {
+    let rt = account.rt;
     let requests = account.requests.clone()?;
     let saver = Account { rt, requests };
     let saving = thread::spawn(&rt, move || save(&saver))?;
     save(&account)?;
-    saving.join(&rt)?;
-    // The last sender of requests goes, so the owner ends.
-    drop(account);
-    println!(rt; "two saved 10 each: {} left", owner.join(&rt)?)
+    saving.join(&rt)
 }
 
 /// Pays in ten times 1.

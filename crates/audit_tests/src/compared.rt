@@ -1,147 +1,92 @@
-//! Histories and lists of receipts, written by hand, and the least number at which they disagree.
-use crate::fixtures::is;
+//! Histories and lists of receipts, and the least number at which they disagree.
+use crate::fixtures::had;
 use flume_audit::differs::differs;
 use flume_audit::receipt::Receipt;
 use flume_model::step::{Reply, Step};
 use std::alloc::Global;
 use std::process::Abort;
-use std::test::Fail;
 
-// The step and the reply that a letter stands for. `a`, `b` and `c` are the history. `d` is `c`
-// with another reply, and `e` is `b` with another step.
-fn entry(letter: u8) -> (Step<u64>, Reply<u64>) {
+// How long the history is, and lists of receipts, each a number and the letter of what it tells:
+// the least number at which they disagree, or none. The history are the first of `a`, `b` and `c`.
+// `d` is `c` with another reply, and `e` is `b` with another step.
+const ROWS: &str = "
+0: -> none
+0: 0=d -> 0
+1: 0=a -> none
+1: -> 0
+1: 0=d -> 0
+1: 0=a, 0=a -> 0
+1: 0=a 0=a -> 0
+3: 0=a 2=c, 1=b -> none
+3: 1=b, 0=a 2=c -> none
+3: 0=a 2=c, -> 1
+3: 0=a, 1=b -> 2
+3: 0=a 1=b 2=d -> 2
+3: 0=a 1=e 2=c -> 1
+3: 0=a 2=b 1=c -> 1
+3: 0=b 2=c, 1=a -> 0
+3: 1=b 2=c 0=a -> 0
+3: 0=a 1=b 2=c 9=c -> 3
+3: 0=a 1=b 2=c, 3=a -> 3
+3: 0=a 2=c 7=c -> 1
+";
+
+// The step and the reply that a letter stands for.
+fn entry(letter: &str) -> (Step<u64>, Reply<u64>) {
     let sent = Reply::Sent { filled: None };
     match letter {
-        b'a' => (Step::TrySend(1), sent),
-        b'b' => (Step::TrySend(2), sent),
-        b'c' => (Step::TryRecv, Reply::Got(1)),
-        b'd' => (Step::TryRecv, Reply::Empty),
+        "a" => (Step::TrySend(1), sent),
+        "b" => (Step::TrySend(2), sent),
+        "c" => (Step::TryRecv, Reply::Got(1)),
+        "d" => (Step::TryRecv, Reply::Empty),
         _ => (Step::TrySend(3), sent),
     }
 }
 
-// A title, how long the history is, lists of receipts, each a number and the letter of what it
-// tells, and the least number at which they disagree.
-#[derive(Clone, Copy)]
-struct Row(
-    &'static str,
-    usize,
-    &'static [&'static [(usize, u8)]],
-    Option<usize>,
-);
-
-const ROWS: &[Row] = &[
-    Row("nothing and nobody", 0, &[], None),
-    Row("nothing, and a receipt", 0, &[&[(0, b'd')]], Some(0)),
-    Row("one entry, told", 1, &[&[(0, b'a')]], None),
-    Row("one entry, and nobody", 1, &[], Some(0)),
-    Row("one entry, told as another", 1, &[&[(0, b'd')]], Some(0)),
-    Row("told by both", 1, &[&[(0, b'a')], &[(0, b'a')]], Some(0)),
-    Row("told twice by one", 1, &[&[(0, b'a'), (0, b'a')]], Some(0)),
-    Row(
-        "told by two",
-        3,
-        &[&[(0, b'a'), (2, b'c')], &[(1, b'b')]],
-        None,
-    ),
-    Row(
-        "the other way",
-        3,
-        &[&[(1, b'b')], &[(0, b'a'), (2, b'c')]],
-        None,
-    ),
-    Row(
-        "the middle is lost",
-        3,
-        &[&[(0, b'a'), (2, b'c')], &[]],
-        Some(1),
-    ),
-    Row(
-        "the last is lost",
-        3,
-        &[&[(0, b'a')], &[(1, b'b')]],
-        Some(2),
-    ),
-    Row(
-        "another reply",
-        3,
-        &[&[(0, b'a'), (1, b'b'), (2, b'd')]],
-        Some(2),
-    ),
-    Row(
-        "another step",
-        3,
-        &[&[(0, b'a'), (1, b'e'), (2, b'c')]],
-        Some(1),
-    ),
-    Row(
-        "exchanged in a list",
-        3,
-        &[&[(0, b'a'), (2, b'b'), (1, b'c')]],
-        Some(1),
-    ),
-    Row(
-        "exchanged over lists",
-        3,
-        &[&[(0, b'b'), (2, b'c')], &[(1, b'a')]],
-        Some(0),
-    ),
-    Row("falling", 3, &[&[(1, b'b'), (2, b'c'), (0, b'a')]], Some(0)),
-    Row(
-        "past the end",
-        3,
-        &[&[(0, b'a'), (1, b'b'), (2, b'c'), (9, b'c')]],
-        Some(3),
-    ),
-    Row(
-        "past the end, alone",
-        3,
-        &[&[(0, b'a'), (1, b'b'), (2, b'c')], &[(3, b'a')]],
-        Some(3),
-    ),
-    Row(
-        "past the end, and lost",
-        3,
-        &[&[(0, b'a'), (2, b'c'), (7, b'c')]],
-        Some(1),
-    ),
-];
-
 // A list of these receipts.
-fn listed(alloc: Global, told: &[(usize, u8)]) -> Result<Vec<Receipt<u64>>, Fail> {
+fn listed(rt: &impl Abort, alloc: Global, told: &str) -> Vec<Receipt<u64>> {
     let mut list = Vec::new(alloc);
-    for &(number, letter) in told {
+    for receipt in told.split_whitespace() {
+        let (number, letter) = receipt.split_once("=").expect(rt, "a receipt");
         let (step, reply) = entry(letter);
-        list.push(Receipt {
-            number,
-            step,
-            reply,
-        })?;
+        let number = number.parse().expect(rt, "a number");
+        had(
+            rt,
+            list.push(Receipt {
+                number,
+                step,
+                reply,
+            }),
+        );
     }
-    Ok(list)
+    list
 }
 
-// What the history, of so many entries, and these lists answer.
-fn compared(alloc: Global, length: usize, lists: &[&[(usize, u8)]]) -> Result<Option<usize>, Fail> {
+// Whether a row is answered so.
+fn is_so(rt: &impl Abort, alloc: Global, row: &str) -> bool {
+    let (length, row) = row.split_once(":").expect(rt, "a length");
+    let (told, wanted) = row.split_once(" -> ").expect(rt, "an arrow");
+    let length = length.parse().expect(rt, "a length");
     let mut history = Vec::new(alloc);
-    for &letter in [b'a', b'b', b'c'].iter().take(length) {
-        history.push(entry(letter))?;
+    for &letter in ["a", "b", "c"].iter().take(length) {
+        had(rt, history.push(entry(letter)));
     }
-    let mut listed_all = Vec::new(alloc);
-    for told in lists {
-        listed_all.push(listed(alloc, told)?)?;
+    let lists = lists_of(rt, alloc, told);
+    differs(&history, &lists) == wanted.parse().ok()
+}
+
+// The lists of a row.
+fn lists_of(rt: &impl Abort, alloc: Global, told: &str) -> Vec<Vec<Receipt<u64>>> {
+    let mut lists = Vec::new(alloc);
+    for list in told.split(",") {
+        had(rt, lists.push(listed(rt, alloc, list)));
     }
-    Ok(differs(&history, &listed_all))
+    lists
 }
 
 #[test]
-fn the_least_number_of_a_disagreement_is_answered(rt: HostRuntime) -> Result<(), Fail> {
-    for &Row(title, length, lists, wanted) in ROWS {
-        is(
-            &rt,
-            (title, compared(rt.alloc(), length, lists)?),
-            (title, wanted),
-        );
+fn the_least_number_of_a_disagreement_is_answered(rt: HostRuntime) {
+    for row in ROWS.trim().split("\n") {
+        assert!(rt; is_so(&rt, rt.alloc(), row), "{row}");
     }
-    Ok(())
 }

@@ -1,29 +1,24 @@
-//! What several tests use: answers compared in one place, and a step by the seat at a place.
-use flume_audit::book::Book;
-use flume_audit::seat::Seat;
-use flume_error::error::NoMemory;
-use flume_model::step::{Reply, Step};
+//! What several tests use: answers compared in one place. What can't be had fails the test here: a
+//! `?` in a test costs the prover a second, and an abort none.
+use ends_tests::counting::Counting;
+use std::alloc::Global;
 use std::fmt::Debug;
 use std::process::Abort;
-use std::sync::ledger::Ledger;
+
+/// The allocator of a book, lent.
+pub(crate) type Heap<'h> = &'h Counting<Global>;
 
 /// The answer is the wanted one.
 pub(crate) fn is<T: Debug + PartialEq + Drop>(rt: &impl Abort, answer: T, wanted: T) {
     assert_eq!(rt; answer, wanted);
 }
 
-/// What a step answers. Nothing: there is no such seat.
-pub(crate) type Answer = Option<Result<Reply<u64>, NoMemory>>;
+/// What a call answers that fails by memory alone.
+pub(crate) fn had<T, E: Debug + Drop>(rt: &impl Abort, answer: Result<T, E>) -> T {
+    answer.expect(rt, "there is memory")
+}
 
-/// A step by the seat at this place.
-pub(crate) fn step_at<L: Ledger>(
-    book: &mut Book<u64, L>,
-    seats: &mut [Seat<u64, L>],
-    place: usize,
-    step: Step<u64>,
-) -> Answer {
-    match seats.get_mut(place) {
-        Some(seat) => Some(book.step(seat, step)),
-        None => None,
-    }
+/// It is so; what fails where it isn't.
+pub(crate) fn holds(rt: &impl Abort, (title, fault): (&str, &str), is_so: bool) {
+    assert!(rt; is_so, "{title}: {fault}");
 }

@@ -1,16 +1,11 @@
-//! Tests of `flume_audit`: seats in one thread and in several, drawn steps, receipts that disagree
-//! with a history, and want of memory. And the examples of its documentation, and of that of
-//! `flume_history`.
+//! Tests of `flume_audit`: seats in one thread and in several, receipts that disagree with a
+//! history, and refused memory.
 #![tactic(auto)]
 
 #[cfg(test)]
-mod at_once;
+mod books;
 #[cfg(test)]
 mod compared;
-#[cfg(test)]
-mod drawn;
-#[cfg(test)]
-mod examples;
 #[cfg(test)]
 mod fixtures;
 #[cfg(test)]
@@ -18,4 +13,4 @@ mod memory;
 #[cfg(test)]
 mod seated;
 #[cfg(test)]
-mod shared;
+mod threads;

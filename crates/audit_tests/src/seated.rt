@@ -1,9 +1,8 @@
 //! Seats in one thread: what they read, and what closing answers.
 ghost use Rattle.std.specs.Prelude.{◌≡◌};
 
-use crate::fixtures::{is, step_at};
+use crate::fixtures::is;
 use flume_audit::audit::Audit;
-use flume_audit::book::Book;
 use flume_audit::closed::Closed;
 use flume_audit::seat::Seat;
 use flume_history::check::{Checked, check_history};
@@ -42,29 +41,6 @@ fn read_back<L: Ledger, R: Wait + Abort + Copy>(
 #[test]
 fn one_seat_reads_its_write_back(rt: HostRuntime) -> Result<(), Fail> {
     read_back::<Brand, _>(rt, rt.alloc(), Blank::new(1))
-}
-
-// Two seats, of which the second receives what the first sends.
-fn read_other<L: Ledger, R: Abort>(rt: &R, alloc: Global, blank: Blank) -> Result<(), Fail>
-    requires name { blank.name ≡ L.name }
-    requires parts { blank.parts ≡ L.parts }
-    requires one_each { blank.parts ≡ 2 }
-{
-    let (mut book, mut seats) = Book::<u64, L>::new(alloc, blank, None, 2)?;
-    let sent = step_at(&mut book, &mut seats, 0, Step::TrySend(1));
-    is(rt, sent, Some(Ok(Reply::Sent { filled: None })));
-    let got = step_at(&mut book, &mut seats, 1, Step::TryRecv);
-    is(rt, got, Some(Ok(Reply::Got(1))));
-    let left = step_at(&mut book, &mut seats, 0, Step::Len);
-    is(rt, left, Some(Ok(Reply::Number(0))));
-    seats.reverse();
-    is(rt, book.close(seats), Closed::Settled);
-    Ok(())
-}
-
-#[test]
-fn seats_read_each_other_and_settle_in_any_order(rt: HostRuntime) -> Result<(), Fail> {
-    read_other::<Brand, _>(&rt, rt.alloc(), Blank::new(2))
 }
 
 // Two seats, of which the second isn't handed in, or neither is.

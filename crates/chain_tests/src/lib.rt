@@ -1,13 +1,10 @@
-//! Tests of the chains, without and with tickets: drawn calls beside a plain queue.
+//! Tests of a chain with tickets, and so of the chain that it stands on: drawn calls beside a plain
+//! queue.
 #![tactic(auto)]
 
 #[cfg(test)]
 mod answers;
 #[cfg(test)]
-mod chains;
-#[cfg(test)]
 mod draws;
-#[cfg(test)]
-mod examples;
 #[cfg(test)]
 mod ticket_chains;

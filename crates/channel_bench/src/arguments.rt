@@ -1,15 +1,7 @@
 //! What the program is asked to time.
-ghost use Rattle.channel_bench.specs.Arguments.{CanBeTimed, IsCall, IsCapacityWord, IsNoCall};
-ghost use Rattle.channel_bench.specs.Arguments.{IsNoCapacityWord, IsNoShapeWord, IsShapeWord};
-ghost use Rattle.channel_bench.specs.declared.arguments.Capacity.TheVariants.{Unbounded, Big, Of};
-ghost use Rattle.std.specs.Duration.{as_nanos};
-ghost use Rattle.std.specs.Prelude.{◌≡◌, ◌*◌, ◌/◌, ◌↔◌, ℕ, IsTrue, MatchOption, None, Some};
-ghost use Rattle.std.specs.Prelude.{map, max};
-ghost use Rattle.std.specs.String.{string_bytes};
-
 use std::time::Duration;
 
-/// What one run does.
+/// What one run does. The first word of a call names it.
 #[derive(Clone, Copy)]
 pub enum Shape {
     Seq,
@@ -21,6 +13,7 @@ pub enum Shape {
     TryPair,
     TryEmpty,
     TryFull,
+    Plain,
     AuditPair,
     AuditMemory,
     CheckPair,
@@ -32,6 +25,8 @@ pub enum Shape {
     AsyncPing,
     Pending,
     PendingDrop,
+    SelectSeq,
+    SelectRx,
     CrowdPoll,
     CrowdDraw,
     CrowdWithdraw,
@@ -40,73 +35,71 @@ pub enum Shape {
     CrowdFutures,
 }
 
-impl Shape {
-    fn read(word: &str) -> Option<Shape>
-        ensures value { MatchOption result (IsNoShapeWord word.now) (IsShapeWord word.now) }
-    {
-        match word {
-            "seq" => Some(Shape::Seq),
-            "spsc" => Some(Shape::Spsc),
-            "mpsc" => Some(Shape::Mpsc),
-            "mpmc" => Some(Shape::Mpmc),
-            "oneshot" => Some(Shape::Oneshot),
-            "inout" => Some(Shape::Inout),
-            "try_pair" => Some(Shape::TryPair),
-            "try_empty" => Some(Shape::TryEmpty),
-            "try_full" => Some(Shape::TryFull),
-            "audit_pair" => Some(Shape::AuditPair),
-            "audit_memory" => Some(Shape::AuditMemory),
-            "check_pair" => Some(Shape::CheckPair),
-            "poll_pair" => Some(Shape::PollPair),
-            "poll_recv_park" => Some(Shape::PollRecvPark),
-            "poll_send_park" => Some(Shape::PollSendPark),
-            "async_pair" => Some(Shape::AsyncPair),
-            "async_join" => Some(Shape::AsyncJoin),
-            "async_ping" => Some(Shape::AsyncPing),
-            "pending" => Some(Shape::Pending),
-            "pending_drop" => Some(Shape::PendingDrop),
-            "crowd_poll" => Some(Shape::CrowdPoll),
-            "crowd_draw" => Some(Shape::CrowdDraw),
-            "crowd_withdraw" => Some(Shape::CrowdWithdraw),
-            "crowd_cancel" => Some(Shape::CrowdCancel),
-            "crowd_send" => Some(Shape::CrowdSend),
-            "crowd_futures" => Some(Shape::CrowdFutures),
-            _ => None,
-        }
-    }
+// At which capacities a shape can be had without waiting for ever.
+#[derive(Clone, Copy)]
+enum At {
+    // At each.
+    Any,
+    // At each but 0.
+    NotZero,
+    // Unbounded, or at as many as there are messages.
+    NoNumber,
+    // At a number.
+    Number,
+    // At a number above 0: of messages, or of those that stand in a crowd.
+    AboveZero,
 }
 
-/// The capacity of the channel.
+// The shapes, by their words.
+const SHAPES: &[(&str, Shape, At)] = &[
+    ("seq", Shape::Seq, At::NoNumber),
+    ("spsc", Shape::Spsc, At::Any),
+    ("mpsc", Shape::Mpsc, At::Any),
+    ("mpmc", Shape::Mpmc, At::Any),
+    ("oneshot", Shape::Oneshot, At::NotZero),
+    ("inout", Shape::Inout, At::NotZero),
+    ("try_pair", Shape::TryPair, At::NotZero),
+    ("try_empty", Shape::TryEmpty, At::Any),
+    ("try_full", Shape::TryFull, At::Number),
+    ("plain", Shape::Plain, At::NoNumber),
+    ("audit_pair", Shape::AuditPair, At::NotZero),
+    ("audit_memory", Shape::AuditMemory, At::Any),
+    ("check_pair", Shape::CheckPair, At::NotZero),
+    ("poll_pair", Shape::PollPair, At::NotZero),
+    ("poll_recv_park", Shape::PollRecvPark, At::Any),
+    ("poll_send_park", Shape::PollSendPark, At::AboveZero),
+    ("async_pair", Shape::AsyncPair, At::NotZero),
+    ("async_join", Shape::AsyncJoin, At::Any),
+    ("async_ping", Shape::AsyncPing, At::Any),
+    ("pending", Shape::Pending, At::Any),
+    ("pending_drop", Shape::PendingDrop, At::Any),
+    ("select_seq", Shape::SelectSeq, At::NotZero),
+    ("select_rx", Shape::SelectRx, At::Any),
+    ("crowd_poll", Shape::CrowdPoll, At::AboveZero),
+    ("crowd_draw", Shape::CrowdDraw, At::AboveZero),
+    ("crowd_withdraw", Shape::CrowdWithdraw, At::AboveZero),
+    ("crowd_cancel", Shape::CrowdCancel, At::AboveZero),
+    ("crowd_send", Shape::CrowdSend, At::AboveZero),
+    ("crowd_futures", Shape::CrowdFutures, At::AboveZero),
+];
+
+// The capacity of the channel.
 #[derive(Clone, Copy)]
-pub enum Capacity {
+enum Capacity {
     Unbounded,
-    /// As many as there are messages.
+    // As many as there are messages.
     Big,
     Of(usize),
 }
 
-impl Capacity {
-    fn read(word: &str) -> Option<Capacity>
-        ensures value { MatchOption result (IsNoCapacityWord word.now)
-            (IsCapacityWord word.now) }
-    {
-        match word {
-            "unbounded" => Some(Capacity::Unbounded),
-            "big" => Some(Capacity::Big),
-            _ => Some(Capacity::Of(word.parse().ok()?)),
-        }
-    }
-
-    /// The number, `None` of an unbounded channel.
-    pub fn of_messages(self, messages: usize) -> Option<usize>
-        ensures unbounded { self ≡ Unbounded → result ≡ None }
-        ensures big { self ≡ Big → result ≡ Some messages }
-        ensures of { (capacity : ℕ) → self ≡ Of capacity → result ≡ Some capacity }
-    {
+impl At {
+    fn allows(self, capacity: Capacity) -> bool {
         match self {
-            Capacity::Unbounded => None,
-            Capacity::Big => Some(messages),
-            Capacity::Of(capacity) => Some(capacity),
+            At::Any => true,
+            At::NotZero => !matches!(capacity, Capacity::Of(0)),
+            At::NoNumber => !matches!(capacity, Capacity::Of(_)),
+            At::Number => matches!(capacity, Capacity::Of(_)),
+            At::AboveZero => matches!(capacity, Capacity::Of(1..)),
         }
     }
 }
@@ -115,62 +108,68 @@ impl Capacity {
 #[derive(Clone, Copy)]
 pub struct Arguments {
     pub shape: Shape,
-    pub capacity: Capacity,
+    /// Whether the shape can be had at this capacity, without waiting for ever.
+    pub can_be_timed: bool,
+    /// `None` is unbounded.
+    pub capacity: Option<usize>,
     pub messages: usize,
     pub rounds: usize,
 }
 
 impl Arguments {
     /// Reads `SHAPE CAPACITY MESSAGES [ROUNDS]`. `None` where the words are no such thing.
-    pub fn read(words: &[String]) -> Option<Arguments>
-        ensures value { MatchOption result (IsNoCall (map string_bytes words.now))
-            (IsCall (map string_bytes words.now)) }
-    {
-        let (shape, capacity, messages, rounds) = match words {
-            [shape, capacity, messages] => (shape, capacity, messages, None),
-            [shape, capacity, messages, rounds] => (shape, capacity, messages, Some(rounds)),
+    pub fn read(words: &[String]) -> Option<Arguments> {
+        let (first, rounds) = match words {
+            [_, _, _] => (words, 1),
+            [first @ .., rounds] => (first, number(rounds)?),
             _ => return None,
         };
+        let [shape, capacity, messages] = first else {
+            return None;
+        };
+        let (shape, at) = shape_named(shape)?;
+        let capacity = match capacity.as_str() {
+            "unbounded" => Capacity::Unbounded,
+            "big" => Capacity::Big,
+            _ => Capacity::Of(number(capacity)?),
+        };
+        let messages = number(messages)?;
         Some(Arguments {
-            shape: Shape::read(shape.as_str())?,
-            capacity: Capacity::read(capacity.as_str())?,
-            messages: messages.as_str().parse().ok()?,
-            rounds: match rounds {
-                Some(rounds) => rounds.as_str().parse().ok()?,
-                None => 1,
-            },
+            shape,
+            can_be_timed: at.allows(capacity),
+            capacity: capacity.of_messages(messages),
+            messages,
+            rounds,
         })
     }
 
-    /// Whether the shape can be had at this capacity, without waiting for ever.
-    pub fn can_be_timed(&self) -> bool
-        ensures value { IsTrue result ↔ CanBeTimed self.now.shape self.now.capacity }
-    {
-        match self.shape {
-            Shape::Seq => !matches!(self.capacity, Capacity::Of(_)),
-            Shape::TryFull => matches!(self.capacity, Capacity::Of(_)),
-            Shape::PollSendPark
-            | Shape::CrowdPoll
-            | Shape::CrowdDraw
-            | Shape::CrowdWithdraw
-            | Shape::CrowdCancel
-            | Shape::CrowdSend
-            | Shape::CrowdFutures => matches!(self.capacity, Capacity::Of(1..)),
-            Shape::Oneshot
-            | Shape::Inout
-            | Shape::TryPair
-            | Shape::AuditPair
-            | Shape::CheckPair
-            | Shape::PollPair
-            | Shape::AsyncPair => !matches!(self.capacity, Capacity::Of(0)),
-            _ => true,
-        }
-    }
-
     /// The time that one message takes, where all take this time, in hundredths of a nanosecond.
-    pub fn hundredths_a_message(&self, time: Duration) -> u128
-        ensures value { result ≡ as_nanos time * 100 / max 1 self.now.messages }
-    {
+    pub fn hundredths_a_message(&self, time: Duration) -> u128 {
         time.as_nanos().saturating_mul(100) / (self.messages.max(1) as u128)
     }
+}
+
+impl Capacity {
+    // The number, `None` of an unbounded channel.
+    fn of_messages(self, messages: usize) -> Option<usize> {
+        match self {
+            Capacity::Unbounded => None,
+            Capacity::Big => Some(messages),
+            Capacity::Of(capacity) => Some(capacity),
+        }
+    }
+}
+
+// The shape of this name, and where it can be had.
+fn shape_named(word: &str) -> Option<(Shape, At)> {
+    for (name, shape, at) in SHAPES.iter() {
+        if *name == word {
+            return Some((*shape, *at));
+        }
+    }
+    None
+}
+
+fn number(word: &str) -> Option<usize> {
+    word.parse().ok()
 }

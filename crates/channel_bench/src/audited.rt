@@ -2,7 +2,7 @@
 ghost use Rattle.std.specs.Prelude.{◌≡◌};
 
 use crate::bench::{Bench, Fault};
-use flume::Waits;
+use flume::{Runtime, Waits};
 use flume_audit::audit::Audit;
 use flume_audit::receipt::Receipt;
 use flume_audit::seat::Seat;
@@ -69,7 +69,7 @@ fn store(
     Ok(())
 }
 
-impl<R: Waits> Bench<R> {
+impl<R: Runtime> Bench<R> {
     /// Each message sent, and received before the next, as steps of an audited channel.
     pub fn audit_pair(&self) -> Result<Duration, Fault> {
         self.audit_pair_under::<Brand>(Blank::new(1))
@@ -83,7 +83,7 @@ impl<R: Waits> Bench<R> {
     {
         let (audit, mut seats) = Audit::<usize, L, R>::new(
             self.rt,
-            self.alloc,
+            self.rt.alloc(),
             blank,
             self.capacity,
             1,
@@ -98,8 +98,8 @@ impl<R: Waits> Bench<R> {
 
     /// The entries and the receipts of `audit_pair`, stored with no channel and no audit.
     pub fn audit_memory(&self) -> Result<Duration, Fault> {
-        let mut history = Vec::new(self.alloc);
-        let mut receipts = Vec::new(self.alloc);
+        let mut history = Vec::new(self.rt.alloc());
+        let mut receipts = Vec::new(self.rt.alloc());
         let start = Instant::now(&self.rt)?;
         let sum = store_each(&mut history, &mut receipts, self.messages)?;
         self.time_since(start, sum, 1)
@@ -107,7 +107,7 @@ impl<R: Waits> Bench<R> {
 
     /// The history of `try_pair` checked. Making it isn't timed.
     pub fn check_pair(&self) -> Result<Duration, Fault> {
-        let mut history = Vec::new(self.alloc);
+        let mut history = Vec::new(self.rt.alloc());
         let mut sum = 0usize;
         for message in 0..self.messages {
             history.try_reserve(2)?;
@@ -116,7 +116,7 @@ impl<R: Waits> Bench<R> {
             sum = sum.wrapping_add(message);
         }
         let start = Instant::now(&self.rt)?;
-        match check_history(self.alloc, self.capacity, &history) {
+        match check_history(self.rt.alloc(), self.capacity, &history) {
             Checked::Run => self.time_since(start, sum, 1),
             _ => Err(Fault::WrongMessages),
         }

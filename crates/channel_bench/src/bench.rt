@@ -1,10 +1,9 @@
 //! One channel to be timed.
 use crate::arguments::{Arguments, Shape};
-use flume::{Receiver, Sender, Waits, bounded, unbounded};
-use flume_core::error::NoMemory;
-use std::alloc::{AllocError, AllocGlobal, Global};
+use flume::error::{NoMemory, RecvError, SendError};
+use flume::{Receiver, Runtime, Sender, Waits};
+use std::alloc::{AllocError, AllocFailed};
 use std::random::RandomSource;
-use std::thread::Threads;
 use std::time::{Duration, Instant};
 use std::{fmt, io};
 
@@ -15,6 +14,8 @@ pub enum Fault {
     NoThread,
     NoClock,
     NoExecutor,
+    NotSent,
+    NotReceived,
     /// What was received isn't what was sent.
     WrongMessages,
 }
@@ -26,6 +27,8 @@ impl fmt::Display for Fault {
             Fault::NoThread => "no thread can be started",
             Fault::NoClock => "the clock can't be read",
             Fault::NoExecutor => "no executor can be made",
+            Fault::NotSent => "a message wasn't sent",
+            Fault::NotReceived => "no message came",
             Fault::WrongMessages => "what was received isn't what was sent",
         })
     }
@@ -43,9 +46,27 @@ impl From<AllocError> for Fault {
     }
 }
 
+impl<T: Drop> From<AllocFailed<T>> for Fault {
+    fn from(_: AllocFailed<T>) -> Fault {
+        Fault::NoMemory
+    }
+}
+
 impl From<io::Error> for Fault {
     fn from(_: io::Error) -> Fault {
         Fault::NoClock
+    }
+}
+
+impl From<SendError<usize>> for Fault {
+    fn from(_: SendError<usize>) -> Fault {
+        Fault::NotSent
+    }
+}
+
+impl From<RecvError> for Fault {
+    fn from(_: RecvError) -> Fault {
+        Fault::NotReceived
     }
 }
 
@@ -53,30 +74,21 @@ impl From<io::Error> for Fault {
 #[derive(Clone, Copy)]
 pub struct Bench<R: Waits> {
     pub rt: R,
-    pub alloc: Global,
     pub capacity: Option<usize>,
     pub messages: usize,
 }
 
-impl<R: Waits> Bench<R> {
-    /// What the arguments ask for.
-    pub fn new(rt: R, alloc: Global, arguments: &Arguments) -> Bench<R> {
-        Bench {
-            rt,
-            alloc,
-            capacity: arguments.capacity.of_messages(arguments.messages),
-            messages: arguments.messages,
-        }
-    }
-
+impl<R: Runtime> Bench<R> {
     /// A new channel.
     pub fn open(&self) -> Result<(Sender<usize, R>, Receiver<usize, R>), NoMemory> {
         match self.capacity {
-            None => unbounded(self.rt, self.alloc, 1),
-            Some(capacity) => bounded(self.rt, self.alloc, 1, capacity),
+            None => flume::on(self.rt).unbounded(),
+            Some(capacity) => flume::on(self.rt).bounded(capacity),
         }
     }
+}
 
+impl<R: Waits> Bench<R> {
     /// The time since then, where the messages received are those that each of so many senders
     /// sent: 0, 1, 2 and so on.
     pub fn time_since(
@@ -95,32 +107,30 @@ impl<R: Waits> Bench<R> {
     }
 }
 
-impl<R: Waits + Threads + RandomSource + AllocGlobal + Send + Sync> Bench<R> {
-    /// The least time of so many rounds.
-    pub fn least(&self, shape: Shape, rounds: usize) -> Result<Duration, Fault> {
-        let mut least = self.round(shape)?;
-        for _ in 1..rounds {
-            least = least.min(self.round(shape)?);
+impl<R: Runtime + RandomSource> Bench<R> {
+    /// What the arguments ask for: the least time of their rounds.
+    pub fn least(rt: R, arguments: &Arguments) -> Result<Duration, Fault> {
+        let bench = Bench {
+            rt,
+            capacity: arguments.capacity,
+            messages: arguments.messages,
+        };
+        let mut least = bench.round(arguments.shape)?;
+        for _ in 1..arguments.rounds {
+            least = least.min(bench.round(arguments.shape)?);
         }
         Ok(least)
     }
 
     fn round(&self, shape: Shape) -> Result<Duration, Fault> {
         match shape {
-            Shape::Seq => self.seq(),
-            Shape::Spsc => self.spsc(),
-            Shape::Mpsc => self.mpsc(),
-            Shape::Mpmc => self.mpmc(),
-            Shape::Oneshot => self.oneshot(),
-            Shape::Inout => self.inout(),
-            Shape::TryPair => self.try_pair(),
-            Shape::TryEmpty => self.try_empty(),
-            Shape::TryFull => self.try_full(),
+            Shape::Spsc | Shape::Mpsc | Shape::Mpmc => self.in_threads(shape),
             Shape::AuditPair => self.audit_pair(),
             Shape::AuditMemory => self.audit_memory(),
             Shape::CheckPair => self.check_pair(),
-            Shape::AsyncPair => self.async_pair(),
-            Shape::AsyncJoin => self.async_join(),
+            Shape::SelectSeq => self.select_seq(),
+            Shape::SelectRx => self.select_rx(),
+            Shape::AsyncPair | Shape::AsyncJoin => self.in_one_task(shape),
             Shape::AsyncPing => self.async_ping(),
             Shape::PollPair
             | Shape::PollRecvPark
@@ -133,6 +143,7 @@ impl<R: Waits + Threads + RandomSource + AllocGlobal + Send + Sync> Bench<R> {
             | Shape::CrowdWithdraw
             | Shape::CrowdCancel
             | Shape::CrowdSend => self.crowd(shape),
+            _ => self.in_one_thread(shape),
         }
     }
 }

@@ -2,7 +2,7 @@
 //! blocked sends. Each operation leaves as many as there were.
 use crate::arguments::Shape;
 use crate::bench::{Bench, Fault};
-use flume::Waits;
+use flume::Runtime;
 use flume_core::chan::Chan;
 use flume_model::step::{Kind, Reply};
 use std::time::{Duration, Instant};
@@ -14,11 +14,11 @@ struct Crowd {
     standing: usize,
 }
 
-impl<R: Waits> Bench<R> {
+impl<R: Runtime> Bench<R> {
     /// So many operations of one kind on a channel of capacity 0. Gathering the crowd isn't timed.
     pub fn crowd(&self, shape: Shape) -> Result<Duration, Fault> {
         let mut crowd = Crowd {
-            chan: Chan::new(self.alloc, Some(0)),
+            chan: Chan::new(self.rt.alloc(), Some(0)),
             standing: self.capacity.unwrap_or(0),
         };
         crowd.gather(shape);

@@ -1,4 +1,4 @@
-//! Loops over a channel as futures. Each polls on until a call of the channel has to wait.
+//! A loop over a channel as a future. It polls on until a call of the channel has to wait.
 ghost use Rattle.futures.specs.Poll.{OnPending};
 ghost use Rattle.futures.specs.Task.{IsArmed, Keeps};
 
@@ -7,163 +7,101 @@ use flume::{Receiver, Sender, Waits};
 use futures::task::{Context, Poll};
 use futures::{Future, ready};
 
-/// Sends 0, 1, 2 and so on.
+/// Which calls a loop makes.
+#[derive(Clone, Copy)]
+pub enum Calls {
+    /// It sends 0, 1, 2 and so on.
+    Sends,
+    /// It receives.
+    Receives,
+    /// It sends 0, receives, sends the number after the one that it received, and so on.
+    SendsFirst,
+    /// It receives, sends what it received, and so on.
+    ReceivesFirst,
+}
+
+// The call that is made now, and the message that is sent.
 #[derive(Drop)]
-pub struct SendEach<'a, R: Waits> {
-    tx: &'a Sender<usize, R>,
-    next: SendFut<'a, usize, R>,
-    first: usize,
-    messages: usize,
-}
-
-impl<'a, R: Waits> SendEach<'a, R> {
-    /// So many messages, of which none is sent yet.
-    pub fn new(tx: &'a Sender<usize, R>, messages: usize) -> Self {
-        SendEach {
-            tx,
-            next: tx.send_async(0),
-            first: 0,
-            messages,
-        }
-    }
-}
-
-impl<R: Waits> Future for SendEach<'_, R> {
-    type Output = ();
-
-    fn poll(&mut self, cx: &mut Context<'_>) -> Poll<()> {
-        for message in self.first..self.messages {
-            self.first = message;
-            let sent = ready!(self.next.poll(cx));
-            if sent.is_err() {
-                break;
-            }
-            self.next = self.tx.send_async(message.wrapping_add(1));
-        }
-        Poll::Ready(())
-    }
-}
-
-/// Receives so many messages, or those that come, and gives their sum.
-#[derive(Drop)]
-pub struct ReceiveEach<'a, R: Waits> {
-    rx: &'a Receiver<usize, R>,
-    next: RecvFut<'a, usize, R>,
-    left: usize,
-    sum: usize,
-}
-
-impl<'a, R: Waits> ReceiveEach<'a, R> {
-    /// So many messages, of which none is received yet.
-    pub fn new(rx: &'a Receiver<usize, R>, messages: usize) -> Self {
-        ReceiveEach {
-            rx,
-            next: rx.recv_async(),
-            left: messages,
-            sum: 0,
-        }
-    }
-}
-
-impl<R: Waits> Future for ReceiveEach<'_, R> {
-    type Output = usize;
-
-    fn poll(&mut self, cx: &mut Context<'_>) -> Poll<usize> {
-        for left in (0..self.left).rev() {
-            let Ok(message) = ready!(self.next.poll(cx)) else {
-                break;
-            };
-            self.sum = self.sum.wrapping_add(message);
-            self.left = left;
-            self.next = self.rx.recv_async();
-        }
-        Poll::Ready(self.sum)
-    }
-}
-
-/// Which call of a channel is made now.
-#[derive(Drop)]
-enum Turn<'a, R: Waits> {
-    Sends(SendFut<'a, usize, R>),
+enum Call<'a, R: Waits> {
+    Sends(usize, SendFut<'a, usize, R>),
     Receives(RecvFut<'a, usize, R>),
 }
 
-/// Sends and receives in turn, so many times each, and gives the sum of what was received.
+/// So many calls of a channel, one after the other. It gives the sum of what was received.
 #[derive(Drop)]
-pub struct InTurn<'a, R: Waits> {
+pub struct Loop<'a, R: Waits> {
     tx: &'a Sender<usize, R>,
     rx: &'a Receiver<usize, R>,
-    turn: Turn<'a, R>,
-    // How many turns are left.
+    calls: Calls,
+    call: Call<'a, R>,
+    // How many calls are left.
     left: usize,
-    // What is added to a message that was received, for the next that is sent.
-    step: usize,
     sum: usize,
 }
 
-impl<'a, R: Waits> InTurn<'a, R> {
-    /// Sends 0, and after each message that it received the next number.
-    pub fn first_sends(
+impl<'a, R: Waits> Loop<'a, R> {
+    /// A loop that hasn't begun.
+    pub fn new(
         tx: &'a Sender<usize, R>,
         rx: &'a Receiver<usize, R>,
-        messages: usize,
+        calls: Calls,
+        left: usize,
     ) -> Self {
-        InTurn {
+        let call = match calls {
+            Calls::Sends | Calls::SendsFirst => Call::Sends(0, tx.send_async(0)),
+            Calls::Receives | Calls::ReceivesFirst => Call::Receives(rx.recv_async()),
+        };
+        Loop {
             tx,
             rx,
-            turn: Turn::Sends(tx.send_async(0)),
-            left: messages.saturating_mul(2),
-            step: 1,
+            calls,
+            call,
+            left,
             sum: 0,
         }
     }
 
-    /// Sends what it received.
-    pub fn first_receives(
-        tx: &'a Sender<usize, R>,
-        rx: &'a Receiver<usize, R>,
-        messages: usize,
-    ) -> Self {
-        InTurn {
-            tx,
-            rx,
-            turn: Turn::Receives(rx.recv_async()),
-            left: messages.saturating_mul(2),
-            step: 0,
-            sum: 0,
-        }
-    }
-
-    // One turn. `false`: the channel is disconnected, or there is no memory.
+    // The call that follows one that sent or received this message.
     #[inline(always)]
-    fn take_turn(&mut self, cx: &mut Context<'_>) -> Poll<bool>
+    fn after(&self, message: usize, sent: bool) -> Call<'a, R> {
+        let next = match (self.calls, sent) {
+            (Calls::Sends, _) | (Calls::SendsFirst, false) => message.wrapping_add(1),
+            (Calls::ReceivesFirst, false) => message,
+            _ => return Call::Receives(self.rx.recv_async()),
+        };
+        Call::Sends(next, self.tx.send_async(next))
+    }
+
+    // One call. `false`: the channel is disconnected, or there is no memory.
+    #[inline(always)]
+    fn make_call(&mut self, cx: &mut Context<'_>) -> Poll<bool>
         ensures armed { OnPending result (IsArmed cx.new) }
         ensures kept { Keeps cx.old cx.new }
     {
-        match &mut self.turn {
-            Turn::Sends(send) => {
-                let sent = ready!(send.poll(cx));
-                self.turn = Turn::Receives(self.rx.recv_async());
-                Poll::Ready(sent.is_ok())
-            }
-            Turn::Receives(receive) => {
-                let Ok(message) = ready!(receive.poll(cx)) else {
-                    return Poll::Ready(false);
-                };
-                self.sum = self.sum.wrapping_add(message);
-                self.turn = Turn::Sends(self.tx.send_async(message.wrapping_add(self.step)));
-                Poll::Ready(true)
-            }
+        let (message, sent) = match &mut self.call {
+            Call::Sends(message, send) => match ready!(send.poll(cx)) {
+                Ok(()) => (*message, true),
+                Err(_) => return Poll::Ready(false),
+            },
+            Call::Receives(receive) => match ready!(receive.poll(cx)) {
+                Ok(message) => (message, false),
+                Err(_) => return Poll::Ready(false),
+            },
+        };
+        if !sent {
+            self.sum = self.sum.wrapping_add(message);
         }
+        self.call = self.after(message, sent);
+        Poll::Ready(true)
     }
 }
 
-impl<R: Waits> Future for InTurn<'_, R> {
+impl<R: Waits> Future for Loop<'_, R> {
     type Output = usize;
 
     fn poll(&mut self, cx: &mut Context<'_>) -> Poll<usize> {
         for left in (0..self.left).rev() {
-            if !ready!(self.take_turn(cx)) {
+            if !ready!(self.make_call(cx)) {
                 break;
             }
             self.left = left;

@@ -8,8 +8,8 @@ mod by_hand;
 mod crowds;
 mod loops;
 mod one_thread;
-mod pending;
 mod polled;
+mod select;
 mod threads;
 
 use crate::arguments::Arguments;
@@ -34,6 +34,8 @@ inout           one message sent and received, again and again, by one thread; n
 try_pair        the same by try_send and try_recv; not at 0
 try_empty       try_recv of an empty channel
 try_full        try_send into a full channel; only at a number
+plain           a user's loop: one half sent and received in turn, the other sent and taken by an
+                iterator, with `?` and an error of its own; not at a number
 audit_pair      try_pair as steps of an audited channel, by one seat; not at 0
 audit_memory    what an audit keeps of these steps stored in lists, with no channel
 check_pair      the history of try_pair checked: two of its steps a message; not at 0
@@ -46,6 +48,10 @@ async_join      a future that sends all, joined in one task with one that receiv
 async_ping      two threads, a task each, send half of the messages to and fro over two channels
 pending         so many receives wait; then a message for each is sent, and it polled again
 pending_drop    so many receives wait, and each is dropped, the newest first
+select_seq      a message sent into one of four channels in turn, and received by a selection over
+                the four; not at 0
+select_rx       four threads send, each into a channel of its own, and one receives by selections
+                over the four
 
 SHAPE of a crowd: CAPACITY is a number above 0, and says how many stand on one channel all along;
 MESSAGES says how many operations are timed, and gathering the crowd isn't
@@ -71,13 +77,11 @@ fn main(rt: HostRuntime) -> io::Result<ExitCode> {
         eprintln!(rt; "{USAGE}")?;
         return Ok(ExitCode::from(2));
     };
-    if !arguments.can_be_timed() {
+    if !arguments.can_be_timed {
         eprintln!(rt; "this shape can't be had at this capacity")?;
         return Ok(ExitCode::from(3));
     }
-    let bench = Bench::new(rt, rt.alloc(), &arguments);
-    let least = bench.least(arguments.shape, arguments.rounds);
-    print_time(&rt, &arguments, least)
+    print_time(&rt, &arguments, Bench::least(rt, &arguments))
 }
 
 /// Prints how long a message takes, where the least run took this time, or what went wrong.

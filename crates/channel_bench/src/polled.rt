@@ -1,59 +1,93 @@
 //! The shapes whose futures an executor runs.
+use crate::arguments::Shape;
 use crate::bench::{Bench, Fault};
-use crate::loops::{InTurn, ReceiveEach, SendEach};
-use flume::Waits;
+use crate::loops::{Calls, Loop};
+use flume::{Receiver, Runtime, Sender};
 use futures::Future;
 use futures::executor::block_on;
 use futures::future::join;
-use std::alloc::AllocGlobal;
 use std::random::RandomSource;
 use std::thread;
-use std::thread::Threads;
+use std::thread::JoinHandle;
 use std::time::{Duration, Instant};
 
-impl<R: Waits + RandomSource + AllocGlobal> Bench<R> {
-    /// Each message sent, and received before the next, in one task.
-    pub fn async_pair(&self) -> Result<Duration, Fault> {
+impl<R: Runtime + RandomSource> Bench<R> {
+    /// A shape whose futures are all of one task.
+    pub fn in_one_task(&self, shape: Shape) -> Result<Duration, Fault> {
         let (tx, rx) = self.open()?;
+        self.task(shape, &tx, &rx)
+    }
+
+    fn task(
+        &self,
+        shape: Shape,
+        tx: &Sender<usize, R>,
+        rx: &Receiver<usize, R>,
+    ) -> Result<Duration, Fault> {
         let start = Instant::now(&self.rt)?;
-        let sum = finished(&self.rt, InTurn::first_sends(&tx, &rx, self.messages))?;
+        let sum = match shape {
+            Shape::AsyncJoin => side_by_side(&self.rt, tx, rx, self.messages)?,
+            _ => to_and_fro(&self.rt, tx, rx, Calls::SendsFirst, self.messages)?,
+        };
         self.time_since(start, sum, 1)
     }
 
-    /// A future that sends all, and one that receives all, in one task.
-    pub fn async_join(&self) -> Result<Duration, Fault> {
-        let (tx, rx) = self.open()?;
-        let start = Instant::now(&self.rt)?;
-        let sends = SendEach::new(&tx, self.messages);
-        let receives = ReceiveEach::new(&rx, self.messages);
-        let ((), sum) = finished(&self.rt, join(sends, receives))?;
-        self.time_since(start, sum, 1)
-    }
-}
-
-impl<R: Waits + Threads + RandomSource + AllocGlobal + Send + Sync> Bench<R> {
     /// Half of the messages sent to a second thread, which sends each back over a second channel.
     /// Each thread runs a task of its own. Making the channels and the thread is in the time.
     pub fn async_ping(&self) -> Result<Duration, Fault> {
         let start = Instant::now(&self.rt)?;
-        let (rt, each) = (self.rt, self.messages / 2);
+        let each = self.messages / 2;
         let (to, there) = self.open()?;
         let (back, here) = self.open()?;
-        let sum = thread::scope(thread::scope_env(), &self.rt, |scope| {
-            let echo = move || finished(&rt, InTurn::first_receives(&back, &there, each));
-            match scope.spawn(echo) {
-                Ok(_) => finished(&self.rt, InTurn::first_sends(&to, &here, each)),
-                Err(_) => Err(Fault::NoThread),
-            }
-        })?;
-        self.time_since(start, sum.wrapping_mul(2), 2)
+        let thread = self.echo(back, there, each)?;
+        let sum = to_and_fro(&self.rt, &to, &here, Calls::SendsFirst, each)?;
+        self.time_since(start, sum.wrapping_add(thread.join(&self.rt)?), 2)
     }
+
+    // A thread that sends so many messages back, and gives their sum.
+    fn echo(
+        &self,
+        back: Sender<usize, R>,
+        there: Receiver<usize, R>,
+        messages: usize,
+    ) -> Result<JoinHandle<Result<usize, Fault>>, Fault> {
+        let rt = self.rt;
+        let echo = move || to_and_fro(&rt, &back, &there, Calls::ReceivesFirst, messages);
+        match thread::spawn(&rt, echo) {
+            Ok(thread) => Ok(thread),
+            Err(_) => Err(Fault::NoThread),
+        }
+    }
+}
+
+/// The sum of so many messages, each sent, and one received before the next.
+fn to_and_fro<R: Runtime + RandomSource>(
+    rt: &R,
+    tx: &Sender<usize, R>,
+    rx: &Receiver<usize, R>,
+    calls: Calls,
+    messages: usize,
+) -> Result<usize, Fault> {
+    finished(rt, Loop::new(tx, rx, calls, messages.saturating_mul(2)))
+}
+
+/// The sum of so many messages: a future sends all, and another one receives all.
+fn side_by_side<R: Runtime + RandomSource>(
+    rt: &R,
+    tx: &Sender<usize, R>,
+    rx: &Receiver<usize, R>,
+    messages: usize,
+) -> Result<usize, Fault> {
+    let sends = Loop::new(tx, rx, Calls::Sends, messages);
+    let receives = Loop::new(tx, rx, Calls::Receives, messages);
+    let (_, sum) = finished(rt, join(sends, receives))?;
+    Ok(sum)
 }
 
 /// What the future gives, where an executor of its own runs it.
 fn finished<R, F>(rt: &R, future: F) -> Result<F::Output, Fault>
 where
-    R: Waits + RandomSource + AllocGlobal,
+    R: Runtime + RandomSource,
     F: Future,
     requires { F.can_poll future }
 {

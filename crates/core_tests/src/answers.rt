@@ -1,11 +1,7 @@
 //! Answers, compared in one place. Want of memory fails a test here: a `?` in a test costs the
 //! prover a second, and an abort none.
-use flume_core::step::Reply;
-use flume_script::writing::write_replies;
-use std::alloc::Global;
 use std::fmt::Debug;
 use std::process::Abort;
-use std::slice;
 
 /// The answer is the wanted one.
 pub(crate) fn is<T: Debug + PartialEq + Drop>(rt: &impl Abort, answer: T, wanted: T) {
@@ -30,28 +26,4 @@ pub(crate) fn is_so<T: Debug + PartialEq + Drop>(
 /// The bytes are those of the text.
 pub(crate) fn text_is(rt: &impl Abort, title: &str, bytes: &[u8], wanted: &str) {
     assert_eq!(rt; bytes, wanted.as_bytes(), "{title}");
-}
-
-/// The replies are written so, each with the end of its line.
-pub(crate) fn replies_are(
-    rt: &impl Abort,
-    alloc: Global,
-    title: &str,
-    replies: &[Reply<u64>],
-    wanted: &str,
-) {
-    let text = had(rt, write_replies(alloc, replies));
-    text_is(rt, title, &text, wanted);
-}
-
-/// The reply is written so, with the end of its line, which isn't in the wanted text.
-pub(crate) fn reply_is(
-    rt: &impl Abort,
-    alloc: Global,
-    title: &str,
-    reply: Reply<u64>,
-    wanted: &str,
-) {
-    let line = had(rt, format!(in alloc; "{wanted}\n"));
-    replies_are(rt, alloc, title, slice::from_ref(&reply), line.as_str());
 }

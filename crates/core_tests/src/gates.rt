@@ -2,7 +2,6 @@
 ghost use Rattle.std.specs.Prelude.{◌≡◌};
 
 use crate::answers::is;
-use crate::turns::{Turn, Waiting};
 use Says::{Closed, Done, Late, Parks, Refused};
 use flume_calls::calls::{RecvCall, RecvNext, SendCall, SendNext};
 use flume_calls::gates::{RecvGate, SendGate, recv_over, send_over};
@@ -153,16 +152,20 @@ impl<'a> RecvGate<u64> for Toy<'a, RecvCall> {
 
 // A send that is parked, in a channel of its own.
 fn a_send(alloc: Global) -> Option<SendCall> {
-    let (mut chan, mut waiting) = (Chan::new(alloc, Some(0)), Waiting::new());
-    waiting.make(&mut chan, Turn::ParkSend(1u64, 10));
-    waiting.send.take()
+    let mut chan: Chan<u64, u64> = Chan::new(alloc, Some(0));
+    match SendCall::park(1, 10, &mut chan) {
+        SendNext::Park(call) => Some(call),
+        _ => None,
+    }
 }
 
 // A receive that is.
 fn a_receive(alloc: Global) -> Option<RecvCall> {
-    let (mut chan, mut waiting) = (Chan::<u64, u64>::new(alloc, Some(0)), Waiting::new());
-    waiting.make(&mut chan, Turn::ParkReceive(Kind::Block, 10));
-    waiting.receive.take()
+    let mut chan: Chan<u64, u64> = Chan::new(alloc, Some(0));
+    match RecvCall::park(Kind::Block, 10, &mut chan) {
+        RecvNext::Park(call) => Some(call),
+        _ => None,
+    }
 }
 
 // How a send ended, and the message that came back, or 0.

@@ -1,8 +1,6 @@
-//! Each message and each signal that a channel was handed is dropped once, wherever it ends up.
+//! Each message and each signal that a channel was handed in drawn scripts is dropped once.
 use crate::answers::is_so;
 use crate::draws::Draws;
-use crate::leak_rows::{ROWS, Row};
-use crate::rows::{Call, make};
 use flume_core::chan::Chan;
 use flume_core::step::{Reply, Step};
 use std::alloc::Global;
@@ -82,66 +80,38 @@ impl<'a> Stage<'a> {
         self.renews.then(|| self.signals.make())
     }
 
-    // The call of this step, with a message and a signal of its own.
-    fn call(&self, step: &Step<u64>) -> Call<Counted<'a>, Counted<'a>> {
+    // The reply to this step, with a message and a signal of its own.
+    fn reply(&mut self, step: &Step<u64>) -> Reply<Counted<'a>> {
+        let renewed = self.renewed();
+        let chan = &mut self.chan;
         match *step {
-            Step::TrySend(_) => Call::TrySend(self.messages.make()),
-            Step::Send(_) => Call::Send(self.messages.make(), self.signals.make()),
-            Step::PollSend(ticket) => Call::PollSend(ticket, self.renewed()),
-            Step::WithdrawSend(ticket) => Call::WithdrawSend(ticket),
-            Step::TryRecv => Call::TryRecv,
-            Step::Recv(kind) => Call::Recv(kind, self.signals.make()),
-            Step::Poll(ticket) => Call::Poll(ticket, self.renewed()),
-            Step::Withdraw(ticket) => Call::Withdraw(ticket),
-            Step::Drain => Call::Drain,
-            Step::CloneSender => Call::CloneSender,
-            Step::CloneReceiver => Call::CloneReceiver,
-            Step::DropSender => Call::DropSender,
-            Step::DropReceiver => Call::DropReceiver,
-            _ => Call::Len,
+            Step::TrySend(_) => chan.try_send(self.messages.make()),
+            Step::Send(_) => chan.send(self.messages.make(), self.signals.make()),
+            Step::PollSend(ticket) => chan.poll_send(ticket, renewed),
+            Step::WithdrawSend(ticket) => chan.withdraw_send(ticket),
+            Step::TryRecv => chan.try_recv(),
+            Step::Recv(kind) => chan.recv(kind, self.signals.make()),
+            Step::Poll(ticket) => chan.poll(ticket, renewed),
+            Step::Withdraw(ticket) => chan.withdraw(ticket),
+            Step::Drain => chan.drain(),
+            Step::CloneSender => chan.clone_sender(),
+            Step::CloneReceiver => chan.clone_receiver(),
+            Step::DropSender => chan.drop_sender(),
+            Step::DropReceiver => chan.drop_receiver(),
+            Step::SetCapacity(capacity) => chan.set_capacity(capacity),
+            _ => chan.len(),
         }
     }
 
     // Makes the step, and drops what it hands out.
     fn make(&mut self, step: &Step<u64>) {
-        let call = self.call(step);
-        let reply = make(&mut self.chan, call);
+        let reply = self.reply(step);
         if matches!(reply, Reply::Pending(_) | Reply::Parked(_)) {
             self.issued = self.issued.saturating_add(1);
         }
         if self.names {
             self.chan.next_due();
         }
-    }
-}
-
-// The row's steps, on a channel of its own. What is left goes with the channel.
-fn replay<R: Abort>(rt: &R, alloc: Global, row: &Row, renews: bool, names: bool) {
-    let (messages, signals) = (Counts::new(), Counts::new());
-    let mut stage = Stage {
-        chan: Chan::starting_at(alloc, row.capacity, row.ticket),
-        messages: &messages,
-        signals: &signals,
-        renews,
-        names,
-        issued: 0,
-    };
-    for step in row.steps {
-        stage.make(step);
-    }
-    is_so(rt, row.title, (messages.left(), signals.left()), row.left);
-    drop(stage);
-    let dropped = (messages.all_dropped(), signals.all_dropped());
-    is_so(rt, row.title, dropped, (true, true));
-}
-
-#[test]
-fn each_row_leaves_what_its_channel_has_and_nothing_after_it(rt: HostRuntime) {
-    for row in ROWS {
-        replay(&rt, rt.alloc(), row, false, false);
-        replay(&rt, rt.alloc(), row, true, false);
-        replay(&rt, rt.alloc(), row, false, true);
-        replay(&rt, rt.alloc(), row, true, true);
     }
 }
 

@@ -264,15 +264,23 @@ impl<R: Waits> Stage for Hand<'_, '_, R> {
 
     fn show(&mut self, seen: &mut String) -> Result<(), AllocError> {
         for both in [&self.here, &self.there] {
-            if let Some(tx) = both.sender() {
-                look_by_sender(tx, "look", seen)?;
-                look_by_sender(tx, "counts", seen)?;
-            }
-            if let Some(rx) = both.receiver() {
-                look_by_receiver(rx, "look", seen)?;
-                look_by_receiver(rx, "counts", seen)?;
-            }
+            show_both(both, seen)?;
         }
         Ok(())
     }
+}
+
+// Writes what both ends tell of their channel.
+fn show_both<R: Waits>(both: &Both<'_, '_, R>, seen: &mut String) -> Result<(), AllocError> {
+    for call in ["look", "counts"] {
+        if let Some(tx) = both.sender() {
+            look_by_sender(tx, call, seen)?;
+            seen.push_str("; ")?;
+        }
+        if let Some(rx) = both.receiver() {
+            look_by_receiver(rx, call, seen)?;
+            seen.push_str("; ")?;
+        }
+    }
+    Ok(())
 }

@@ -13,6 +13,7 @@ mod makes;
 mod message;
 mod polls;
 mod select;
+mod select_arms;
 mod theatre;
 
 use script_player::play_all;

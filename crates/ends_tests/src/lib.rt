@@ -8,17 +8,11 @@ pub mod changes;
 mod clocks;
 pub mod counting;
 #[cfg(test)]
-mod dropped;
-#[cfg(test)]
-mod examples;
-#[cfg(test)]
 mod fixtures;
 #[cfg(test)]
 mod parked;
 #[cfg(test)]
 mod parkers;
-#[cfg(test)]
-mod room;
 #[cfg(test)]
 mod types;
 pub mod watch;

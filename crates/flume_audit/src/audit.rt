@@ -36,7 +36,8 @@ impl<T: Copy, L: Ledger, R: Drop, W: Weigh<T, A>, A: Allocator + Copy> Audit<T, 
     ///     let _ = audit.step(seat, Step::TrySend(5));  // Ok(Sent { filled: None })
     ///     let _ = audit.step(seat, Step::TryRecv);     // Ok(Got(5))
     /// }
-    /// let (closed, book) = audit.close(seats);         // Settled, with two entries
+    /// let (closed, book) = audit.close(seats);         // Settled
+    /// book.history().len();                            // 2
     /// ```
     pub fn new(
         rt: R,

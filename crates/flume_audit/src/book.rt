@@ -74,6 +74,7 @@ impl<T: Copy, L: Ledger, W: Weigh<T, A>, A: Allocator + Copy> Book<T, L, W, A> {
     ///     let _ = book.step(seat, Step::TryRecv);      // Ok(Got(5))
     /// }
     /// book.close(seats);                               // Settled
+    /// book.history().len();                            // 4
     /// ```
     pub fn new(
         alloc: A,

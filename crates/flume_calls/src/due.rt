@@ -27,7 +27,8 @@ pub trait Bell<S> {
 /// chan.send(5, 10);                  // Pending(1)
 /// chan.send(6, 20);                  // Pending(2)
 /// chan.drop_receiver();              // Done
-/// fire_due(&mut chan, &mut bell);    // two rings: ticket 1 with signal 10, ticket 2 with 20
+/// fire_due(&mut chan, &mut bell);    // it rings for each ticket with its signal
+/// bell.rings();                      // [(1, 10), (2, 20)]
 /// chan.next_due();                   // None
 /// ```
 #[inline(always)]

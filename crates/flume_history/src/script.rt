@@ -37,7 +37,8 @@ use std::alloc::Allocator;
 /// ```
 /// let input = b"unbounded\ntry_send 42 -> sent\ntry_recv -> got 41\n";
 /// let script = check_script(alloc, input)?;
-/// // script.text is "line 3: got 41, but got 42\n", script.status is 1
+/// script.text;                       // "line 3: got 41, but got 42\n"
+/// script.status;                     // 1
 /// ```
 pub fn check_script<A: Allocator + Copy>(alloc: A, input: &[u8]) -> Result<Script<A>, NoMemory>
     ensures judges { IfOk result (λ script. Judges A input.now script.text.items script.status) }

@@ -1,5 +1,5 @@
 //! Replays what flume 0.12.0 answered to scripts, file by file. It says how many agree, and how
-//! many are histories that a channel may have.
+//! many are histories that a channel may have. And it checks histories that were written by hand.
 #![tactic(auto)]
 
 use flume_core::error::NoMemory;
@@ -11,7 +11,8 @@ use std::{fs, io};
 fn main(rt: HostRuntime) -> io::Result<()> {
     replay(&rt, "plain")?;
     replay(&rt, "blocked")?;
-    replay(&rt, "parked")
+    replay(&rt, "parked")?;
+    judge(&rt, "histories")
 }
 
 /// Replays one file of scripts: comments, and then blocks of a line `= number`, the script, a line
@@ -37,6 +38,39 @@ fn replay(rt: &HostRuntime, name: &str) -> io::Result<()> {
         None => println!(rt; "{name}: {agree} of {all} agree, and {runs} are runs"),
         Some(number) => println!(rt; "{name}: {agree} of {all} agree, {number} is the first other"),
     }
+}
+
+/// Checks one file of histories: comments, and then blocks of a line `= title`, the history, a line
+/// `-`, and what `check_script` prints of it. It says how many are answered so.
+fn judge(rt: &HostRuntime, name: &str) -> io::Result<()> {
+    let path = format!(in rt.alloc(); "{name}.txt")?;
+    let text = fs::read_to_string(rt, path.as_str())?;
+    let (mut all, mut right) = (0u64, 0u64);
+    let mut first = None;
+    let blocks = text.as_str().strip_suffix("\n").unwrap_or_default();
+    for block in blocks.split("\n= ").skip(1) {
+        all = all.saturating_add(1);
+        if is_judged(rt.alloc(), block)? {
+            right = right.saturating_add(1);
+        } else {
+            first = first.or(block.lines().next());
+        }
+    }
+    match first {
+        None => println!(rt; "{name}: {right} of {all} are judged as they should"),
+        Some(title) => println!(rt; "{name}: {right} of {all}, '{title}' is the first other"),
+    }
+}
+
+/// Whether the check prints of the history of a block what the block says, byte by byte, and the
+/// end of the last line.
+fn is_judged(alloc: Global, block: &str) -> io::Result<bool> {
+    let Some((history, wanted)) = parts_of(block) else {
+        return Ok(false);
+    };
+    let checked = check_script(alloc, history.as_bytes())?;
+    let printed = checked.text.strip_suffix(b"\n");
+    Ok(printed == Some(wanted.as_bytes()))
 }
 
 /// The script and the replies of a block, each without the end of its last line.

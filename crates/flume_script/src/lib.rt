@@ -34,7 +34,8 @@ pub struct Script<A: Allocator = Global> {
 ///
 /// ```
 /// let script = run_script(alloc, b"unbounded\ntry_send 42\ntry_recv\n")?;
-/// // script.text is "sent\ngot 42\n", script.status is 0
+/// script.text;                       // "sent\ngot 42\n"
+/// script.status;                     // 0
 /// ```
 pub fn run_script<A: Allocator + Copy>(alloc: A, input: &[u8]) -> Result<Script<A>, NoMemory>
     ensures prints { IfOk result (λ script. Prints A input.now script.text.items script.status) }

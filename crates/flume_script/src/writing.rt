@@ -122,7 +122,8 @@ fn write_capacity<A: Allocator>(
 ///
 /// ```
 /// let mut text = String::new(alloc);
-/// write_reply(&mut text, &Reply::Got(12))?;          // adds "got 12\n"
+/// write_reply(&mut text, &Reply::Got(12))?;
+/// text.as_str();                     // "got 12\n"
 /// ```
 pub fn write_reply<A: Allocator>(
     text: &mut String<A>,

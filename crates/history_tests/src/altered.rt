@@ -1,8 +1,9 @@
 //! A reply in place of another: one of its kind that differs from it, or want of memory.
+use crate::fixtures::had;
 use crate::slow::handed_in;
 use flume_model::step::{Reply, Step};
 use std::alloc::Global;
-use std::test::Fail;
+use std::process::Abort;
 
 /// What is drawn: a state of 64 bits that each draw multiplies.
 #[derive(Drop)]
@@ -49,31 +50,32 @@ impl Chance {
     }
 
     // One of the messages is another, or is left out. Where there are none, one is put in.
-    fn other_list(&mut self, alloc: Global, list: &[u64]) -> Result<Vec<u64>, Fail> {
+    fn other_list(&mut self, rt: &impl Abort, alloc: Global, list: &[u64]) -> Vec<u64> {
         let place = self.below(list.len() as u64) as usize;
         let leaves_out = self.below(2) == 0;
         let mut others = Vec::new(alloc);
         if list.is_empty() {
-            others.push(1)?;
+            had(rt, others.push(1));
         }
         for (number, &message) in list.iter().enumerate() {
             if number != place {
-                others.push(message)?;
+                had(rt, others.push(message));
             } else if !leaves_out {
-                others.push(self.other(message))?;
+                had(rt, others.push(self.other(message)));
             }
         }
-        Ok(others)
+        others
     }
 
     /// Another reply of the same kind; a reply that holds nothing is of one kind with the others
     /// that hold nothing.
     pub(crate) fn other_reply(
         &mut self,
+        rt: &impl Abort,
         alloc: Global,
         reply: &Reply<u64>,
-    ) -> Result<Reply<u64>, Fail> {
-        Ok(match reply {
+    ) -> Reply<u64> {
+        match reply {
             Reply::Sent { filled } => Reply::Sent {
                 filled: self.other_filled(*filled),
             },
@@ -84,12 +86,12 @@ impl Chance {
             Reply::Got(message) => Reply::Got(self.other(*message)),
             Reply::Parked(ticket) => Reply::Parked(self.other(*ticket)),
             Reply::Gone { closed, filled } => self.other_gone(*closed, *filled),
-            Reply::Drained(list) => Reply::Drained(self.other_list(alloc, list)?),
+            Reply::Drained(list) => Reply::Drained(self.other_list(rt, alloc, list)),
             Reply::Number(number) => Reply::Number(self.other_count(*number)),
             Reply::Truth(truth) => Reply::Truth(!*truth),
             Reply::Capacity(capacity) => Reply::Capacity(self.other_capacity(*capacity)),
             _ => self.other_plain(reply),
-        })
+        }
     }
 
     fn other_returned(&mut self, message: u64, closed: bool) -> Reply<u64> {
@@ -152,41 +154,5 @@ fn plain(number: u64) -> Reply<u64> {
         6 => Reply::NoEnd,
         7 => Reply::CountFull,
         _ => Reply::Unbounded,
-    }
-}
-
-/// The name of a reply's kind.
-pub(crate) fn name_of(reply: &Reply<u64>) -> &'static str {
-    match reply {
-        Reply::Sent { .. } => "Sent",
-        Reply::Full(_) => "Full",
-        Reply::Closed(_) => "Closed",
-        Reply::NoMemory(_) => "NoMemory",
-        Reply::Pending(_) => "Pending",
-        Reply::Returned { .. } => "Returned",
-        Reply::Got(_) => "Got",
-        Reply::Parked(_) => "Parked",
-        Reply::Gone { .. } => "Gone",
-        Reply::Drained(_) => "Drained",
-        Reply::Number(_) => "Number",
-        Reply::Truth(_) => "Truth",
-        Reply::Capacity(_) => "Capacity",
-        _ => plain_name_of(reply),
-    }
-}
-
-// The name of a reply that holds nothing.
-fn plain_name_of(reply: &Reply<u64>) -> &'static str {
-    match reply {
-        Reply::Accepted => "Accepted",
-        Reply::Waiting => "Waiting",
-        Reply::NoTicket => "NoTicket",
-        Reply::Empty => "Empty",
-        Reply::Ended => "Ended",
-        Reply::Done => "Done",
-        Reply::NoEnd => "NoEnd",
-        Reply::CountFull => "CountFull",
-        Reply::Unbounded => "Unbounded",
-        _ => "Spent",
     }
 }

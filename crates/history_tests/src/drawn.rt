@@ -1,54 +1,28 @@
 //! Drawn histories of a channel's own answers are runs, by the check and by the slow judge. With
 //! one reply altered both judge them alike.
-use crate::altered::{Chance, name_of};
-use crate::fixtures::{Pair, is, seeded};
+use crate::altered::Chance;
+use crate::fixtures::{Told, had, holds, is, seeded};
 use crate::slow::judged;
 use core_tests::draws::Draws;
 use flume_core::chan::Chan;
 use flume_history::check::{Checked, check_history};
-use flume_model::step::{Reply, Step};
+use flume_model::step::Reply;
+use flume_script::writing::write_reply;
 use std::alloc::Global;
 use std::process::Abort;
-use std::test::Fail;
 
 // How many histories there are, and how many steps each has.
 const HISTORIES: u64 = 2000;
 
 const STEPS: u64 = 40;
 
-// The kinds of replies that drawn steps are answered with.
-const KINDS: &[&str] = &[
-    "Sent",
-    "Full",
-    "Closed",
-    "Pending",
-    "Accepted",
-    "Waiting",
-    "Returned",
-    "NoTicket",
-    "Got",
-    "Empty",
-    "Ended",
-    "Parked",
-    "Gone",
-    "Drained",
-    "Done",
-    "NoEnd",
-    "Number",
-    "Truth",
-    "Capacity",
-    "Unbounded",
-];
-
-// A channel's capacity, and its history.
-#[derive(Drop)]
-struct Drawn {
-    capacity: Option<usize>,
-    history: Vec<Pair>,
-}
+// The first words of the replies that drawn steps are answered with: a number, a truth and a
+// capacity are such words themselves.
+const KINDS: &str = "sent full closed pending accepted waiting returned noticket got empty ended \
+    parked gone drained done noend 0 1 true false none unbounded";
 
 // The answers of a new channel to drawn steps, which name tickets that were issued.
-fn draw(alloc: Global, draws: &mut Draws) -> Result<Drawn, Fail> {
+fn draw(rt: &impl Abort, alloc: Global, draws: &mut Draws) -> Told<Global> {
     let capacity = draws.capacity();
     let mut chan: Chan<u64, ()> = Chan::new(alloc, capacity);
     let mut history = Vec::new(alloc);
@@ -59,69 +33,67 @@ fn draw(alloc: Global, draws: &mut Draws) -> Result<Drawn, Fail> {
         if let Reply::Pending(ticket) | Reply::Parked(ticket) = reply {
             draws.issued = ticket;
         }
-        history.push((step, reply))?;
+        had(rt, history.push((step, reply)));
     }
-    Ok(Drawn { capacity, history })
+    Told { capacity, history }
 }
 
-impl Drawn {
-    // What the check says of it, which the slow judge says too.
-    fn checked(&self, rt: &impl Abort, alloc: Global) -> Result<Checked, Fail> {
-        let checked = check_history(alloc, self.capacity, &self.history);
-        is(rt, checked, judged(alloc, self.capacity, &self.history)?);
-        Ok(checked)
-    }
+// What the check says of a history, which the slow judge says too.
+fn checked(rt: &impl Abort, alloc: Global, told: &Told<Global>) -> Checked {
+    let checked = check_history(alloc, told.capacity, &told.history);
+    let judged = judged(rt, alloc, told.capacity, &told.history);
+    is(rt, "both judge alike", checked, judged);
+    checked
 }
 
 #[test]
-fn the_answers_of_a_channel_are_runs(rt: HostRuntime) -> Result<(), Fail> {
+fn the_answers_of_a_channel_are_runs(rt: HostRuntime) {
     let mut draws = seeded(20_261_126);
     for _ in 0..HISTORIES {
-        let drawn = draw(rt.alloc(), &mut draws)?;
-        is(&rt, drawn.checked(&rt, rt.alloc())?, Checked::Run);
+        let told = draw(&rt, rt.alloc(), &mut draws);
+        let checked = checked(&rt, rt.alloc(), &told);
+        is(&rt, "its own answers", checked, Checked::Run);
     }
-    Ok(())
 }
 
-// A history is judged with one reply changed to another of its kind, and breaks there. The name of
-// the kind.
+// A history is judged with one reply changed to another of its kind, and breaks there. The reply is
+// added to the text.
 fn change_one(
     rt: &impl Abort,
     alloc: Global,
-    mut drawn: Drawn,
+    mut told: Told<Global>,
     chance: &mut Chance,
-) -> Result<&'static str, Fail> {
+    text: &mut String,
+) {
     let place = chance.below(STEPS) as usize;
-    let (_, told) = drawn.history.get_mut(place).ok_or("no such step")?;
-    let name = name_of(told);
-    *told = chance.other_reply(alloc, told)?;
-    is(rt, drawn.checked(rt, alloc)?, Checked::Breaks(place));
-    Ok(name)
+    let (_, reply) = told.history.get_mut(place).expect(rt, "a step");
+    had(rt, write_reply(text, reply));
+    *reply = chance.other_reply(rt, alloc, reply);
+    let checked = checked(rt, alloc, &told);
+    is(rt, "a changed reply", checked, Checked::Breaks(place));
 }
 
-// The first of the kinds that isn't one of these.
-fn missing(names: &[&'static str]) -> Option<&'static str> {
-    for kind in KINDS {
-        if !names.contains(kind) {
-            return Some(*kind);
+// Whether a line of the text begins with this word.
+fn has_line(text: &str, word: &str) -> bool {
+    for line in text.split("\n") {
+        if line.split(" ").next() == Some(word) {
+            return true;
         }
     }
-    None
+    false
 }
 
 #[test]
-fn a_history_breaks_at_a_reply_that_is_changed_to_another_of_its_kind(
-    rt: HostRuntime,
-) -> Result<(), Fail> {
+fn a_history_breaks_at_a_reply_that_is_changed_to_another_of_its_kind(rt: HostRuntime) {
     let mut draws = seeded(20_261_126);
     let mut chance = Chance { state: 20_261_127 };
-    let mut names = Vec::new(rt.alloc());
+    let mut text = String::new(rt.alloc());
     for _ in 0..HISTORIES {
-        let drawn = draw(rt.alloc(), &mut draws)?;
-        names.push(change_one(&rt, rt.alloc(), drawn, &mut chance)?)?;
+        let told = draw(&rt, rt.alloc(), &mut draws);
+        change_one(&rt, rt.alloc(), told, &mut chance, &mut text);
     }
-    is(&rt, missing(&names), None);
-    Ok(())
+    let is_each = KINDS.split_whitespace().all(|word| has_line(&text, word));
+    holds(&rt, "a kind of replies wasn't changed", is_each);
 }
 
 // How many histories in which memory is said to have been wanted were runs, broke there, and broke
@@ -145,31 +117,10 @@ impl Tally {
             _ => {}
         }
     }
-
-    fn count_all(self) -> u64 {
-        self.runs
-            .saturating_add(self.there)
-            .saturating_add(self.later)
-    }
-}
-
-// A history is judged with want of memory in place of one reply.
-fn refuse_one(
-    rt: &impl Abort,
-    alloc: Global,
-    mut drawn: Drawn,
-    chance: &mut Chance,
-    tally: &mut Tally,
-) -> Result<(), Fail> {
-    let place = chance.below(STEPS) as usize;
-    let (step, told) = drawn.history.get_mut(place).ok_or("no such step")?;
-    *told = chance.want_of_memory(step);
-    tally.count(place, drawn.checked(rt, alloc)?);
-    Ok(())
 }
 
 #[test]
-fn want_of_memory_in_place_of_a_reply_is_judged_alike(rt: HostRuntime) -> Result<(), Fail> {
+fn want_of_memory_in_place_of_a_reply_is_judged_alike(rt: HostRuntime) {
     let mut draws = seeded(20_261_126);
     let mut chance = Chance { state: 20_261_128 };
     let mut tally = Tally {
@@ -178,10 +129,17 @@ fn want_of_memory_in_place_of_a_reply_is_judged_alike(rt: HostRuntime) -> Result
         later: 0,
     };
     for _ in 0..HISTORIES {
-        let drawn = draw(rt.alloc(), &mut draws)?;
-        refuse_one(&rt, rt.alloc(), drawn, &mut chance, &mut tally)?;
+        let mut told = draw(&rt, rt.alloc(), &mut draws);
+        let place = chance.below(STEPS) as usize;
+        let (step, reply) = told.history.get_mut(place).expect(&rt, "a step");
+        *reply = chance.want_of_memory(step);
+        tally.count(place, checked(&rt, rt.alloc(), &told));
     }
-    assert!(&rt; tally.runs > 0 && tally.later > 0 && tally.there > 1000);
-    is(&rt, tally.count_all(), HISTORIES);
-    Ok(())
+    let is_some = tally.runs > 0 && tally.later > 0 && tally.there > 1000;
+    holds(&rt, "too few of one answer", is_some);
+    let all = tally
+        .runs
+        .saturating_add(tally.there)
+        .saturating_add(tally.later);
+    holds(&rt, "another answer", all == HISTORIES);
 }

@@ -1,62 +1,59 @@
-//! What several tests use: answers compared in one place, and histories written in constants.
+//! What several tests use: answers compared in one place, and histories that are written as text.
+//! What can't be had fails the test here: a `?` in a test costs the prover a second, and an abort
+//! none.
 use core_tests::draws::Draws;
+use flume_history::check::Checked;
 use flume_model::step::{Reply, Step};
+use flume_script::reading::{opening_of, step_of};
 use std::alloc::{Allocator, Global};
 use std::fmt::Debug;
 use std::process::Abort;
-use std::test::Fail;
 
 /// A step with its reply.
 pub(crate) type Pair<A = Global> = (Step<u64>, Reply<u64, A>);
 
-/// A reply as it stands in a constant. Nothing is filled by a `Sent`.
-#[derive(Clone, Copy, Drop)]
-pub(crate) enum Told {
-    Sent,
-    Full(u64),
-    NoMemory(Option<u64>),
-    Pending(u64),
-    Accepted,
-    Got(u64),
-    Empty,
-    Parked(u64),
-    Drained(&'static [u64]),
-    Done,
-    Number(usize),
+/// A channel's capacity, and its history.
+#[derive(Drop)]
+pub(crate) struct Told<A: Allocator> {
+    pub(crate) capacity: Option<usize>,
+    pub(crate) history: Vec<Pair<A>, A>,
 }
 
-impl Told {
-    // The reply.
-    fn reply<A: Allocator + Copy>(self, alloc: A) -> Result<Reply<u64, A>, Fail> {
-        Ok(match self {
-            Told::Sent => Reply::Sent { filled: None },
-            Told::Full(message) => Reply::Full(message),
-            Told::NoMemory(message) => Reply::NoMemory(message),
-            Told::Pending(ticket) => Reply::Pending(ticket),
-            Told::Accepted => Reply::Accepted,
-            Told::Got(message) => Reply::Got(message),
-            Told::Empty => Reply::Empty,
-            Told::Parked(ticket) => Reply::Parked(ticket),
-            Told::Drained(messages) => Reply::Drained(messages.to_vec(alloc)?),
-            Told::Done => Reply::Done,
-            Told::Number(number) => Reply::Number(number),
-        })
+// The reply that a text stands for, of those that are written here. Nothing is filled by `sent`.
+fn reply_of<A: Allocator + Copy>(rt: &impl Abort, alloc: A, text: &str) -> Reply<u64, A> {
+    let (word, rest) = text.split_once(" ").unwrap_or((text, ""));
+    let mut numbers = Vec::new(alloc);
+    for number in rest.split_whitespace() {
+        had(rt, numbers.push(number.parse().expect(rt, "a number")));
+    }
+    let number = numbers.first().copied();
+    match word {
+        "sent" => Reply::Sent { filled: None },
+        "accepted" => Reply::Accepted,
+        "empty" => Reply::Empty,
+        "done" => Reply::Done,
+        "0" => Reply::Number(0),
+        "nomemory" => Reply::NoMemory(number),
+        "drained" => Reply::Drained(numbers),
+        "pending" => Reply::Pending(number.expect(rt, "a ticket")),
+        "parked" => Reply::Parked(number.expect(rt, "a ticket")),
+        _ => Reply::Got(number.expect(rt, "a message")),
     }
 }
 
-/// A step, with its reply as it stands in a constant.
-pub(crate) type Line = (Step<u64>, Told);
-
-/// The history with these steps, told so.
-pub(crate) fn history_of<A: Allocator + Copy>(
-    alloc: A,
-    row: &[Line],
-) -> Result<Vec<Pair<A>, A>, Fail> {
+/// The history of a text: a line that opens a channel, and then lines of a step, an arrow and what
+/// is told of it.
+pub(crate) fn told_by<A: Allocator + Copy>(rt: &impl Abort, alloc: A, text: &str) -> Told<A> {
+    let mut lines = text.split("\n");
+    let opening = lines.next().unwrap_or("");
+    let capacity = opening_of(opening.as_bytes()).expect(rt, "an opening");
     let mut history = Vec::new(alloc);
-    for &(step, told) in row {
-        history.push((step, told.reply(alloc)?))?;
+    for line in lines {
+        let (step, told) = line.split_once(" -> ").expect(rt, "an arrow");
+        let step = step_of(step.as_bytes()).expect(rt, "a step");
+        had(rt, history.push((step, reply_of(rt, alloc, told))));
     }
-    Ok(history)
+    Told { capacity, history }
 }
 
 /// Draws from this seed.
@@ -68,7 +65,17 @@ pub(crate) fn seeded(state: u64) -> Draws {
     }
 }
 
-/// The answer is the wanted one.
-pub(crate) fn is<T: Debug + PartialEq + Drop>(rt: &impl Abort, answer: T, wanted: T) {
-    assert_eq!(rt; answer, wanted);
+/// The check answers so, of what has this title.
+pub(crate) fn is(rt: &impl Abort, title: &str, answer: Checked, wanted: Checked) {
+    assert_eq!(rt; answer, wanted, "{title}");
+}
+
+/// It is so; what fails where it isn't.
+pub(crate) fn holds(rt: &impl Abort, fault: &str, is_so: bool) {
+    assert!(rt; is_so, "{fault}");
+}
+
+/// What a call answers that fails by memory alone.
+pub(crate) fn had<T, E: Debug + Drop>(rt: &impl Abort, answer: Result<T, E>) -> T {
+    answer.expect(rt, "there is memory")
 }

@@ -1,19 +1,15 @@
-//! Tests of `flume_history`: histories written by hand, those of a channel with one reply changed,
-//! beside a second judge, and those of audits.
+//! Tests of `flume_history`: histories written by hand, and those of a channel with one reply
+//! changed, beside a second judge.
 #![tactic(auto)]
 
 #[cfg(test)]
 mod altered;
 #[cfg(test)]
-mod audited;
-#[cfg(test)]
-mod changes;
+mod counts;
 #[cfg(test)]
 mod drawn;
 #[cfg(test)]
 mod fixtures;
-#[cfg(test)]
-mod lists;
 #[cfg(test)]
 mod memory;
 #[cfg(test)]

@@ -1,82 +1,82 @@
 //! Want of memory of the check itself, which tells nothing of the history.
-use crate::fixtures::{Line, Told, history_of, is};
+use crate::fixtures::{holds, is, told_by};
 use ends_tests::counting::Counting;
 use flume_history::check::{Checked, check_history};
-use flume_model::step::{Kind, Step};
 use std::alloc::Global;
 use std::process::Abort;
-use std::test::Fail;
 
 // More growths than a check has.
 const MOST: u64 = 1000;
 
 // Messages queue and block, a receiver parks, and what is queued is drained: the check keeps each.
-const ROW: &[Line] = &[
-    (Step::Recv(Kind::Plain), Told::Parked(1)),
-    (Step::TrySend(1), Told::Sent),
-    (Step::TrySend(2), Told::Sent),
-    (Step::Send(3), Told::Pending(2)),
-    (Step::Drain, Told::Drained(&[1, 2])),
-    (Step::TryRecv, Told::Got(3)),
-];
+const KEEPS: &str = "bounded 2
+recv plain -> parked 1
+try_send 1 -> sent
+try_send 2 -> sent
+send 3 -> pending 2
+drain -> drained 1 2
+try_recv -> got 3";
 
-// What the check answers to the row on an allocator that refuses these growths, counted from 1, and
-// how many it refused.
+// Steps for which a channel keeps nothing, and what is told of them.
+const KEEPS_NOTHING: &str = "bounded 2
+try_recv -> empty
+try_send 5 -> nomemory 5
+drain -> drained
+len -> 0";
+
+// They are wrong at once, and right only where something is kept.
+const WRONG_AT_ONCE: &str = "bounded 2
+try_recv -> got 5
+try_send 5 -> sent";
+
+// Checks a history on an allocator that refuses these growths, counted from 1. It answers so, or
+// that there was no memory, where it refused some: how many.
 fn refused(
     rt: &impl Abort,
     alloc: Global,
-    row: &[Line],
-    first: u64,
-    last: u64,
-) -> Result<(Checked, u64), Fail> {
+    (text, wanted): (&str, Checked),
+    (first, last): (u64, u64),
+) -> u64 {
     let heap = Counting::new(alloc);
-    let history = history_of(&heap, row)?;
+    let told = told_by(rt, &heap, text);
     let live = heap.live();
     heap.refuse_between(first, last);
-    let answer = check_history(&heap, Some(2), &history);
+    let answer = check_history(&heap, told.capacity, &told.history);
     let refusals = heap.refusals();
     heap.refuse(false);
-    is(rt, heap.live(), live);
-    Ok((answer, refusals))
+    holds(rt, "blocks are left", heap.live() == live);
+    let wanted = if refusals > 0 {
+        Checked::NoMemory
+    } else {
+        wanted
+    };
+    is(rt, text, answer, wanted);
+    refusals
 }
 
 #[test]
-fn a_check_that_was_refused_memory_tells_nothing_of_the_history(
-    rt: HostRuntime,
-) -> Result<(), Fail> {
+fn a_check_that_was_refused_memory_tells_nothing_of_the_history(rt: HostRuntime) {
     let mut growths = 0u64;
     for first in 1..MOST {
-        let (answer, refusals) = refused(&rt, rt.alloc(), ROW, first, first)?;
-        if refusals == 0 {
-            is(&rt, answer, Checked::Run);
+        if refused(&rt, rt.alloc(), (KEEPS, Checked::Run), (first, first)) == 0 {
             break;
         }
-        is(&rt, answer, Checked::NoMemory);
         growths = growths.saturating_add(1);
     }
-    assert!(&rt; growths > 0);
-    Ok(())
+    holds(
+        &rt,
+        "refused never, or always",
+        growths > 0 && growths < MOST - 1,
+    );
 }
 
-// Steps for which a channel keeps nothing, and what is told of them.
-const KEEPS_NOTHING: &[Line] = &[
-    (Step::TryRecv, Told::Empty),
-    (Step::TrySend(5), Told::NoMemory(Some(5))),
-    (Step::Drain, Told::Drained(&[])),
-    (Step::Len, Told::Number(0)),
-];
-
-// They are wrong at once, and right only where something is kept.
-const WRONG_AT_ONCE: &[Line] = &[
-    (Step::TryRecv, Told::Got(5)),
-    (Step::TrySend(5), Told::Sent),
-];
-
 #[test]
-fn a_check_that_keeps_nothing_takes_no_memory(rt: HostRuntime) -> Result<(), Fail> {
-    let answer = refused(&rt, rt.alloc(), KEEPS_NOTHING, 1, MOST)?;
-    is(&rt, answer, (Checked::Run, 0));
-    let answer = refused(&rt, rt.alloc(), WRONG_AT_ONCE, 1, MOST)?;
-    is(&rt, answer, (Checked::Breaks(0), 0));
-    Ok(())
+fn a_check_that_keeps_nothing_takes_no_memory(rt: HostRuntime) {
+    for row in [
+        (KEEPS_NOTHING, Checked::Run),
+        (WRONG_AT_ONCE, Checked::Breaks(0)),
+    ] {
+        let refusals = refused(&rt, rt.alloc(), row, (1, u64::MAX));
+        holds(&rt, "memory was taken", refusals == 0);
+    }
 }

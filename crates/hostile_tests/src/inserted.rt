@@ -1,11 +1,11 @@
 //! The ends go at each place of a script, in both orders. A slow list that is kept from the replies
 //! alone says that the messages come in order, and each once.
-use crate::fixtures::{are_so_many, bytes_are, had, holds};
-use crate::texts::read;
+use crate::fixtures::{had, holds, text_is};
 use core_tests::judge::Told;
 use flume_core::chan::Chan;
-use flume_core::step::{Reply, Step};
-use flume_script::writing::write_replies;
+use flume_core::step::Step;
+use flume_script::reading::{opening_of, step_of};
+use flume_script::writing::write_reply;
 use std::alloc::Global;
 use std::process::Abort;
 
@@ -102,170 +102,136 @@ struct Places {
     is_sender_first: bool,
 }
 
-// The two halves of each line of a script, each half with a line for each of them: what is asked,
-// and what is answered.
-fn halves(rt: &impl Abort, alloc: Global, script: &str) -> (String, String) {
-    let (mut asked, mut answered) = (String::new(alloc), String::new(alloc));
-    for line in script.split("\n") {
-        let (asks, answer) = match line.split_once(" -> ") {
-            Some((asks, answer)) => (asks, Some(answer)),
-            None => (line, None),
-        };
-        add_line(rt, &mut asked, asks);
-        if let Some(answer) = answer {
-            add_line(rt, &mut answered, answer);
+// A script: what its channel holds, its steps, and what they answer, each on a line.
+#[derive(Drop)]
+struct Script {
+    capacity: Option<usize>,
+    steps: Vec<Step<u64>>,
+    answers: String,
+}
+
+// A channel on which steps are made, what their replies told, and their texts.
+#[derive(Drop)]
+struct Made {
+    chan: Chan<u64, ()>,
+    told: Told,
+    text: String,
+}
+
+// Reads the lines of a script.
+fn script_of(rt: &impl Abort, alloc: Global, text: &str) -> Script {
+    let mut lines = text.split("\n");
+    let opening = lines.next().unwrap_or("");
+    let capacity = opening_of(opening.as_bytes()).expect(rt, "there is an opening");
+    let (mut steps, mut answers) = (Vec::new(alloc), String::new(alloc));
+    for line in lines {
+        let (step, answer) = line.split_once(" -> ").expect(rt, "there is an arrow");
+        let step = step_of(step.as_bytes()).expect(rt, "there is a step");
+        had(rt, steps.push(step));
+        had(rt, write!(answers, "{answer}\n"));
+    }
+    Script {
+        capacity,
+        steps,
+        answers,
+    }
+}
+
+impl Made {
+    // Makes a step.
+    fn make(&mut self, rt: &impl Abort, step: Step<u64>) {
+        let reply = self.chan.step(step);
+        had(rt, self.told.add(&step, &reply));
+        had(rt, write_reply(&mut self.text, &reply));
+    }
+
+    // Drops the ends that go before the step of this number.
+    fn drop_ends(&mut self, rt: &impl Abort, places: Places, at: usize) {
+        if places.is_sender_first && places.sender == at {
+            self.make(rt, Step::DropSender);
+        }
+        if places.receiver == at {
+            self.make(rt, Step::DropReceiver);
+        }
+        if !places.is_sender_first && places.sender == at {
+            self.make(rt, Step::DropSender);
         }
     }
-    (asked, answered)
+
+    // Asks and withdraws every ticket that was issued, 0 and the next one from both sides; then
+    // receives all that is left.
+    fn make_rest(&mut self, rt: &impl Abort) {
+        self.make(rt, Step::SenderCount);
+        self.make(rt, Step::ReceiverCount);
+        for ticket in 0..self.told.issued.saturating_add(2) {
+            self.make(rt, Step::Poll(ticket));
+            self.make(rt, Step::PollSend(ticket));
+            self.make(rt, Step::Withdraw(ticket));
+            self.make(rt, Step::WithdrawSend(ticket));
+        }
+        self.make(rt, Step::Drain);
+        self.take_all(rt);
+    }
+
+    fn take_all(&mut self, rt: &impl Abort) {
+        for _ in 0..TAKES {
+            self.make(rt, Step::TryRecv);
+        }
+    }
 }
 
-// Adds a line.
-fn add_line(rt: &impl Abort, text: &mut String, line: &str) {
-    had(rt, text.push_str(line));
-    had(rt, text.push_str("\n"));
+// Whether the replies to a script in which these ends go are right, by the slow list. The texts of
+// those to the script itself.
+fn judged(rt: &impl Abort, alloc: Global, script: &Script, places: Places) -> (bool, String) {
+    let mut made = Made {
+        chan: Chan::new(alloc, script.capacity),
+        told: Told::nothing(alloc),
+        text: String::new(alloc),
+    };
+    for (at, step) in script.steps.iter().enumerate() {
+        made.drop_ends(rt, places, at);
+        made.make(rt, *step);
+    }
+    made.drop_ends(rt, places, script.steps.len());
+    let text = had(rt, made.text.clone());
+    made.make_rest(rt);
+    (had(rt, made.told.is_right(alloc)), text)
 }
 
-// The ends that go before the step of this number.
-fn insert(rt: &impl Abort, steps: &mut Vec<Step<u64>>, places: Places, at: usize) {
-    if places.is_sender_first && places.sender == at {
-        had(rt, steps.push(Step::DropSender));
-    }
-    if places.receiver == at {
-        had(rt, steps.push(Step::DropReceiver));
-    }
-    if !places.is_sender_first && places.sender == at {
-        had(rt, steps.push(Step::DropSender));
-    }
-}
-
-// The steps of a script, with the ends that go.
-fn inserted(
-    rt: &impl Abort,
-    alloc: Global,
-    script: &[Step<u64>],
-    places: Places,
-) -> Vec<Step<u64>> {
-    let mut steps = Vec::new(alloc);
-    for (at, step) in script.iter().enumerate() {
-        insert(rt, &mut steps, places, at);
-        had(rt, steps.push(*step));
-    }
-    insert(rt, &mut steps, places, script.len());
-    steps
-}
-
-// Every ticket that was issued, 0 and the next one are asked and withdrawn from both sides; then
-// all that is left is received.
-fn rest(rt: &impl Abort, alloc: Global, issued: u64) -> Vec<Step<u64>> {
-    let mut steps = had(rt, vec![in alloc; Step::SenderCount, Step::ReceiverCount]);
-    for ticket in 0..issued.saturating_add(2) {
-        had(rt, steps.push(Step::Poll(ticket)));
-        had(rt, steps.push(Step::PollSend(ticket)));
-        had(rt, steps.push(Step::Withdraw(ticket)));
-        had(rt, steps.push(Step::WithdrawSend(ticket)));
-    }
-    had(rt, steps.push(Step::Drain));
-    for _ in 0..TAKES {
-        had(rt, steps.push(Step::TryRecv));
-    }
-    steps
-}
-
-// Does the steps, and keeps what their replies tell. The replies.
-fn told_of(
-    rt: &impl Abort,
-    alloc: Global,
-    chan: &mut Chan<u64, ()>,
-    steps: &Vec<Step<u64>>,
-    told: &mut Told,
-) -> Vec<Reply<u64>> {
-    let mut replies = Vec::new(alloc);
-    for step in steps {
-        let reply = chan.step(*step);
-        had(rt, told.add(step, &reply));
-        had(rt, replies.push(reply));
-    }
-    replies
-}
-
-// Whether the replies of a script in which these ends go are right, by the slow list. Their text.
-fn judged(
-    rt: &impl Abort,
-    alloc: Global,
-    (capacity, script): (Option<usize>, &[Step<u64>]),
-    places: Places,
-) -> (bool, Vec<u8>) {
-    let mut chan = Chan::new(alloc, capacity);
-    let mut told = Told::nothing(alloc);
-    let steps = inserted(rt, alloc, script, places);
-    let replies = told_of(rt, alloc, &mut chan, &steps, &mut told);
-    let rest = rest(rt, alloc, told.issued);
-    told_of(rt, alloc, &mut chan, &rest, &mut told);
-    let is_right = had(rt, told.is_right(alloc));
-    (is_right, had(rt, write_replies(alloc, replies.as_slice())))
-}
-
-// Whether they are right with the sender that goes here, first or last of what goes there, and the
-// receiver at each place.
-fn are_right_with(
-    rt: &impl Abort,
-    alloc: Global,
-    script: (Option<usize>, &[Step<u64>]),
-    (sender, is_sender_first): (usize, bool),
-) -> bool {
-    for receiver in 0..places_of(script.1) {
+// The replies are right with the sender that goes here, and the receiver at each place; where both
+// go at one place, in either order.
+fn are_right_with(rt: &impl Abort, alloc: Global, title: &str, script: &Script, sender: usize) {
+    let places = script.steps.len().saturating_add(2);
+    for number in 0..places.saturating_mul(2) {
         let places = Places {
             sender,
-            receiver,
-            is_sender_first,
+            receiver: number / 2,
+            is_sender_first: number % 2 == 0,
         };
-        if !judged(rt, alloc, script, places).0 {
-            return false;
-        }
+        let (is_right, _) = judged(rt, alloc, script, places);
+        assert!(rt;
+            is_right,
+            "{title}: wrong where the ends go at {sender} and {number} / 2"
+        );
     }
-    true
-}
-
-// How many places there are for an end to go, with the one where it stays.
-fn places_of(script: &[Step<u64>]) -> usize {
-    script.len().saturating_add(2)
-}
-
-// At how many places, from the first on, the sender can go, so that the replies are right with the
-// receiver that goes at each place.
-fn places_that_are_right(
-    rt: &impl Abort,
-    alloc: Global,
-    script: (Option<usize>, &[Step<u64>]),
-) -> usize {
-    let places = places_of(script.1);
-    for sender in 0..places {
-        if !are_right_with(rt, alloc, script, (sender, true))
-            || !are_right_with(rt, alloc, script, (sender, false))
-        {
-            return sender;
-        }
-    }
-    places
 }
 
 // The replies to a script are those that it says, and are right wherever the ends go.
 fn script_is_right(rt: &impl Abort, alloc: Global, block: &str) {
     let (title, script) = block.split_once("\n").unwrap_or((block, ""));
-    let (asked, answered) = halves(rt, alloc, script);
-    let (capacity, steps) = read(rt, alloc, asked.as_str());
-    let script = (capacity, steps.as_slice());
-    let stays = Places {
-        sender: places_of(script.1),
-        receiver: places_of(script.1),
+    let script = script_of(rt, alloc, script);
+    let places = script.steps.len().saturating_add(2);
+    let stay = Places {
+        sender: places,
+        receiver: places,
         is_sender_first: true,
     };
-    let (is_right, text) = judged(rt, alloc, script, stays);
+    let (is_right, text) = judged(rt, alloc, &script, stay);
     holds(rt, (title, "not right where the ends stay"), is_right);
-    bytes_are(rt, title, text.as_slice(), answered.as_bytes());
-    let right = places_that_are_right(rt, alloc, script);
-    let places = (title, "places before one where the sender can't go");
-    are_so_many(rt, places, right, places_of(script.1));
+    text_is(rt, title, text.as_str(), script.answers.as_str());
+    for sender in 0..places {
+        are_right_with(rt, alloc, title, &script, sender);
+    }
 }
 
 #[test]

@@ -1,11 +1,10 @@
-//! Tests of hostile use: each growth of a step, a list, a script and an audited step refused in
-//! turn, drawn steps over an allocator that counts, and ends that go at each place of a script.
+//! Tests of hostile use: each growth of a list and of a script refused in turn, drawn steps over an
+//! allocator that counts, ends that go at each place of a script, and threads on a channel whose
+//! allocator refuses now and then.
 #![tactic(auto)]
 
 #[cfg(test)]
 mod alike;
-#[cfg(test)]
-mod audited;
 #[cfg(test)]
 mod fixtures;
 #[cfg(test)]
@@ -13,10 +12,4 @@ mod inserted;
 #[cfg(test)]
 mod lists;
 #[cfg(test)]
-mod memory;
-#[cfg(test)]
 mod soak;
-#[cfg(test)]
-mod steps;
-#[cfg(test)]
-mod texts;

@@ -1,7 +1,7 @@
 //! Eight threads on one channel whose allocator refuses one growth in a hundred: senders and
 //! receivers that try, block, wait a short time, poll and leave, with ends that are cloned,
 //! upgraded and dropped and a capacity that changes all along.
-use crate::memory::Heap;
+use crate::fixtures::Heap;
 use ends_tests::counting::Counting;
 use ends_tests::watch::{Watch, Watched, begin_watch};
 use ends_tests::works::Work;

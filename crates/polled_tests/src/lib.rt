@@ -5,8 +5,6 @@
 #[cfg(test)]
 mod beside;
 #[cfg(test)]
-mod examples;
-#[cfg(test)]
 mod fixtures;
 #[cfg(test)]
 mod forwarded;
@@ -19,14 +17,7 @@ mod numbers;
 #[cfg(test)]
 mod order;
 #[cfg(test)]
-mod receives;
-#[cfg(test)]
-mod rows;
-#[cfg(test)]
-mod sends;
 #[cfg(test)]
 mod waiting;
-#[cfg(test)]
-mod wakes;
 #[cfg(test)]
 mod works;

@@ -3,7 +3,6 @@
 use flume::error::{NoMemory, RecvError, SelectError, SendError};
 use flume::select::{Arms, AtLeastOneArm};
 use flume::{Receiver, Selector, Sender, Waits};
-use rand::rngs::SmallRng;
 use std::alloc::Allocator;
 use std::time::{Duration, Instant};
 
@@ -15,18 +14,12 @@ pub(crate) enum Until {
 }
 
 /// How a selection waits.
-pub(crate) enum How<'g> {
+#[derive(Clone, Copy)]
+pub(crate) enum How {
     /// As long as it takes.
     Endless,
     /// No longer than this.
     Until(Until),
-    /// As long as it takes, beginning with the arm that the generator draws.
-    Drawn(&'g mut SmallRng),
-}
-
-/// With no time to wait.
-pub(crate) fn at_once() -> How<'static> {
-    How::Until(Until::Timeout(Duration::ZERO))
 }
 
 /// What a wait as long as it takes answers, as the other waits say it.
@@ -40,7 +33,7 @@ fn without_end<V>(answer: Result<V, NoMemory>) -> Result<V, SelectError> {
 /// Waits for the arms that are there.
 pub(crate) fn wait<V, L: AtLeastOneArm<V, A> + Drop, A: Allocator + Copy>(
     selector: Selector<'_, V, L, A>,
-    how: How<'_>,
+    how: How,
 ) -> Result<V, SelectError>
     requires can_map { L.can_map (L.mappers selector.arms) }
 {
@@ -48,7 +41,6 @@ pub(crate) fn wait<V, L: AtLeastOneArm<V, A> + Drop, A: Allocator + Copy>(
         How::Endless => without_end(selector.wait()),
         How::Until(Until::Timeout(timeout)) => selector.wait_timeout(timeout),
         How::Until(Until::Deadline(deadline)) => selector.wait_deadline(deadline),
-        How::Drawn(rng) => without_end(selector.with_rng(rng).wait()),
     }
 }
 
@@ -57,7 +49,7 @@ pub(crate) fn last_recv<'a, V, L, T, F, R, A>(
     selector: Selector<'a, V, L, A>,
     rx: &'a Receiver<T, R, A>,
     received: F,
-    how: How<'_>,
+    how: How,
 ) -> Result<V, SelectError>
 where
     L: Arms<V, A> + Drop,
@@ -77,7 +69,7 @@ pub(crate) fn last_send<'a, V, L, T, F, R, A>(
     tx: &'a Sender<T, R, A>,
     message: T,
     sent: F,
-    how: How<'_>,
+    how: How,
 ) -> Result<V, SelectError>
 where
     L: Arms<V, A> + Drop,
@@ -98,7 +90,7 @@ pub(crate) fn recv_or_recv<'a, V, L, T, F, U, G, R, A>(
     first: F,
     other: &'a Receiver<U, R, A>,
     second: G,
-    how: How<'_>,
+    how: How,
 ) -> Result<V, SelectError>
 where
     L: Arms<V, A> + Drop,
@@ -123,7 +115,7 @@ pub(crate) fn send_or_recv<'a, V, L, T, F, U, G, R, A>(
     sent: F,
     rx: &'a Receiver<U, R, A>,
     received: G,
-    how: How<'_>,
+    how: How,
 ) -> Result<V, SelectError>
 where
     L: Arms<V, A> + Drop,
@@ -148,7 +140,7 @@ pub(crate) fn recv_or_send<'a, V, L, T, F, U, G, R, A>(
     tx: &'a Sender<U, R, A>,
     message: U,
     sent: G,
-    how: How<'_>,
+    how: How,
 ) -> Result<V, SelectError>
 where
     L: Arms<V, A> + Drop,
@@ -163,33 +155,4 @@ where
     requires sent { G.IsAlwaysCallable sent }
 {
     last_send(selector.recv(rx, received), tx, message, sent, how)
-}
-
-/// Receives by the last three arms.
-pub(crate) fn recv_thrice<'a, V, L, T, F, U, G, W, H, R, A>(
-    selector: Selector<'a, V, L, A>,
-    one: &'a Receiver<T, R, A>,
-    first: F,
-    other: &'a Receiver<U, R, A>,
-    second: G,
-    last: &'a Receiver<W, R, A>,
-    third: H,
-    how: How<'_>,
-) -> Result<V, SelectError>
-where
-    L: Arms<V, A> + Drop,
-    T: Drop,
-    F: FnOnce(Result<T, RecvError>) -> V + Drop,
-    U: Drop,
-    G: FnOnce(Result<U, RecvError>) -> V + Drop,
-    W: Drop,
-    H: FnOnce(Result<W, RecvError>) -> V + Drop,
-    R: Waits,
-    A: Allocator + Copy,
-    requires can_map { L.can_map (L.mappers selector.arms) }
-    requires first { F.IsAlwaysCallable first }
-    requires second { G.IsAlwaysCallable second }
-    requires third { H.IsAlwaysCallable third }
-{
-    recv_or_recv(selector.recv(one, first), other, second, last, third, how)
 }

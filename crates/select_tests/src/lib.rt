@@ -1,12 +1,9 @@
-//! Tests of selectors: in one thread, beside threads, where memory is refused, and what is dropped.
+//! Tests of selectors: beside threads and clocks, by two allocators, and by mappers that do more than
+//! answer. What one thread sees of them is text, which `end_scripts` plays.
 #![tactic(auto)]
 
 #[cfg(test)]
 mod arms;
-#[cfg(test)]
-mod dropped;
-#[cfg(test)]
-mod examples;
 #[cfg(test)]
 mod fixtures;
 #[cfg(test)]
@@ -16,13 +13,9 @@ mod meeting;
 #[cfg(test)]
 mod memory;
 #[cfg(test)]
-mod rows;
-#[cfg(test)]
 mod selections;
 #[cfg(test)]
 mod standing;
-#[cfg(test)]
-mod starts;
 #[cfg(test)]
 mod threads;
 #[cfg(test)]

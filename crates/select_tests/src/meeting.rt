@@ -1,53 +1,27 @@
 //! Two selectors against each other, in two threads.
-use crate::arms::{How, recv_or_send, send_or_recv};
-use crate::fixtures::{amounts_to, holds};
+use crate::fixtures::{Ends, Won, begun, had, holds, is, opened};
+use crate::selections::{receive_or_send, send_or_receive};
 use ends_tests::changes::{change_capacity, wait_for_change};
-use ends_tests::works::{Work, started};
-use flume::error::{RecvError, SelectError, SendError};
-use flume::{Receiver, Selector, Sender, Waits};
+use ends_tests::works::Work;
+use flume::error::SelectError;
+use flume::{Receiver, Sender, Waits};
 use std::alloc::{AllocError, Global};
 use std::process::Abort;
-use std::test::Fail;
 use std::thread::Threads;
 
 // How many selections each makes, where the other does as well.
 const ROUNDS: u64 = 10_000;
-
-// What a selection did: one that sends a number, or receives one.
-#[derive(Drop)]
-enum Turn {
-    Sent,
-    Got(u64),
-    Closed,
-}
-
-impl Turn {
-    fn of_send(answer: Result<(), SendError<u64>>) -> Turn {
-        match answer {
-            Ok(()) => Turn::Sent,
-            Err(_) => Turn::Closed,
-        }
-    }
-
-    fn of_receive(answer: Result<u64, RecvError>) -> Turn {
-        match answer {
-            Ok(number) => Turn::Got(number),
-            Err(_) => Turn::Closed,
-        }
-    }
-}
 
 // Sends or receives: in rounds of an even number the send arm comes first.
 fn select<R: Waits>(
     tx: &Sender<u64, R>,
     rx: &Receiver<u64, R>,
     round: u64,
-) -> Result<Turn, SelectError> {
-    let (none, how) = (Selector::new(), How::Endless);
+) -> Result<Won, SelectError> {
     if round % 2 == 0 {
-        send_or_recv(none, tx, round, Turn::of_send, rx, Turn::of_receive, how)
+        send_or_receive(tx, round, rx)
     } else {
-        recv_or_send(none, rx, Turn::of_receive, tx, round, Turn::of_send, how)
+        receive_or_send(rx, tx, round)
     }
 }
 
@@ -67,9 +41,9 @@ impl<R: Waits> Log<R> {
     fn play(&mut self, tx: &Sender<u64, R>) -> Result<(), AllocError> {
         for round in 0..ROUNDS {
             match select(tx, &self.rx, round) {
-                Ok(Turn::Sent) => self.sent.push(round)?,
-                Ok(Turn::Got(number)) => self.got.push(number)?,
-                Ok(Turn::Closed) => return Ok(()),
+                Ok(Won::Sent(Ok(()))) => self.sent.push(round)?,
+                Ok(Won::First(Ok(number))) => self.got.push(number)?,
+                Ok(_) => return Ok(()),
                 Err(_) => return Err(AllocError),
             }
             self.rounds = self.rounds.saturating_add(1);
@@ -134,41 +108,38 @@ fn all_stand_in(some: &[u64], numbers: &[u64]) -> bool {
     true
 }
 
-// Both receive what is still there. What came is in order and came once, and what an arm sent came.
-fn compare<R: Waits + Abort>(rt: &R, mut one: Log<R>, mut other: Log<R>) -> Result<(), Fail> {
-    one.take_what_is_left()?;
-    other.take_what_is_left()?;
+// What came is in order and came once, and what an arm sent came.
+fn compare<R: Waits>(rt: &impl Abort, one: &Log<R>, other: &Log<R>) {
     holds(rt, rises(&one.got) && rises(&other.got));
     holds(rt, all_stand_in(&one.sent, &other.got));
     holds(rt, all_stand_in(&other.sent, &one.got));
     // One of them made all its selections, each of which took a message or gave one.
-    amounts_to(rt, one.rounds.max(other.rounds), ROUNDS);
-    Ok(())
+    is(rt, one.rounds.max(other.rounds), ROUNDS);
 }
 
-// The ends of one channel.
-type Ends<R> = (Sender<u64, R>, Receiver<u64, R>);
-
-// Two threads make selections against each other, on these two channels.
-fn meet<R>(rt: R, alloc: Global, first: Ends<R>, second: Ends<R>) -> Result<(), Fail>
+// Two threads make selections against each other, on these two channels. Then both receive what is
+// still there.
+fn meet<R>(rt: R, alloc: Global, first: Ends<u64, R, Global>, second: Ends<u64, R, Global>)
 where
     R: Waits + Threads + Abort + Send + Sync + 'static,
 {
     let (to_other, from_one) = first;
     let (to_one, from_other) = second;
     let (tx, rx) = (to_other, from_other);
-    let one = started(&rt, Play { alloc, tx, rx })?;
+    let one = begun(&rt, Play { alloc, tx, rx });
     let (tx, rx) = (to_one, from_one);
-    let other = started(&rt, Play { alloc, tx, rx })?;
-    let (one, other) = (one.join(&rt)?, other.join(&rt)?);
-    compare(&rt, one, other)
+    let other = begun(&rt, Play { alloc, tx, rx });
+    let (mut one, mut other) = (had(&rt, one.join(&rt)), had(&rt, other.join(&rt)));
+    had(&rt, one.take_what_is_left());
+    had(&rt, other.take_what_is_left());
+    compare(&rt, &one, &other);
 }
 
 #[test]
-fn two_selectors_that_meet_lose_and_double_no_message(rt: HostRuntime) -> Result<(), Fail> {
-    let first = flume::on(rt).bounded(0)?;
-    let second = flume::on(rt).bounded(0)?;
-    meet(rt, rt.alloc(), first, second)
+fn two_selectors_that_meet_lose_and_double_no_message(rt: HostRuntime) {
+    let first = opened(rt, rt.alloc(), Some(0));
+    let second = opened(rt, rt.alloc(), Some(0));
+    meet(rt, rt.alloc(), first, second);
 }
 
 // Sets one capacity after another, until all senders are gone. How often it did.
@@ -188,15 +159,12 @@ impl<R: Waits> Work for ChangeCapacity<R> {
 }
 
 #[test]
-fn two_selectors_lose_and_double_no_message_while_a_thread_changes_a_capacity(
-    rt: HostRuntime,
-) -> Result<(), Fail> {
-    let first = flume::on(rt).bounded(4)?;
-    let second = flume::on(rt).bounded(0)?;
-    let rx = first.1.clone()?;
-    let changing = started(&rt, ChangeCapacity { rt, rx })?;
+fn two_selectors_lose_and_double_no_message_while_a_thread_changes_a_capacity(rt: HostRuntime) {
+    let first = opened(rt, rt.alloc(), Some(4));
+    let second = opened(rt, rt.alloc(), Some(0));
+    let rx = had(&rt, first.1.clone());
+    let changing = begun(&rt, ChangeCapacity { rt, rx });
     wait_for_change(&rt, &first.1, 4);
-    meet(rt, rt.alloc(), first, second)?;
+    meet(rt, rt.alloc(), first, second);
     holds(&rt, changing.join(&rt) > 0);
-    Ok(())
 }

@@ -1,13 +1,14 @@
 //! A clock that stands still, so that a test knows when a selection waits: with a deadline it reads
 //! its clock once it has parked its arms, and before it sleeps.
 use crate::arms::{How, Until};
-use crate::fixtures::Won;
-use crate::selections::{receive_from_three, receive_from_two};
+use crate::fixtures::{Ends, Won, had, opened};
+use crate::selections::{receive_by_three, receive_from_two};
 use ends_tests::works::Work;
-use flume::error::{NoMemory, SelectError};
-use flume::{Receiver, Sender, Waits, unbounded};
+use flume::error::SelectError;
+use flume::{Receiver, Sender, Waits, bounded, unbounded};
 use std::alloc::Global;
 use std::io;
+use std::process::Abort;
 use std::sync::Wait;
 use std::time::{Clock, Duration, Instant};
 
@@ -34,22 +35,59 @@ impl<R: Waits> Clock for Standing<'_, R> {
     }
 }
 
+/// The other side of a clock that stands still: it is read, and may go on.
+#[derive(Drop)]
+pub(crate) struct Reading<'a, R: Waits> {
+    pub(crate) read: &'a Receiver<(), R>,
+    pub(crate) release: Sender<(), R>,
+}
+
 /// The ends of a channel of numbers.
-pub(crate) type Ends<Q> = (Sender<u64, Q>, Receiver<u64, Q>);
+pub(crate) type Numbers<Q: Waits> = Ends<u64, Q, Global>;
 
-/// Lent ends of a channel of numbers.
-pub(crate) type Lent<'a, Q> = (&'a Sender<u64, Q>, &'a Receiver<u64, Q>);
+/// What is played while a selection over two channels stands still.
+pub(crate) trait Play<R: Waits> {
+    /// Plays it, on new channels whose ends read the clock.
+    fn play<Q: Waits + Send + Sync>(
+        self,
+        rt: &R,
+        reading: Reading<'_, R>,
+        one: Numbers<Q>,
+        other: Numbers<Q>,
+    );
+}
 
-/// Two channels whose ends read a clock that stands still.
-pub(crate) fn two_standing<'a, R: Waits>(
+/// Plays it on two channels of this capacity.
+pub(crate) fn on_stage<R: Waits + Abort + Send + Sync, P: Play<R>>(
     rt: R,
     alloc: Global,
-    reads: &'a Sender<(), R>,
-    go_on: &'a Receiver<(), R>,
-) -> Result<(Ends<Standing<'a, R>>, Ends<Standing<'a, R>>), NoMemory> {
-    let one = unbounded(Standing { rt, reads, go_on }, alloc, 3)?;
-    let other = unbounded(Standing { rt, reads, go_on }, alloc, 4)?;
-    Ok((one, other))
+    capacity: Option<usize>,
+    play: P,
+) {
+    let (reads, read) = opened(rt, alloc, None);
+    let (release, go_on) = opened(rt, alloc, None);
+    let (reads, go_on) = (&reads, &go_on);
+    let standing = Standing { rt, reads, go_on };
+    let one = numbers(&rt, standing, alloc, capacity);
+    let other = numbers(&rt, standing, alloc, capacity);
+    let reading = Reading {
+        read: &read,
+        release,
+    };
+    play.play(&rt, reading, one, other);
+}
+
+// A channel whose ends read this clock.
+fn numbers<Q: Waits>(
+    rt: &impl Abort,
+    clock: Q,
+    alloc: Global,
+    capacity: Option<usize>,
+) -> Numbers<Q> {
+    match capacity {
+        Some(capacity) => had(rt, bounded(clock, alloc, 3, capacity)),
+        None => had(rt, unbounded(clock, alloc, 3)),
+    }
 }
 
 /// Receives from one channel or another, up to a deadline.
@@ -85,6 +123,6 @@ impl<R: Waits> Work for SelectThrice<'_, R> {
 
     fn work(self) -> Result<Won, SelectError> {
         let SelectThrice { rx, deadline } = self;
-        receive_from_three(rx, rx, rx, How::Until(Until::Deadline(deadline)))
+        receive_by_three(rx, deadline)
     }
 }

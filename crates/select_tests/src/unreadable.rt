@@ -1,14 +1,13 @@
 //! Selections over a clock that can't be read.
 use crate::arms::Until;
-use crate::fixtures::{Won, long, offered, selected};
+use crate::fixtures::{Won, had, later, long, offered, selected};
 use crate::selections::{receive_until, send_until};
 use flume::bounded;
 use flume::error::SelectError;
 use std::io;
 use std::io::ErrorKind;
 use std::sync::Wait;
-use std::test::Fail;
-use std::time::{Clock, Duration, Instant};
+use std::time::{Clock, Duration};
 
 // A runtime whose clock can't be read.
 #[derive(Clone, Copy)]
@@ -29,11 +28,9 @@ impl<R> Clock for Unreadable<R> {
 }
 
 #[test]
-fn a_selection_is_late_where_the_clock_cannot_be_read(rt: HostRuntime) -> Result<(), Fail> {
-    let far = Instant::now(&rt)?.checked_add(long());
-    let far = Until::Deadline(far.expect(&rt, "an hour has a sum"));
-    let timeout = Until::Timeout(long());
-    let (tx, rx) = bounded(Unreadable { rt }, rt.alloc(), 1, 1)?;
+fn a_selection_is_late_where_the_clock_cannot_be_read(rt: HostRuntime) {
+    let (far, timeout) = (Until::Deadline(later(&rt)), Until::Timeout(long()));
+    let (tx, rx) = had(&rt, bounded(Unreadable { rt }, rt.alloc(), 1, 1));
     selected(&rt, receive_until(&rx, far), Err(SelectError::Timeout));
     selected(&rt, receive_until(&rx, timeout), Err(SelectError::Timeout));
     // An arm that can go on does.
@@ -42,5 +39,4 @@ fn a_selection_is_late_where_the_clock_cannot_be_read(rt: HostRuntime) -> Result
     selected(&rt, send_until(&tx, 3, timeout), Err(SelectError::Timeout));
     selected(&rt, receive_until(&rx, timeout), Ok(Won::First(Ok(1))));
     offered(&rt, tx.try_send(4), Ok(()));
-    Ok(())
 }

@@ -1,26 +1,17 @@
 //! Selections that were woken: one that finds nothing waits on, and an arm that loses passes its
 //! wake on. That a selection waits its clock tells, which stands still.
-use crate::fixtures::{Won, holds, long, offered, queued, received, selected, tried};
-use crate::standing::{Lent, SelectThrice, SelectTwo, Standing, two_standing};
+use crate::fixtures::{Won, had, holds, is, later, offered, present, received, selected, tried};
+use crate::standing::{Numbers, Play, Reading, SelectThrice, SelectTwo, on_stage};
 use crate::works::beside;
 use ends_tests::works::Work;
 use flume::error::{RecvError, TryRecvError, TrySendError};
 use flume::polled::RecvFut;
-use flume::{Receiver, Sender, Waits, bounded, unbounded};
+use flume::{Receiver, Sender, Waits};
 use futures::task::Poll;
 use futures::test::MockTask;
-use std::alloc::Global;
 use std::process::Abort;
-use std::test::Fail;
 use std::thread::Threads;
 use std::time::Instant;
-
-// The other side of a clock that stands still: it is read, and may go on.
-#[derive(Drop)]
-struct Reading<'a, R: Waits> {
-    read: &'a Receiver<(), R>,
-    release: Sender<(), R>,
-}
 
 // Sends to a selection that waits a message, takes it at once, and lets the selection look in vain.
 // Once it waits again: the next message, or the sender goes.
@@ -57,54 +48,45 @@ impl<R: Waits, Q: Waits> Work for TakeThenEnd<'_, R, Q> {
 }
 
 // A selection is woken for a message which another took, and then for the next one or the end.
-fn woken_again<R: Waits + Threads + Abort + Sync + Send, Q: Waits + Send + Sync>(
-    rt: &R,
-    reading: Reading<'_, R>,
-    (tx, rx): (Sender<u64, Q>, &Receiver<u64, Q>),
-    (empty, deadline): (&Receiver<u64, Q>, Instant),
-    next: Option<u64>,
-) {
-    let select = SelectTwo {
-        one: empty,
-        other: rx,
-        deadline,
-    };
-    let meanwhile = TakeThenEnd {
-        reading,
-        tx,
-        rx,
-        next,
-    };
-    let (answer, taken) = beside(rt, select, meanwhile);
-    tried(rt, taken, Ok(1));
-    let wanted = next.ok_or(RecvError::Disconnected);
-    selected(rt, answer.expect(rt, "a thread"), Ok(Won::Second(wanted)));
-}
-
-// The same over two new channels.
-fn woken_again_anew<R: Waits + Threads + Abort + Sync + Send>(
-    rt: R,
-    alloc: Global,
+struct WokenAgain {
     deadline: Instant,
     next: Option<u64>,
-) -> Result<(), Fail> {
-    let (reads, read) = unbounded(rt, alloc, 1)?;
-    let (release, go_on) = unbounded(rt, alloc, 2)?;
-    let ((tx, rx), (_other, empty)) = two_standing(rt, alloc, &reads, &go_on)?;
-    let reading = Reading {
-        read: &read,
-        release,
-    };
-    woken_again(&rt, reading, (tx, &rx), (&empty, deadline), next);
-    Ok(())
+}
+
+impl<R: Waits + Threads + Abort + Send + Sync> Play<R> for WokenAgain {
+    fn play<Q: Waits + Send + Sync>(
+        self,
+        rt: &R,
+        reading: Reading<'_, R>,
+        one: Numbers<Q>,
+        other: Numbers<Q>,
+    ) {
+        let WokenAgain { deadline, next } = self;
+        let (tx, rx) = other;
+        let select = SelectTwo {
+            one: &one.1,
+            other: &rx,
+            deadline,
+        };
+        let meanwhile = TakeThenEnd {
+            reading,
+            tx,
+            rx: &rx,
+            next,
+        };
+        let (answer, taken) = beside(rt, select, meanwhile);
+        tried(rt, taken, Ok(1));
+        let wanted = next.ok_or(RecvError::Disconnected);
+        selected(rt, answer, Ok(Won::Second(wanted)));
+    }
 }
 
 #[test]
-fn a_selection_that_was_woken_for_nothing_is_woken_again(rt: HostRuntime) -> Result<(), Fail> {
-    let far = Instant::now(&rt)?.checked_add(long());
-    let far = far.expect(&rt, "an hour has a sum");
-    woken_again_anew(rt, rt.alloc(), far, Some(2))?;
-    woken_again_anew(rt, rt.alloc(), far, None)
+fn a_selection_that_was_woken_for_nothing_is_woken_again(rt: HostRuntime) {
+    let deadline = later(&rt);
+    for next in [Some(2), None] {
+        on_stage(rt, rt.alloc(), None, WokenAgain { deadline, next });
+    }
 }
 
 // While a selection waits for two channels, a future waits behind its second arm. Then both arms
@@ -143,55 +125,44 @@ impl<'f, R: Waits, Q: Waits> Work for WakeBoth<'_, '_, 'f, '_, R, Q> {
 }
 
 // A selection loses by an arm that was woken, while a future waits behind that arm.
-fn wake_passed_on<R: Waits + Threads + Abort + Sync + Send, Q: Waits + Send + Sync>(
-    rt: &R,
-    reading: Reading<'_, R>,
-    (tx0, one): Lent<'_, Q>,
-    (tx1, other): Lent<'_, Q>,
-    (task, deadline): (&MockTask, Instant),
-) {
-    let select = SelectTwo {
-        one,
-        other,
-        deadline,
-    };
-    let meanwhile = WakeBoth {
-        reading,
-        senders: (tx0, tx1),
-        rx: other,
-        task,
-    };
-    let (answer, (mut future, early)) = beside(rt, select, meanwhile);
-    selected(rt, answer.expect(rt, "a thread"), Ok(Won::First(Ok(1))));
-    holds(rt, !early);
-    holds(rt, task.is_woken());
-    holds(rt, task.poll(&mut future) == Poll::Ready(Ok(5)));
+struct WakePassedOn<'t> {
+    task: &'t MockTask,
+    deadline: Instant,
 }
 
-// The same over two new channels.
-fn wake_passed_on_anew<R: Waits + Threads + Abort + Sync + Send>(
-    rt: R,
-    alloc: Global,
-    task: &MockTask,
-    deadline: Instant,
-) -> Result<(), Fail> {
-    let (reads, read) = unbounded(rt, alloc, 1)?;
-    let (release, go_on) = unbounded(rt, alloc, 2)?;
-    let ((tx0, rx0), (tx1, rx1)) = two_standing(rt, alloc, &reads, &go_on)?;
-    let reading = Reading {
-        read: &read,
-        release,
-    };
-    wake_passed_on(&rt, reading, (&tx0, &rx0), (&tx1, &rx1), (task, deadline));
-    Ok(())
+impl<R: Waits + Threads + Abort + Send + Sync> Play<R> for WakePassedOn<'_> {
+    fn play<Q: Waits + Send + Sync>(
+        self,
+        rt: &R,
+        reading: Reading<'_, R>,
+        one: Numbers<Q>,
+        other: Numbers<Q>,
+    ) {
+        let WakePassedOn { task, deadline } = self;
+        let select = SelectTwo {
+            one: &one.1,
+            other: &other.1,
+            deadline,
+        };
+        let meanwhile = WakeBoth {
+            reading,
+            senders: (&one.0, &other.0),
+            rx: &other.1,
+            task,
+        };
+        let (answer, (mut future, early)) = beside(rt, select, meanwhile);
+        selected(rt, answer, Ok(Won::First(Ok(1))));
+        holds(rt, !early);
+        holds(rt, task.is_woken());
+        holds(rt, task.poll(&mut future) == Poll::Ready(Ok(5)));
+    }
 }
 
 #[test]
-fn an_arm_that_was_woken_and_loses_wakes_another(rt: HostRuntime) -> Result<(), Fail> {
-    let far = Instant::now(&rt)?.checked_add(long());
-    let far = far.expect(&rt, "an hour has a sum");
-    let task = MockTask::new(&rt)?;
-    wake_passed_on_anew(rt, rt.alloc(), &task, far)
+fn an_arm_that_was_woken_and_loses_wakes_another(rt: HostRuntime) {
+    let (task, deadline) = (had(&rt, MockTask::new(&rt)), later(&rt));
+    let task = &task;
+    on_stage(rt, rt.alloc(), None, WakePassedOn { task, deadline });
 }
 
 // Offers four messages to a selection that waits for one channel by three arms.
@@ -219,46 +190,36 @@ impl<R: Waits, Q: Waits> Work for OfferFour<'_, R, Q> {
 }
 
 // A selection waits for a channel of capacity 0 by three arms.
-fn three_arms_wait<R: Waits + Threads + Abort + Sync + Send, Q: Waits + Send + Sync>(
-    rt: &R,
-    reading: Reading<'_, R>,
-    (tx, rx): Lent<'_, Q>,
+struct ThreeArmsWait {
     deadline: Instant,
-) {
-    let meanwhile = OfferFour { reading, tx };
-    let (answer, offers) = beside(rt, SelectThrice { rx, deadline }, meanwhile);
-    // Each arm waits by itself, and lets one message in.
-    holds(rt, offers == (true, true, true, false));
-    selected(rt, answer.expect(rt, "a thread"), Ok(Won::First(Ok(1))));
-    // Those that lost took nothing, and none waits on.
-    tried(rt, rx.try_recv(), Ok(2));
-    tried(rt, rx.try_recv(), Ok(3));
-    offered(rt, tx.try_send(5), Err(TrySendError::Full(5)));
 }
 
-// The same over a new channel.
-fn three_arms_wait_anew<R: Waits + Threads + Abort + Sync + Send>(
-    rt: R,
-    alloc: Global,
-    deadline: Instant,
-) -> Result<(), Fail> {
-    let (reads, read) = unbounded(rt, alloc, 1)?;
-    let (release, go_on) = unbounded(rt, alloc, 2)?;
-    let (reads, go_on) = (&reads, &go_on);
-    let (tx, rx) = bounded(Standing { rt, reads, go_on }, alloc, 3, 0)?;
-    let reading = Reading {
-        read: &read,
-        release,
-    };
-    three_arms_wait(&rt, reading, (&tx, &rx), deadline);
-    Ok(())
+impl<R: Waits + Threads + Abort + Send + Sync> Play<R> for ThreeArmsWait {
+    fn play<Q: Waits + Send + Sync>(
+        self,
+        rt: &R,
+        reading: Reading<'_, R>,
+        one: Numbers<Q>,
+        _other: Numbers<Q>,
+    ) {
+        let ThreeArmsWait { deadline } = self;
+        let (tx, rx) = one;
+        let meanwhile = OfferFour { reading, tx: &tx };
+        let (answer, offers) = beside(rt, SelectThrice { rx: &rx, deadline }, meanwhile);
+        // Each arm waits by itself, and lets one message in.
+        holds(rt, offers == (true, true, true, false));
+        selected(rt, answer, Ok(Won::First(Ok(1))));
+        // Those that lost took nothing, and none waits on.
+        tried(rt, rx.try_recv(), Ok(2));
+        tried(rt, rx.try_recv(), Ok(3));
+        offered(rt, tx.try_send(5), Err(TrySendError::Full(5)));
+    }
 }
 
 #[test]
-fn three_arms_that_wait_for_one_channel_take_one_message(rt: HostRuntime) -> Result<(), Fail> {
-    let far = Instant::now(&rt)?.checked_add(long());
-    let far = far.expect(&rt, "an hour has a sum");
-    three_arms_wait_anew(rt, rt.alloc(), far)
+fn three_arms_that_wait_for_one_channel_take_one_message(rt: HostRuntime) {
+    let deadline = later(&rt);
+    on_stage(rt, rt.alloc(), Some(0), ThreeArmsWait { deadline });
 }
 
 // Gives each of two arms a message, the second first.
@@ -282,58 +243,45 @@ impl<R: Waits, Q: Waits> Work for GiveBoth<'_, R, Q> {
 }
 
 // Whatever woke a selection, its first arm that can go on wins.
-fn first_of_two_woken<R: Waits + Threads + Abort + Sync + Send, Q: Waits + Send + Sync>(
-    rt: &R,
-    reading: Reading<'_, R>,
-    (tx0, one): Lent<'_, Q>,
-    (tx1, other): Lent<'_, Q>,
+struct FirstOfTwoWoken {
     deadline: Instant,
-) {
-    let meanwhile = GiveBoth {
-        reading,
-        senders: (tx0, tx1),
-    };
-    let (answer, both) = beside(
-        rt,
-        SelectTwo {
-            one,
-            other,
+}
+
+impl<R: Waits + Threads + Abort + Send + Sync> Play<R> for FirstOfTwoWoken {
+    fn play<Q: Waits + Send + Sync>(
+        self,
+        rt: &R,
+        reading: Reading<'_, R>,
+        one: Numbers<Q>,
+        other: Numbers<Q>,
+    ) {
+        let FirstOfTwoWoken { deadline } = self;
+        let meanwhile = GiveBoth {
+            reading,
+            senders: (&one.0, &other.0),
+        };
+        let select = SelectTwo {
+            one: &one.1,
+            other: &other.1,
             deadline,
-        },
-        meanwhile,
-    );
-    holds(rt, both);
-    selected(rt, answer.expect(rt, "a thread"), Ok(Won::First(Ok(1))));
-    queued(rt, other.len(), 1);
-    received(rt, other.recv(), Ok(2));
-}
-
-// The same over two new channels.
-fn first_of_two_woken_anew<R: Waits + Threads + Abort + Sync + Send>(
-    rt: R,
-    alloc: Global,
-    deadline: Instant,
-) -> Result<(), Fail> {
-    let (reads, read) = unbounded(rt, alloc, 1)?;
-    let (release, go_on) = unbounded(rt, alloc, 2)?;
-    let ((tx0, rx0), (tx1, rx1)) = two_standing(rt, alloc, &reads, &go_on)?;
-    let reading = Reading {
-        read: &read,
-        release,
-    };
-    first_of_two_woken(&rt, reading, (&tx0, &rx0), (&tx1, &rx1), deadline);
-    Ok(())
+        };
+        let (answer, both) = beside(rt, select, meanwhile);
+        holds(rt, both);
+        selected(rt, answer, Ok(Won::First(Ok(1))));
+        is(rt, other.1.len(), 1);
+        received(rt, other.1.recv(), Ok(2));
+    }
 }
 
 #[test]
-fn after_a_wake_the_first_arm_that_can_go_on_wins(rt: HostRuntime) -> Result<(), Fail> {
-    let far = Instant::now(&rt)?.checked_add(long());
-    let far = far.expect(&rt, "an hour has a sum");
-    first_of_two_woken_anew(rt, rt.alloc(), far)
+fn after_a_wake_the_first_arm_that_can_go_on_wins(rt: HostRuntime) {
+    let deadline = later(&rt);
+    on_stage(rt, rt.alloc(), None, FirstOfTwoWoken { deadline });
 }
 
 #[test]
-fn a_message_that_comes_as_the_time_is_up_is_taken(rt: HostRuntime) -> Result<(), Fail> {
+fn a_message_that_comes_as_the_time_is_up_is_taken(rt: HostRuntime) {
     // The clock tells the time only once the messages are there, and then the deadline is past.
-    first_of_two_woken_anew(rt, rt.alloc(), Instant::now(&rt)?)
+    let deadline = present(&rt);
+    on_stage(rt, rt.alloc(), None, FirstOfTwoWoken { deadline });
 }

@@ -6,6 +6,7 @@
 
 use flume::error::NoMemory;
 use flume::{Receiver, Runtime, SelectError, Selector, Sender, Waits};
+use std::thread::JoinHandle;
 use std::time::Duration;
 use std::{io, thread};
 
@@ -46,13 +47,22 @@ impl<R: Waits> Worker<R> {
     }
 }
 
+/// Who employs a worker: the other ends of its channels, and the thread that it works in.
+#[derive(Drop)]
+struct Boss<R: Waits> {
+    tell: Sender<(), R>,
+    give: Sender<u64, R>,
+    answers: Receiver<u64, R>,
+    working: JoinHandle<io::Result<Why>>,
+}
+
 fn main(rt: HostRuntime) -> io::Result<()> {
     println!(rt; "{:?}", told_to_stop(rt)?)?;
     println!(rt; "{:?}", too_late(rt)?)
 }
 
-/// Has five jobs done, and then a worker that is told to stop.
-fn told_to_stop<R: Runtime + Print>(rt: R) -> io::Result<Why> {
+/// Starts a worker that waits for each job up to `patience`.
+fn employ<R: Runtime>(rt: R, patience: Duration) -> io::Result<Boss<R>> {
     // Of capacity 1: one word is all that is ever said, and who says it doesn't wait.
     let (tell, stop) = flume::on(rt).bounded(1)?;
     // Of capacity 1: each job is answered before the next one is given.
@@ -65,12 +75,22 @@ fn told_to_stop<R: Runtime + Print>(rt: R) -> io::Result<Why> {
         jobs,
         done,
     };
-    // Longer than this program runs: the worker is told to stop before.
-    let patience = Duration::from_secs(3600);
     let working = thread::spawn(&rt, move || worker.work(patience))?;
-    let asked = ask(&rt, tell, give, answers);
+    Ok(Boss {
+        tell,
+        give,
+        answers,
+        working,
+    })
+}
+
+/// Has five jobs done, and then a worker that is told to stop.
+fn told_to_stop<R: Runtime + Print>(rt: R) -> io::Result<Why> {
+    // Longer than this program runs: the worker is told to stop before.
+    let boss = employ(rt, Duration::from_secs(3600))?;
+    let asked = ask(&rt, boss.tell, boss.give, boss.answers);
     // If the worker failed, its error says why. The other one only says that it was gone.
-    let why = working.join(&rt)?;
+    let why = boss.working.join(&rt)?;
     asked?;
     Ok(why)
 }
@@ -92,19 +112,9 @@ fn ask<R: Runtime + Print>(
 
 /// Lets a worker wait for what doesn't come: both senders are here, and neither sends.
 fn too_late<R: Runtime>(rt: R) -> io::Result<Why> {
-    let (tell, stop) = flume::on(rt).bounded(1)?;
-    let (give, jobs) = flume::on(rt).bounded(1)?;
-    let (done, _answers) = flume::on(rt).bounded(0)?;
-    let worker = Worker {
-        rt,
-        stop,
-        jobs,
-        done,
-    };
     // Of any length the same is printed.
-    let patience = Duration::from_millis(20);
-    let working = thread::spawn(&rt, move || worker.work(patience))?;
-    let why = working.join(&rt)?;
-    drop((tell, give));
-    Ok(why)
+    let boss = employ(rt, Duration::from_millis(20))?;
+    let why = boss.working.join(&rt);
+    drop((boss.tell, boss.give));
+    why
 }

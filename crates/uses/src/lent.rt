@@ -211,34 +211,3 @@ pub fn receive_through<T: Drop, A: Allocator + Copy, R: Wait>(
 {
     recv_over(rt, gate)
 }
-
-#[cfg(test)]
-mod tests {
-    use crate::is;
-    use crate::lent::{Lent, Other, receive_through, send_through};
-    use flume_core::error::{RecvTimeoutError, SendTimeoutError};
-
-    #[test]
-    fn a_blocked_send_is_taken_while_it_waits(rt: HostRuntime) {
-        let mut gate = Lent::new(rt.alloc(), Some(0), Some(Other::TryRecv));
-        assert!(rt; send_through(&rt, &mut gate, 7u64).is_ok());
-        is(&rt, gate.received, Some(7));
-        is(&rt, gate.bell.rings, 1);
-    }
-
-    #[test]
-    fn a_blocked_send_that_nobody_takes_times_out(rt: HostRuntime) {
-        let mut gate = Lent::new(rt.alloc(), Some(0), None);
-        let sent = send_through(&rt, &mut gate, 7u64);
-        assert!(rt; matches!(sent, Err(SendTimeoutError::Timeout(7))));
-        is(&rt, gate.bell.rings, 0);
-    }
-
-    #[test]
-    fn a_receive_ends_as_the_sender_goes_while_it_waits(rt: HostRuntime) {
-        let mut gate: Lent<u64, _> = Lent::new(rt.alloc(), None, Some(Other::DropSender));
-        let received = receive_through(&rt, &mut gate);
-        is(&rt, received, Err(RecvTimeoutError::Disconnected));
-        is(&rt, gate.bell.rings, 1);
-    }
-}

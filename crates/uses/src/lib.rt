@@ -8,8 +8,3 @@ pub mod lent;
 pub mod refused;
 pub mod settled;
 pub mod share;
-
-#[cfg(test)]
-fn is<T: std::fmt::Debug + PartialEq + Drop>(rt: &impl std::process::Abort, answer: T, wanted: T) {
-    assert_eq!(rt; answer, wanted);
-}

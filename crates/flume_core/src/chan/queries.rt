@@ -97,7 +97,7 @@ impl<T: Drop, S: Drop, A: Allocator + Copy> Chan<T, S, A> {
     /// chan.room();                       // 0
     /// chan.try_send(1);
     /// chan.try_recv();
-    /// chan.room();                       // 1 or more
+    /// chan.room() >= 1;                  // true
     /// ```
     pub fn room(&self) -> usize
         ensures room { result + message_count self.now ≡ self.now.space }

@@ -1,4 +1,4 @@
 use Rattle.audit_tests.proofs.memory.count_refused.Given as goal
 
-abbrev pub ghosts-refused : goal.ghosts-refused
-ghosts-refused g a = record { name = a.blank.name; parts = a.blank.parts }
+abbrev pub ghosts-is_refused : goal.ghosts-is_refused
+ghosts-is_refused g a = record { name = a.blank.name; parts = a.blank.parts }

@@ -1,0 +1,2 @@
+use flume_chain::chain::Chain;
+use std::test::Fail;

@@ -1,0 +1,2 @@
+use flume_core::error::{SendError, SendTimeoutError, TrySendError};
+use std::test::Fail;

@@ -1,0 +1,11 @@
+use flume_model::step::Kind;
+use flume_state::entries::Entries;
+use flume_state::line::Line;
+use flume_state::maybe_ticket::MaybeTicket;
+use flume_state::places::Places;
+use flume_state::places::hashed::HashedPlaces;
+use flume_state::places::table::PlaceTable;
+use flume_state::sends::Sends;
+use flume_state::ticketed::TicketChain;
+use std::alloc::Global;
+use std::test::Fail;
