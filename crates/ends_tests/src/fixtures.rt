@@ -1,6 +1,6 @@
-//! What several tests use: answers compared in one place, channels of any capacity, threads, a
-//! message, and times. What can't be had fails the test here: a `?` in a test costs the prover a
-//! second, and an abort none.
+//! What several tests use: answers compared in one place, channels of any capacity, threads and
+//! times. What can't be had fails the test here: a `?` in a test costs the prover a second, and an
+//! abort none.
 use crate::works::Work;
 use flume::{Receiver, Sender, Waits, bounded, unbounded};
 use std::alloc::Allocator;
@@ -19,10 +19,6 @@ pub(crate) fn is<T: Debug + PartialEq + Drop>(rt: &impl Abort, answer: T, wanted
 pub(crate) fn had<T, E: Debug + Drop>(rt: &impl Abort, answer: Result<T, E>) -> T {
     answer.expect(rt, "there is memory")
 }
-
-/// A message that can't be copied.
-#[derive(Debug, PartialEq, Eq, Drop)]
-pub(crate) struct Parcel(pub(crate) u64);
 
 /// The ends of a new channel of this capacity: `None` is unbounded.
 pub(crate) fn opened<T: Drop, R: Waits + Abort, A: Allocator + Copy>(
