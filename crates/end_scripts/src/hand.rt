@@ -224,13 +224,7 @@ impl<'t, 'h, R: Waits> Hand<'t, 'h, R> {
     fn does(&mut self, asks: &str, answer: &mut String) -> Result<bool, AllocError> {
         if asks.starts_with("select") || asks.starts_with("drawn") || asks.starts_with("mapped") {
             let ends = (&self.here, &self.there);
-            return selected(
-                &mut self.selecting,
-                ends,
-                (self.live, self.now),
-                asks,
-                answer,
-            );
+            return selected(&self.selecting, ends, (self.live, self.now), asks, answer);
         }
         match Asked::read(asks) {
             Some(asked) => self.calls(&asked, answer),

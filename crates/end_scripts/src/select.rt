@@ -42,8 +42,9 @@ fn ending_of(word: &str, now: Instant) -> Option<Ending> {
 }
 
 // What an arm does: `recv`, `send 5`, or behind `other` the same of the second channel.
-fn side_of<'e, 'h, R: Waits>(
-    (here, there): (&'e Both<'_, 'h, R>, &'e Both<'_, 'h, R>),
+fn side_of<'e, 't, 'h, R: Waits>(
+    here: &'e Both<'t, 'h, R>,
+    there: &'e Both<'t, 'h, R>,
     text: &str,
 ) -> Option<Side<'e, 'h, R>> {
     let (ends, call) = match text.strip_prefix("other ") {
@@ -57,13 +58,22 @@ fn side_of<'e, 'h, R: Waits>(
     Some(Side::Sends(ends.sender()?, number))
 }
 
+// The arms of a selection: one at least.
+#[derive(Clone, Copy, Drop)]
+struct Three<'e, 'h, R: Waits> {
+    first: Added<'e, 'h, R>,
+    second: Option<Added<'e, 'h, R>>,
+    third: Option<Added<'e, 'h, R>>,
+}
+
 // The arms of a line, parted by commas. Where `drawn SEED` stands between them, the start arm is
 // drawn out of those before it.
-fn arms_of<'e, 'h, R: Waits>(
-    ends: (&'e Both<'_, 'h, R>, &'e Both<'_, 'h, R>),
-    (live, calls): (Live<'h>, &'e Calls),
-    text: &str,
-) -> Option<[Option<Added<'e, 'h, R>>; 3]> {
+fn arms_of<'e, 't, 'h, R: Waits>(
+    here: &'e Both<'t, 'h, R>,
+    there: &'e Both<'t, 'h, R>,
+    calls: &'e Calls,
+    (live, text): (Live<'h>, &str),
+) -> Option<Three<'e, 'h, R>> {
     let mut arms: [Option<Added<'e, 'h, R>>; 3] = [None; 3];
     let mut number = 0usize;
     for part in text.split(", ") {
@@ -73,7 +83,7 @@ fn arms_of<'e, 'h, R: Waits>(
                 last.as_mut()?.seed = Some(seed.parse().ok()?);
             }
             None => {
-                let side = side_of(ends, part)?;
+                let side = side_of(here, there, part)?;
                 *arms.get_mut(number)? = Some(Added {
                     arm: number,
                     side,
@@ -86,7 +96,12 @@ fn arms_of<'e, 'h, R: Waits>(
         }
     }
     calls.begin(number);
-    Some(arms)
+    let [first, second, third] = arms;
+    Some(Three {
+        first: first?,
+        second,
+        third,
+    })
 }
 
 // What a generator of this seed draws out of so many arms: `3 of 2`.
@@ -102,9 +117,9 @@ fn drawn_arm(text: &str) -> Option<usize> {
 /// Makes a selection over the ends of both channels, or tells of the last one: a line that begins
 /// with `select`, `drawn` or `mapped`. Says what it answers. False: no such line is known, or an end
 /// is gone.
-pub(crate) fn selected<'h, R: Waits>(
-    selecting: &mut Selecting,
-    ends: (&Both<'_, 'h, R>, &Both<'_, 'h, R>),
+pub(crate) fn selected<'e, 't, 'h, R: Waits>(
+    selecting: &'e Selecting,
+    (here, there): (&'e Both<'t, 'h, R>, &'e Both<'t, 'h, R>),
     (live, now): (Live<'h>, Instant),
     asks: &str,
     answer: &mut String,
@@ -124,11 +139,16 @@ pub(crate) fn selected<'h, R: Waits>(
     let Some(ending) = ending_of(word, now) else {
         return Ok(false);
     };
-    match arms_of(ends, (live, calls), text) {
-        Some([Some(one), second, third]) => {
-            say_outcome(answer, select_by(one, second, third, ending))?;
+    match arms_of(here, there, calls, (live, text)) {
+        Some(three) => {
+            let Three {
+                first,
+                second,
+                third,
+            } = three;
+            say_outcome(answer, select_by(first, second, third, ending))?;
             Ok(true)
         }
-        _ => Ok(false),
+        None => Ok(false),
     }
 }
