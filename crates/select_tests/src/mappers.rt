@@ -41,16 +41,19 @@ fn shows_its_name(rt: &impl Abort, alloc: Global, selector: &impl Debug) {
 }
 
 // One with two arms does.
-fn two_arms_show_it<R: Waits + Abort>(rt: R, alloc: Global) {
-    let (tx, rx) = opened(rt, alloc, None);
-    let selector = Selector::new()
-        .recv(&rx, Won::First)
-        .send(&tx, 1, Won::Sent);
-    shows_its_name(&rt, alloc, &selector);
+fn two_arms_show_it<R: Waits + Abort>(
+    rt: &R,
+    alloc: Global,
+    tx: &Sender<u64, R>,
+    rx: &Receiver<u64, R>,
+) {
+    let selector = Selector::new().recv(rx, Won::First).send(tx, 1, Won::Sent);
+    shows_its_name(rt, alloc, &selector);
 }
 
 #[test]
 fn a_selector_shows_its_name(rt: HostRuntime) {
+    let (tx, rx) = opened(rt, rt.alloc(), None);
     shows_its_name(&rt, rt.alloc(), &Selector::<'_, Won>::default());
-    two_arms_show_it(rt, rt.alloc());
+    two_arms_show_it(&rt, rt.alloc(), &tx, &rx);
 }

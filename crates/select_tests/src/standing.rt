@@ -1,11 +1,11 @@
 //! A clock that stands still, so that a test knows when a selection waits: with a deadline it reads
 //! its clock once it has parked its arms, and before it sleeps.
 use crate::arms::{How, Until};
-use crate::fixtures::{Ends, Won, had, opened};
+use crate::fixtures::{Ends, Won, had};
 use crate::selections::{receive_by_three, receive_from_two};
 use ends_tests::works::Work;
 use flume::error::SelectError;
-use flume::{Receiver, Sender, Waits, bounded, unbounded};
+use flume::{Receiver, Sender, Waits, unbounded};
 use std::alloc::Global;
 use std::io;
 use std::process::Abort;
@@ -45,49 +45,19 @@ pub(crate) struct Reading<'a, R: Waits> {
 /// The ends of a channel of numbers.
 pub(crate) type Numbers<Q: Waits> = Ends<u64, Q, Global>;
 
-/// What is played while a selection over two channels stands still.
-pub(crate) trait Play<R: Waits> {
-    /// Plays it, on new channels whose ends read the clock.
-    fn play<Q: Waits + Send + Sync>(
-        self,
-        rt: &R,
-        reading: Reading<'_, R>,
-        one: Numbers<Q>,
-        other: Numbers<Q>,
-    );
-}
+/// Lent ends of a channel of numbers.
+pub(crate) type Lent<'a, Q> = (&'a Sender<u64, Q>, &'a Receiver<u64, Q>);
 
-/// Plays it on two channels of this capacity.
-pub(crate) fn on_stage<R: Waits + Abort + Send + Sync, P: Play<R>>(
+/// Two channels whose ends read a clock that stands still.
+pub(crate) fn two_standing<'a, R: Waits + Abort>(
     rt: R,
     alloc: Global,
-    capacity: Option<usize>,
-    play: P,
-) {
-    let (reads, read) = opened(rt, alloc, None);
-    let (release, go_on) = opened(rt, alloc, None);
-    let (reads, go_on) = (&reads, &go_on);
-    let standing = Standing { rt, reads, go_on };
-    let one = numbers(&rt, standing, alloc, capacity);
-    let other = numbers(&rt, standing, alloc, capacity);
-    let reading = Reading {
-        read: &read,
-        release,
-    };
-    play.play(&rt, reading, one, other);
-}
-
-// A channel whose ends read this clock.
-fn numbers<Q: Waits>(
-    rt: &impl Abort,
-    clock: Q,
-    alloc: Global,
-    capacity: Option<usize>,
-) -> Numbers<Q> {
-    match capacity {
-        Some(capacity) => had(rt, bounded(clock, alloc, 3, capacity)),
-        None => had(rt, unbounded(clock, alloc, 3)),
-    }
+    reads: &'a Sender<(), R>,
+    go_on: &'a Receiver<(), R>,
+) -> (Numbers<Standing<'a, R>>, Numbers<Standing<'a, R>>) {
+    let one = had(&rt, unbounded(Standing { rt, reads, go_on }, alloc, 3));
+    let other = had(&rt, unbounded(Standing { rt, reads, go_on }, alloc, 4));
+    (one, other)
 }
 
 /// Receives from one channel or another, up to a deadline.
