@@ -20,10 +20,10 @@ pub enum Calls {
     ReceivesFirst,
 }
 
-// The call that is made now, and the message that is sent.
+// The call that is made now.
 #[derive(Drop)]
 enum Call<'a, R: Waits> {
-    Sends(usize, SendFut<'a, usize, R>),
+    Sends(SendFut<'a, usize, R>),
     Receives(RecvFut<'a, usize, R>),
 }
 
@@ -34,6 +34,8 @@ pub struct Loop<'a, R: Waits> {
     rx: &'a Receiver<usize, R>,
     calls: Calls,
     call: Call<'a, R>,
+    // The message that is sent, or was sent last.
+    message: usize,
     // How many calls are left.
     left: usize,
     sum: usize,
@@ -48,7 +50,7 @@ impl<'a, R: Waits> Loop<'a, R> {
         left: usize,
     ) -> Self {
         let call = match calls {
-            Calls::Sends | Calls::SendsFirst => Call::Sends(0, tx.send_async(0)),
+            Calls::Sends | Calls::SendsFirst => Call::Sends(tx.send_async(0)),
             Calls::Receives | Calls::ReceivesFirst => Call::Receives(rx.recv_async()),
         };
         Loop {
@@ -56,20 +58,24 @@ impl<'a, R: Waits> Loop<'a, R> {
             rx,
             calls,
             call,
+            message: 0,
             left,
             sum: 0,
         }
     }
 
-    // The call that follows one that sent or received this message.
+    // Begins the call that follows one that sent or received this message.
     #[inline(always)]
-    fn after(&self, message: usize, sent: bool) -> Call<'a, R> {
-        let next = match (self.calls, sent) {
+    fn begin_next(&mut self, message: usize, sent: bool) {
+        self.message = match (self.calls, sent) {
             (Calls::Sends, _) | (Calls::SendsFirst, false) => message.wrapping_add(1),
             (Calls::ReceivesFirst, false) => message,
-            _ => return Call::Receives(self.rx.recv_async()),
+            _ => {
+                self.call = Call::Receives(self.rx.recv_async());
+                return;
+            }
         };
-        Call::Sends(next, self.tx.send_async(next))
+        self.call = Call::Sends(self.tx.send_async(self.message));
     }
 
     // One call. `false`: the channel is disconnected, or there is no memory.
@@ -78,9 +84,10 @@ impl<'a, R: Waits> Loop<'a, R> {
         ensures armed { OnPending result (IsArmed cx.new) }
         ensures kept { Keeps cx.old cx.new }
     {
+        let next = self.message;
         let (message, sent) = match &mut self.call {
-            Call::Sends(message, send) => match ready!(send.poll(cx)) {
-                Ok(()) => (*message, true),
+            Call::Sends(send) => match ready!(send.poll(cx)) {
+                Ok(()) => (next, true),
                 Err(_) => return Poll::Ready(false),
             },
             Call::Receives(receive) => match ready!(receive.poll(cx)) {
@@ -91,7 +98,7 @@ impl<'a, R: Waits> Loop<'a, R> {
         if !sent {
             self.sum = self.sum.wrapping_add(message);
         }
-        self.call = self.after(message, sent);
+        self.begin_next(message, sent);
         Poll::Ready(true)
     }
 }

@@ -288,7 +288,8 @@ impl Slow {
     // A parked receiver leaves. One that blocks takes the front with it; another passes its wake
     // on, if it was woken.
     fn leave(&mut self, ticket: u64) -> Reply<u64> {
-        let Some(receiver) = self.parked.remove(self.place_of(ticket)) else {
+        let place = self.place_of(ticket);
+        let Some(receiver) = self.parked.remove(place) else {
             return Reply::NoTicket;
         };
         let closed = !self.is_open();
