@@ -18,16 +18,6 @@ pub(crate) fn is<T: Debug + PartialEq + Drop>(rt: &impl Abort, answer: T, wanted
     assert_eq!(rt; answer, wanted);
 }
 
-/// The answer is the wanted one, in the row of this title.
-pub(crate) fn is_so<T: Debug + PartialEq + Drop>(
-    rt: &impl Abort,
-    title: &str,
-    answer: T,
-    wanted: T,
-) {
-    assert_eq!(rt; answer, wanted, "{title}");
-}
-
 /// What a call answers that fails by the system alone: by its memory, say.
 pub(crate) fn had<T, E: Debug + Drop>(rt: &impl Abort, answer: Result<T, E>) -> T {
     answer.expect(rt, "the system gives what is asked for")

@@ -1,5 +1,5 @@
-//! Tests of what is polled: the calls without their lock, and the futures, sinks and streams of the
-//! ends, by hand, by executors, and beside threads that block.
+//! Tests of what is polled by executors and by threads: the futures, sinks and streams of the ends.
+//! What one thread does by hand is scripts, in `core_scripts` and `end_scripts`.
 #![tactic(auto)]
 
 #[cfg(test)]
@@ -16,7 +16,6 @@ mod moved;
 mod numbers;
 #[cfg(test)]
 mod order;
-#[cfg(test)]
 #[cfg(test)]
 mod waiting;
 #[cfg(test)]
