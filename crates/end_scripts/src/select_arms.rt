@@ -199,7 +199,7 @@ fn drawn<'e, 'h: 'e, L: AtLeastOneArm<Outcome, Heap<'h>> + Drop>(
     selector: Selector<'e, Outcome, L, Heap<'h>>,
     seed: Option<u64>,
 ) -> Selector<'e, Outcome, L, Heap<'h>>
-    ensures arms { result.arms ≡ selector.arms }
+    ensures arms { result.arms ≡ selector.entry.arms }
 {
     match seed {
         Some(seed) => selector.with_rng(&mut SmallRng::seed_from_u64(seed)),
