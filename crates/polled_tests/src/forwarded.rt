@@ -1,10 +1,11 @@
 //! A stream that is forwarded through a sink arrives whole and in its order.
-use crate::fixtures::{begun, had, is, opened, ran};
+use crate::fixtures::is;
 use crate::works::{Runs, Stuck};
 use ends_tests::watch::begin_watch;
-use ends_tests::works::Work;
-use flume::Sender;
+use ends_tests::works::{Work, started};
 use flume::error::SendError;
+use flume::{Sender, bounded};
+use futures::executor::block_on;
 use futures::task::{Context, Poll};
 use futures::{Stream, StreamExt};
 use std::alloc::Global;
@@ -57,27 +58,35 @@ impl<R: Runs> Work for Forwards<R> {
     fn work(self) -> bool {
         let Forwards { rt, tx } = self;
         let forward = Numbers { next: 0, end: ALL }.forward(tx.into_sink());
-        ran(&rt, forward).is_ok()
+        match block_on(&rt, forward) {
+            Ok(sink) => sink.is_ok(),
+            Err(_) => false,
+        }
     }
 }
 
-// A stream gives all that a thread forwards, at each capacity.
-fn passes_all<R: Runs>(rt: R, alloc: Global) {
-    for capacity in [100, 1] {
-        let (tx, rx) = opened::<u64, _>(rt, alloc, Some(capacity));
-        let forwarding = begun(&rt, Forwards { rt, tx });
-        let received = had(&rt, ran(&rt, rx.stream().collect(alloc)));
-        is(&rt, forwarding.join(&rt), true);
-        are_all(&rt, received.as_slice());
-    }
+// At this capacity a stream gives all that a thread forwards.
+fn passes_all<R: Runs>(rt: R, alloc: Global, capacity: usize) -> Result<(), Fail> {
+    let (tx, rx) = bounded::<u64, _, _>(rt, alloc, 1, capacity)?;
+    let forwarding = started(&rt, Forwards { rt, tx })?;
+    let received = block_on(&rt, rx.stream().collect(alloc))??;
+    is(&rt, forwarding.join(&rt), true);
+    are_all(&rt, received.as_slice());
+    Ok(())
 }
 
 #[test]
-fn a_stream_goes_through_a_sink_of_a_channel_of_capacity_100_and_of_1(
-    rt: HostRuntime,
-) -> Result<(), Fail> {
+fn a_stream_goes_through_a_sink_of_a_channel_of_capacity_100(rt: HostRuntime) -> Result<(), Fail> {
     let watch = begin_watch(rt, rt.alloc(), Stuck(rt))?;
-    passes_all(rt, rt.alloc());
+    let ended = passes_all(rt, rt.alloc(), 100);
     watch.end(&rt);
-    Ok(())
+    ended
+}
+
+#[test]
+fn a_stream_goes_through_a_sink_of_a_channel_of_capacity_1(rt: HostRuntime) -> Result<(), Fail> {
+    let watch = begin_watch(rt, rt.alloc(), Stuck(rt))?;
+    let ended = passes_all(rt, rt.alloc(), 1);
+    watch.end(&rt);
+    ended
 }

@@ -1,59 +1,107 @@
 //! Futures, sinks and streams that threads take with them, owned or borrowed.
-use crate::fixtures::{begun, had, is, opened, ran};
+use crate::fixtures::is;
 use crate::works::Runs;
-use ends_tests::works::Work;
+use ends_tests::works::{Work, started};
 use flume::error::{RecvError, SendError};
 use flume::polled::{RecvFut, RecvStream, SendFut, SendSink};
-use flume::{Receiver, Sender};
+use flume::{Receiver, Sender, unbounded};
 use futures::executor::block_on;
 use futures::{SinkExt, StreamExt};
-use std::alloc::Global;
+use std::test::Fail;
 use std::thread;
 
-// What a thread takes with it, of one channel.
+// Sends by a future.
+#[derive(Drop)]
+struct Sends<R: Runs> {
+    rt: R,
+    send: SendFut<'static, u64, R>,
+}
+
+impl<R: Runs> Work for Sends<R> {
+    type Answer = Option<Result<(), SendError<u64>>>;
+
+    fn work(self) -> Option<Result<(), SendError<u64>>> {
+        let Sends { rt, send } = self;
+        block_on(&rt, send).ok()
+    }
+}
+
+// Sends this by a sink.
+#[derive(Drop)]
+struct SendsThrough<R: Runs> {
+    rt: R,
+    sink: SendSink<'static, u64, R>,
+    message: u64,
+}
+
+impl<R: Runs> Work for SendsThrough<R> {
+    type Answer = bool;
+
+    fn work(self) -> bool {
+        let SendsThrough { rt, sink, message } = self;
+        match block_on(&rt, sink.send(message)) {
+            Ok(sent) => sent.is_ok(),
+            Err(_) => false,
+        }
+    }
+}
+
+// Receives by a future.
+#[derive(Drop)]
+struct Receives<R: Runs> {
+    rt: R,
+    receive: RecvFut<'static, u64, R>,
+}
+
+impl<R: Runs> Work for Receives<R> {
+    type Answer = Option<Result<u64, RecvError>>;
+
+    fn work(self) -> Option<Result<u64, RecvError>> {
+        let Receives { rt, receive } = self;
+        block_on(&rt, receive).ok()
+    }
+}
+
+// Takes the next message of a stream.
 #[derive(Drop)]
 struct Takes<R: Runs> {
     rt: R,
-    send: SendFut<'static, u64, R>,
-    sink: SendSink<'static, u64, R>,
-    receive: RecvFut<'static, u64, R>,
     stream: RecvStream<'static, u64, R>,
 }
 
 impl<R: Runs> Work for Takes<R> {
-    type Answer = (bool, Option<u64>, Option<u64>);
+    type Answer = Option<u64>;
 
-    fn work(self) -> (bool, Option<u64>, Option<u64>) {
-        let Takes {
-            rt,
-            send,
-            sink,
-            receive,
-            mut stream,
-        } = self;
-        let is_sent = ran(&rt, send).is_ok() && ran(&rt, sink.send(2)).is_ok();
-        let first = ran(&rt, receive).ok();
-        (is_sent, first, ran(&rt, stream.next()))
+    fn work(self) -> Option<u64> {
+        let Takes { rt, mut stream } = self;
+        match block_on(&rt, stream.next()) {
+            Ok(next) => next,
+            Err(_) => None,
+        }
     }
 }
 
-// A thread sends 1 by a future and 2 by a sink, and receives both.
-fn goes_with_its_thread<R: Runs>(rt: R, alloc: Global) {
-    let (tx, rx) = opened::<u64, _>(rt, alloc, None);
-    let taking = Takes {
-        rt,
-        send: had(&rt, tx.clone()).into_send_async(1),
-        sink: tx.into_sink(),
-        receive: had(&rt, rx.clone()).into_recv_async(),
-        stream: rx.into_stream(),
-    };
-    let answer = begun(&rt, taking).join(&rt);
-    is(&rt, answer, (true, Some(1), Some(2)));
-}
-
 #[test]
-fn each_goes_with_its_thread(rt: HostRuntime) {
-    goes_with_its_thread(rt, rt.alloc());
+fn each_goes_with_its_thread(rt: HostRuntime) -> Result<(), Fail> {
+    let (tx, rx) = unbounded::<u64, _, _>(rt, rt.alloc(), 1)?;
+    let send = tx.clone()?.into_send_async(1);
+    let sending = started(&rt, Sends { rt, send })?;
+    is(&rt, sending.join(&rt), Some(Ok(())));
+    let sink = tx.into_sink();
+    let through = SendsThrough {
+        rt,
+        sink,
+        message: 2,
+    };
+    let sinking = started(&rt, through)?;
+    is(&rt, sinking.join(&rt), true);
+    let receive = rx.clone()?.into_recv_async();
+    let receiving = started(&rt, Receives { rt, receive })?;
+    is(&rt, receiving.join(&rt), Some(Ok(1)));
+    let stream = rx.into_stream();
+    let taking = started(&rt, Takes { rt, stream })?;
+    is(&rt, taking.join(&rt), Some(2));
+    Ok(())
 }
 
 // What a send and a receive answer in two threads, which borrow their ends.
@@ -75,8 +123,9 @@ fn passes_by_reference<R: Runs>(
 }
 
 #[test]
-fn two_threads_poll_futures_that_borrow_their_ends(rt: HostRuntime) {
-    let (tx, rx) = opened::<u64, _>(rt, rt.alloc(), None);
+fn two_threads_poll_futures_that_borrow_their_ends(rt: HostRuntime) -> Result<(), Fail> {
+    let (tx, rx) = unbounded::<u64, _, _>(rt, rt.alloc(), 1)?;
     let passed = passes_by_reference(rt, &tx, &rx);
     is(&rt, passed, Some((Ok(()), Ok(7))));
+    Ok(())
 }
