@@ -16,14 +16,4 @@ pub mod Conserved
 pub mod Producers
 pub mod AllBlock
 pub mod Beginnings
-pub mod Rows
-pub mod NearMisses
-pub mod BlockedRows
-pub mod BlockedNearMisses
-pub mod ParkedRows
-pub mod FillRows
-pub mod ParkedNearMisses
-pub mod WakeNearMisses
 pub mod Resized
-pub mod CapacityRows
-pub mod CapacityNearMisses

@@ -7,6 +7,7 @@ ghost use Rattle.std.specs.Prelude.{IfOk, ◌≡◌, ℕ, List};
 ghost use Rattle.std.specs.Str.Lines.{lines};
 
 pub mod reading;
+pub mod serving;
 pub mod writing;
 
 use flume_core::chan::Chan;

@@ -1,16 +1,13 @@
 //! Laws of the parked receivers. These functions do nothing: each contract is a law.
-ghost use Rattle.std.specs.Prelude.{◌≡◌, ℕ, List, [], Option, Some, None};
+ghost use Rattle.std.specs.Prelude.{◌≡◌, ℕ, List, Option};
 ghost use Rattle.flume_model.specs.declared.entry.Entry.{Entry};
-ghost use Rattle.flume_model.specs.Log.{Log, Opening, opens};
+ghost use Rattle.flume_model.specs.Log.{Log, Opening};
 ghost use Rattle.flume_model.specs.Entries.{round, round_fills};
 ghost use Rattle.flume_model.specs.Replies.{IsRun};
-ghost use Rattle.flume_model.specs.WaitLaws.{Covered, Bounded, MeetsBounds, WaitsWhileOpen};
+ghost use Rattle.flume_model.specs.WaitLaws.{Covered, Bounded, WaitsWhileOpen};
 ghost use Rattle.flume_model.specs.WaitLaws.{WokenBlockWhileClosed, EntriesApart, SidesApart};
 ghost use Rattle.flume_model.specs.WaitLaws.{ToldFilled, NothingOnceOver};
 ghost use Rattle.flume_model.specs.WakeRule.{IsWakeRound};
-ghost use Rattle.flume_model.specs.Rows.{Runs, as_log};
-ghost use Rattle.flume_model.specs.ParkedRows.{one_woken_of_two};
-ghost use Rattle.flume_model.specs.WakeNearMisses.{plain_filled};
 
 use std::alloc::Allocator;
 
@@ -37,12 +34,6 @@ pub fn queued_and_waiting_are_bounded<T, A: Allocator>()
     ensures law { (opening : Opening) (log : Log T A) → IsRun opening log → Bounded opening log }
 {}
 
-/// After a worked row a receiver waits and both bounds are met, so neither can be stricter.
-pub fn bounds_are_met()
-    ensures runs { Runs (Some 0) one_woken_of_two }
-    ensures met { MeetsBounds (opens (Some 0) 1) (as_log [] one_woken_of_two) }
-{}
-
 /// Of each run, a receiver waits only while the channel is open and no sender is blocked.
 pub fn receivers_wait_only_while_open<T, A: Allocator>()
     ensures law { (opening : Opening) (log : Log T A)
@@ -65,11 +56,9 @@ pub fn tickets_of_receivers_are_apart<T, A: Allocator>()
         → IsRun opening log → SidesApart opening log }
 {}
 
-/// Of each run, a parked receiver holds a message just where some reply named it as filled. It
-/// isn't so of a log whose reply names one as filled that doesn't block.
+/// Of each run, a parked receiver holds a message just where some reply named it as filled.
 pub fn receivers_are_filled_just_where_told<T, A: Allocator>()
     ensures law { (opening : Opening) (log : Log T A) → IsRun opening log → ToldFilled opening log }
-    ensures near_miss { ¬ ToldFilled (opens None 1) (as_log [] plain_filled) }
 {}
 
 /// Of each run, once all senders and all receivers are gone, no message, no parked receiver and no

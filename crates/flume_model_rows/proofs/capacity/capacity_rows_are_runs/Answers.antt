@@ -1,6 +1,6 @@
 -- The message that came back was the only one blocked.
 use Rattle.flume_model.proofs.Common.{rules, ◌≡◌, ℕ, true, List, [], ◌∷◌, ◌++◌, refl, Offer}
-use Rattle.flume_model.proofs.laws.capacity.capacity_rows_are_runs.Goals as goal
+use Rattle.flume_model_rows.proofs.capacity.capacity_rows_are_runs.Goals as goal
 
 only : (x : Offer ℕ)
     → (true ≡ true) × (before : List (Offer ℕ)) × (after : List (Offer ℕ)) × (x ∷ [] ≡ before ++ x ∷ after)

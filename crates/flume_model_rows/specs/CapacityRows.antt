@@ -8,7 +8,7 @@ use Rattle.flume_model.specs.declared.step.Reply.TheVariants.{Sent, Full, Pendin
 use Rattle.flume_model.specs.declared.step.Reply.TheVariants.{Waiting, Returned, Got, Ended, Parked}
 use Rattle.flume_model.specs.declared.step.Reply.TheVariants.{Done, Number, Truth, Unbounded}
 use Rattle.flume_model.specs.declared.step.Reply.TheVariants.{Capacity as Bound}
-use Rattle.flume_model.specs.Rows.{Row}
+use Rattle.flume_model_rows.specs.Rows.{Row}
 
 -- a raised capacity lets the first blocked message in and no other; a lowered one moves nothing, so
 -- that the queue stands past it, and a take lets none in

@@ -1,6 +1,6 @@
 -- Each message that came back was blocked behind these and before those.
 use Rattle.flume_model.proofs.Common.{rules, ◌≡◌, ℕ, true, List, [], ◌∷◌, ◌++◌, refl, Offer}
-use Rattle.flume_model.proofs.laws.blocked_rows_are_runs.Goals as goal
+use Rattle.flume_model_rows.proofs.blocked.blocked_rows_are_runs.Goals as goal
 
 first : (x : Offer ℕ) (later : List (Offer ℕ))
     → (true ≡ true) × (before : List (Offer ℕ)) × (after : List (Offer ℕ)) × (x ∷ later ≡ before ++ x ∷ after)

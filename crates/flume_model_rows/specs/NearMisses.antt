@@ -4,7 +4,7 @@ use Rattle.flume_model.specs.declared.step.Step.TheVariants.{TrySend, TryRecv, D
 use Rattle.flume_model.specs.declared.step.Step.TheVariants.{DropReceiver, Len}
 use Rattle.flume_model.specs.declared.step.Reply.TheVariants.{Sent, Full, Closed, NoMemory, Got}
 use Rattle.flume_model.specs.declared.step.Reply.TheVariants.{Empty, Ended, Done, NoEnd, Number}
-use Rattle.flume_model.specs.Rows.{Row}
+use Rattle.flume_model_rows.specs.Rows.{Row}
 
 -- another message comes out than went in
 abbrev pub wrong_message : Row

@@ -9,7 +9,7 @@ use Rattle.flume_model.specs.declared.step.Reply.TheVariants.{Sent, Spent, Pendi
 use Rattle.flume_model.specs.declared.step.Reply.TheVariants.{Waiting, Returned, NoTicket, Got}
 use Rattle.flume_model.specs.declared.step.Reply.TheVariants.{Done, CountFull, Number, Truth}
 use Rattle.flume_model.specs.declared.step.Reply.TheVariants.{Capacity as Bound}
-use Rattle.flume_model.specs.Rows.{Row}
+use Rattle.flume_model_rows.specs.Rows.{Row}
 
 -- a message comes back that moved into the queue
 abbrev pub returned_after_accepted : Row

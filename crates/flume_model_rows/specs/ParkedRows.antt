@@ -12,7 +12,7 @@ use Rattle.flume_model.specs.declared.step.Reply.TheVariants.{Ended, Parked, Gon
 use Rattle.flume_model.specs.declared.step.Reply.TheVariants.{Number, Truth}
 use Rattle.flume_model.specs.Limits.{most}
 use Rattle.flume_model.specs.Replies.{IsRun}
-use Rattle.flume_model.specs.Rows.{Row, as_log}
+use Rattle.flume_model_rows.specs.Rows.{Row, as_log}
 
 -- what a drain hands out
 abbrev pub Numbers : Type 0

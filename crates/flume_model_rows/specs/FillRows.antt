@@ -7,7 +7,7 @@ use Rattle.flume_model.specs.declared.step.Reply.TheVariants.{Sent, Got, Parked,
 use Rattle.flume_model.specs.Log.{FilledIn, opens}
 use Rattle.flume_model.specs.Parked.{entries}
 use Rattle.flume_model.specs.Fills.{IsOf}
-use Rattle.flume_model.specs.Rows.{Row, as_log}
+use Rattle.flume_model_rows.specs.Rows.{Row, as_log}
 
 -- by the definition the fill of this receiver is of the message, after a row of an unbounded
 -- channel

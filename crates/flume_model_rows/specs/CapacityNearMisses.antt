@@ -8,7 +8,7 @@ use Rattle.flume_model.specs.declared.step.Reply.TheVariants.{Sent, Full, Pendin
 use Rattle.flume_model.specs.declared.step.Reply.TheVariants.{Waiting, Returned, Got, Ended, Parked}
 use Rattle.flume_model.specs.declared.step.Reply.TheVariants.{Done, Number, Unbounded}
 use Rattle.flume_model.specs.declared.step.Reply.TheVariants.{Capacity as Bound}
-use Rattle.flume_model.specs.Rows.{Row}
+use Rattle.flume_model_rows.specs.Rows.{Row}
 
 -- a raised capacity, from 1 to 2, lets no blocked message in
 abbrev pub raised_lets_none_in : Row

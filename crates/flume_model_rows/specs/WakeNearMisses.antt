@@ -6,7 +6,7 @@ use Rattle.flume_model.specs.declared.step.Step.TheVariants.{Withdraw, DropSende
 use Rattle.flume_model.specs.declared.step.Reply.TheVariants.{Sent, Full, NoMemory, Waiting}
 use Rattle.flume_model.specs.declared.step.Reply.TheVariants.{NoTicket}
 use Rattle.flume_model.specs.declared.step.Reply.TheVariants.{Got, Parked, Gone, Done, Number}
-use Rattle.flume_model.specs.Rows.{Row}
+use Rattle.flume_model_rows.specs.Rows.{Row}
 
 -- a refused send wakes the receiver, so that the next one finds none and capacity 0
 abbrev pub refused_send_wakes : Row

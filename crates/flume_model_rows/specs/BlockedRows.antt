@@ -9,7 +9,7 @@ use Rattle.flume_model.specs.declared.step.Reply.TheVariants.{Sent, Full, Closed
 use Rattle.flume_model.specs.declared.step.Reply.TheVariants.{Returned, NoTicket, Got, Empty, Ended}
 use Rattle.flume_model.specs.declared.step.Reply.TheVariants.{Done, NoEnd, Number, Truth}
 use Rattle.flume_model.specs.declared.step.Reply.TheVariants.{Capacity as Bound}
-use Rattle.flume_model.specs.Rows.{Row}
+use Rattle.flume_model_rows.specs.Rows.{Row}
 
 -- a channel of capacity 0 takes a message in when it is asked for; a ticket is told of it once
 abbrev pub taken_in_when_asked : Row

@@ -1,7 +1,7 @@
 -- The message that came back was the only one blocked.
 use Rattle.flume_model.proofs.Common.{rules, arith, ◌≡◌, ℕ, true, List, [], ◌∷◌, ◌++◌, refl, Offer}
 use denote.RawPtr.{null_ptr}
-use Rattle.flume_model.proofs.laws.parked_rows_are_runs.Goals as goal
+use Rattle.flume_model_rows.proofs.parked.parked_rows_are_runs.Goals as goal
 
 only : (x : Offer ℕ)
     → (true ≡ true) × (before : List (Offer ℕ)) × (after : List (Offer ℕ)) × (x ∷ [] ≡ before ++ x ∷ after)

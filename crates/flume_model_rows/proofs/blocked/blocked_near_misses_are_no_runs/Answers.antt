@@ -1,6 +1,6 @@
 -- No such message is blocked under such a ticket, at any place.
 use Rattle.flume_model.proofs.Common.{rules, Some, ◌≡◌, ℕ, List, [], ◌∷◌, ◌++◌, Offer}
-use Rattle.flume_model.proofs.laws.blocked_near_misses_are_no_runs.Goals as goal
+use Rattle.flume_model_rows.proofs.blocked.blocked_near_misses_are_no_runs.Goals as goal
 
 none_blocked : (x : Offer ℕ) (before after : List (Offer ℕ)) → [] ≡ before ++ x ∷ after → ⊥
 none_blocked x [] after h = cc

@@ -8,8 +8,8 @@ use Rattle.flume_model.specs.declared.step.Reply.TheVariants.{Sent, Pending, Wai
 use Rattle.flume_model.specs.declared.step.Reply.TheVariants.{NoMemory, Ended, Parked, Gone}
 use Rattle.flume_model.specs.declared.step.Reply.TheVariants.{Drained, Done, Number}
 use Rattle.flume_model.specs.Limits.{most}
-use Rattle.flume_model.specs.Rows.{Row, Runs}
-use Rattle.flume_model.specs.ParkedRows.{Numbers}
+use Rattle.flume_model_rows.specs.Rows.{Row, Runs}
+use Rattle.flume_model_rows.specs.ParkedRows.{Numbers}
 
 -- a row without its last pair
 abbrev pub but_last : Row → Row
