@@ -18,7 +18,9 @@ use std::alloc::Allocator;
 use std::marker::Model;
 use std::sync::Arc;
 
-/// What one blocking call of an end goes through.
+/// What one blocking call of an end goes through. Its methods only hand on: the loop of a call that
+/// waits is written and proved once, over any gate, and this one leads it to the lock and the
+/// parker.
 #[derive(Drop)]
 pub(crate) struct Gate<'a, T, R: Waits, A: Allocator + Copy> {
     shared: &'a Shared<T, R, A>,
