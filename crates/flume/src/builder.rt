@@ -100,8 +100,10 @@ impl<R: Waits, A: Allocator + Copy> Builder<R, A> {
         }
     }
 
-    /// Opens a channel that holds any number of messages. `NoMemory`: there was no room for what
-    /// its ends share.
+    /// Opens a channel without a capacity. `NoMemory`: there was no memory for what its ends share.
+    ///
+    /// A channel holds at most 4,294,967,295 messages, as many parked receivers and as many live
+    /// sends. Past that a call answers `NoMemory`, though no allocation was refused.
     ///
     /// ```
     /// let (tx, rx) = flume::on(rt).unbounded()?;
@@ -115,9 +117,14 @@ impl<R: Waits, A: Allocator + Copy> Builder<R, A> {
         opening::unbounded(self.rt, self.alloc, self.id)
     }
 
-    /// Opens a channel that holds at most `capacity` messages, but for those that were sent to
-    /// receivers that wait. At 0, the rendezvous channel, a send waits for a receiver. `NoMemory`:
-    /// there was no room for what its ends share.
+    /// Opens a channel that holds at most `capacity` messages, apart from those sent while a
+    /// receiver waits. At capacity 0, the rendezvous channel, a send waits until a receiver takes
+    /// its message.
+    /// `NoMemory`: there was no memory for what its ends share.
+    ///
+    /// Whatever the capacity, a channel holds at most 4,294,967,295 messages, as many parked
+    /// receivers and as many live sends. Past that a call answers `NoMemory`, though no allocation
+    /// was refused.
     ///
     /// ```
     /// let (tx, rx) = flume::on(rt).bounded(1)?;

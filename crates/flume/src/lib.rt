@@ -1,15 +1,83 @@
-//! Channels with many senders and many receivers: unbounded, bounded, and of capacity 0, where a
-//! send waits for a receive.
-//!
-//! Each call of an end is a few steps of the one channel behind its lock, whose steps are proved.
-//! The names of `flume_core`, the calls, bells and gates of `flume_calls`, the audit of
-//! `flume_audit`, and the scripts of `flume_script`, are given again here.
+//! Channels between threads and tasks: flume 0.12.0, written again with contracts that are proved.
+//! Senders put messages in, and receivers take them out in the same order. Each message goes to one
+//! receiver. Both ends can be cloned, and moved to other threads.
 //!
 //! ```
 //! let (tx, rx) = flume::on(rt).unbounded()?;
 //! tx.send(42)?;
 //! assert_eq!(rt; rx.recv(), Ok(42));
 //! ```
+//!
+//! `rt` is the runtime value that `main` is handed; the ends keep a copy, to wait and to read the
+//! clock. Where an allocation fails, a call answers `NoMemory`: nothing aborts.
+//!
+//! # Unbounded channels
+//!
+//! `flume::on(rt).unbounded()` opens a channel in which `send` never waits. Like every channel, it
+//! holds at most 4,294,967,295 messages; past that a send answers `NoMemory`.
+//!
+//! # Bounded channels
+//!
+//! `bounded(n)` opens a channel that holds `n` messages. When it is full, `send` waits for room and
+//! `try_send` hands its message back.
+//!
+//! ```
+//! let (tx, _rx) = flume::on(rt).bounded(1)?;
+//! assert_eq!(rt; tx.try_send(1), Ok(()));
+//! assert_eq!(rt; tx.try_send(2), Err(TrySendError::Full(2)));
+//! ```
+//!
+//! # Rendezvous channels
+//!
+//! `bounded(0)` opens a channel in which `send` waits until a receiver takes its message.
+//!
+//! ```
+//! let (tx, rx) = flume::on(rt).bounded(0)?;
+//! let sender = thread::spawn(&rt, move || tx.send(2))?;
+//! assert_eq!(rt; rx.recv(), Ok(2));
+//! assert_eq!(rt; sender.join(&rt), Ok(()));
+//! ```
+//!
+//! # Disconnection
+//!
+//! When the last sender is dropped, receivers still get the queued messages, and then
+//! `Disconnected`. When the last receiver is dropped, a send answers `Disconnected` with its
+//! message. A loop over a receiver ends then; `fault` of its iterator says whether it ended early,
+//! since an allocation failed.
+//!
+//! ```
+//! let (tx, rx) = flume::on(rt).unbounded()?;
+//! tx.send(7)?;
+//! drop(tx);
+//! assert_eq!(rt; rx.recv(), Ok(7));
+//! assert_eq!(rt; rx.recv(), Err(RecvError::Disconnected));
+//! ```
+//!
+//! # Futures, sinks and streams
+//!
+//! The executors of the crate `futures` run these. Tasks and threads may share a channel.
+//!
+//! ```
+//! let (tx, rx) = flume::on(rt).unbounded()?;
+//! assert_eq!(rt; block_on(&rt, tx.send_async(42))?, Ok(()));
+//! assert_eq!(rt; block_on(&rt, rx.recv_async())?, Ok(42));
+//! ```
+//!
+//! # Selection
+//!
+//! A `Selector` waits for the first of several sends and receives, on channels of any types.
+//!
+//! ```
+//! let (jobs, work) = flume::on(rt).unbounded::<u64>()?;
+//! let (stop, stopped) = flume::on(rt).bounded::<()>(1)?;
+//! jobs.send(7)?;
+//! let job = Selector::new().recv(&stopped, |_| None).recv(&work, Result::ok);
+//! assert_eq!(rt; job.wait()?, Some(7));
+//! ```
+//!
+//! The repository's docs/USING.md has more recipes, its README.md says what is proved. The crate
+//! also gives the names of `flume_core`, and most of `flume_calls`, `flume_audit` and
+//! `flume_script`.
 #![tactic(auto)]
 
 mod answers;

@@ -8,8 +8,11 @@ use flume_core::error::NoMemory;
 use std::alloc::Allocator;
 use std::sync::Arc;
 
-/// A channel that holds any number of messages. The number `id` names it: ends of channels with one
-/// number count as ends of the same. `NoMemory`: there was no room for what the ends share.
+/// Opens a channel without a capacity. The number `id` names it: ends of channels with one number
+/// count as ends of the same. `NoMemory`: there was no memory for what the ends share.
+///
+/// A channel holds at most 4,294,967,295 messages, as many parked receivers and as many live sends.
+/// Past that a call answers `NoMemory`, though no allocation was refused.
 ///
 /// ```
 /// let (tx, rx) = unbounded(rt, rt.alloc(), 1)?;
@@ -27,8 +30,12 @@ pub fn unbounded<T: Drop, R: Waits, A: Allocator + Copy>(
     ends(rt, alloc, id, None)
 }
 
-/// A channel that holds at most `capacity` messages, but for those that were sent to receivers that
-/// wait. At 0 a send waits for a receiver. `id` and `NoMemory` as of `unbounded`.
+/// Opens a channel that holds at most `capacity` messages, apart from those sent while a receiver
+/// waits. At capacity 0 a send waits until a receiver takes its message. `id` and `NoMemory` as of
+/// `unbounded`.
+///
+/// Whatever the capacity, a channel holds at most 4,294,967,295 messages, as many parked receivers
+/// and as many live sends. Past that a call answers `NoMemory`, though no allocation was refused.
 ///
 /// ```
 /// let (tx, rx) = bounded(rt, rt.alloc(), 2, 1)?;

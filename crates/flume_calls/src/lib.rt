@@ -1,8 +1,22 @@
-//! Calls that wait, over a channel: each call as a small machine, the loops that make its turns,
-//! and the channel as it stands behind a lock.
+//! The calls of a channel that wait, without the waiting: what stands between the steps of
+//! `flume_core` and the ends of `flume`.
 //!
-//! Nothing here takes a lock, parks a thread or reads a clock. What a call waits on is its
-//! caller's, so a scheduler with a lock of its own can stand on these as the ends of `flume` do.
+//! A call is a small state machine, each of whose *turns* makes one step of the channel. Nothing
+//! here takes a lock, parks a thread or reads a clock: the caller does. So a scheduler with a lock
+//! of its own can be built on this crate as the ends of `flume` are.
+//!
+//! ```
+//! let mut locked: Locked<u64, u64, Global> = Locked::new(alloc, Some(1));
+//! locked.make(FirstSend { message: 7 }, &mut bell);      // Done(Ok(()))
+//! locked.make(FirstSend { message: 8 }, &mut bell);      // NeedSignal(8): it is full
+//! locked.make(FirstReceive, &mut bell);                  // Done(Ok(7))
+//! ```
+//!
+//! - `locked`: the channel that a mutex holds. It makes a turn, and rings a bell for each ticket
+//!   that became due.
+//! - `turn`, `calls`, `single`: the turns of sends, of receives, and of calls of one turn.
+//! - `gates`: the loops of calls that wait. The caller's *gate* makes the turns and waits.
+//! - `polled`: calls that are polled, as futures are. `due`: the bell.
 #![tactic(auto)]
 
 pub mod calls;

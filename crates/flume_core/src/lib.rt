@@ -1,4 +1,24 @@
-//! The channel without its lock: its steps, lists of steps, and what holds of its state.
+//! The channel as a value, without a lock: for one owner who makes all steps, and as the core on
+//! which the ends of `flume` are built.
+//!
+//! A `chan::Chan` is a channel with its messages, its parked receivers and its blocked sends. Each
+//! method is one *step* and answers a `step::Reply`. No step waits: a send that finds the channel
+//! full is blocked under a *ticket*, a receive that finds it empty is parked under one, and the
+//! owner of the ticket asks later.
+//!
+//! ```
+//! let mut chan: Chan<u64, u32> = Chan::new(alloc, Some(1));
+//! chan.try_send(1);                  // Sent { filled: None }
+//! chan.send(2, 10);                  // Pending(1): it is full, and 10 is the signal of ticket 1
+//! chan.try_recv();                   // Got(1): now the message 2 has room
+//! chan.next_due();                   // Some(1): the owner of ticket 1 is to be told
+//! chan.poll_send(1, None);           // Accepted
+//! ```
+//!
+//! The contract of each step says which reply comes when, what the step leaves of the state, and
+//! whose ticket becomes due. `run::run` makes a list of steps, and its contract has the theorem of
+//! the repository as its clause `headline`. `facts::facts` gives the invariants of the state. The
+//! definitions that the contracts cite are in `flume_model` and `flume_state`.
 #![tactic(auto)]
 
 pub mod chan;

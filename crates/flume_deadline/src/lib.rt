@@ -1,4 +1,5 @@
-//! Up to when a call waits. What a clock reads is a value here, and each table is one of values.
+//! Deadlines: until when a call waits. A time that the clock gave is a value here, so what follows
+//! from it can be proved. A clock that can't be read counts as past each deadline.
 #![tactic(auto)]
 
 ghost use Rattle.std.specs.Prelude.{◌≡◌, ◌≢◌, ◌+◌, ◌≤◌, ◌↔◌, true, IsErr, IsNone, IfSome, Ok};

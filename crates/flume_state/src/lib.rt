@@ -1,12 +1,16 @@
-//! The state of a channel: its messages (`line`), its parked receivers (`entries`), its live send
-//! tickets (`sends`) and what both leave to be told by (`notice`), and in `specs/` what a contract
-//! sees of all of them together, what steps leave of it, and who becomes due. Each list is a chain
-//! of which some elements have a ticket (`ticketed`, `maybe_ticket`), found through a map to their
-//! places (`places`).
+//! The state of a channel. This is the inside of `flume_core`, the only library that calls it: it
+//! may change whenever `flume_core` does.
 //!
-//! The containers are the inside of `flume_core`, which alone calls them, and no promise to others:
-//! they may change whenever `flume_core` does. The definitions are cited by each contract that
-//! speaks of a channel's state, up to the ends'.
+//! - `line`: the messages, queued and blocked.
+//! - `entries`: the parked receivers, and which of them a new message wakes.
+//! - `sends`: the tickets of blocked sends.
+//! - `notice`: the signal of a ticket, and whether its owner is to be told.
+//! - `ticketed`, `maybe_ticket`, `places`: chains in which an element with a ticket is found
+//!   through a table of places.
+//!
+//! The definitions in `specs/` are cited by every contract that speaks of a channel's state:
+//! `State.antt` is what a contract sees of a channel, `Effects.antt` what each step leaves of it,
+//! and `Due.antt` whose ticket becomes due.
 #![tactic(auto)]
 
 pub mod entries;
