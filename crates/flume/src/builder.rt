@@ -14,7 +14,9 @@ use std::marker::Model;
 /// How a channel is to be opened: the runtime value, the allocator and the number. `on` makes one,
 /// `number` and `allocator` change one thing each, and `unbounded` and `bounded` open the channel.
 ///
-/// It can be copied, and opens any number of channels. They all have its number.
+/// It can be copied, and opens any number of channels. They all have its number. One that holds a
+/// reference, as to an allocator of one's own, opens one channel: the checker refuses a copy of it
+/// ("a struct with an `impl Model` is copied where it holds a reference").
 #[derive(Copy)]
 pub struct Builder<R: Waits, A: Allocator + Copy> {
     rt: R,

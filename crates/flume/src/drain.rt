@@ -25,6 +25,7 @@ use std::marker::{Model, PhantomData};
 /// ```
 #[derive(Drop)]
 pub struct Drain<'a, T, A: Allocator = Global> {
+    // The list that the step took, which becomes a deque without more memory.
     queue: VecDeque<T, A>,
     receiver: PhantomData<&'a ()>,
 }

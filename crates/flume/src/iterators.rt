@@ -54,7 +54,8 @@ impl<'a, T: Drop, R: Waits, A: Allocator + Copy> Iter<'a, T, R, A> {
     }
 
     /// Whether the last `next` ended for want of memory, and not since all senders were gone. The
-    /// receiver can be used on after it.
+    /// receiver can be used on after it. An adapter owns what it adapts and hides this: lend the
+    /// iterator to it by `by_ref`, as in `messages.by_ref().take(10)`.
     ///
     /// ```
     /// let (tx, rx) = flume::on(rt).unbounded::<u64>()?;
@@ -142,7 +143,8 @@ impl<'a, T: Drop, R: Waits, A: Allocator + Copy> TryIter<'a, T, R, A> {
         }
     }
 
-    /// Whether the last `next` ended for want of memory: never, since it wants none.
+    /// Whether the last `next` ended for want of memory: never, since it wants none. It is there
+    /// since the other iterators have it.
     pub fn fault(&self) -> bool
         ensures never { result ≡ false }
     {

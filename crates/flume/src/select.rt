@@ -31,7 +31,8 @@ use std::time::{Duration, Instant};
 
 /// Waits for the first of several sends and receives, its arms, and gives what is made of its
 /// result. Arms are added by `send` and `recv`, each with a mapper from the arm's result to a `V`,
-/// which all arms have in common; the type `L` lists the arms.
+/// which all arms have in common; the type `L` lists the arms. So their number is known where the
+/// selector is compiled, no arm is boxed, and a selector without arms has no method that waits.
 ///
 /// ```
 /// let (jobs, work) = flume::on(rt).unbounded::<u64>()?;
@@ -46,7 +47,9 @@ use std::time::{Duration, Instant};
 #[derive(Drop)]
 pub struct Selector<'a, V, L = (), A: Allocator + Copy = Global> {
     arms: L,
-    // The number of the arm that each round begins with.
+    // The number of the arm that each round begins with: 0, unless a generator drew it. So the
+    // arms that were added first are served first, and no answer depends on a generator that nobody
+    // handed in.
     start: usize,
     deadline: Deadline,
     value: PhantomData<&'a V>,
@@ -218,6 +221,10 @@ impl<'a, V, L: AtLeastOneArm<V, A>, A: Allocator + Copy> SelectGate for Selector
         }
     }
 
+    // One parker for all arms, made before an arm is started: so a selection that is refused it has
+    // touched no channel. One that is ready at once has made and freed it for nothing. To try the
+    // arms first, without parking, would need two turns of each, and between the two an arm before
+    // it may have become ready.
     fn make_waiter(&mut self) -> Option<Arc<Parker, A>> {
         let parker = Parker::new(self.arms.checks());
         Arc::new(self.arms.alloc(), parker).ok()

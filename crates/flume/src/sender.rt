@@ -202,6 +202,8 @@ impl<T: Drop, R: Waits, A: Allocator + Copy> Sender<T, R, A> {
 impl<T: Drop, R: Waits, A: Allocator + Copy> Clone for Sender<T, R, A> {
     ghost is_clone = { λ sender copy. copy ≡ sender };
 
+    // Std's signature of `clone` leaves no choice of the error. `NoMemory` converts into it, so `?`
+    // takes both.
     fn clone(&self) -> Result<Self, AllocError> {
         let shared = Arc::try_clone(&self.shared)?;
         match shared.call(Single::CloneSender) {

@@ -18,6 +18,11 @@ use std::sync::atomic::{AtomicU64, Ordering};
 use std::sync::{Arc, Mutex, MutexGuard, Wait};
 use std::time::Clock;
 
+// It asks for no more than an end uses. `'static` would refuse a runtime value that borrows, and
+// `Threads` would let each function that takes an end start threads. With `Send` and `Sync` here
+// the checker refuses each method of a trait on an end, as `Clone::clone` ("the borrow checker does
+// not cover this function yet: .. what it sends to a thread rests on a bound that is assumed of
+// this thread alone").
 /// What an end's runtime value gives: it waits, and reads a clock. The host's runtime is one.
 /// `Runtime` asks for more, and has the signatures that users write.
 pub trait Waits: Wait + Clock + Copy {}
@@ -143,6 +148,8 @@ impl<T: Drop, R: Waits, A: Allocator + Copy> Shared<T, R, A> {
     /// Sets the capacity of the channel, which the calls that are to wait go by from then on.
     #[inline(never)]
     pub(crate) fn set_capacity(&self, capacity: usize) -> Result<(), CapacityError> {
+        // Both places are written under one lock: of two calls at once the later one's capacity
+        // stays in both.
         let mut locked = self.lock();
         let answer = locked.make(SetCapacity { capacity }, &mut SignalBell { rt: self.rt });
         if answer.is_ok() {
@@ -176,7 +183,8 @@ impl<T: Drop, R: Waits, A: Allocator + Copy> Shared<T, R, A> {
         self.state.lock(&self.rt)
     }
 
-    /// Makes the turn under the lock, and fires what it made due.
+    /// Makes the turn under the lock, and fires what it made due. It fires before it lets the lock
+    /// go, so whoever takes the lock finds no ticket due.
     #[inline(always)]
     pub(crate) fn call<C: Turn<T, Signal<A>, A>>(&self, turn: C) -> C::Answer
         ensures answers { C.answers turn result }

@@ -150,6 +150,7 @@ impl Parker {
 /// stands with the channel, under its lock, and is empty from a wake on.
 #[derive(Drop)]
 pub struct TaskSignal {
+    // All that touches it does so while the channel is locked, so a `Cell` is enough.
     waker: Cell<Option<Waker>>,
 }
 

@@ -9,7 +9,9 @@ use std::alloc::Allocator;
 /// What a polled call keeps of its task.
 #[derive(Drop)]
 pub(crate) struct Task {
-    // Names what the call waits for: that the channel fires its signal.
+    // Names what the call waits for: that the channel fires its signal. Each call has a source of
+    // its own, a name of no bytes: a contract sees of an end its number alone, so no clause could
+    // name a source that the channel keeps.
     source: Source,
 }
 
@@ -34,6 +36,9 @@ impl Task {
         ensures heard { Hears cx.new self.now.source.id }
         ensures kept { Keeps cx.old cx.new }
     {
+        // A waker can't be cloned: a fresh one stored over the old one would have a task wake
+        // itself again and again. So the old one is taken out first, `register` leaves it where it
+        // is of the same task, and it goes into the new signal.
         let mut waker = match parked {
             Some(Signal::Task(signal)) => signal.take(),
             _ => None,

@@ -12,7 +12,8 @@ use std::marker::Model;
 use std::sync::Arc;
 
 /// A sender that doesn't count: the channel closes with its last sender, whether or not such a one
-/// is there.
+/// is there. It keeps the memory that the ends share, and no message: those that are left are
+/// dropped with the last end.
 #[derive(Drop)]
 pub struct WeakSender<T, R: Waits, A: Allocator + Copy = Global> {
     shared: Arc<Shared<T, R, A>, A>,

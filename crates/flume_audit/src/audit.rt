@@ -19,7 +19,8 @@ use std::sync::{Mutex, MutexGuard, Wait};
 /// A book behind a lock: threads that share it make their steps, each with a seat of its own. What
 /// happened under the lock is told by `close`: the history that it gives back is a run of the
 /// channel, and it weighs what the receipts of all seats weigh, by any weight. So each step with
-/// its reply stands in the history as often as in the receipts.
+/// its reply stands in the history as often as in the receipts, where drained lists count as the
+/// same by their messages.
 #[derive(Drop)]
 pub struct Audit<T, L: Ledger, R, W: Weigh<T, A> = Ones, A: Allocator = Global> {
     rt: R,

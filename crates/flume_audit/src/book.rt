@@ -121,6 +121,9 @@ impl<T: Copy, L: Ledger, W: Weigh<T, A>, A: Allocator + Copy> Book<T, L, W, A> {
         ensures unchanged { OnErr result (self.new ≡ self.old) }
         ensures seat_unchanged { OnErr result (seat.new ≡ seat.old) }
     {
+        // All room is made before the step, so that a step that was made is always written. The
+        // history keeps the channel's own reply; the receipt and the answer are copies of it, since
+        // a drained list is a block of memory.
         let alloc = *self.history.allocator();
         let drained = drained_by(&self.chan, &step);
         let room = Vec::with_capacity(alloc, drained)?;

@@ -151,7 +151,9 @@ fn receipt_at<T, A: Allocator>(number: usize, list: &[Receipt<T, A>]) -> Option<
     }
 }
 
-// How many receipts of the list come before those with this number or a higher one.
+// How many receipts of the list come before those with this number or a higher one. The search
+// halves the list, though the list needn't rise: it rises below the least number that isn't above
+// the one before it, and no number from there on is asked for.
 fn place_of<T, A: Allocator>(number: usize, list: &[Receipt<T, A>]) -> usize
     requires before { (misplaced : ℕ) → NotAbove misplaced list.now → number < misplaced }
     ensures place { IsPartitionPoint (λ receipt. receipt.number < number)

@@ -10,7 +10,11 @@ use std::alloc::Allocator;
 use std::sync::ledger::{Book, Ledger, Share};
 
 // Adds the weight of the step with its reply to the ledger's total and to the share's amount. Does
-// nothing.
+// nothing. The ledger's own call adds a number that the program has, and a weight is a definition
+// alone, so the proof is written by hand in the terms in which that call is proved: it opens both
+// tokens, sets the book's row and the share's row in one opening of the ledger's invariant, and
+// closes both. Std's lemmas on a row that grows can't be named from a crate that uses std, so this
+// crate has its own.
 pub(crate) fn add_weight<T, A: Allocator, L: Ledger, W: Weigh<T, A>>(
     book: &mut Book<L>,
     share: &mut Share<L>,

@@ -8,8 +8,10 @@ use flume_model::step::{Reply, Step};
 use std::alloc::Allocator;
 
 /// A weight for each step with its reply, a whole number from 0. It is a definition alone: no
-/// value of a program depends on it. By the weight that is 1 at one pair and 0 elsewhere, a sum
-/// of weights counts how often that pair stands there.
+/// value of a program depends on it. It weighs two drained lists of the same messages the same,
+/// wherever they are kept (`by_messages`). By the weight that is 1 at one pair, and at those that
+/// differ from it in this alone, and 0 elsewhere, a sum of weights counts how often that pair
+/// stands there, up to where a drained list is kept.
 pub trait Weigh<T, A: Allocator> {
     ghost weight: { Step T → Reply T A → ℕ };
 

@@ -71,6 +71,8 @@ impl<T: Drop, S: Drop, A: Allocator + Copy> Locked<T, S, A> {
         facts(&self.chan);
     }
 
+    // What a call passes that doesn't park is `inline(always)`, here and in the turns, so that such
+    // a call is one piece of code. What is done once something is parked or due is out of line.
     /// Makes the turn, and rings once for each ticket that is due then.
     #[inline(always)]
     pub fn make<C: Turn<T, S, A>, B: Bell<S>>(&mut self, turn: C, bell: &mut B) -> C::Answer

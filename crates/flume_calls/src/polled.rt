@@ -37,6 +37,9 @@ pub trait Polled<T, S, A: Allocator> {
     fn would_wait(&self, chan: &Chan<T, S, A>) -> bool
         ensures waits { IsTrue result ↔ waits self.now chan.now };
 
+    // The signal is taken from a place, and not handed over by value: an implementation of a
+    // trait's method with an `Option<S>` by value, where `S` is the trait's, is refused by the
+    // checker ("error[unsupported-theorem]: cannot give this method the clauses of its trait yet").
     /// Polls the call, which takes the signal from where it is given. `None`: it waits, and the
     /// signal was left in the very step that found nothing. Where it would wait and no signal is
     /// given, since there was no memory for one, it ends with no memory.

@@ -29,6 +29,8 @@ use std::marker::Model;
 #[derive(Drop)]
 pub struct Chan<T, S, A: Allocator = Global> {
     capacity: Option<usize>,
+    // The greatest capacity so far, and below the most receivers that waited at once: these two
+    // bound the queue, since the capacity in force may have been lowered under it.
     greatest: Option<usize>,
     line: Line<T, A>,
     sends: Sends<S, A>,

@@ -63,7 +63,8 @@ pub fn check_history<T: Copy + Eq + Drop, A: Allocator + Copy>(
 }
 
 // Makes the step, unless it is told that memory was wanted for it. Whether a channel may answer it
-// as is told; none where this one wanted memory.
+// as is told; none where this one wanted memory. Where `NoMemory` is told, `chan` makes no step: it
+// had the memory, so only its state says whether a channel might have wanted some.
 fn follows<T: Copy + Eq + Drop, A: Allocator + Copy>(
     chan: &mut Chan<T, (), A>,
     step: &Step<T>,

@@ -82,7 +82,8 @@ fn judge<A: Allocator + Copy>(
 }
 
 // Makes the step, unless what was said is that memory was wanted for it, where a channel may answer
-// so. None where what was said is lawful, and else what is.
+// so. None where what was said is lawful, and else what is. What was said is compared as text and
+// not read, so one that no channel gives anywhere is a wrong answer and no wrong line.
 fn should_be<A: Allocator + Copy>(
     alloc: A,
     chan: &mut Chan<u64, (), A>,

@@ -66,11 +66,12 @@ pub enum Step<T> {
 #[derive(Clone, Drop)]
 #[derive_where(Debug, PartialEq, Eq; T)]
 pub enum Reply<T, A: Allocator = Global> {
-    /// The message was taken in, and went to the receiver with ticket `filled` if one waited.
+    /// The message was taken in. `filled` is the ticket of the receiver that was handed the front
+    /// of the queue, if one was: this message, or an older one that was queued.
     Sent { filled: Option<u64> },
     /// The queue is at its capacity: the message comes back.
     Full(T),
-    /// An end is gone: the message comes back.
+    /// All senders or all receivers were dropped: the message comes back.
     Closed(T),
     /// Memory was wanted and refused: nothing was done, and the message of a send comes back.
     NoMemory(Option<T>),

@@ -44,7 +44,8 @@ struct Parked<T, S> {
 /// The parked receivers, the waiting ones in the order in which they began to wait.
 #[derive(Drop)]
 pub struct Entries<T, S, A: Allocator> {
-    // First those that neither wait nor are due, then those that are due, then those that wait.
+    // First those that neither wait nor are due, then those that are due, then those that wait. So
+    // a wake round meets only those that it wakes, and no call looks past another receiver.
     chain: TicketChain<Parked<T, S>, A>,
     // The place of the first that is due or waits.
     due: Option<u32>,

@@ -15,7 +15,8 @@ use std::marker::Model;
 #[derive(Drop)]
 pub struct Line<T, A: Allocator> {
     // The queued messages, the front first, and behind them the blocked ones, which have their
-    // tickets. A blocked one that joins the queue stays where it is.
+    // tickets. A blocked one that joins the queue stays where it is, so letting it in takes no
+    // memory and looks at no other message.
     chain: TicketChain<T, A>,
     // The place of the first blocked one.
     blocked: Option<u32>,

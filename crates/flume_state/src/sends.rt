@@ -24,7 +24,8 @@ pub struct LiveSend<S> {
 /// The live send of each live ticket.
 #[derive(Drop)]
 pub struct Sends<S, A: Allocator> {
-    // First those that aren't due, then those that are, in the order in which they became due.
+    // First those that aren't due, then those that are, in the order in which they became due: so
+    // `next_due` reads one place, whatever the length.
     chain: TicketChain<LiveSend<S>, A>,
     // The place of the first that is due.
     due: Option<u32>,

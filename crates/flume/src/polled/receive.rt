@@ -159,6 +159,7 @@ impl<T: Drop, R: Waits, A: Allocator + Copy> fmt::Debug for RecvFut<'_, T, R, A>
 }
 
 impl<T: Drop, R: Waits, A: Allocator + Copy> Drop for RecvFut<'_, T, R, A> {
+    // Its task may be polled once more: the waker that it left is dropped, and that wakes the task.
     #[inline(always)]
     fn drop(self) {
         let Self {

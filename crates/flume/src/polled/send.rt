@@ -137,7 +137,8 @@ impl<T: Drop, R: Waits, A: Allocator + Copy> Future for SendFut<'_, T, R, A> {
     // It may be polled in any state.
     ghost can_poll = { λ _. ⊤ };
 
-    // Once it was ready it gives `Ok`. Before, any answer may come.
+    // Once it was ready it gives `Ok`. Before, any answer may come: what comes back after it parked
+    // came through the lock, of which no contract knows. `poll` says more of what never parked.
     ghost gives = { λ future answer. future.send ≡ Finished → answer ≡ Ok tt };
 
     // It waits for what its own signal is fired by: room for its message, or the closing.
@@ -177,6 +178,7 @@ impl<T: Drop, R: Waits, A: Allocator + Copy> fmt::Debug for SendFut<'_, T, R, A>
 }
 
 impl<T: Drop, R: Waits, A: Allocator + Copy> Drop for SendFut<'_, T, R, A> {
+    // Its task may be polled once more: the waker that it left is dropped, and that wakes the task.
     #[inline(always)]
     fn drop(self) {
         let Self {

@@ -124,7 +124,8 @@ pub trait Arms<V, A: Allocator + Copy> {
         ensures maps { IfSome result (maps (mappers self) arm) };
 }
 
-/// A list of arms that can be waited for, since there is one.
+/// A list of arms that can be waited for, since there is one. All their channels have one type of
+/// allocator, since the parker comes from one of them and a copy of it stands in each.
 pub trait AtLeastOneArm<V, A: Allocator + Copy>: Arms<V, A> {
     /// The runtime of the last arm's channel.
     type Runtime: Waits;

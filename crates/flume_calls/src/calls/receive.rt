@@ -38,7 +38,8 @@ pub enum RecvNext<T> {
     NeedSignal,
     /// The call is parked.
     Park(RecvCall),
-    /// Memory was wanted, and there was none; the call is parked as before.
+    /// Memory was wanted, and there was none; the call is parked as before. No turn of a `Chan`
+    /// answers so: it is for a gate over another channel, of which the abstract channel allows it.
     Refused(RecvCall),
 }
 
@@ -209,6 +210,9 @@ impl<T: Drop, S: Drop, A: Allocator + Copy> Turn<T, S, A> for AgainReceive<S> {
 
     ghost outcome = { λ turn. AgainReceiveOutcome turn.call turn.late turn.signal };
 
+    // A ticket that the channel doesn't know ends the receive as a closed channel does. A call
+    // keeps its ticket until it is spent, so this happens only to a call that is asked of another
+    // channel than the one in which it parked.
     fn apply(self, chan: &mut Chan<T, S, A>) -> RecvNext<T> {
         let AgainReceive { call, late, signal } = self;
         if late {

@@ -223,6 +223,9 @@ impl<T: Drop, S: Drop, A: Allocator + Copy> Turn<T, S, A> for AgainSend<S> {
 
     ghost outcome = { λ turn. AgainSendOutcome A turn.call turn.late turn.signal };
 
+    // A ticket that the channel doesn't know ends the send with `Ok`: each error of a send hands
+    // its message back, and here there is none. A call keeps its ticket until it is spent, so this
+    // happens only to a call that is asked of another channel than the one in which it parked.
     fn apply(self, chan: &mut Chan<T, S, A>) -> SendNext<T> {
         let AgainSend { call, late, signal } = self;
         if late {

@@ -190,6 +190,9 @@ fn ended<G: SelectGate>(gate: &mut G, round: RoundEnd) -> Result<usize, SelectEr
 }
 
 // One turn of each arm, in cyclic order from the start arm on, up to the first that doesn't wait.
+// After a wake all arms have their turn again, whichever was woken: by then another receiver may
+// have taken the message, and a further arm may be ready too. So which arm completes depends on the
+// channels and the start arm alone.
 fn round<G: SelectGate>(gate: &mut G, waiter: &G::Waiter) -> RoundEnd
     ensures round { IsRound G.turns (G.count (G.kept gate.old)) (G.start (G.kept gate.old))
         gate.old gate.new result }

@@ -86,7 +86,8 @@ impl PolledReceive {
 }
 
 impl PolledReceive {
-    // A poll of a receive that isn't parked.
+    // A poll of a receive that isn't parked. This function and the next have the clauses of the
+    // trait's `poll` again: `poll` calls one of the two, and knows of it only what it ensures.
     #[inline(always)]
     fn begin<T: Drop, S: Drop, A: Allocator + Copy>(
         &mut self,

@@ -42,9 +42,11 @@ impl<T: Drop, S: Drop, A: Allocator + Copy> Chan<T, S, A> {
         if self.capacity.is_none() {
             return Reply::Unbounded;
         }
+        // Nothing can be offered to a closed channel, so no capacity would mean anything.
         if !self.is_open() {
             return Reply::Ended;
         }
+        // No wake round follows: while a receiver waits, no message is blocked that could move in.
         self.keep_capacity(capacity);
         self.fill_up();
         Reply::Done

@@ -109,6 +109,8 @@ impl<T: Drop, S: Drop, A: Allocator + Copy> Chan<T, S, A> {
         if ticket == u64::MAX {
             return Reply::Spent(Some(message));
         }
+        // The ticket first: it is taken back where the message finds no memory. The other way round
+        // the message's place would stay, and a refusal would leave more room than it found.
         let Ok(()) = self.sends.block(ticket, signal) else {
             return Reply::NoMemory(Some(message));
         };

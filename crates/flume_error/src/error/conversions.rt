@@ -2,7 +2,14 @@
 //! use `?` on each call of a channel, and one that answers `Result<(), AllocError>` on each that
 //! fails by memory alone. The io error has the text of the error that it was made of. A message
 //! that wasn't sent is dropped. A crate that uses them lists `flume_error` among its libraries,
-//! beside `flume`.
+//! beside `flume`: the orphan rule has each of them here, the compiler finds an implementation on a
+//! type of std only in a library that the crate lists, and `flume` can't give one again
+//! ("error[unsupported-impl-name]: an import of an `impl` block is not supported yet").
+//!
+//! The kinds are those of a pipe: a closed channel is `BrokenPipe` to a send and `UnexpectedEof` to
+//! a receive. Only `NoMemory` becomes an `AllocError`, since each other error may say something
+//! else. That the io error has the error's text is tested, since std's contract of `io::Error::new`
+//! says the kind alone.
 ghost use Rattle.std.specs.Prelude.{◌≡◌};
 ghost use Rattle.std.specs.Allocator.{alloc_error};
 ghost use Rattle.std.specs.IoError.{error_kind};

@@ -8,7 +8,8 @@ use std::collections::HashMap;
 use std::hash::BuildHasherDefault;
 use std::marker::Model;
 
-/// The place of each of some tickets, found by its hash.
+/// The place of each of some tickets, found by its hash. A `BTreeMap` in its place was slower at
+/// each size that was measured.
 #[derive(Drop)]
 pub(super) struct HashedPlaces<A: Allocator> {
     table: HashMap<u64, u32, BuildHasherDefault<TicketHasher>, A>,

