@@ -1,5 +1,6 @@
 """The pages of this repository, and what the tools that compare them read in one: its code, its titles, its links."""
 
+import functools
 import pathlib
 import re
 import subprocess
@@ -27,6 +28,7 @@ def prose(page):
     return INDENTED.sub("", FENCED.sub("", page))
 
 
+@functools.cache
 def anchors(page):
     """The names by which a link may go to a title of the page, as GitHub makes them."""
     found = []
