@@ -20,7 +20,7 @@ fn main(rt: HostRuntime) -> io::Result<()> {
     println!(rt; "the sum is {sum}")
 }
 
-/// The channel closes as its last sender goes: here, at the end.
+/// At the end, the only sender is dropped. That closes the channel.
 fn send_all<R: Waits>(tx: Sender<u64, R>) -> io::Result<()> {
     for number in 1..10 {
         tx.send(number)?;

@@ -18,8 +18,8 @@
 //!
 //! # Bounded channels
 //!
-//! `bounded(n)` opens a channel that holds `n` messages. When it is full, `send` waits for room and
-//! `try_send` hands its message back.
+//! `bounded(n)` opens a channel that holds at most `n` messages. When it is full, `send` waits for
+//! room, and `try_send` hands its message back.
 //!
 //! ```
 //! let (tx, _rx) = flume::on(rt).bounded(1)?;

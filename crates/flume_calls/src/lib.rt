@@ -1,4 +1,4 @@
-//! The calls of a channel that wait, without the waiting: what stands between the steps of
+//! The calls of a channel that wait, without the waiting: the layer between the steps of
 //! `flume_core` and the ends of `flume`.
 //!
 //! A call is a small state machine, each of whose *turns* makes one step of the channel. Nothing

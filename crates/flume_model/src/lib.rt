@@ -3,8 +3,8 @@
 //! - `step` has the steps that can be made on a channel, and the replies to them; `entry` has what
 //!   is known of a parked receiver.
 //! - `specs/` defines, from a list of steps with their replies, which messages were offered,
-//!   withdrawn and handed out, who waits, and which reply is lawful next. A list of which each
-//!   reply is lawful is a *run*.
+//!   withdrawn and handed out, which receivers wait, and which reply is lawful next. A list of
+//!   which each reply is lawful is a *run*.
 //! - `laws` has what holds of every run: messages come in order, none is lost or doubled, and
 //!   enough waiting receivers are woken. Each law is a function that does nothing; its contract is
 //!   the law.
