@@ -27,3 +27,4 @@ pub mod WakeNearMisses
 pub mod Resized
 pub mod CapacityRows
 pub mod CapacityNearMisses
+pub mod EqualSteps

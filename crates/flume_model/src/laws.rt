@@ -8,6 +8,7 @@ ghost use Rattle.flume_model.specs.declared.step.Reply.{Reply};
 ghost use Rattle.flume_model.specs.Laws.{InOrder, TicketsRise, HandedOutStay, LiveAreKept};
 ghost use Rattle.flume_model.specs.Laws.{AcceptedBelowBlocked, BlockedAtCapacity};
 ghost use Rattle.flume_model.specs.Beginnings.{HoldsThroughout};
+ghost use Rattle.flume_model.specs.EqualSteps.{equal_steps};
 ghost use Rattle.flume_model.specs.Rows.{Runs, one_message, filled, outlived, no_capacity};
 ghost use Rattle.flume_model.specs.Rows.{both_gone};
 ghost use Rattle.flume_model.specs.NearMisses.{wrong_message, newer_first, handed_out_twice};
@@ -72,7 +73,14 @@ pub mod fills;
 pub mod users;
 pub mod waits;
 
+use crate::step::Step;
 use std::alloc::Allocator;
+
+/// Steps are equal where their cases are the same and what they hold is equal.
+pub fn steps_are_equal_by_case<T: PartialEq>()
+    ensures same { (step other : Step T)
+        → ⟦<Step<T> as PartialEq>⟧.eq step other ≡ equal_steps T.eq step other }
+{}
 
 /// Of each run, the messages handed out are the kept offers, in order: those that replies show, and
 /// those that filled receivers.
