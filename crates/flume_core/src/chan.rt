@@ -1,11 +1,12 @@
 //! The state of a channel, and the steps that change it.
-ghost use Rattle.std.specs.Prelude.{◌≡◌, ◌≤◌, [], length, IsTrue, ◌↔◌};
+ghost use Rattle.std.specs.Prelude.{◌≡◌, ◌≤◌, [], length, IsTrue, ◌↔◌, Option};
 ghost use Rattle.flume_model.specs.Log.{opens};
 ghost use Rattle.flume_model.specs.Limits.{IsOpen, HasRoom};
 ghost use Rattle.flume_state.specs.State.{State, new_state};
 ghost use Rattle.flume_core.specs.Represents.{Represents, Extends, ChangesNothing, IsReachable};
 ghost use Rattle.flume_state.specs.Due.{BecomesDue};
 ghost use Rattle.flume_core.specs.PossibleReply.{PossibleReply};
+ghost use Rattle.flume_core.specs.Wanting.{MayNeedMemory};
 
 mod capacity;
 mod ends;
@@ -135,6 +136,8 @@ impl<T: Drop, A: Allocator + Copy> Chan<T, (), A> {
         ensures dues { IsReachable A self.old → BecomesDue self.old step result self.new }
         ensures comes { PossibleReply step result }
         ensures space { self.old.space ≤ self.new.space }
+        ensures refused { (back : Option T) → result ≡ Reply.NoMemory back
+            → MayNeedMemory self.old step }
         ensures unchanged { ChangesNothing step result → self.new ≡ self.old }
     {
         match step {
