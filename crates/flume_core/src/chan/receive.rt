@@ -3,7 +3,8 @@ ghost use Rattle.std.specs.Prelude.{◌≡◌, ◌≢◌, ◌<◌, ◌≤◌, �
 ghost use Rattle.std.specs.Prelude.{IfNone, IfSome, Option};
 ghost use Rattle.std.specs.Prelude.{None, Vec};
 ghost use Rattle.flume_model.specs.Limits.{IsOpen, IsClosed, most};
-ghost use Rattle.flume_state.specs.Effects.{after_admission, with_front, after_refill, after_take, after_admissions};
+ghost use Rattle.flume_state.specs.Effects.{after_admission, with_front, after_refill, after_take};
+ghost use Rattle.flume_state.specs.Effects.{after_admissions};
 ghost use Rattle.flume_state.specs.Effects.{with_peak, Begins};
 ghost use Rattle.flume_state.specs.State.{State};
 ghost use Rattle.flume_core.specs.Represents.{Extends, IsReachable, IsRefusal};
@@ -60,7 +61,8 @@ impl<T: Drop, S: Drop, A: Allocator + Copy> Chan<T, S, A> {
     /// ```
     pub fn recv(&mut self, kind: Kind, signal: S) -> Reply<T, A>
         ensures step { Extends self.old (Step.Recv kind) result self.new }
-        ensures dues { IsReachable A self.old → BecomesDue self.old (Step.Recv kind) result self.new }
+        ensures dues { IsReachable A self.old
+            → BecomesDue self.old (Step.Recv kind) result self.new }
         ensures comes { PossibleReply (Step.Recv kind) result }
         ensures space { self.old.space ≤ self.new.space }
         ensures got { (message : T) (rest : List T) → (with_front self.old).queue ≡ message ∷ rest
