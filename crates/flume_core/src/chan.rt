@@ -26,7 +26,8 @@ use std::marker::Model;
 
 /// A channel without its lock: many senders and many receivers of messages of type `T`, as one
 /// value whose owner makes each step. `S` is the signal that a blocked send or a parked receiver
-/// leaves.
+/// leaves. It holds at most 4,294,967,295 messages, as many live tickets of sends, and as many
+/// parked receivers: past that a step answers `NoMemory` though no allocation was refused.
 #[derive(Drop)]
 pub struct Chan<T, S, A: Allocator = Global> {
     capacity: Option<usize>,

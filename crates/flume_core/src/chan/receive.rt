@@ -50,8 +50,9 @@ impl<T: Drop, S: Drop, A: Allocator + Copy> Chan<T, S, A> {
 
     /// Asks for the message at the front as `try_recv` does, and parks in place of `Empty`.
     /// `Parked`: the receiver waits behind all others under this ticket, with the signal. `Spent`:
-    /// the greatest ticket was reached. `NoMemory`: there was no room to park. The last two leave
-    /// the channel as it was.
+    /// the greatest ticket was reached. `NoMemory`: there was no room to park. At most
+    /// 4,294,967,295 receivers are parked: past that the answer is `NoMemory` though no allocation
+    /// was refused. The last two leave the channel as it was.
     ///
     /// ```
     /// let mut chan: Chan<u64, u32> = Chan::new(alloc, None);
