@@ -25,7 +25,9 @@ pub struct LiveSend<S> {
 #[derive(Drop)]
 pub struct Sends<S, A: Allocator> {
     // First those that aren't due, then those that are, in the order in which they became due: so
-    // `next_due` reads one place, whatever the length.
+    // `next_due` reads one place, whatever the length. The first ones stand in the order in which
+    // they blocked or were named, but nothing reads that order: they are found by their tickets.
+    // The order of blocked messages is the line's alone.
     chain: TicketChain<LiveSend<S>, A>,
     // The place of the first that is due.
     due: Option<u32>,

@@ -24,8 +24,9 @@ impl<T: Drop, S: Drop, A: Allocator + Copy> Chan<T, S, A> {
     /// receiver that is none, and wakes that one, or where it blocks hands it the front of the
     /// queue and names its ticket. `Full`: no receiver waits, and the queue is at its capacity.
     /// `Closed`: all senders or all receivers are gone. `NoMemory`: there was no room for the
-    /// message (`room`), and no memory for more. The last three hand the message back and leave the
-    /// channel as it was.
+    /// message (`room`), and no memory for more. A channel holds at most 4,294,967,295 messages,
+    /// queued and blocked: past that the answer is `NoMemory` though no allocation was refused. The
+    /// last three hand the message back and leave the channel as it was.
     ///
     /// ```
     /// let mut chan: Chan<u64, ()> = Chan::new(alloc, None);
@@ -67,8 +68,9 @@ impl<T: Drop, S: Drop, A: Allocator + Copy> Chan<T, S, A> {
     /// Offers a message, and blocks where the queue is at its capacity. `Sent` as `try_send`.
     /// `Pending`: the message stands behind the queue under this ticket, with the signal. `Closed`
     /// as `try_send`. `Spent`: the greatest ticket was reached. `NoMemory`: as `try_send`, or no
-    /// room for the ticket of a message that would block. The last three hand the message back and
-    /// leave the channel as it was.
+    /// room for the ticket of a message that would block. A channel has at most 4,294,967,295 live
+    /// tickets of sends: past that a message that would block is refused so though no allocation
+    /// was. The last three hand the message back and leave the channel as it was.
     ///
     /// ```
     /// let mut chan: Chan<u64, u32> = Chan::new(alloc, Some(0));

@@ -1,11 +1,8 @@
--- A list of steps that is done in part.
-use Rattle.std.proofs.Common.{◌≡◌, Bool, true, false, List, [], ◌∷◌, ◌++◌, map, take, drop, refl, sym, ap, subst, ◌∙◌, append_assoc}
-use Rattle.std.proofs.lemmas.List.{append-nil}
+-- The headline, of a state and the log that it stands for.
+use Rattle.std.proofs.Common.{◌≡◌, Bool, true, false, List, [], ◌∷◌, ◌++◌, map, take, drop, refl, sym, ap, subst, ◌∙◌}
 use Rattle.std.proofs.Math.Seq.{take-append_seam, drop-append_seam}
-use Rattle.flume_model.specs.declared.step.Step.{Step}
-use Rattle.flume_model.specs.declared.step.Reply.{Reply}
 use Rattle.flume_model.specs.Log.{Log, Opening, Offer, HandOut, Shown, FilledIn}
-use Rattle.flume_model.specs.Offers.{after, kept, hand_outs}
+use Rattle.flume_model.specs.Offers.{kept, hand_outs}
 use Rattle.flume_model.specs.Counts.{is_over}
 use Rattle.flume_model.specs.Line.{line, boundary, messages}
 use Rattle.flume_model.specs.Entries.{entry_of, held_by}
@@ -13,7 +10,7 @@ use Rattle.flume_model.specs.Parked.{entries}
 use Rattle.flume_model.specs.Fills.{FillIs, IsOf, shown}
 use Rattle.flume_model.specs.Laws.{InOrder}
 use Rattle.flume_state.specs.State.{State, offers_of}
-use Rattle.flume_core.specs.Represents.{Represents, Extends}
+use Rattle.flume_core.specs.Represents.{Represents}
 use Rattle.flume_core.specs.Headline.{Headline}
 use Rattle.flume_model.proofs.fills.FillsOrder.{in_order}
 use Rattle.flume_core.proofs.Bare.{bare_held}
@@ -27,35 +24,6 @@ front_nil [] ys e = refl
 front_nil (x ∷ xs) ys e = cc
 
 module _ {T A S : Type 0} where
-  -- of these steps, those before the rest were done and had these replies, whatever the log before
-  abbrev pub DoneUpTo : State T S → State T S → List (Step T) → List (Step T) → List (Reply T A) → Type 0
-  DoneUpTo old now steps rest replies =
-      (o : Opening) (log : Log T A) → Represents o log old
-      → (past : Log T A) × Represents o past now
-      × ((later : List (Reply T A)) → after past rest later ≡ after log steps (replies ++ later))
-
-  -- none is done yet
-  pub none_done : (s : State T S) (steps : List (Step T)) → DoneUpTo s s steps steps []
-  none_done s steps o log h = (log, h, λ later. refl)
-
-  -- one more is done
-  pub one_more : (old now next : State T S) (steps rest : List (Step T)) (replies : List (Reply T A)) (step : Step T) (reply : Reply T A)
-      → DoneUpTo old now steps (step ∷ rest) replies
-      → Extends now step reply next
-      → DoneUpTo old next steps rest (replies ++ reply ∷ [])
-  one_more old now next steps rest replies step reply done moves o log h =
-      let so_far = done o log h in
-      ((step, reply) ∷ so_far.0, moves o so_far.0 so_far.1, λ later. rw append_assoc (so_far.2 (reply ∷ later)))
-
-  -- all are done
-  pub all_done : (old now : State T S) (steps rest : List (Step T)) (replies : List (Reply T A)) → DoneUpTo old now steps rest replies
-      → rest ≡ [] → (o : Opening) (log : Log T A) → Represents o log old → Represents o (after log steps replies) now
-  all_done old now steps rest replies done none o log h =
-      let so_far = done o log h in
-      let same : so_far.0 ≡ after log steps replies = rw (none, append-nil) at (so_far.2 []) in
-      let P : Log T A → Type 0 = λ past. Represents o past now in
-      subst P same so_far.1
-
   -- while an end is there, the queued and the blocked offers are the kept ones that weren't handed out
   left_is : (o : Opening) (log : Log T A) (s : State T S) (h : Represents o log s) → is_over log ≡ false
       → h.queued ++ offers_of s.blocked ≡ drop (hand_outs log) (kept log)
