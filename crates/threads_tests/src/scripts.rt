@@ -22,12 +22,19 @@ send 1 -> sent
 - rx0
 until_given -> got 1
 until_given -> disconnected
-= each of many short-lived channels passes its message
+= each of many short-lived channels passes its message, and is closed
 100 times at any 0 1
 - tx0
 send 7 -> sent
 - rx0
 recv -> got 7
+recv -> disconnected
+= each of many short-lived channels is closed while a send is made
+100 times at 0
+- tx0
+send 9 -> disconnected 9
+- rx0
+say
 = one thread receives in the order of the other, and never more are queued than the channel holds
 at any 0 1 3
 - tx0
@@ -35,52 +42,6 @@ send_all 1000 -> 1000
 - rx0
 receive_all 1000 -> 1000
 recv -> disconnected
-= no send passes one that a drain let in
-at 1
-- tx0
-try_send 1 -> sent
-say
-send 2 -> sent
-say
-await 3
-- tx0 rx0
-await 1
-drain -> 1
-await_len 1
-try_send 3 -> full 3
-recv -> got 2
-await 2
-say
-= a receive ends as the last sender goes, after so many yields
-256 times at any
-- rx0
-say
-recv -> disconnected
-- tx0
-await 1
-yield
-= a send ends as the last receiver goes, after so many yields
-256 times at 0
-- tx0
-say
-send 9 -> disconnected 9
-- rx0
-await 1
-yield
-= a send goes on as another thread raises the capacity, after so many yields, and lowers it again
-256 times at 0
-- tx0
-say
-send 7 -> sent
-await 2
-- rx0
-await 1
-yield
-set_capacity 1
-await_len 1
-set_capacity 0
-say
-recv -> got 7
 = a sender, a receiver and a weak sender each go into a thread
 at any
 - weak0
@@ -95,69 +56,155 @@ recv -> got 2
 recv -> disconnected
 ";
 
+const PARKED: &str = "
+= a parked receive is served
+at any 0 1
+CALL: recv memory 2, recv_far clock 1, recv_hour clock 2, select_recv memory 2, select_recv_far clock 1, select_recv_hour clock 2
+- rx0
+CALL -> got 7
+- tx0
+parked
+try_send 7 -> sent
+= a parked receive ends as the last sender goes
+at any 0 1
+CALL: recv memory 2, recv_far clock 1, recv_hour clock 2, select_recv memory 2, select_recv_far clock 1, select_recv_hour clock 2
+- rx0
+CALL -> disconnected
+- tx0
+parked
+= a parked receive is late once its deadline passes
+at any 0 1
+CALL: recv_far, select_recv_far
+- rx0
+stand 1
+CALL -> late
+say
+- tx0
+clock 1
+pass
+await 1
+= a parked receive is late once its time is up
+at any 0 1
+CALL: recv_hour, select_recv_hour
+- rx0
+stand 2
+CALL -> late
+say
+- tx0
+clock 2
+pass
+await 1
+= a blocked send is taken
+at 0
+CALL: send memory 2, send_far clock 1, send_hour clock 2, select_send memory 2, select_send_far clock 1, select_send_hour clock 2
+- tx0
+CALL 10 -> sent
+- rx0
+parked
+try_recv -> got 10
+= a blocked send is let into a full channel by a receive
+at 1
+CALL: send memory 2, send_far clock 1, send_hour clock 2, select_send memory 2, select_send_far clock 1, select_send_hour clock 2
+- tx0
+try_send 1 -> sent
+CALL 10 -> sent
+- rx0
+parked
+try_recv -> got 1
+recv -> got 10
+= a blocked send is let in by a drain, and no later send passes it
+at 1
+CALL: send memory 2, send_far clock 1, send_hour clock 2, select_send memory 2, select_send_far clock 1, select_send_hour clock 2
+- tx0
+try_send 1 -> sent
+CALL 2 -> sent
+- tx0 rx0
+parked
+drain -> 1
+try_send 3 -> full 3
+recv -> got 2
+= a blocked send is let in as the capacity is raised, and stays as it is lowered again
+at 0
+CALL: send memory 2, send_far clock 1, send_hour clock 2, select_send memory 2, select_send_far clock 1, select_send_hour clock 2
+- tx0
+CALL 7 -> sent
+say
+- rx0
+parked
+set_capacity 1
+set_capacity 0
+await 1
+recv -> got 7
+= a blocked send gets its message back as the last receiver goes
+at 0
+CALL: send memory 2, send_far clock 1, send_hour clock 2, select_send memory 2, select_send_far clock 1, select_send_hour clock 2
+- tx0
+CALL 9 -> disconnected 9
+- rx0
+parked
+= a blocked send into a full channel gets its message back as the last receiver goes
+at 1
+CALL: send memory 2, send_far clock 1, send_hour clock 2, select_send memory 2, select_send_far clock 1, select_send_hour clock 2
+- tx0
+try_send 1 -> sent
+CALL 9 -> disconnected 9
+- rx0
+parked
+= a blocked send gets its message back once its deadline passes
+at 0
+CALL: send_far
+- tx0
+stand 1
+CALL 9 -> late 9
+say
+- rx0
+clock 1
+pass
+await 1
+try_recv -> disconnected
+= a blocked send gets its message back once its time is up
+at 0
+CALL: send_hour
+- tx0
+stand 2
+CALL 9 -> late 9
+say
+- rx0
+clock 2
+pass
+await 1
+try_recv -> disconnected
+= a blocked send arm is late once its deadline passes
+at 0
+CALL: select_send_far
+- tx0
+stand 1
+CALL 9 -> late
+say
+await 2
+- rx0
+clock 1
+pass
+await 1
+try_recv -> empty
+say
+= a blocked send arm is late once its time is up
+at 0
+CALL: select_send_hour
+- tx0
+stand 2
+CALL 9 -> late
+say
+await 2
+- rx0
+clock 2
+pass
+await 1
+try_recv -> empty
+say
+";
+
 const TIMED: &str = "
-= a receive with a timeout of an hour is served, or ends as the sender goes
-at any 0 2
-- rx0
-recv_hour -> got 7
-say
-recv_hour -> disconnected
-- tx0
-until_taken 7 -> sent
-await 1
-= a receive with a far deadline is served, or ends as the sender goes
-at any 0 2
-- rx0
-recv_far -> got 7
-say
-recv_far -> disconnected
-- tx0
-until_taken 7 -> sent
-await 1
-= a send with a timeout of an hour is taken, or ends as the receiver goes
-at 0
-- tx0
-send_hour 10 -> sent
-say
-send_hour 11 -> disconnected 11
-- rx0
-recv -> got 10
-await 1
-= a send with a far deadline is taken, or ends as the receiver goes
-at 0
-- tx0
-send_far 10 -> sent
-say
-send_far 11 -> disconnected 11
-- rx0
-recv -> got 10
-await 1
-= a send into a full channel with a timeout of an hour is taken, or ends as the receiver goes
-at 2
-- tx0
-try_send 0 -> sent
-try_send 1 -> sent
-say
-send_hour 10 -> sent
-say
-send_hour 11 -> disconnected 11
-- rx0
-await 1
-recv -> got 0
-await 2
-= a send into a full channel with a far deadline is taken, or ends as the receiver goes
-at 2
-- tx0
-try_send 0 -> sent
-try_send 1 -> sent
-say
-send_far 10 -> sent
-say
-send_far 11 -> disconnected 11
-- rx0
-await 1
-recv -> got 0
-await 2
 = timed calls of a millisecond that race neither lose nor double a message
 at any 0 2
 - tx0
@@ -308,6 +355,11 @@ recv -> disconnected
 #[test]
 fn each_script_of_threads_that_meet_answers_as_it_says(rt: HostRuntime) {
     play(rt, rt.alloc(), MEETINGS);
+}
+
+#[test]
+fn each_script_of_a_parked_call_answers_as_it_says(rt: HostRuntime) {
+    play(rt, rt.alloc(), PARKED);
 }
 
 #[test]

@@ -1,42 +1,56 @@
 //! Many messages through one channel, by calls of every kind, with ends that come and go, and with
 //! a capacity that stays or that all senders change.
-use crate::fixtures::{begun, had, opened, watching};
-use ends_tests::watch::{Watch, Watched};
-use ends_tests::works::Work;
+use crate::fixtures::{had, opened, watching};
+use ends_tests::watch::Watched;
+use flume::error::RecvError;
 use flume::{Receiver, Sender, Waits};
-use flume_core::error::RecvError;
 use std::alloc::Global;
 use std::process::Abort;
-use std::sync::Arc;
-use std::thread::{JoinHandle, Threads};
+use std::sync::Mutex;
+use std::sync::atomic::{AtomicU64, Ordering};
+use std::thread;
+use std::thread::Threads;
 use std::time::{Duration, Instant};
 
-// How many threads send, and as many receive.
-const THREADS: usize = 4;
+// How many messages each of four threads sends; as many threads receive.
+const EACH: u64 = 2_500;
 
-// How many messages each of them sends.
-const EACH: usize = 2_500;
+// The first message of each of them. The messages of one follow one another.
+const FIRSTS: &[u64] = &[0, EACH, 2 * EACH, 3 * EACH];
+
+// All messages.
+const ALL: usize = 4 * EACH as usize;
 
 // After how many messages a thread takes another end in place of its own.
-const RENEWAL: usize = 100;
+const RENEWAL: u64 = 100;
 
 // The capacities that a sender sets in turn, one before each tenth message.
 const CAPACITIES: &[usize] = &[0, 7, 1, 64];
 
-// Who sent a message, and how many that one sent before.
+// What the threads of one test share: how often each message came, how many threads found a fault,
+// and who is told that something moved.
 #[derive(Drop)]
-struct Message {
-    sender: usize,
-    number: usize,
+struct Tally<'w> {
+    counts: Mutex<Vec<u32>>,
+    faults: AtomicU64,
+    watched: &'w Watched,
 }
 
-// What one receiver got.
-type Received = Option<Vec<Message>>;
+impl Tally<'_> {
+    // Counts a message.
+    fn count<R: Waits>(&self, rt: &R, message: u64) {
+        self.watched.say_moved();
+        if let Some(count) = self.counts.lock(rt).get_mut(message as usize) {
+            *count = count.saturating_add(1);
+        }
+    }
 
-// The threads of one test.
-struct Started {
-    senders: Vec<JoinHandle<bool>>,
-    receivers: Vec<JoinHandle<Received>>,
+    // Notes whether a thread ended well.
+    fn note(&self, well: bool) {
+        if !well {
+            self.faults.fetch_add(1, Ordering::SeqCst);
+        }
+    }
 }
 
 // How long a timed call waits.
@@ -49,9 +63,9 @@ fn soon<R: Waits>(rt: &R) -> Option<Instant> {
     Instant::now(rt).ok()?.checked_add(short())
 }
 
-// Sends by the call that the message's number picks, and answers the message where it comes back.
-fn send_once<R: Waits>(rt: &R, tx: &Sender<Message, R>, message: Message) -> Option<Message> {
-    let timed = match message.number % 5 {
+// Sends by the call that the message picks, and answers the message where it comes back.
+fn send_once<R: Waits>(rt: &R, tx: &Sender<u64, R>, message: u64) -> Option<u64> {
+    let timed = match message % 5 {
         0 => return tx.send(message).err().map(|error| error.into_inner()),
         1 => return tx.try_send(message).err().map(|error| error.into_inner()),
         2 => tx.send_timeout(message, short()),
@@ -64,17 +78,17 @@ fn send_once<R: Waits>(rt: &R, tx: &Sender<Message, R>, message: Message) -> Opt
     timed.err().map(|error| error.into_inner())
 }
 
-// Sends by the call that the message's number picks. Where the message comes back, it is sent
-// again, by a call that waits.
-fn send_one<R: Waits>(rt: &R, tx: &Sender<Message, R>, message: Message) -> bool {
+// Sends by the call that the message picks. Where it comes back, the very message is sent again, by
+// a call that waits.
+fn send_one<R: Waits>(rt: &R, tx: &Sender<u64, R>, message: u64) -> bool {
     match send_once(rt, tx, message) {
-        Some(back) => tx.send(back).is_ok(),
+        Some(back) => back == message && tx.send(back).is_ok(),
         None => true,
     }
 }
 
 // The sender, or in its place a clone, or another by way of a weak sender.
-fn renewed<R: Waits>(tx: Sender<Message, R>, number: usize) -> Option<Sender<Message, R>> {
+fn renewed<R: Waits>(tx: Sender<u64, R>, number: u64) -> Option<Sender<u64, R>> {
     if number % RENEWAL != 0 {
         return Some(tx);
     }
@@ -85,28 +99,25 @@ fn renewed<R: Waits>(tx: Sender<Message, R>, number: usize) -> Option<Sender<Mes
 }
 
 // Sets a capacity before each tenth message. Whether the channel took it.
-fn set_at<R: Waits>(tx: &Sender<Message, R>, number: usize) -> bool {
+fn set_at<R: Waits>(tx: &Sender<u64, R>, number: u64) -> bool {
     if number % 10 != 0 {
         return true;
     }
-    match CAPACITIES.get(number / 10 % CAPACITIES.len()) {
+    match CAPACITIES.get((number / 10 % 4) as usize) {
         Some(capacity) => tx.set_capacity(*capacity).is_ok(),
         None => false,
     }
 }
 
-// Sends all messages of one sender, which changes the capacity or doesn't.
-fn send_all<R: Waits>(
-    rt: &R,
-    mut tx: Sender<Message, R>,
-    (sender, changes): (usize, bool),
-) -> bool {
+// Sends all messages of one thread, which changes the capacity or doesn't.
+fn send_all<R: Waits>(rt: &R, mut tx: Sender<u64, R>, (first, changes): (u64, bool)) -> bool {
     for number in 0..EACH {
         let Some(other) = renewed(tx, number) else {
             return false;
         };
         tx = other;
-        if changes && !set_at(&tx, number) || !send_one(rt, &tx, Message { sender, number }) {
+        let message = first.saturating_add(number);
+        if changes && !set_at(&tx, number) || !send_one(rt, &tx, message) {
             return false;
         }
     }
@@ -114,11 +125,7 @@ fn send_all<R: Waits>(
 }
 
 // Receives by the call that the count so far picks; where that gives nothing, by one that waits.
-fn receive_one<R: Waits>(
-    rt: &R,
-    rx: &Receiver<Message, R>,
-    count: usize,
-) -> Result<Message, RecvError> {
+fn receive_one<R: Waits>(rt: &R, rx: &Receiver<u64, R>, count: u64) -> Result<u64, RecvError> {
     let received = match count % 5 {
         0 => None,
         1 => rx.try_recv().ok(),
@@ -132,154 +139,72 @@ fn receive_one<R: Waits>(
     }
 }
 
-// All that one receiver gets until all senders are gone. `None`: memory was wanted. Of each message
-// it says that something moved.
-fn receive_all<R: Waits + AllocGlobal>(
-    rt: &R,
-    mut rx: Receiver<Message, R>,
-    watched: &Watched,
-) -> Received {
-    let mut received = Vec::new(rt.alloc());
-    for _ in rt.forever() {
-        if received.len() % RENEWAL == 0 {
-            rx = rx.clone().ok()?;
-        }
-        let came = receive_one(rt, &rx, received.len());
-        watched.say_moved();
-        match came {
-            Ok(message) => received.push(message).ok()?,
-            Err(RecvError::Disconnected) => break,
-            Err(RecvError::NoMemory) => return None,
-        }
-    }
-    Some(received)
-}
-
-// Whether the numbers of each sender rise.
-fn is_in_order(received: &[Message]) -> bool {
-    let mut least = [0; THREADS];
-    for message in received {
-        match least.get_mut(message.sender) {
-            Some(least) if *least <= message.number => *least = message.number.saturating_add(1),
-            _ => return false,
-        }
+// Whether a message is above all that came of its sender; it is the last from now on.
+fn is_next(next: &mut [u64], message: u64) -> bool {
+    match next.get_mut((message / EACH) as usize) {
+        Some(next) if *next <= message => *next = message.saturating_add(1),
+        _ => return false,
     }
     true
 }
 
-// Counts each message, at its place among all of them.
-fn count_each(received: &[Message], counts: &mut [u32]) {
-    for message in received {
-        let before = message.sender.saturating_mul(EACH);
-        if let Some(count) = counts.get_mut(before.saturating_add(message.number)) {
-            *count = count.saturating_add(1);
+// Counts all that it gets until all senders are gone. Whether those of each sender rise.
+fn receive_all<R: Waits>(rt: &R, mut rx: Receiver<u64, R>, tally: &Tally<'_>) -> bool {
+    let (mut received, mut next) = (0u64, [0; 4]);
+    for _ in rt.forever() {
+        if received % RENEWAL == 0 {
+            let Ok(other) = rx.clone() else {
+                return false;
+            };
+            rx = other;
         }
+        match receive_one(rt, &rx, received) {
+            Ok(message) if is_next(&mut next, message) => tally.count(rt, message),
+            answer => return answer == Err(RecvError::Disconnected),
+        }
+        received = received.wrapping_add(1);
     }
+    unreachable!()
 }
 
-// Sends all messages of one sender.
-#[derive(Drop)]
-struct SendAll<R: Waits> {
-    rt: R,
-    tx: Sender<Message, R>,
-    sender: usize,
-    // Whether it changes the capacity.
-    changes: bool,
-}
-
-impl<R: Waits> Work for SendAll<R> {
-    type Answer = bool;
-
-    fn work(self) -> bool {
-        let SendAll {
-            rt,
-            tx,
-            sender,
-            changes,
-        } = self;
-        send_all(&rt, tx, (sender, changes))
-    }
-}
-
-// Receives until all senders are gone.
-#[derive(Drop)]
-struct ReceiveAll<R: Waits + AllocGlobal> {
-    rt: R,
-    rx: Receiver<Message, R>,
-    watched: Arc<Watched>,
-}
-
-impl<R: Waits + AllocGlobal> Work for ReceiveAll<R> {
-    type Answer = Received;
-
-    fn work(self) -> Received {
-        let ReceiveAll { rt, rx, watched } = self;
-        receive_all(&rt, rx, &watched)
-    }
-}
-
-// Starts the threads, each with an end of its own, and those that receive under this watch.
-fn start_all<R>(
-    rt: R,
-    alloc: Global,
-    (tx, rx): (Sender<Message, R>, Receiver<Message, R>),
-    (changes, watch): (bool, &Watch),
-) -> Started
-where
-    R: Waits + AllocGlobal + Threads + Abort + Send + Sync + 'static,
-{
-    let (mut senders, mut receivers) = (Vec::new(alloc), Vec::new(alloc));
-    for sender in 0..THREADS {
-        let sends = SendAll {
-            rt,
-            tx: had(&rt, tx.clone()),
-            sender,
-            changes,
-        };
-        had(&rt, senders.push(begun(&rt, sends)));
-        let receives = ReceiveAll {
-            rt,
-            rx: had(&rt, rx.clone()),
-            watched: had(&rt, watch.shared()),
-        };
-        had(&rt, receivers.push(begun(&rt, receives)));
-    }
-    Started { senders, receivers }
-}
-
-// Joins the threads that send, each of which sent all its messages.
-fn join_senders<R: Threads + Abort>(rt: &R, senders: Vec<JoinHandle<bool>>) {
-    for sender in senders {
-        assert!(rt; sender.join(rt));
-    }
-}
-
-// Joins the threads that receive, of which each got the messages of one sender in order, and counts
-// each message.
-fn join_receivers<R: Threads + Abort>(
+// Four threads send and four receive, until all is sent and received. Whether all were started.
+fn all_run<R: Waits + Threads + Send + Sync>(
     rt: &R,
-    receivers: Vec<JoinHandle<Received>>,
-    counts: &mut [u32],
-) {
-    for receiver in receivers {
-        let received = receiver.join(rt).expect(rt, "there is memory");
-        assert!(rt; is_in_order(&received));
-        count_each(&received, counts);
-    }
+    (tx, rx): (Sender<u64, R>, Receiver<u64, R>),
+    changes: bool,
+    tally: &Tally<'_>,
+) -> bool {
+    thread::scope(thread::scope_env(), rt, move |scope| {
+        for &first in FIRSTS {
+            let (own, other): (Result<_, _>, Result<_, _>) = (tx.clone(), rx.clone());
+            let (Ok(own), Ok(other)) = (own, other) else {
+                return false;
+            };
+            let sends = move || tally.note(send_all(rt, own, (first, changes)));
+            let receives = move || tally.note(receive_all(rt, other, tally));
+            if scope.spawn(sends).is_err() || scope.spawn(receives).is_err() {
+                return false;
+            }
+        }
+        true
+    })
 }
 
 // Each message arrives once, and each receiver gets those of one sender in order.
 fn soak<R>(rt: R, alloc: Global, capacity: Option<usize>, changes: bool)
 where
-    R: Waits + AllocGlobal + Threads + Abort + Send + Sync + 'static,
+    R: Waits + Threads + Abort + Send + Sync + 'static,
 {
     let watch = watching(rt, alloc);
-    let ends = opened(rt, alloc, capacity);
-    let Started { senders, receivers } = start_all(rt, alloc, ends, (changes, &watch));
-    join_senders(&rt, senders);
-    let mut counts = had(&rt, vec![in alloc; 0u32; THREADS * EACH]);
-    join_receivers(&rt, receivers, counts.as_mut_slice());
-    assert!(rt; counts.iter().all(|&count| count == 1));
+    let ends = opened(&rt, (rt, alloc), capacity);
+    let tally = Tally {
+        counts: Mutex::new(had(&rt, vec![in alloc; 0u32; ALL])),
+        faults: AtomicU64::new(0),
+        watched: watch.watched(),
+    };
+    assert!(rt; all_run(&rt, ends, changes, &tally));
+    assert!(rt; tally.faults.load(Ordering::SeqCst) == 0);
+    assert!(rt; tally.counts.lock(&rt).iter().all(|&count| count == 1));
     watch.end(&rt);
 }
 

@@ -1,28 +1,31 @@
 //! A thread of a script: what it works on, and what it does line by line.
 use crate::answers::Answer;
-use crate::calls::{Rx, Tx, by_both, by_receiver, by_sender, by_weak};
-use crate::counted::Shared;
-use ends_tests::works::Work;
-use flume::{Waits, WeakSender};
-use std::alloc::{AllocError, Global};
+use crate::calls::{Rx, Tx, Weak, by_both, by_receiver, by_sender, by_weak};
+use crate::selections::by_selection;
+use crate::shared::Shared;
+use flume::Waits;
+use std::alloc::{AllocError, Allocator, Global};
 use std::sync::Arc;
 use std::time::Instant;
 
 /// A thread of a script. An end may be shared with other threads, or be its own.
 #[derive(Drop)]
-pub(crate) struct Player<R: Waits> {
-    pub(crate) rt: R,
-    pub(crate) alloc: Global,
-    pub(crate) shared: Arc<Shared>,
-    pub(crate) tx: Option<Arc<Tx<R>>>,
-    pub(crate) rx: Option<Arc<Rx<R>>>,
-    pub(crate) weak: Option<Arc<WeakSender<u64, R>>>,
-    pub(crate) lines: &'static str,
-    pub(crate) yields: u32,
-    pub(crate) later: Instant,
+pub struct Player<'a, R: Waits, A: Allocator + Copy> {
+    pub rt: R,
+    pub alloc: Global,
+    pub shared: &'a Shared,
+    pub tx: Option<Arc<Tx<R, A>>>,
+    pub rx: Option<Arc<Rx<R, A>>>,
+    /// A second receiver, which selections take.
+    pub other: Option<Arc<Rx<R, A>>>,
+    pub weak: Option<Arc<Weak<R, A>>>,
+    pub lines: &'static str,
+    /// What stands for `CALL`, and how it is known that this call has parked.
+    pub call: (&'static str, &'static str),
+    pub later: Instant,
 }
 
-impl<R: Waits> Player<R> {
+impl<R: Waits, A: Allocator + Copy> Player<'_, R, A> {
     // What a call of one end is answered. `None`: it is none, or the thread hasn't that end.
     fn by_end(&self, call: (&str, u64)) -> Option<Answer> {
         let rt = &self.rt;
@@ -43,21 +46,33 @@ impl<R: Waits> Player<R> {
         }
     }
 
+    // What a call of several ends is answered.
+    fn by_ends(&self, call: (&str, u64)) -> Option<Answer> {
+        let (tx, rx) = (self.tx.as_deref(), self.rx.as_deref());
+        let selected = by_selection(tx, (rx, self.other.as_deref()), call, self.later);
+        if selected.is_some() {
+            return selected;
+        }
+        by_both(&self.rt, rx?, tx?, call)
+    }
+
     // What a line is answered. `None`: it can't be read, or the thread hasn't the ends for it.
     fn answer(&self, asks: &str) -> Option<Answer> {
         let (call, number) = asks.split_once(" ").unwrap_or((asks, "0"));
+        let call = if call == "CALL" { self.call.0 } else { call };
         let call = (call, number.parse::<u64>().ok()?);
-        if let Some(answer) = self.shared.meet(&self.rt, call, self.yields) {
+        if let Some(answer) = self.shared.meet(&self.rt, call) {
             return Some(answer);
         }
         if let Some(answer) = self.by_end(call) {
             return Some(answer);
         }
-        by_both(&self.rt, self.rx.as_ref()?, self.tx.as_ref()?, call)
+        self.by_ends(call)
     }
 
     // What is wrong with a line's answer. A line that wants none wants `done`.
     fn wrong(&self, line: &str) -> Result<Option<String>, AllocError> {
+        let line = if line == "parked" { self.call.1 } else { line };
         let (asks, wanted) = line.split_once(" -> ").unwrap_or((line, "done"));
         let answer = self.answer(asks).unwrap_or(Answer::Word("impossible"));
         let text = format!(in self.alloc; "{answer}")?;
@@ -68,7 +83,7 @@ impl<R: Waits> Player<R> {
     }
 
     // Does what each line asks. What is wrong with the first that is answered otherwise.
-    fn play(&self) -> Result<Option<String>, AllocError> {
+    fn first_wrong(&self) -> Result<Option<String>, AllocError> {
         let mut first = None;
         for line in self.lines.split("\n") {
             let wrong = self.wrong(line)?;
@@ -78,12 +93,13 @@ impl<R: Waits> Player<R> {
         }
         Ok(first)
     }
-}
 
-impl<R: Waits> Work for Player<R> {
-    type Answer = Result<Option<String>, AllocError>;
-
-    fn work(self) -> Result<Option<String>, AllocError> {
-        self.play()
+    /// Does what each line asks, and lets go of the ends. Where a line is answered otherwise than it
+    /// says, the threads share what is wrong with it.
+    pub fn play(self) -> Result<(), AllocError> {
+        if let Some(wrong) = self.first_wrong()? {
+            *self.shared.wrong.lock(&self.rt) = Some(wrong);
+        }
+        Ok(())
     }
 }

@@ -1,8 +1,11 @@
-//! What the threads of a script share: what they say to each other, and what they count.
+//! What the threads of a script share: what they say to each other, when a call has parked, what they
+//! count, and what went wrong first.
 use crate::answers::{Answer, DONE, after_recv};
 use crate::calls::Rx;
-use crate::fixtures::yield_often;
+use crate::noted::{Noted, Notes};
+use ends_tests::counting::Counting;
 use flume::Waits;
+use std::alloc::{Allocator, Global};
 use std::sync::Mutex;
 use std::sync::atomic::{AtomicU64, Ordering};
 use std::thread;
@@ -12,29 +15,49 @@ const NUMBERS: usize = 250;
 
 /// What the threads of a script share.
 #[derive(Drop)]
-pub(crate) struct Shared {
+pub struct Shared {
+    notes: Notes,
+    /// What the channels take their memory from.
+    pub heap: Counting<Global>,
+    /// The first line that was answered otherwise than it says, and its answer.
+    pub wrong: Mutex<Option<String>>,
     said: AtomicU64,
     counts: Mutex<[u64; NUMBERS]>,
 }
 
 impl Shared {
-    /// Nothing was said or counted.
-    pub(crate) fn new() -> Shared {
+    /// Nothing was said or counted, and nothing went wrong.
+    pub fn new(alloc: Global) -> Shared {
         Shared {
+            notes: Notes::new(),
+            heap: Counting::new(alloc),
+            wrong: Mutex::new(None),
             said: AtomicU64::new(0),
             counts: Mutex::new([0; NUMBERS]),
         }
     }
 
-    // Says something.
-    fn say(&self) {
-        self.said.fetch_add(1, Ordering::SeqCst);
+    /// A runtime whose clock they share.
+    pub fn noted<R: Waits>(&self, rt: R) -> Noted<'_, R> {
+        Noted {
+            rt,
+            notes: &self.notes,
+        }
     }
 
-    // Waits until something was said so often.
-    fn wait_for<R: Waits>(&self, rt: &R, times: u64) {
+    // How often something came: something was said, the clock was read, memory was asked for.
+    fn times(&self, what: &str) -> u64 {
+        match what {
+            "await" => self.said.load(Ordering::SeqCst),
+            "clock" => self.notes.readings(),
+            _ => self.heap.asked(),
+        }
+    }
+
+    // Waits until it came so often.
+    fn wait_for<R: Waits>(&self, rt: &R, what: &str, times: u64) {
         for _ in rt.forever() {
-            if times <= self.said.load(Ordering::SeqCst) {
+            if times <= self.times(what) {
                 return;
             }
             thread::yield_now();
@@ -50,7 +73,7 @@ impl Shared {
     }
 
     // Counts so many numbers that are received. How many came.
-    fn count<R: Waits>(&self, rt: &R, rx: &Rx<R>, most: u64) -> u64 {
+    fn count<R: Waits, A: Allocator + Copy>(&self, rt: &R, rx: &Rx<R, A>, most: u64) -> u64 {
         for before in 0..most {
             let Ok(number) = rx.recv() else {
                 return before;
@@ -61,7 +84,7 @@ impl Shared {
     }
 
     // Counts all numbers that are received. What the last receive answers.
-    fn count_all<R: Waits>(&self, rt: &R, rx: &Rx<R>) -> Answer {
+    fn count_all<R: Waits, A: Allocator + Copy>(&self, rt: &R, rx: &Rx<R, A>) -> Answer {
         for _ in rt.forever() {
             match rx.recv() {
                 Ok(number) => self.count_one(rt, number),
@@ -72,7 +95,7 @@ impl Shared {
     }
 
     // Counts all numbers that a loop over the receiver gives.
-    fn count_by_loop<R: Waits>(&self, rt: &R, rx: &Rx<R>) {
+    fn count_by_loop<R: Waits, A: Allocator + Copy>(&self, rt: &R, rx: &Rx<R, A>) {
         for number in rx {
             self.count_one(rt, number);
         }
@@ -91,16 +114,15 @@ impl Shared {
     }
 
     /// What threads do to meet. `None`: no such call is known, here and below.
-    pub(crate) fn meet<R: Waits>(
-        &self,
-        rt: &R,
-        (call, number): (&str, u64),
-        yields: u32,
-    ) -> Option<Answer> {
+    pub fn meet<R: Waits>(&self, rt: &R, (call, number): (&str, u64)) -> Option<Answer> {
         match call {
-            "say" => self.say(),
-            "await" => self.wait_for(rt, number),
-            "yield" => yield_often(yields),
+            "say" => {
+                self.said.fetch_add(1, Ordering::SeqCst);
+            }
+            "await" | "clock" | "memory" => self.wait_for(rt, call, number),
+            "stand" => self.notes.stand_from(number),
+            "go_on" => self.notes.stand_from(u64::MAX),
+            "pass" => self.notes.pass(),
             "counts" => return Some(self.counts(rt)),
             _ => return None,
         }
@@ -108,10 +130,10 @@ impl Shared {
     }
 
     /// What threads count together.
-    pub(crate) fn by_receiver<R: Waits>(
+    pub(crate) fn by_receiver<R: Waits, A: Allocator + Copy>(
         &self,
         rt: &R,
-        rx: &Rx<R>,
+        rx: &Rx<R, A>,
         (call, number): (&str, u64),
     ) -> Option<Answer> {
         match call {
