@@ -12,8 +12,8 @@ use flume_calls::calls::{
     SendCall, SendNext,
 };
 use flume_calls::gates::{RecvGate, SendGate};
-use flume_model::step::Kind;
 use flume_deadline::Deadline;
+use flume_model::step::Kind;
 use std::alloc::Allocator;
 use std::marker::Model;
 use std::sync::Arc;
