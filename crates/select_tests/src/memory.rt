@@ -1,11 +1,12 @@
 //! Channels that take memory from two allocators, of which one has none.
-use crate::fixtures::{Ends, Won, had, is, offered, selected, tried};
-use crate::selections::{receive_or_send, send_or_receive};
+use crate::fixtures::{Ends, had, is, offered, selected, tried};
 use ends_tests::counting::Counting;
 use flume::error::{SelectError, TryRecvError, TrySendError};
 use flume::{Waits, bounded};
 use std::alloc::{Allocator, Global};
 use std::process::Abort;
+use threads_player::arms::How;
+use threads_player::selections::{Won, receive_or_send, send_or_receive};
 
 // The selection wanted memory.
 fn refused(rt: &impl Abort, answer: Result<Won, SelectError>) {
@@ -18,17 +19,21 @@ fn select_over_both<R: Waits + Abort, A: Allocator + Copy>(
     (tx0, rx0): &Ends<u64, R, A>,
     (tx1, rx1): &Ends<u64, R, A>,
 ) {
-    refused(rt, send_or_receive(tx0, 1, rx1));
-    refused(rt, receive_or_send(rx0, tx1, 2));
-    refused(rt, send_or_receive(tx1, 3, rx0));
-    refused(rt, receive_or_send(rx1, tx0, 4));
+    refused(rt, send_or_receive(tx0, 1, rx1, How::Endless));
+    refused(rt, receive_or_send(rx0, tx1, 2, How::Endless));
+    refused(rt, send_or_receive(tx1, 3, rx0, How::Endless));
+    refused(rt, receive_or_send(rx1, tx0, 4, How::Endless));
 }
 
 // No send is blocked, no receiver waits, and a selection goes on.
 fn nobody_is_left<R: Waits + Abort, A: Allocator + Copy>(rt: &R, (tx, rx): &Ends<u64, R, A>) {
     tried(rt, rx.try_recv(), Err(TryRecvError::Empty));
     offered(rt, tx.try_send(5), Err(TrySendError::Full(5)));
-    selected(rt, send_or_receive(tx, 7, rx), Ok(Won::First(Ok(7))));
+    selected(
+        rt,
+        send_or_receive(tx, 7, rx, How::Endless),
+        Ok(Won::First(Ok(7))),
+    );
 }
 
 // A channel has memory and another has none. Whichever of the two the parker is of, the selection

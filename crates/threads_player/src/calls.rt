@@ -3,6 +3,8 @@ use crate::answers::{
     Answer, DONE, after_recv, after_send, after_timed_recv, after_timed_send, after_try_recv,
     after_try_send,
 };
+use crate::mixed::mix_send;
+use ends_tests::changes::change_capacity;
 use flume::error::{RecvTimeoutError, SendTimeoutError, TryRecvError, TrySendError};
 use flume::{Receiver, Sender, Waits, WeakSender};
 use std::alloc::Allocator;
@@ -228,15 +230,9 @@ fn sum<R: Waits, A: Allocator + Copy>(rx: &Rx<R, A>, count: u64) -> u64 {
     sum
 }
 
-// Waits until so many messages are queued.
-fn wait_for_len<R: Waits, A: Allocator + Copy>(rt: &R, rx: &Rx<R, A>, len: u64) {
-    for _ in rt.forever() {
-        if rx.len() as u64 == len {
-            return;
-        }
-        thread::yield_now();
-    }
-    unreachable!()
+// Sets one capacity after another, until all senders are gone.
+fn set_one_after_another<R: Waits, A: Allocator + Copy>(rt: &R, rx: &Rx<R, A>) {
+    let _ = change_capacity(rt, rx);
 }
 
 // The answer of what has none.
@@ -263,6 +259,7 @@ pub(crate) fn by_sender<R: Waits, A: Allocator + Copy>(
         "send_hour" => Some(after_timed_send(tx.send_timeout(number, long()))),
         "send_far" => Some(after_timed_send(tx.send_deadline(number, later))),
         "send_all" => times(send_all(tx, number)),
+        "mix_send" => times(mix_send(rt, tx, number)?),
         "race_send_1000" => times(race_send(rt, tx, number, 1000)),
         "race_send_20" => times(race_send(rt, tx, number, 20)),
         _ => None,
@@ -288,7 +285,7 @@ pub(crate) fn by_receiver<R: Waits, A: Allocator + Copy>(
         "sum" => times(sum(rx, number)),
         "drain" => times(rx.drain().ok()?.len() as u64),
         "set_capacity" => done(rx.set_capacity(number as usize).ok()?),
-        "await_len" => done(wait_for_len(rt, rx, number)),
+        "change_capacity" => done(set_one_after_another(rt, rx)),
         _ => None,
     }
 }

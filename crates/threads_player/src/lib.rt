@@ -5,6 +5,7 @@
 pub mod answers;
 pub mod arms;
 pub mod calls;
+mod mixed;
 pub mod noted;
 pub mod player;
 pub mod selections;

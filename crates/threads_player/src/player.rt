@@ -25,7 +25,33 @@ pub struct Player<'a, R: Waits, A: Allocator + Copy> {
     pub later: Instant,
 }
 
-impl<R: Waits, A: Allocator + Copy> Player<'_, R, A> {
+// An end, shared by one thread more.
+fn shared<E: Drop>(end: &Option<Arc<E>>) -> Result<Option<Arc<E>>, AllocError> {
+    match end {
+        Some(end) => Ok(Some(end.clone()?)),
+        None => Ok(None),
+    }
+}
+
+impl<'a, R: Waits, A: Allocator + Copy> Player<'a, R, A> {
+    /// Another thread that shares the ends and does the same.
+    pub fn share(&self) -> Result<Player<'a, R, A>, AllocError> {
+        let (tx, rx) = (shared(&self.tx)?, shared(&self.rx)?);
+        let (other, weak) = (shared(&self.other)?, shared(&self.weak)?);
+        Ok(Player {
+            rt: self.rt,
+            alloc: self.alloc,
+            shared: self.shared,
+            tx,
+            rx,
+            other,
+            weak,
+            lines: self.lines,
+            call: self.call,
+            later: self.later,
+        })
+    }
+
     // What a call of one end is answered. `None`: it is none, or the thread hasn't that end.
     fn by_end(&self, call: (&str, u64)) -> Option<Answer> {
         let rt = &self.rt;
@@ -56,9 +82,11 @@ impl<R: Waits, A: Allocator + Copy> Player<'_, R, A> {
         by_both(&self.rt, rx?, tx?, call)
     }
 
-    // What a line is answered. `None`: it can't be read, or the thread hasn't the ends for it.
+    // What a line is answered. `None`: it can't be read, or the thread hasn't the ends for it. Where
+    // it has no number, it has the one by which it is known that `CALL` has parked.
     fn answer(&self, asks: &str) -> Option<Answer> {
-        let (call, number) = asks.split_once(" ").unwrap_or((asks, "0"));
+        let (_, parked) = self.call.1.split_once(" ").unwrap_or(("", "0"));
+        let (call, number) = asks.split_once(" ").unwrap_or((asks, parked));
         let call = if call == "CALL" { self.call.0 } else { call };
         let call = (call, number.parse::<u64>().ok()?);
         if let Some(answer) = self.shared.meet(&self.rt, call) {
@@ -85,8 +113,8 @@ impl<R: Waits, A: Allocator + Copy> Player<'_, R, A> {
     // Does what each line asks. What is wrong with the first that is answered otherwise.
     fn first_wrong(&self) -> Result<Option<String>, AllocError> {
         let mut first = None;
-        for line in self.lines.split("\n") {
-            let wrong = self.wrong(line)?;
+        for line in self.lines.split(";") {
+            let wrong = self.wrong(line.trim())?;
             if first.is_none() {
                 first = wrong;
             }

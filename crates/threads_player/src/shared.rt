@@ -2,6 +2,7 @@
 //! count, and what went wrong first.
 use crate::answers::{Answer, DONE, after_recv};
 use crate::calls::Rx;
+use crate::mixed::{is_next, receive_by};
 use crate::noted::{Noted, Notes};
 use ends_tests::counting::Counting;
 use flume::Waits;
@@ -11,7 +12,7 @@ use std::sync::atomic::{AtomicU64, Ordering};
 use std::thread;
 
 // How many different numbers are counted: 0 and so on.
-const NUMBERS: usize = 250;
+const NUMBERS: usize = 1000;
 
 /// What the threads of a script share.
 #[derive(Drop)]
@@ -94,6 +95,21 @@ impl Shared {
         unreachable!()
     }
 
+    // Counts all that is received by calls of every kind, where what each thread sends comes in order.
+    // What the last receive answers.
+    fn mix_count<R: Waits, A: Allocator + Copy>(&self, rt: &R, rx: &Rx<R, A>) -> Answer {
+        let (mut number, mut next) = (0u64, [0; 4]);
+        for _ in rt.forever() {
+            number = number.wrapping_add(1);
+            match receive_by(rt, rx, number) {
+                Ok(message) if is_next(&mut next, message) => self.count_one(rt, message),
+                Ok(message) => return Answer::Message("out of order", message),
+                Err(error) => return after_recv(Err(error)),
+            }
+        }
+        unreachable!()
+    }
+
     // Counts all numbers that a loop over the receiver gives.
     fn count_by_loop<R: Waits, A: Allocator + Copy>(&self, rt: &R, rx: &Rx<R, A>) {
         for number in rx {
@@ -101,11 +117,11 @@ impl Shared {
         }
     }
 
-    // How often each number was counted, if they were all counted equally often.
-    fn counts<R: Waits>(&self, rt: &R) -> Answer {
+    // How often each of so many numbers was counted, if they were all counted equally often.
+    fn counts<R: Waits>(&self, rt: &R, numbers: u64) -> Answer {
         let counts = self.counts.lock(rt);
         let wanted = counts[0];
-        for &count in counts.iter() {
+        for &count in counts.iter().take(numbers as usize) {
             if count != wanted {
                 return Answer::Word("not equally often");
             }
@@ -123,7 +139,7 @@ impl Shared {
             "stand" => self.notes.stand_from(number),
             "go_on" => self.notes.stand_from(u64::MAX),
             "pass" => self.notes.pass(),
-            "counts" => return Some(self.counts(rt)),
+            "counts" => return Some(self.counts(rt, number)),
             _ => return None,
         }
         Some(DONE)
@@ -139,6 +155,7 @@ impl Shared {
         match call {
             "count" => Some(Answer::Number(self.count(rt, rx, number))),
             "count_all" => Some(self.count_all(rt, rx)),
+            "mix_count" => Some(self.mix_count(rt, rx)),
             "count_by_loop" => {
                 self.count_by_loop(rt, rx);
                 Some(DONE)

@@ -12,6 +12,4 @@ mod scripts;
 #[cfg(test)]
 mod selections;
 #[cfg(test)]
-mod soak;
-#[cfg(test)]
 mod works;

@@ -1,5 +1,7 @@
-//! Scripts for threads, played: each has a line `= title`, a line with the capacities of its
-//! channels, and for each thread a line `- ` with its ends and then a line for each call.
+//! Scripts for threads, played. Each has a line `= title`, and one with the capacities of its
+//! channels. A line `CALL:` names calls that it is played with, each with how it is known that this
+//! call has parked: by so many readings of the clock, or so many requests for memory. A line `- ` is a
+//! thread, or so many that share their ends: which ends, and what it does.
 use crate::fixtures::{had, later, opened, watching};
 use flume::Waits;
 use std::alloc::{Allocator, Global};
@@ -19,12 +21,11 @@ const CHANNELS: usize = 9;
 // The ends of the channels.
 type Ends<R: Waits, A: Allocator + Copy> = Vec<(Tx<R, A>, Rx<R, A>)>;
 
-// What the threads have of whom one line `- ` tells: of which channels the ends are, how many such
-// threads there are, and whether they share their ends.
+// What the threads have of whom one line `- ` tells: of which channels the ends are, and how many
+// such threads there are.
 #[derive(Clone, Copy, Drop)]
 struct Cast {
     threads: u64,
-    shares: bool,
     tx: Option<usize>,
     rx: Option<usize>,
     other: Option<usize>,
@@ -42,7 +43,6 @@ impl Cast {
         let rx = channel(word, "rx");
         Cast {
             threads: word.parse::<u64>().unwrap_or(self.threads),
-            shares: self.shares || word == "sharing",
             tx: channel(word, "tx").or(self.tx),
             rx: self.rx.or(rx),
             other: rx,
@@ -54,7 +54,6 @@ impl Cast {
     fn read(line: &str) -> Cast {
         let mut cast = Cast {
             threads: 1,
-            shares: false,
             tx: None,
             rx: None,
             other: None,
@@ -65,21 +64,6 @@ impl Cast {
         }
         cast
     }
-}
-
-// The end of one more thread, of those that have this one: the same, or a clone of it.
-fn next_end<E: Clone + Drop>(
-    rt: &impl Abort,
-    alloc: Global,
-    end: &Option<Arc<E>>,
-    shares: bool,
-) -> Option<Arc<E>> {
-    let end = end.as_ref()?;
-    Some(if shares {
-        had(rt, end.clone())
-    } else {
-        had(rt, Arc::new(alloc, had(rt, (**end).clone())))
-    })
 }
 
 // How a script is played: what stands for `CALL`, and at which capacity.
@@ -145,34 +129,15 @@ impl<'a, H: Abort, R: Waits, A: Allocator + Copy> Run<'a, H, R, A> {
         }
     }
 
-    // One more of them.
-    fn next(&self, last: &Player<'a, R, A>, shares: bool) -> Player<'a, R, A> {
-        let (host, alloc) = (self.host, self.alloc);
-        Player {
-            rt: self.rt,
-            alloc,
-            shared: self.shared,
-            tx: next_end(host, alloc, &last.tx, shares),
-            rx: next_end(host, alloc, &last.rx, shares),
-            other: None,
-            weak: next_end(host, alloc, &last.weak, shares),
-            lines: last.lines,
-            call: self.call,
-            later: self.later,
-        }
-    }
-
     // The threads of which a part of a script tells.
     fn enlist(&self, players: &mut Vec<Player<'a, R, A>>, part: &'static str) {
-        let (line, lines) = part.split_once("\n").unwrap_or((part, ""));
-        let cast = Cast::read(line);
-        let mut last = self.first(cast, lines);
+        let (ends, lines) = part.split_once(": ").unwrap_or((part, ""));
+        let cast = Cast::read(ends);
+        let first = self.first(cast, lines);
         for _ in 1..cast.threads {
-            let next = self.next(&last, cast.shares);
-            had(self.host, players.push(last));
-            last = next;
+            had(self.host, players.push(had(self.host, first.share())));
         }
-        had(self.host, players.push(last));
+        had(self.host, players.push(first));
     }
 }
 
