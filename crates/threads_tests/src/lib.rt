@@ -10,6 +10,4 @@ mod play;
 #[cfg(test)]
 mod scripts;
 #[cfg(test)]
-mod selections;
-#[cfg(test)]
 mod works;
