@@ -1,9 +1,9 @@
-//! What several tests use: answers compared in one place for each type, channels, threads and times. What can't be had fails the test here: a `?` in a test costs the
-//! prover a second, and an abort none.
-use crate::works::Stuck;
+//! What several tests use: answers compared in one place for each type, channels, threads and times.
+//! What can't be had fails the test here: a `?` in a test costs the prover a second, and an abort
+//! none.
 use ends_tests::watch::{Watch, begin_watch};
 use ends_tests::works::Work;
-use flume::error::{SelectError, TryRecvError, TrySendError};
+use flume::error::{SelectError, TrySendError};
 use flume::{Receiver, Sender, Waits, bounded, unbounded};
 use std::alloc::{Allocator, Global};
 use std::fmt::Debug;
@@ -19,15 +19,6 @@ pub(crate) fn selected(
     rt: &impl Abort,
     answer: Result<Won, SelectError>,
     wanted: Result<Won, SelectError>,
-) {
-    assert_eq!(rt; answer, wanted);
-}
-
-/// The tried receive answered so.
-pub(crate) fn tried(
-    rt: &impl Abort,
-    answer: Result<u64, TryRecvError>,
-    wanted: Result<u64, TryRecvError>,
 ) {
     assert_eq!(rt; answer, wanted);
 }
@@ -86,6 +77,18 @@ where
 pub(crate) fn later<R: Clock + Abort>(rt: &R) -> Instant {
     let now = Instant::now(rt).expect(rt, "the clock can be read");
     now.checked_add(long()).expect(rt, "an hour has a sum")
+}
+
+// Fails a test in which nothing moves any more.
+#[derive(Drop)]
+struct Stuck<R: Waits + Abort>(R);
+
+impl<R: Waits + Abort> Work for Stuck<R> {
+    type Answer = ();
+
+    fn work(self) {
+        panic!(self.0; "a wake is lost: nothing moved for too long")
+    }
 }
 
 /// The thread that watches over a test.

@@ -1,6 +1,6 @@
-//! Tests of selectors: against each other in two threads, by clocks of the tests' own, by two
-//! allocators, and by mappers that do more than answer. What threads do beside a selector is text, in
-//! `threads_tests`; so is what one thread sees, which `end_scripts` plays.
+//! Tests of selectors: against each other in two threads, by clocks of the tests' own, over channels
+//! of two types, and by mappers that do more than answer. What threads do beside a selector is text,
+//! in `threads_tests`; so is what one thread sees, which `end_scripts` plays.
 #![tactic(auto)]
 
 #[cfg(test)]
@@ -12,8 +12,4 @@ mod mappers;
 #[cfg(test)]
 mod meeting;
 #[cfg(test)]
-mod memory;
-#[cfg(test)]
 mod types;
-#[cfg(test)]
-mod works;

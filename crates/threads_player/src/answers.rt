@@ -12,9 +12,6 @@ pub enum Answer {
     Word(&'static str),
     Message(&'static str, u64),
     Number(u64),
-    /// Of an arm: which one, and what it answers.
-    Got(&'static str, u64),
-    Ended(&'static str, &'static str),
 }
 
 impl fmt::Display for Answer {
@@ -23,8 +20,6 @@ impl fmt::Display for Answer {
             Answer::Word(word) => f.write_str(word),
             Answer::Message(word, message) => write!(f, "{word} {message}"),
             Answer::Number(number) => write!(f, "{number}"),
-            Answer::Got(arm, message) => write!(f, "{arm} got {message}"),
-            Answer::Ended(arm, word) => write!(f, "{arm} {word}"),
         }
     }
 }
@@ -90,21 +85,21 @@ pub fn after_timed_recv(answer: Result<u64, RecvTimeoutError>) -> Answer {
     }
 }
 
-// What a receiving arm of a selection answered.
-fn after_arm(arm: &'static str, answer: Result<u64, RecvError>) -> Answer {
+// What a receiving arm answered, which says so where it got a message, and so where it got none.
+fn after_arm(got: &'static str, none: &'static str, answer: Result<u64, RecvError>) -> Answer {
     match answer {
-        Ok(message) => Answer::Got(arm, message),
-        Err(RecvError::Disconnected) => Answer::Ended(arm, "disconnected"),
-        Err(RecvError::NoMemory) => Answer::Ended(arm, "no memory"),
+        Ok(message) => Answer::Message(got, message),
+        Err(RecvError::Disconnected) => Answer::Word(none),
+        Err(RecvError::NoMemory) => Answer::Word("no memory"),
     }
 }
 
 /// What a selection over several arms answered.
 pub fn after_select(answer: Result<Won, SelectError>) -> Answer {
     match answer {
-        Ok(Won::First(answer)) => after_arm("first", answer),
-        Ok(Won::Second(answer)) => after_arm("second", answer),
-        Ok(Won::Third(answer)) => after_arm("third", answer),
+        Ok(Won::First(answer)) => after_arm("first got", "first disconnected", answer),
+        Ok(Won::Second(answer)) => after_arm("second got", "second disconnected", answer),
+        Ok(Won::Third(answer)) => after_arm("third got", "third disconnected", answer),
         Ok(Won::Sent(answer)) => after_send(answer),
         Err(SelectError::Timeout) => Answer::Word("late"),
         Err(SelectError::NoMemory) => Answer::Word("no memory"),

@@ -1,5 +1,5 @@
 //! What the threads of a script share: what they say to each other, when a call has parked, what they
-//! count, and what went wrong first.
+//! count, and what went wrong.
 use crate::answers::{Answer, DONE, after_recv};
 use crate::calls::Rx;
 use crate::mixed::{is_next, receive_by};
@@ -20,7 +20,7 @@ pub struct Shared {
     notes: Notes,
     /// What the channels take their memory from.
     pub heap: Counting<Global>,
-    /// The first line that was answered otherwise than it says, and its answer.
+    /// A line that was answered otherwise than it says, and its answer.
     pub wrong: Mutex<Option<String>>,
     said: AtomicU64,
     counts: Mutex<[u64; NUMBERS]>,

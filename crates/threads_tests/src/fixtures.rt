@@ -1,7 +1,6 @@
 //! What several tests use: answers compared in one place, channels of any capacity, threads, and
 //! a long time. What can't be had fails the test here: a `?` in a test costs the prover a second,
 //! and an abort none.
-use crate::works::Stuck;
 use ends_tests::watch::{Watch, begin_watch};
 use ends_tests::works::Work;
 use flume::{Receiver, Sender, Waits, bounded, unbounded};
@@ -44,6 +43,18 @@ where
     W::Answer: Send + Drop + 'static,
 {
     thread::spawn(rt, move || work.work()).expect(rt, "a thread can be started")
+}
+
+// Fails a test in which nothing moves any more.
+#[derive(Drop)]
+struct Stuck<R: Waits + Abort>(R);
+
+impl<R: Waits + Abort> Work for Stuck<R> {
+    type Answer = ();
+
+    fn work(self) {
+        panic!(self.0; "a wake is lost: nothing moved for too long")
+    }
 }
 
 /// The thread that watches over a test.

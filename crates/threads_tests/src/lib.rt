@@ -9,5 +9,3 @@ mod nested;
 mod play;
 #[cfg(test)]
 mod scripts;
-#[cfg(test)]
-mod works;
