@@ -45,7 +45,7 @@ impl Cast {
             threads: word.parse::<u64>().unwrap_or(self.threads),
             tx: channel(word, "tx").or(self.tx),
             rx: self.rx.or(rx),
-            other: rx,
+            other: self.rx.and(rx),
             weak: channel(word, "weak").or(self.weak),
         }
     }
