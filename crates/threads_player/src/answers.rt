@@ -1,12 +1,14 @@
 //! What the lines of a script for threads are answered, as words and numbers.
+use crate::selections::Won;
 use flume::error::{
-    RecvError, RecvTimeoutError, SendError, SendTimeoutError, TryRecvError, TrySendError,
+    RecvError, RecvTimeoutError, SelectError, SendError, SendTimeoutError, TryRecvError,
+    TrySendError,
 };
 use std::fmt;
 
 /// What a line is answered.
 #[derive(Clone, Copy, Drop)]
-pub(crate) enum Answer {
+pub enum Answer {
     Word(&'static str),
     Message(&'static str, u64),
     Number(u64),
@@ -23,10 +25,10 @@ impl fmt::Display for Answer {
 }
 
 /// The answer of what has none.
-pub(crate) const DONE: Answer = Answer::Word("done");
+pub const DONE: Answer = Answer::Word("done");
 
 /// What a tried send answered.
-pub(crate) fn after_try_send(answer: Result<(), TrySendError<u64>>) -> Answer {
+pub fn after_try_send(answer: Result<(), TrySendError<u64>>) -> Answer {
     match answer {
         Ok(()) => Answer::Word("sent"),
         Err(TrySendError::Full(back)) => Answer::Message("full", back),
@@ -36,7 +38,7 @@ pub(crate) fn after_try_send(answer: Result<(), TrySendError<u64>>) -> Answer {
 }
 
 /// What a send that waits answered.
-pub(crate) fn after_send(answer: Result<(), SendError<u64>>) -> Answer {
+pub fn after_send(answer: Result<(), SendError<u64>>) -> Answer {
     match answer {
         Ok(()) => Answer::Word("sent"),
         Err(SendError::Disconnected(back)) => Answer::Message("disconnected", back),
@@ -45,7 +47,7 @@ pub(crate) fn after_send(answer: Result<(), SendError<u64>>) -> Answer {
 }
 
 /// What a send up to a deadline answered.
-pub(crate) fn after_timed_send(answer: Result<(), SendTimeoutError<u64>>) -> Answer {
+pub fn after_timed_send(answer: Result<(), SendTimeoutError<u64>>) -> Answer {
     match answer {
         Ok(()) => Answer::Word("sent"),
         Err(SendTimeoutError::Timeout(back)) => Answer::Message("late", back),
@@ -55,7 +57,7 @@ pub(crate) fn after_timed_send(answer: Result<(), SendTimeoutError<u64>>) -> Ans
 }
 
 /// What a tried receive answered.
-pub(crate) fn after_try_recv(answer: Result<u64, TryRecvError>) -> Answer {
+pub fn after_try_recv(answer: Result<u64, TryRecvError>) -> Answer {
     match answer {
         Ok(message) => Answer::Message("got", message),
         Err(TryRecvError::Empty) => Answer::Word("empty"),
@@ -65,7 +67,7 @@ pub(crate) fn after_try_recv(answer: Result<u64, TryRecvError>) -> Answer {
 }
 
 /// What a receive that waits answered.
-pub(crate) fn after_recv(answer: Result<u64, RecvError>) -> Answer {
+pub fn after_recv(answer: Result<u64, RecvError>) -> Answer {
     match answer {
         Ok(message) => Answer::Message("got", message),
         Err(RecvError::Disconnected) => Answer::Word("disconnected"),
@@ -74,11 +76,40 @@ pub(crate) fn after_recv(answer: Result<u64, RecvError>) -> Answer {
 }
 
 /// What a receive up to a deadline answered.
-pub(crate) fn after_timed_recv(answer: Result<u64, RecvTimeoutError>) -> Answer {
+pub fn after_timed_recv(answer: Result<u64, RecvTimeoutError>) -> Answer {
     match answer {
         Ok(message) => Answer::Message("got", message),
         Err(RecvTimeoutError::Timeout) => Answer::Word("late"),
         Err(RecvTimeoutError::Disconnected) => Answer::Word("disconnected"),
         Err(RecvTimeoutError::NoMemory) => Answer::Word("no memory"),
+    }
+}
+
+// What a receiving arm answered, which says so where it got a message, and so where it got none.
+fn after_arm(got: &'static str, none: &'static str, answer: Result<u64, RecvError>) -> Answer {
+    match answer {
+        Ok(message) => Answer::Message(got, message),
+        Err(RecvError::Disconnected) => Answer::Word(none),
+        Err(RecvError::NoMemory) => Answer::Word("no memory"),
+    }
+}
+
+/// What a selection over several arms answered.
+pub fn after_select(answer: Result<Won, SelectError>) -> Answer {
+    match answer {
+        Ok(Won::First(answer)) => after_arm("first got", "first disconnected", answer),
+        Ok(Won::Second(answer)) => after_arm("second got", "second disconnected", answer),
+        Ok(Won::Third(answer)) => after_arm("third got", "third disconnected", answer),
+        Ok(Won::Sent(answer)) => after_send(answer),
+        Err(SelectError::Timeout) => Answer::Word("late"),
+        Err(SelectError::NoMemory) => Answer::Word("no memory"),
+    }
+}
+
+/// What a selection with one receiving arm answered, as a receive says it.
+pub fn after_one(answer: Result<Won, SelectError>) -> Answer {
+    match answer {
+        Ok(Won::First(answer)) => after_recv(answer),
+        answer => after_select(answer),
     }
 }

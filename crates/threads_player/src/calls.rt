@@ -3,20 +3,34 @@ use crate::answers::{
     Answer, DONE, after_recv, after_send, after_timed_recv, after_timed_send, after_try_recv,
     after_try_send,
 };
-use crate::fixtures::long;
+use crate::mixed::mix_send;
+use ends_tests::changes::change_capacity;
 use flume::error::{RecvTimeoutError, SendTimeoutError, TryRecvError, TrySendError};
 use flume::{Receiver, Sender, Waits, WeakSender};
+use std::alloc::Allocator;
 use std::thread;
 use std::time::{Duration, Instant};
 
 /// A sender of numbers.
-pub(crate) type Tx<R> = Sender<u64, R>;
+pub type Tx<R: Waits, A: Allocator + Copy> = Sender<u64, R, A>;
 
 /// A receiver of numbers.
-pub(crate) type Rx<R> = Receiver<u64, R>;
+pub type Rx<R: Waits, A: Allocator + Copy> = Receiver<u64, R, A>;
+
+/// A weak sender of numbers.
+pub type Weak<R: Waits, A: Allocator + Copy> = WeakSender<u64, R, A>;
+
+/// So long that no test waits for its end.
+pub fn long() -> Duration {
+    Duration::from_secs(3600)
+}
 
 // Tries to send until the channel isn't full any more. At capacity 0 a receive that waits takes it.
-fn until_taken<R: Waits>(rt: &R, tx: &Tx<R>, message: u64) -> Result<(), TrySendError<u64>> {
+fn until_taken<R: Waits, A: Allocator + Copy>(
+    rt: &R,
+    tx: &Tx<R, A>,
+    message: u64,
+) -> Result<(), TrySendError<u64>> {
     for _ in rt.forever() {
         match tx.try_send(message) {
             Err(TrySendError::Full(_)) => thread::yield_now(),
@@ -27,7 +41,7 @@ fn until_taken<R: Waits>(rt: &R, tx: &Tx<R>, message: u64) -> Result<(), TrySend
 }
 
 // Tries to receive until the channel isn't empty and open any more.
-fn until_given<R: Waits>(rt: &R, rx: &Rx<R>) -> Result<u64, TryRecvError> {
+fn until_given<R: Waits, A: Allocator + Copy>(rt: &R, rx: &Rx<R, A>) -> Result<u64, TryRecvError> {
     for _ in rt.forever() {
         match rx.try_recv() {
             Err(TryRecvError::Empty) => thread::yield_now(),
@@ -47,7 +61,7 @@ fn is_within(len: usize, capacity: Option<usize>) -> bool {
 
 // Sends 0, 1 and so on. How many were taken before one wasn't, or before more were queued than the
 // channel holds.
-fn send_all<R: Waits>(tx: &Tx<R>, all: u64) -> u64 {
+fn send_all<R: Waits, A: Allocator + Copy>(tx: &Tx<R, A>, all: u64) -> u64 {
     for message in 0..all {
         if tx.send(message).is_err() || !is_within(tx.len(), tx.capacity()) {
             return message;
@@ -58,7 +72,7 @@ fn send_all<R: Waits>(tx: &Tx<R>, all: u64) -> u64 {
 
 /// Receives 0, 1 and so on. How many came before another did, or before more were queued than the
 /// channel holds.
-pub(crate) fn receive_all<R: Waits>(rx: &Rx<R>, all: u64) -> u64 {
+pub fn receive_all<R: Waits, A: Allocator + Copy>(rx: &Rx<R, A>, all: u64) -> u64 {
     for message in 0..all {
         if rx.recv().ok() != Some(message) || !is_within(rx.len(), rx.capacity()) {
             return message;
@@ -68,7 +82,12 @@ pub(crate) fn receive_all<R: Waits>(rx: &Rx<R>, all: u64) -> u64 {
 }
 
 // Sends again for so long each time, until the message is taken.
-fn send_at_last<R: Waits>(rt: &R, tx: &Tx<R>, message: u64, timeout: Duration) -> bool {
+fn send_at_last<R: Waits, A: Allocator + Copy>(
+    rt: &R,
+    tx: &Tx<R, A>,
+    message: u64,
+    timeout: Duration,
+) -> bool {
     for _ in rt.forever() {
         match tx.send_timeout(message, timeout) {
             Err(SendTimeoutError::Timeout(_)) => {}
@@ -79,7 +98,11 @@ fn send_at_last<R: Waits>(rt: &R, tx: &Tx<R>, message: u64, timeout: Duration) -
 }
 
 // Receives again for so long each time, until a message comes.
-fn receive_at_last<R: Waits>(rt: &R, rx: &Rx<R>, timeout: Duration) -> Option<u64> {
+fn receive_at_last<R: Waits, A: Allocator + Copy>(
+    rt: &R,
+    rx: &Rx<R, A>,
+    timeout: Duration,
+) -> Option<u64> {
     for _ in rt.forever() {
         match rx.recv_timeout(timeout) {
             Err(RecvTimeoutError::Timeout) => {}
@@ -90,7 +113,7 @@ fn receive_at_last<R: Waits>(rt: &R, rx: &Rx<R>, timeout: Duration) -> Option<u6
 }
 
 // Sends 0, 1 and so on by calls that each wait so long, made until they succeed.
-fn race_send<R: Waits>(rt: &R, tx: &Tx<R>, all: u64, micros: u64) -> u64 {
+fn race_send<R: Waits, A: Allocator + Copy>(rt: &R, tx: &Tx<R, A>, all: u64, micros: u64) -> u64 {
     for message in 0..all {
         if !send_at_last(rt, tx, message, Duration::from_micros(micros)) {
             return message;
@@ -100,7 +123,12 @@ fn race_send<R: Waits>(rt: &R, tx: &Tx<R>, all: u64, micros: u64) -> u64 {
 }
 
 // Receives 0, 1 and so on by calls that each wait so long, made until they succeed.
-fn race_receive<R: Waits>(rt: &R, rx: &Rx<R>, all: u64, micros: u64) -> u64 {
+fn race_receive<R: Waits, A: Allocator + Copy>(
+    rt: &R,
+    rx: &Rx<R, A>,
+    all: u64,
+    micros: u64,
+) -> u64 {
     for message in 0..all {
         if receive_at_last(rt, rx, Duration::from_micros(micros)) != Some(message) {
             return message;
@@ -110,7 +138,7 @@ fn race_receive<R: Waits>(rt: &R, rx: &Rx<R>, all: u64, micros: u64) -> u64 {
 }
 
 // Sends by way of a weak sender.
-fn weak_send<R: Waits>(weak: &WeakSender<u64, R>, message: u64) -> Answer {
+fn weak_send<R: Waits, A: Allocator + Copy>(weak: &Weak<R, A>, message: u64) -> Answer {
     match weak.upgrade() {
         Ok(Some(tx)) => after_send(tx.send(message)),
         Ok(None) => Answer::Word("none"),
@@ -119,7 +147,7 @@ fn weak_send<R: Waits>(weak: &WeakSender<u64, R>, message: u64) -> Answer {
 }
 
 /// Sends 0, 1 and so on, each by an upgrade of the weak sender. How many were taken.
-pub(crate) fn weak_send_all<R: Waits>(weak: &WeakSender<u64, R>, all: u64) -> u64 {
+pub fn weak_send_all<R: Waits, A: Allocator + Copy>(weak: &Weak<R, A>, all: u64) -> u64 {
     for message in 0..all {
         if !matches!(weak_send(weak, message), Answer::Word("sent")) {
             return message;
@@ -129,7 +157,7 @@ pub(crate) fn weak_send_all<R: Waits>(weak: &WeakSender<u64, R>, all: u64) -> u6
 }
 
 // Sends and tries to receive in turn. How many of the tries find a message.
-fn found<R: Waits>(tx: &Tx<R>, rx: &Rx<R>, all: u64) -> u64 {
+fn found<R: Waits, A: Allocator + Copy>(tx: &Tx<R, A>, rx: &Rx<R, A>, all: u64) -> u64 {
     let mut found = 0u64;
     for message in 0..all {
         if tx.send(message).is_ok() && rx.try_recv().is_ok() {
@@ -140,7 +168,7 @@ fn found<R: Waits>(tx: &Tx<R>, rx: &Rx<R>, all: u64) -> u64 {
 }
 
 // The first message that an iterator finds which only tries.
-fn first_tried<R: Waits>(rt: &R, rx: &Rx<R>) -> u64 {
+fn first_tried<R: Waits, A: Allocator + Copy>(rt: &R, rx: &Rx<R, A>) -> u64 {
     for _ in rt.forever() {
         if let Some(message) = rx.try_iter().next() {
             return message;
@@ -151,7 +179,7 @@ fn first_tried<R: Waits>(rt: &R, rx: &Rx<R>) -> u64 {
 }
 
 // Sends a number and waits for it to come back, so often. How many came back.
-fn ping_pong<R: Waits>(rt: &R, tx: &Tx<R>, rx: &Rx<R>, all: u64) -> u64 {
+fn ping_pong<R: Waits, A: Allocator + Copy>(rt: &R, tx: &Tx<R, A>, rx: &Rx<R, A>, all: u64) -> u64 {
     for message in 0..all {
         if tx.send(message).is_err() || first_tried(rt, rx) != message {
             return message;
@@ -161,7 +189,7 @@ fn ping_pong<R: Waits>(rt: &R, tx: &Tx<R>, rx: &Rx<R>, all: u64) -> u64 {
 }
 
 // Sends on what it receives, until a call fails.
-fn forward<R: Waits>(rt: &R, rx: &Rx<R>, tx: &Tx<R>) -> Answer {
+fn forward<R: Waits, A: Allocator + Copy>(rt: &R, rx: &Rx<R, A>, tx: &Tx<R, A>) -> Answer {
     for _ in rt.forever() {
         let message = match rx.recv() {
             Ok(message) => message,
@@ -175,7 +203,7 @@ fn forward<R: Waits>(rt: &R, rx: &Rx<R>, tx: &Tx<R>) -> Answer {
 }
 
 // Sends on what a loop over the receiver gives. How many were taken.
-fn forward_by_loop<R: Waits>(rx: &Rx<R>, tx: &Tx<R>) -> u64 {
+fn forward_by_loop<R: Waits, A: Allocator + Copy>(rx: &Rx<R, A>, tx: &Tx<R, A>) -> u64 {
     let mut taken = 0u64;
     for message in rx {
         if tx.send(message).is_ok() {
@@ -186,14 +214,14 @@ fn forward_by_loop<R: Waits>(rx: &Rx<R>, tx: &Tx<R>) -> u64 {
 }
 
 // Sends on what an iterator gives that has its receiver.
-fn forward_by_iterator<R: Waits>(rx: Rx<R>, tx: &Tx<R>) {
+fn forward_by_iterator<R: Waits, A: Allocator + Copy>(rx: Rx<R, A>, tx: &Tx<R, A>) {
     for message in rx {
         let _ = tx.send(message);
     }
 }
 
 // The sum of so many messages of an iterator.
-fn sum<R: Waits>(rx: &Rx<R>, count: u64) -> u64 {
+fn sum<R: Waits, A: Allocator + Copy>(rx: &Rx<R, A>, count: u64) -> u64 {
     let mut messages = rx.iter();
     let mut sum = 0u64;
     for message in messages.by_ref().take(count as usize) {
@@ -202,15 +230,9 @@ fn sum<R: Waits>(rx: &Rx<R>, count: u64) -> u64 {
     sum
 }
 
-// Waits until so many messages are queued.
-fn wait_for_len<R: Waits>(rt: &R, rx: &Rx<R>, len: u64) {
-    for _ in rt.forever() {
-        if rx.len() as u64 == len {
-            return;
-        }
-        thread::yield_now();
-    }
-    unreachable!()
+// Sets one capacity after another, until all senders are gone.
+fn set_one_after_another<R: Waits, A: Allocator + Copy>(rt: &R, rx: &Rx<R, A>) {
+    let _ = change_capacity(rt, rx);
 }
 
 // The answer of what has none.
@@ -224,9 +246,9 @@ fn times(number: u64) -> Option<Answer> {
 }
 
 /// A call of a sender. `None`: no such call is known, here and below.
-pub(crate) fn by_sender<R: Waits>(
+pub(crate) fn by_sender<R: Waits, A: Allocator + Copy>(
     rt: &R,
-    tx: &Tx<R>,
+    tx: &Tx<R, A>,
     (call, number): (&str, u64),
     later: Instant,
 ) -> Option<Answer> {
@@ -237,6 +259,7 @@ pub(crate) fn by_sender<R: Waits>(
         "send_hour" => Some(after_timed_send(tx.send_timeout(number, long()))),
         "send_far" => Some(after_timed_send(tx.send_deadline(number, later))),
         "send_all" => times(send_all(tx, number)),
+        "mix_send" => times(mix_send(rt, tx, number)?),
         "race_send_1000" => times(race_send(rt, tx, number, 1000)),
         "race_send_20" => times(race_send(rt, tx, number, 20)),
         _ => None,
@@ -244,9 +267,9 @@ pub(crate) fn by_sender<R: Waits>(
 }
 
 /// A call of a receiver.
-pub(crate) fn by_receiver<R: Waits>(
+pub(crate) fn by_receiver<R: Waits, A: Allocator + Copy>(
     rt: &R,
-    rx: &Rx<R>,
+    rx: &Rx<R, A>,
     (call, number): (&str, u64),
     later: Instant,
 ) -> Option<Answer> {
@@ -262,16 +285,16 @@ pub(crate) fn by_receiver<R: Waits>(
         "sum" => times(sum(rx, number)),
         "drain" => times(rx.drain().ok()?.len() as u64),
         "set_capacity" => done(rx.set_capacity(number as usize).ok()?),
-        "await_len" => done(wait_for_len(rt, rx, number)),
+        "change_capacity" => done(set_one_after_another(rt, rx)),
         _ => None,
     }
 }
 
 /// A call of a receiver and of a sender.
-pub(crate) fn by_both<R: Waits>(
+pub(crate) fn by_both<R: Waits, A: Allocator + Copy>(
     rt: &R,
-    rx: &Rx<R>,
-    tx: &Tx<R>,
+    rx: &Rx<R, A>,
+    tx: &Tx<R, A>,
     (call, number): (&str, u64),
 ) -> Option<Answer> {
     match call {
@@ -285,8 +308,8 @@ pub(crate) fn by_both<R: Waits>(
 }
 
 /// A call of a weak sender.
-pub(crate) fn by_weak<R: Waits>(
-    weak: &WeakSender<u64, R>,
+pub(crate) fn by_weak<R: Waits, A: Allocator + Copy>(
+    weak: &Weak<R, A>,
     (call, number): (&str, u64),
 ) -> Option<Answer> {
     match call {
