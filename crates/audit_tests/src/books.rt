@@ -9,7 +9,7 @@ use flume_audit::book::Book;
 use flume_audit::closed::Closed;
 use flume_audit::seat::Seat;
 use flume_audit::weigh::Ones;
-use flume_core::step::Step;
+use flume_model::step::Step;
 use flume_script::reading::{opening_of, step_of};
 use flume_script::writing::write_replies;
 use std::alloc::Global;

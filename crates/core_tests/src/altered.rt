@@ -2,7 +2,7 @@
 use crate::answers::had;
 use flume_core::chan::Chan;
 use flume_core::run::run;
-use flume_core::step::{Reply, Step};
+use flume_model::step::{Reply, Step};
 use std::alloc::Global;
 use std::mem;
 use std::process::Abort;

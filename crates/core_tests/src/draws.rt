@@ -1,5 +1,5 @@
 //! Steps drawn from a seed.
-use flume_core::step::{Kind, Step};
+use flume_model::step::{Kind, Step};
 
 /// What steps are drawn from: a state of 64 bits that each draw multiplies, the last message that
 /// was drawn, and how many tickets were issued.

@@ -8,7 +8,7 @@ use flume_calls::gates::{RecvGate, SendGate, recv_over, send_over};
 use flume_core::chan::Chan;
 use flume_core::error::RecvTimeoutError::{self, Disconnected, NoMemory, Timeout};
 use flume_core::error::SendTimeoutError;
-use flume_core::step::Kind;
+use flume_model::step::Kind;
 use std::alloc::Global;
 
 // What the script says at a turn.

@@ -1,5 +1,5 @@
 //! A slow list, kept from the replies of one script alone, that says whether they can be.
-use flume_core::step::{Reply, Step};
+use flume_model::step::{Reply, Step};
 use std::alloc::{AllocError, Global};
 
 #[derive(Drop)]

@@ -2,7 +2,7 @@
 use crate::answers::is_so;
 use crate::draws::Draws;
 use flume_core::chan::Chan;
-use flume_core::step::{Reply, Step};
+use flume_model::step::{Reply, Step};
 use std::alloc::Global;
 use std::process::Abort;
 use std::sync::atomic::{AtomicU64, Ordering};

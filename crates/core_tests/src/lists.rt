@@ -2,8 +2,8 @@
 use crate::answers::had;
 use flume_core::chan::Chan;
 use flume_core::run::run;
-use flume_core::step::Step;
-use flume_core::step::Step::{
+use flume_model::step::Step;
+use flume_model::step::Step::{
     DropReceiver, DropSender, IsDisconnected, PollSend, Send, TryRecv, TrySend,
 };
 use std::alloc::Global;

@@ -4,7 +4,7 @@ use crate::altered::{Altered, Wrong};
 use crate::answers::{had, is_so};
 use crate::draws::Draws;
 use crate::judge::Told;
-use flume_core::step::{Reply, Step};
+use flume_model::step::{Reply, Step};
 use std::alloc::Global;
 use std::process::Abort;
 

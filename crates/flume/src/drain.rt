@@ -2,11 +2,11 @@
 ghost use Rattle.std.specs.Prelude.{◌≡◌, List, length};
 ghost use Rattle.std.specs.Iterator.{at_most, Drains, IsFinite};
 ghost use Rattle.std.specs.Map.Iter.{TakesFirst};
-ghost use Rattle.flume_core.specs.Comes.{Comes};
+ghost use Rattle.flume_core.specs.PossibleReply.{PossibleReply};
 ghost use Rattle.flume.specs.Iterators.{after_drain};
 
 use flume_core::error::NoMemory;
-use flume_core::step::{Reply, Step};
+use flume_model::step::{Reply, Step};
 use std::alloc::{Allocator, Global};
 use std::collections::VecDeque;
 use std::fmt;
@@ -40,7 +40,7 @@ impl<'a, T, A: Allocator> Model for Drain<'a, T, A> {
 impl<'a, T: Drop, A: Allocator> Drain<'a, T, A> {
     /// The answer of a drain, to its step's reply.
     pub(crate) fn answer(reply: Reply<T, A>) -> Result<Self, NoMemory>
-        requires comes { Comes Step.Drain reply }
+        requires comes { PossibleReply Step.Drain reply }
         ensures table { after_drain reply result }
     {
         match reply {

@@ -12,7 +12,7 @@ use flume_calls::calls::{
     SendCall, SendNext,
 };
 use flume_calls::gates::{RecvGate, SendGate};
-use flume_core::step::Kind;
+use flume_model::step::Kind;
 use flume_deadline::Deadline;
 use std::alloc::Allocator;
 use std::marker::Model;
@@ -60,7 +60,7 @@ impl<T: Drop, R: Waits, A: Allocator + Copy> SendGate<T> for Gate<'_, T, R, A> {
 
     #[inline(always)]
     fn first(&mut self, message: T) -> SendNext<T> {
-        self.shared.make(FirstSend { message })
+        self.shared.call(FirstSend { message })
     }
 
     #[inline(always)]
@@ -70,13 +70,13 @@ impl<T: Drop, R: Waits, A: Allocator + Copy> SendGate<T> for Gate<'_, T, R, A> {
 
     #[inline(always)]
     fn park(&mut self, message: T, signal: Signal<A>) -> SendNext<T> {
-        self.shared.make_seldom(ParkSend { message, signal })
+        self.shared.call_cold(ParkSend { message, signal })
     }
 
     #[inline(always)]
     fn again(&mut self, call: SendCall, late: bool) -> SendNext<T> {
         let signal = None;
-        self.shared.make_seldom(AgainSend { call, late, signal })
+        self.shared.call_cold(AgainSend { call, late, signal })
     }
 
     #[inline(always)]
@@ -103,7 +103,7 @@ impl<T: Drop, R: Waits, A: Allocator + Copy> RecvGate<T> for Gate<'_, T, R, A> {
 
     #[inline(always)]
     fn first(&mut self) -> RecvNext<T> {
-        self.shared.make(FirstReceive)
+        self.shared.call(FirstReceive)
     }
 
     #[inline(always)]
@@ -114,13 +114,13 @@ impl<T: Drop, R: Waits, A: Allocator + Copy> RecvGate<T> for Gate<'_, T, R, A> {
     #[inline(always)]
     fn park(&mut self, signal: Signal<A>) -> RecvNext<T> {
         let kind = Kind::Block;
-        self.shared.make_seldom(ParkReceive { kind, signal })
+        self.shared.call_cold(ParkReceive { kind, signal })
     }
 
     #[inline(always)]
     fn again(&mut self, call: RecvCall, late: bool) -> RecvNext<T> {
         let signal = None;
-        self.shared.make_seldom(AgainReceive { call, late, signal })
+        self.shared.call_cold(AgainReceive { call, late, signal })
     }
 
     #[inline(always)]

@@ -11,7 +11,7 @@ use flume_calls::calls::FirstReceive;
 use flume_calls::gates::recv_over;
 use flume_calls::single::{AskCapacity, AskNumber, AskTruth, Single};
 use flume_core::error::{CapacityError, NoMemory, RecvError, RecvTimeoutError, TryRecvError};
-use flume_core::step::Reply;
+use flume_model::step::Reply;
 use flume_deadline::Deadline;
 use std::alloc::{AllocError, Allocator, Global};
 use std::fmt;
@@ -54,7 +54,7 @@ impl<T: Drop, R: Waits, A: Allocator + Copy> Receiver<T, R, A> {
     pub fn try_recv(&self) -> Result<T, TryRecvError>
         ensures never_no_memory { result ≢ Err TryRecvError.NoMemory }
     {
-        tried_receive(self.shared.make(FirstReceive))
+        tried_receive(self.shared.call(FirstReceive))
     }
 
     /// Takes the next message, and waits while there is none. `Disconnected`: none is there, and
@@ -150,7 +150,7 @@ impl<T: Drop, R: Waits, A: Allocator + Copy> Receiver<T, R, A> {
     /// assert_eq!(rt; rx.len(), 0);
     /// ```
     pub fn drain(&self) -> Result<Drain<'_, T, A>, NoMemory> {
-        Drain::answer(self.shared.make(Single::Drain))
+        Drain::answer(self.shared.call(Single::Drain))
     }
 
     /// The runtime value that the ends keep.
@@ -166,22 +166,22 @@ impl<T: Drop, R: Waits, A: Allocator + Copy> Receiver<T, R, A> {
 
     /// How many messages are queued.
     pub fn len(&self) -> usize {
-        self.shared.make(AskNumber::Len)
+        self.shared.call(AskNumber::Len)
     }
 
     /// Whether no message is queued.
     pub fn is_empty(&self) -> bool {
-        self.shared.make(AskTruth::IsEmpty)
+        self.shared.call(AskTruth::IsEmpty)
     }
 
     /// Whether the channel is bounded, and as many messages are queued as it holds.
     pub fn is_full(&self) -> bool {
-        self.shared.make(AskTruth::IsFull)
+        self.shared.call(AskTruth::IsFull)
     }
 
     /// How many messages the channel holds; `None` of an unbounded one.
     pub fn capacity(&self) -> Option<usize> {
-        self.shared.make(AskCapacity)
+        self.shared.call(AskCapacity)
     }
 
     /// Sets how many messages the channel holds from now on. Raised, it lets blocked sends in, as
@@ -205,17 +205,17 @@ impl<T: Drop, R: Waits, A: Allocator + Copy> Receiver<T, R, A> {
 
     /// How many senders live.
     pub fn sender_count(&self) -> usize {
-        self.shared.make(AskNumber::SenderCount)
+        self.shared.call(AskNumber::SenderCount)
     }
 
     /// How many receivers live.
     pub fn receiver_count(&self) -> usize {
-        self.shared.make(AskNumber::ReceiverCount)
+        self.shared.call(AskNumber::ReceiverCount)
     }
 
     /// Whether all receivers, or all senders, are gone.
     pub fn is_disconnected(&self) -> bool {
-        self.shared.make(AskTruth::IsDisconnected)
+        self.shared.call(AskTruth::IsDisconnected)
     }
 
     /// Whether both receive from channels of the same number.
@@ -231,7 +231,7 @@ impl<T: Drop, R: Waits, A: Allocator + Copy> Clone for Receiver<T, R, A> {
 
     fn clone(&self) -> Result<Self, AllocError> {
         let shared = Arc::try_clone(&self.shared)?;
-        match shared.make(Single::CloneReceiver) {
+        match shared.call(Single::CloneReceiver) {
             Reply::Done => Ok(Receiver { shared }),
             _ => Err(AllocError),
         }
@@ -247,6 +247,6 @@ impl<T: Drop, R: Waits, A: Allocator + Copy> fmt::Debug for Receiver<T, R, A> {
 impl<T: Drop, R: Waits, A: Allocator + Copy> Drop for Receiver<T, R, A> {
     fn drop(self) {
         let Self { shared } = self;
-        shared.make(Single::DropReceiver);
+        shared.call(Single::DropReceiver);
     }
 }

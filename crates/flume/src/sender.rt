@@ -9,7 +9,7 @@ use flume_calls::calls::FirstSend;
 use flume_calls::gates::send_over;
 use flume_calls::single::{AskCapacity, AskNumber, AskTruth, Single};
 use flume_core::error::{CapacityError, NoMemory, SendError, SendTimeoutError, TrySendError};
-use flume_core::step::Reply;
+use flume_model::step::Reply;
 use flume_deadline::Deadline;
 use std::alloc::{AllocError, Allocator, Global};
 use std::fmt;
@@ -58,7 +58,7 @@ impl<T: Drop, R: Waits, A: Allocator + Copy> Sender<T, R, A> {
         ensures no_memory { (back : T) → result ≡ Err (TrySendError.NoMemory back)
             → back ≡ message }
     {
-        tried_send(self.shared.make(FirstSend { message }))
+        tried_send(self.shared.call(FirstSend { message }))
     }
 
     /// Sends a message, and waits while the channel is full. `Disconnected`: all receivers are
@@ -123,22 +123,22 @@ impl<T: Drop, R: Waits, A: Allocator + Copy> Sender<T, R, A> {
 
     /// How many messages are queued.
     pub fn len(&self) -> usize {
-        self.shared.make(AskNumber::Len)
+        self.shared.call(AskNumber::Len)
     }
 
     /// Whether no message is queued.
     pub fn is_empty(&self) -> bool {
-        self.shared.make(AskTruth::IsEmpty)
+        self.shared.call(AskTruth::IsEmpty)
     }
 
     /// Whether the channel is bounded, and as many messages are queued as it holds.
     pub fn is_full(&self) -> bool {
-        self.shared.make(AskTruth::IsFull)
+        self.shared.call(AskTruth::IsFull)
     }
 
     /// How many messages the channel holds; `None` of an unbounded one.
     pub fn capacity(&self) -> Option<usize> {
-        self.shared.make(AskCapacity)
+        self.shared.call(AskCapacity)
     }
 
     /// Sets how many messages the channel holds from now on. Raised, it lets blocked sends in, as
@@ -162,17 +162,17 @@ impl<T: Drop, R: Waits, A: Allocator + Copy> Sender<T, R, A> {
 
     /// How many senders live.
     pub fn sender_count(&self) -> usize {
-        self.shared.make(AskNumber::SenderCount)
+        self.shared.call(AskNumber::SenderCount)
     }
 
     /// How many receivers live.
     pub fn receiver_count(&self) -> usize {
-        self.shared.make(AskNumber::ReceiverCount)
+        self.shared.call(AskNumber::ReceiverCount)
     }
 
     /// Whether all receivers, or all senders, are gone.
     pub fn is_disconnected(&self) -> bool {
-        self.shared.make(AskTruth::IsDisconnected)
+        self.shared.call(AskTruth::IsDisconnected)
     }
 
     /// A sender that doesn't count: the channel may close while it is there. `NoMemory`: there are
@@ -204,7 +204,7 @@ impl<T: Drop, R: Waits, A: Allocator + Copy> Clone for Sender<T, R, A> {
 
     fn clone(&self) -> Result<Self, AllocError> {
         let shared = Arc::try_clone(&self.shared)?;
-        match shared.make(Single::CloneSender) {
+        match shared.call(Single::CloneSender) {
             Reply::Done => Ok(Sender { shared }),
             _ => Err(AllocError),
         }
@@ -220,6 +220,6 @@ impl<T: Drop, R: Waits, A: Allocator + Copy> fmt::Debug for Sender<T, R, A> {
 impl<T: Drop, R: Waits, A: Allocator + Copy> Drop for Sender<T, R, A> {
     fn drop(self) {
         let Self { shared } = self;
-        shared.make(Single::DropSender);
+        shared.call(Single::DropSender);
     }
 }

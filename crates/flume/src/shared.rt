@@ -25,10 +25,10 @@ pub trait Waits: Wait + Clock + Copy {}
 impl<R: Wait + Clock + Copy> Waits for R {}
 
 // The most messages that count as few.
-const FEW: u64 = 4;
+const SPIN_CAPACITY: u64 = 4;
 
 // What an unbounded channel holds, as a number: no bounded one holds more.
-const ANY: u64 = u64::MAX;
+const UNBOUNDED: u64 = u64::MAX;
 
 // How often a call checks for its wake, at the most.
 const CHECKS: u32 = 2000;
@@ -50,10 +50,10 @@ impl Backoff {
     // Where the channel holds few messages each call meets another one, so it parks and checks.
     // Where it holds many, it lets them gather, or go, before it asks again. Where it holds any
     // number neither served.
-    fn of(holds: u64) -> Backoff {
-        let (pauses, checks) = if holds <= FEW {
+    fn of(capacity_hint: u64) -> Backoff {
+        let (pauses, checks) = if capacity_hint <= SPIN_CAPACITY {
             (0, CHECKS)
-        } else if holds < ANY {
+        } else if capacity_hint < UNBOUNDED {
             (PAUSES, 0)
         } else {
             (0, 0)
@@ -77,11 +77,11 @@ fn pause(pauses: u32) {
 
 /// The bell of the ends: it fires the signal.
 #[derive(Clone, Copy)]
-pub(crate) struct Firing<R: Waits> {
+pub(crate) struct SignalBell<R: Waits> {
     rt: R,
 }
 
-impl<R: Waits, A: Allocator> Bell<Signal<A>> for Firing<R> {
+impl<R: Waits, A: Allocator> Bell<Signal<A>> for SignalBell<R> {
     // A ring wakes whom the signal is of, and leaves the bell as it was.
     ghost rings = { λ before _ _ after. after ≡ before };
 
@@ -100,7 +100,7 @@ pub(crate) struct Shared<T, R: Waits, A: Allocator + Copy = Global> {
     pub(crate) alloc: A,
     // How many messages the channel holds now. Written under its lock, and read without: how a call
     // spends its first moments goes by it.
-    holds: AtomicU64,
+    capacity_hint: AtomicU64,
 }
 
 impl<T: Drop, R: Waits, A: Allocator + Copy> Shared<T, R, A> {
@@ -114,7 +114,7 @@ impl<T: Drop, R: Waits, A: Allocator + Copy> Shared<T, R, A> {
             id,
             rt,
             alloc,
-            holds: AtomicU64::new(capacity.map_or(ANY, |capacity| capacity as u64)),
+            capacity_hint: AtomicU64::new(capacity.map_or(UNBOUNDED, |capacity| capacity as u64)),
         }
     }
 
@@ -137,16 +137,16 @@ impl<T: Drop, R: Waits, A: Allocator + Copy> Shared<T, R, A> {
 
     // How a call spends its first moments, by the capacity in force.
     fn backoff(&self) -> Backoff {
-        Backoff::of(self.holds.load(Ordering::SeqCst))
+        Backoff::of(self.capacity_hint.load(Ordering::SeqCst))
     }
 
     /// Sets the capacity of the channel, which the calls that are to wait go by from then on.
     #[inline(never)]
     pub(crate) fn set_capacity(&self, capacity: usize) -> Result<(), CapacityError> {
         let mut locked = self.lock();
-        let answer = locked.make(SetCapacity { capacity }, &mut Firing { rt: self.rt });
+        let answer = locked.make(SetCapacity { capacity }, &mut SignalBell { rt: self.rt });
         if answer.is_ok() {
-            self.holds.store(capacity as u64, Ordering::SeqCst);
+            self.capacity_hint.store(capacity as u64, Ordering::SeqCst);
         }
         answer
     }
@@ -178,20 +178,20 @@ impl<T: Drop, R: Waits, A: Allocator + Copy> Shared<T, R, A> {
 
     /// Makes the turn under the lock, and fires what it made due.
     #[inline(always)]
-    pub(crate) fn make<C: Turn<T, Signal<A>, A>>(&self, turn: C) -> C::Answer
+    pub(crate) fn call<C: Turn<T, Signal<A>, A>>(&self, turn: C) -> C::Answer
         ensures answers { C.answers turn result }
     {
-        self.lock().make(turn, &mut Firing { rt: self.rt })
+        self.lock().make(turn, &mut SignalBell { rt: self.rt })
     }
 
     /// Makes the turn under the lock, in code of its own: so a turn that is seldom made costs the
     /// other turns of its caller nothing.
     #[cold]
     #[inline(never)]
-    pub(crate) fn make_seldom<C: Turn<T, Signal<A>, A>>(&self, turn: C) -> C::Answer
+    pub(crate) fn call_cold<C: Turn<T, Signal<A>, A>>(&self, turn: C) -> C::Answer
         ensures answers { C.answers turn result }
     {
-        self.make(turn)
+        self.call(turn)
     }
 
     /// Polls the call under the lock, and fires what that made due. Where it has to wait, the
@@ -213,6 +213,6 @@ impl<T: Drop, R: Waits, A: Allocator + Copy> Shared<T, R, A> {
         if locked.would_wait(call) {
             signal = task.signal(locked.parked_signal(call), cx);
         }
-        locked.poll(call, &mut signal, &mut Firing { rt: self.rt })
+        locked.poll(call, &mut signal, &mut SignalBell { rt: self.rt })
     }
 }

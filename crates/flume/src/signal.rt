@@ -59,7 +59,7 @@ impl Parker {
 
     /// Waits for a wake, and takes it. It checks for it a short while, and then sleeps.
     pub fn wait<R: Wait>(&self, rt: &R) {
-        if self.comes_soon() {
+        if self.spin() {
             return;
         }
         let mut awake = self.falling_asleep.lock(rt);
@@ -67,7 +67,7 @@ impl Parker {
             if self.take() {
                 return;
             }
-            if self.may_sleep() {
+            if self.begin_sleep() {
                 awake = self.changed.wait(rt, awake);
             }
         }
@@ -81,7 +81,7 @@ impl Parker {
     /// parker.wait_until(&rt, Instant::now(&rt)?);    // returns at once
     /// ```
     pub fn wait_until<R: Wait + Clock>(&self, rt: &R, deadline: Instant) {
-        if self.comes_soon() {
+        if self.spin() {
             return;
         }
         let mut awake = self.falling_asleep.lock(rt);
@@ -91,10 +91,10 @@ impl Parker {
             }
             let Some(left) = left_until(rt, deadline) else {
                 // Nobody sleeps now. A wake that has just come stays.
-                let _ = self.changes(ASLEEP, IDLE);
+                let _ = self.compare_set(ASLEEP, IDLE);
                 return;
             };
-            if self.may_sleep() {
+            if self.begin_sleep() {
                 awake = self.changed.wait_timeout(rt, awake, left).0;
             }
         }
@@ -118,7 +118,7 @@ impl Parker {
     }
 
     // Checks for a wake for a short while, and takes it.
-    fn comes_soon(&self) -> bool {
+    fn spin(&self) -> bool {
         for _ in 0..self.checks {
             if self.word.load(Ordering::SeqCst) == FIRED {
                 return self.take();
@@ -130,16 +130,16 @@ impl Parker {
 
     // Takes the wake, if one has come.
     fn take(&self) -> bool {
-        self.changes(FIRED, IDLE)
+        self.compare_set(FIRED, IDLE)
     }
 
     // Says that the call sleeps. False where a wake came before.
-    fn may_sleep(&self) -> bool {
-        self.changes(IDLE, ASLEEP) || self.word.load(Ordering::SeqCst) == ASLEEP
+    fn begin_sleep(&self) -> bool {
+        self.compare_set(IDLE, ASLEEP) || self.word.load(Ordering::SeqCst) == ASLEEP
     }
 
     // Changes the word from one thing to another, if it says the one.
-    fn changes(&self, from: u64, to: u64) -> bool {
+    fn compare_set(&self, from: u64, to: u64) -> bool {
         self.word
             .compare_exchange(from, to, Ordering::SeqCst, Ordering::SeqCst)
             .is_ok()

@@ -5,7 +5,7 @@ use crate::sender::Sender;
 use crate::shared::{Shared, Waits};
 use flume_calls::single::Single;
 use flume_core::error::NoMemory;
-use flume_core::step::Reply;
+use flume_model::step::Reply;
 use std::alloc::{AllocError, Allocator, Global};
 use std::fmt;
 use std::marker::Model;
@@ -47,7 +47,7 @@ impl<T: Drop, R: Waits, A: Allocator + Copy> WeakSender<T, R, A> {
         ensures same { IfOk result (λ sender. IfSome sender (λ s. s ≡ self.now)) }
     {
         let shared = Arc::try_clone(&self.shared)?;
-        let reply = shared.make(Single::CloneSender);
+        let reply = shared.call(Single::CloneSender);
         upgraded(reply, shared)
     }
 }

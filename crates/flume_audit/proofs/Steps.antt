@@ -9,8 +9,8 @@ use Rattle.flume_model.specs.declared.step.Reply.{Reply}
 use Rattle.flume_model.specs.declared.step.Reply.TheVariants.{Drained}
 use Rattle.flume_model.specs.Log.{Log, Opening}
 use Rattle.flume_state.specs.State.{State}
-use Rattle.flume_core.specs.StandsFor.{StandsFor, Extends}
-use Rattle.flume_core.specs.Comes.{Comes}
+use Rattle.flume_core.specs.Represents.{Represents, Extends}
+use Rattle.flume_core.specs.PossibleReply.{PossibleReply}
 use Rattle.flume_core.proofs.Views.{queue_at_log}
 use Rattle.flume_audit.specs.declared.receipt.Receipt.{Receipt}
 use Rattle.flume_audit.specs.Recorded.{History}
@@ -24,25 +24,25 @@ pushed x kept grows = grows ∙ ap (λ items. items ++ x ∷ []) kept
 
 module _ {T A : Type 0} where
   -- only a drain is answered by a list
-  drain_alone : (step : Step T) (list : Vec T A) → Comes step (Drained list) → step ≡ Drain
+  drain_alone : (step : Step T) (list : Vec T A) → PossibleReply step (Drained list) → step ≡ Drain
   drain_alone Drain list comes = refl
   drain_alone _ list comes = absurd comes
 
   -- the list of a drain is what was queued
   drained_is_queue : (opening : Opening) (log : Log T A) (old new : State T (Unit {0}))
-      → (list : Vec T A) → StandsFor opening log old
-      → StandsFor opening ((Drain, Drained list) ∷ log) new → list.items ≡ old.queue
+      → (list : Vec T A) → Represents opening log old
+      → Represents opening ((Drain, Drained list) ∷ log) new → list.items ≡ old.queue
   drained_is_queue opening log old new list before after = after.run.0 ∙ queue_at_log before
 
   -- room for what is queued, where the step is a drain, is enough for a copy of its reply
   pub room_serves : (opening : Opening) (log : Log T A) (old new : State T (Unit {0}))
       → (step : Step T) (reply : Reply T A) (drained room : ℕ)
-      → StandsFor opening log old → Extends old step reply new → Comes step reply
+      → Represents opening log old → Extends old step reply new → PossibleReply step reply
       → (step ≡ Drain → drained ≡ length old.queue) → drained ≤ room → DrainedWithin room reply
   room_serves opening log old new step (Drained list) drained room before extends comes by within =
       let drains : step ≡ Drain = drain_alone step list comes in
-      let after : StandsFor opening ((Drain, Drained list) ∷ log) new =
-      subst (λ s. StandsFor opening ((s, Drained list) ∷ log) new) drains
+      let after : Represents opening ((Drain, Drained list) ∷ log) new =
+      subst (λ s. Represents opening ((s, Drained list) ∷ log) new) drains
       (extends opening log before) in
       let queue = ap length (drained_is_queue opening log old new list before after) in
       let size = by drains in
@@ -52,9 +52,9 @@ module _ {T A : Type 0} where
   -- what stands for the log of a history with an entry more
   pub written : (opening : Opening) (old new : History T A) (entry : Step T × Reply T A)
       → (s : State T (Unit {0})) → new ≡ old ++ entry ∷ []
-      → StandsFor opening (entry ∷ reverse old) s → StandsFor opening (reverse new) s
+      → Represents opening (entry ∷ reverse old) s → Represents opening (reverse new) s
   written opening old new entry s grows stands =
-      subst (λ log. StandsFor opening log s)
+      subst (λ log. Represents opening log s)
       (sym (ap reverse grows ∙ reverse-append old (entry ∷ []))) stands
 
   module _ (weight : Step T → Reply T A → ℕ) where

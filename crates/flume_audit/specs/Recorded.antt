@@ -3,10 +3,10 @@ use Rattle.std.specs.Prelude.{◌≡◌, ℕ, List, [], ◌∷◌, ◌++◌, len
 use Rattle.flume_model.specs.declared.step.Step.{Step}
 use Rattle.flume_model.specs.declared.step.Reply.{Reply}
 use Rattle.flume_model.specs.Log.{opens}
-use Rattle.flume_state.specs.State.{State, opened}
+use Rattle.flume_state.specs.State.{State, new_state}
 use Rattle.flume_state.specs.Due.{BecomesDue}
-use Rattle.flume_core.specs.StandsFor.{StandsFor, Extends, ChangesNothing}
-use Rattle.flume_core.specs.Comes.{Comes}
+use Rattle.flume_core.specs.Represents.{Represents, Extends, ChangesNothing}
+use Rattle.flume_core.specs.PossibleReply.{PossibleReply}
 use Rattle.flume_audit.specs.declared.receipt.Receipt.{Receipt}
 use Rattle.flume_audit.specs.Weights.{SameReply}
 
@@ -27,20 +27,20 @@ module _ {T A : Type 0} where
   unwritten capacity = record {
     opening = capacity;
     history = [];
-    channel = opened (opens capacity 1);
+    channel = new_state (opens capacity 1);
   }
 
   -- the channel is what the history led to, from a new one of that capacity
-  abbrev pub StandsByHistory : Recorded T A → Type 0
-  StandsByHistory book =
-      StandsFor {A = A} (opens book.opening 1) (reverse book.history) book.channel
+  abbrev pub IsChannelOfHistory : Recorded T A → Type 0
+  IsChannelOfHistory book =
+      Represents {A = A} (opens book.opening 1) (reverse book.history) book.channel
 
   -- one core step of the channel, with its reply
   pub record IsCoreStep (old : State T (Unit {0})) (step : Step T) (reply : Reply T A)
       (new : State T (Unit {0})) : Type 0 where
     pub stands : Extends old step reply new
     pub dues : BecomesDue old step reply new
-    pub comes : Comes step reply
+    pub comes : PossibleReply step reply
     pub unchanged : ChangesNothing step reply → new ≡ old
 
   -- a step through a book by a seat: the channel makes it, and it stands with the channel's reply

@@ -2,7 +2,7 @@
 ghost use Rattle.std.specs.Prelude.{◌≡◌, ◌<◌, ◌↔◌, ℕ, [], reverse, vec_len, All, IfOk, OnErr};
 ghost use Rattle.flume_model.specs.Log.{opens};
 ghost use Rattle.flume_model.specs.Conserved.{Conserved};
-ghost use Rattle.flume_audit.specs.Recorded.{GainsReceipt, StandsByHistory};
+ghost use Rattle.flume_audit.specs.Recorded.{GainsReceipt, IsChannelOfHistory};
 ghost use Rattle.flume_audit.specs.Settled.{IsSettled, LeastDisagreement};
 ghost use Rattle.flume_audit.specs.Weights.{history_weight, lists_weight};
 
@@ -73,7 +73,7 @@ impl<T: Copy, L: Ledger, R: Drop, W: Weigh<T, A>, A: Allocator + Copy> Audit<T, 
     pub fn close(self, seats: Vec<Seat<T, L, W, A>, A>) -> (Closed, Book<T, L, W, A>)
     where
         T: Eq,
-        ensures run { StandsByHistory result.1 }
+        ensures run { IsChannelOfHistory result.1 }
         ensures conserved { Conserved (opens result.1.opening 1) (reverse result.1.history) }
         ensures missing { (result.0 ≡ Closed.MissingSeat) ↔ (vec_len seats ≡ L.parts → ⊥) }
         ensures differs { (number : ℕ) → (result.0 ≡ Closed.Differs number)

@@ -3,7 +3,7 @@ ghost use Rattle.std.specs.Prelude.{◌≡◌, ◌<◌, ◌↔◌, ℕ, [], leng
 ghost use Rattle.std.specs.Prelude.{IfOk, OnErr};
 ghost use Rattle.flume_model.specs.Log.{opens};
 ghost use Rattle.flume_model.specs.Conserved.{Conserved};
-ghost use Rattle.flume_audit.specs.Recorded.{StandsByHistory, IsRecorded, unwritten};
+ghost use Rattle.flume_audit.specs.Recorded.{IsChannelOfHistory, IsRecorded, unwritten};
 ghost use Rattle.flume_audit.specs.Settled.{IsSettled, LeastDisagreement};
 ghost use Rattle.flume_audit.specs.Weights.{history_weight, lists_weight};
 
@@ -42,7 +42,7 @@ impl<T, L: Ledger, W: Weigh<T, A>, A: Allocator> Model for Book<T, L, W, A> {
     ghost use base.Stored.{coded_unit};
     ghost use Rattle.std.specs.Coded.{codes};
     ghost use Rattle.flume_state.specs.Sends.{send_map_code};
-    ghost use Rattle.flume_audit.specs.Recorded.{Recorded, StandsByHistory};
+    ghost use Rattle.flume_audit.specs.Recorded.{Recorded, IsChannelOfHistory};
     ghost use Rattle.flume_audit.specs.Weights.{history_weight};
 
     ghost Value = { Recorded T A };
@@ -55,7 +55,7 @@ impl<T, L: Ledger, W: Weigh<T, A>, A: Allocator> Model for Book<T, L, W, A> {
 
     ghost coded = { Prim.hlevel (codes, send_map_code coded_unit) };
 
-    ghost invariant = { λ book. StandsByHistory (record {
+    ghost invariant = { λ book. IsChannelOfHistory (record {
       opening = book.opening;
       history = book.history.items;
       channel = book.chan;
@@ -197,7 +197,7 @@ impl<T: Copy, L: Ledger, W: Weigh<T, A>, A: Allocator + Copy> Book<T, L, W, A> {
     /// The channel as the history left it: a new one, after the history's steps.
     pub fn channel(&self) -> &Chan<T, (), A>
         ensures channel { result.now ≡ self.now.channel }
-        ensures stands { StandsByHistory self.now }
+        ensures stands { IsChannelOfHistory self.now }
     {
         &self.chan
     }

@@ -8,13 +8,13 @@ use Rattle.std.specs.List.{list_any}
 use Rattle.std.specs.Option.{is_some, option_map}
 use Rattle.std.specs.Ordering.{nat_cmp, eq_by_cmp}
 use Rattle.flume_state.specs.declared.sends.LiveSend.{LiveSend}
-use Rattle.flume_state.specs.Notices.{told}
+use Rattle.flume_state.specs.Notices.{no_longer_due}
 use Rattle.flume_state.specs.Sends.{SendMap, noticed_send, send_due_in, is_due_send}
-use Rattle.flume_state.specs.Receivers.{Entries, Tells}
+use Rattle.flume_state.specs.Receivers.{Entries, NamesReceiver}
 use Rattle.flume_state.proofs.SendsLaws.{get-changed_same, get-changed_other}
 use Rattle.flume_state.specs.State.{State}
-use Rattle.flume_calls.specs.Due.{told_send}
-use Rattle.flume_state.specs.Told.{Names, Send, Receive}
+use Rattle.flume_calls.specs.Rings.{send_not_due}
+use Rattle.flume_state.specs.Signals.{Names, Send, Receive}
 
 -- what counts where a test holds counts no more where another does that it follows from
 weight_le : (a b : Bool) → (a ≡ true → b ≡ true) → cond a 1 0 ≤ cond b 1 0
@@ -32,24 +32,24 @@ module _ {S : Type 0} where
   DueIn n m = (t : ℕ) → is_due_send n t ≡ true → is_due_send m t ≡ true
 
   -- one that was told isn't due
-  told_not_due : (o : Option (LiveSend S)) → send_due_in (option_map told_send o) ≡ false
+  told_not_due : (o : Option (LiveSend S)) → send_due_in (option_map send_not_due o) ≡ false
   told_not_due None = refl
   told_not_due (Some send) = refl
 
   -- a ticket that was told isn't due in the map
-  named_not_due : (m : SendMap S) (k : ℕ) → is_due_send (noticed_send told k m) k ≡ false
-  named_not_due m k = ap send_due_in (get-changed_same m k told_send) ∙ told_not_due (get m k)
+  named_not_due : (m : SendMap S) (k : ℕ) → is_due_send (noticed_send no_longer_due k m) k ≡ false
+  named_not_due m k = ap send_due_in (get-changed_same m k send_not_due) ∙ told_not_due (get m k)
 
   -- where one was told, no other became due
-  pub none_became_due : (m : SendMap S) (k : ℕ) → DueIn (noticed_send told k m) m
+  pub none_became_due : (m : SendMap S) (k : ℕ) → DueIn (noticed_send no_longer_due k m) m
   none_became_due m k t due = go (eqb t k) refl
     where
       go : (b : Bool) → eqb t k ≡ b → is_due_send m t ≡ true
       go true e =
           let same : t ≡ k = eqb-true t k e in
-          let over : is_due_send (noticed_send told k m) t ≡ false = rw same (named_not_due m k) in
+          let over : is_due_send (noticed_send no_longer_due k m) t ≡ false = rw same (named_not_due m k) in
           absurd (let none : ⊥ = cc in none)
-      go false e = rw (← get-changed_other m k told_send t (eqb-false t k e)) due
+      go false e = rw (← get-changed_other m k send_not_due t (eqb-false t k e)) due
 
   -- where none became due, no more are
   due_sends_le : (m n : SendMap S) (tickets : List ℕ) → DueIn n m → due_sends n tickets ≤ due_sends m tickets
@@ -95,18 +95,18 @@ module _ {T S : Type 0} where
   due_entries-append (e ∷ some) others = omega (arith, due_entries-append some others)
 
   -- where one is told, one less is due
-  due_entries_less : (old new : Entries T S) (t : ℕ) → Tells old new t → due_entries new < due_entries old
+  due_entries_less : (old new : Entries T S) (t : ℕ) → NamesReceiver old new t → due_entries new < due_entries old
   due_entries_less old new t tells =
       let e = tells.entry in
       let before = due_entries-append tells.before (e ∷ tells.later) in
-      let after = due_entries-append tells.before (record e { notice = told e.notice } ∷ tells.later) in
+      let after = due_entries-append tells.before (record e { notice = no_longer_due e.notice } ∷ tells.later) in
       rw (tells.found, tells.told, before, after, tells.was_due) (omega arith)
 
   -- where one is named, one less is due of all that were due at first
   pub fewer_due : (first old new : State T S) (t : ℕ) → Names old new t → DueIn old.sends first.sends
       → due_sends new.sends (keys first.sends) + due_entries new.entries < due_sends old.sends (keys first.sends) + due_entries old.entries
   fewer_due first old new t (Send due is) before =
-      let less = due_sends_less old.sends (noticed_send told t old.sends) t (keys first.sends) (none_became_due old.sends t) due
+      let less = due_sends_less old.sends (noticed_send no_longer_due t old.sends) t (keys first.sends) (none_became_due old.sends t) due
       (named_not_due old.sends t) (due_listed first.sends t (before t due)) in
       rw is (omega (arith, less))
   fewer_due first old new t (Receive tells is) before =
@@ -117,7 +117,7 @@ module _ {T S : Type 0} where
   -- and none of them became due
   pub still_due_before : (first old new : State T S) (t : ℕ) → Names old new t → DueIn old.sends first.sends → DueIn new.sends first.sends
   still_due_before first old new t (Send due is) before k now =
-      let same : new.sends ≡ noticed_send told t old.sends = ap (λ s. s.sends) is in
+      let same : new.sends ≡ noticed_send no_longer_due t old.sends = ap (λ s. s.sends) is in
       before k (none_became_due old.sends t k (rw same at now))
   still_due_before first old new t (Receive tells is) before k now =
       let same : new.sends ≡ old.sends = ap (λ s. s.sends) is in before k (rw same at now)

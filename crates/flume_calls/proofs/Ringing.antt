@@ -9,13 +9,13 @@ use Rattle.flume_model.specs.Entries.{entry_of}
 use Rattle.flume_model.specs.declared.entry.Entry.{Entry}
 use Rattle.flume_state.specs.declared.notice.Notice.{Notice}
 use Rattle.flume_state.specs.declared.sends.LiveSend.{LiveSend}
-use Rattle.flume_state.specs.Notices.{told}
+use Rattle.flume_state.specs.Notices.{no_longer_due}
 use Rattle.flume_state.specs.Sends.{SendMap, noticed_send, send_due_in, NoDueSend}
 use Rattle.flume_state.specs.Receivers.{Entries, NoDueReceiver}
 use Rattle.flume_state.proofs.SendsLaws.{get-changed_same, get-changed_other}
 use Rattle.flume_state.specs.State.{State}
-use Rattle.flume_state.specs.Told.{Names, Send, Receive, signal_of, signal_or}
-use Rattle.flume_calls.specs.Due.{Rings, Over, Rung, AllTold, told_receiver, told_send}
+use Rattle.flume_state.specs.Signals.{Names, Send, Receive, signal_of, signal_or}
+use Rattle.flume_calls.specs.Rings.{Rings, Over, Rung, NoneDueAnyMore, receiver_not_due, send_not_due}
 
 module _ {S : Type 0} where
   -- a due send has a signal
@@ -30,29 +30,29 @@ module _ {S : Type 0} where
 
   -- telling keeps its signal
   told_signal : (o : Option (LiveSend S))
-      → option_map (λ send. send.notice.signal) (option_map told_send o) ≡ option_map (λ send. send.notice.signal) o
+      → option_map (λ send. send.notice.signal) (option_map send_not_due o) ≡ option_map (λ send. send.notice.signal) o
   told_signal None = refl
   told_signal (Some send) = refl
 
   -- to tell twice is to tell once
-  told_twice : (o : Option (LiveSend S)) → option_map told_send (option_map told_send o) ≡ option_map told_send o
+  told_twice : (o : Option (LiveSend S)) → option_map send_not_due (option_map send_not_due o) ≡ option_map send_not_due o
   told_twice None = refl
   told_twice (Some send) = refl
 
   -- telling changes nothing of one that isn't due
-  told_idle : (o : Option (LiveSend S)) → send_due_in o ≡ false → o ≡ option_map told_send o
+  told_idle : (o : Option (LiveSend S)) → send_due_in o ≡ false → o ≡ option_map send_not_due o
   told_idle None idle = refl
   told_idle (Some send) idle = ap (λ (b : Bool). Some (record send { notice = record send.notice { due = b } })) idle
 
   -- all told, with one told before
-  told_after : (m : SendMap S) (k t : ℕ) → option_map told_send (get (noticed_send told k m) t) ≡ option_map told_send (get m t)
+  told_after : (m : SendMap S) (k t : ℕ) → option_map send_not_due (get (noticed_send no_longer_due k m) t) ≡ option_map send_not_due (get m t)
   told_after m k t = go (eqb t k) refl
     where
-      go : (b : Bool) → eqb t k ≡ b → option_map told_send (get (noticed_send told k m) t) ≡ option_map told_send (get m t)
+      go : (b : Bool) → eqb t k ≡ b → option_map send_not_due (get (noticed_send no_longer_due k m) t) ≡ option_map send_not_due (get m t)
       go true e =
           let same : t ≡ k = eqb-true t k e in
-          rw same (ap (option_map told_send) (get-changed_same m k told_send) ∙ told_twice (get m k))
-      go false e = ap (option_map told_send) (get-changed_other m k told_send t (eqb-false t k e))
+          rw same (ap (option_map send_not_due) (get-changed_same m k send_not_due) ∙ told_twice (get m k))
+      go false e = ap (option_map send_not_due) (get-changed_other m k send_not_due t (eqb-false t k e))
 
 module _ {T S : Type 0} where
   -- the signal of the first entry with a ticket
@@ -61,12 +61,12 @@ module _ {T S : Type 0} where
 
   -- telling an entry keeps each ticket's signal
   signal_kept : (before : Entries T S) (e : Entry T (Notice S)) (later : Entries T S) (t : ℕ)
-      → entry_signal t (before ++ told_receiver e ∷ later) ≡ entry_signal t (before ++ e ∷ later)
+      → entry_signal t (before ++ receiver_not_due e ∷ later) ≡ entry_signal t (before ++ e ∷ later)
   signal_kept [] e later t =
-      elim (eqb e.ticket t) as (λ b. option_map (λ e. e.notice.signal) (cond b (Some (told_receiver e)) (entry_of t later))
+      elim (eqb e.ticket t) as (λ b. option_map (λ e. e.notice.signal) (cond b (Some (receiver_not_due e)) (entry_of t later))
       ≡ option_map (λ e. e.notice.signal) (cond b (Some e) (entry_of t later))) [ true ↦ refl | false ↦ refl ]
   signal_kept (x ∷ before) e later t =
-      elim (eqb x.ticket t) as (λ b. option_map (λ e. e.notice.signal) (cond b (Some x) (entry_of t (before ++ told_receiver e ∷ later)))
+      elim (eqb x.ticket t) as (λ b. option_map (λ e. e.notice.signal) (cond b (Some x) (entry_of t (before ++ receiver_not_due e ∷ later)))
       ≡ option_map (λ e. e.notice.signal) (cond b (Some x) (entry_of t (before ++ e ∷ later))))
       [ true ↦ refl | false ↦ signal_kept before e later t ]
 
@@ -96,8 +96,8 @@ module _ {T S : Type 0} where
   -- one that is named keeps its signal
   named_keeps : (old new : State T S) (t : ℕ) → Names old new t → signal_of new t ≡ signal_of old t
   named_keeps old new t (Send due is) =
-      let sends : get new.sends t ≡ option_map told_send (get old.sends t) =
-      ap (λ s. get s.sends t) is ∙ get-changed_same old.sends t told_send in
+      let sends : get new.sends t ≡ option_map send_not_due (get old.sends t) =
+      ap (λ s. get s.sends t) is ∙ get-changed_same old.sends t send_not_due in
       let same = ap (option_map (λ send. send.notice.signal)) sends ∙ told_signal (get old.sends t) in
       let entries : new.entries ≡ old.entries = ap (λ s. s.entries) is in λ i. signal_or (same i) (entry_signal t (entries i))
   named_keeps old new t (Receive tells is) =
@@ -127,24 +127,24 @@ module _ {T S : Type 0} where
 
   -- naming one leaves all else
   named_rest : (old named : State T S) (t : ℕ) → Names old named t → named ≡ record old { sends = named.sends; entries = named.entries }
-  named_rest old named t (Send due is) = rest_from old named (noticed_send told t old.sends) old.entries is
+  named_rest old named t (Send due is) = rest_from old named (noticed_send no_longer_due t old.sends) old.entries is
   named_rest old named t (Receive tells is) = rest_from old named old.sends named.entries is
 
   -- naming one leaves all sends, once told, the same
   named_sends : (old named : State T S) (t : ℕ) → Names old named t → (k : ℕ)
-      → option_map told_send (get named.sends k) ≡ option_map told_send (get old.sends k)
-  named_sends old named t (Send due is) k = ap (λ s. option_map told_send (get s.sends k)) is ∙ told_after old.sends t k
-  named_sends old named t (Receive tells is) k = ap (λ s. option_map told_send (get s.sends k)) is
+      → option_map send_not_due (get named.sends k) ≡ option_map send_not_due (get old.sends k)
+  named_sends old named t (Send due is) k = ap (λ s. option_map send_not_due (get s.sends k)) is ∙ told_after old.sends t k
+  named_sends old named t (Receive tells is) k = ap (λ s. option_map send_not_due (get s.sends k)) is
 
   -- naming one leaves all entries, once told, the same
-  named_entries : (old named : State T S) (t : ℕ) → Names old named t → map told_receiver named.entries ≡ map told_receiver old.entries
-  named_entries old named t (Send due is) = ap (λ s. map told_receiver s.entries) is
+  named_entries : (old named : State T S) (t : ℕ) → Names old named t → map receiver_not_due named.entries ≡ map receiver_not_due old.entries
+  named_entries old named t (Send due is) = ap (λ s. map receiver_not_due s.entries) is
   named_entries old named t (Receive tells is) =
-      ap (map told_receiver) tells.told ∙ map-append told_receiver tells.before _
-      ∙ sym (ap (map told_receiver) tells.found ∙ map-append told_receiver tells.before _)
+      ap (map receiver_not_due) tells.told ∙ map-append receiver_not_due tells.before _
+      ∙ sym (ap (map receiver_not_due) tells.found ∙ map-append receiver_not_due tells.before _)
 
   -- all told, with one told before
-  told_first : (old named new : State T S) (t : ℕ) → Names old named t → AllTold named new → AllTold old new
+  told_first : (old named new : State T S) (t : ℕ) → Names old named t → NoneDueAnyMore named new → NoneDueAnyMore old new
   told_first old named new t names all =
       let others = named_rest old named t names in
       record {
@@ -154,15 +154,15 @@ module _ {T S : Type 0} where
       }
 
   -- telling changes no entry that isn't due
-  idle_entries : (entries : Entries T S) → NoDueReceiver entries → entries ≡ map told_receiver entries
+  idle_entries : (entries : Entries T S) → NoDueReceiver entries → entries ≡ map receiver_not_due entries
   idle_entries [] idle = refl
   idle_entries (e ∷ entries) idle =
-      let first : e ≡ told_receiver e =
+      let first : e ≡ receiver_not_due e =
       ap (λ (b : Bool). record e { notice = record e.notice { due = b } }) (idle 0 e (omega arith)) in
       let others = idle_entries entries (λ k d within. idle (suc k) d (omega (arith, within))) in λ i. first i ∷ others i
 
   -- nothing due: all are told
-  told_over : (s : State T S) → NoDueSend s.sends → NoDueReceiver s.entries → AllTold s s
+  told_over : (s : State T S) → NoDueSend s.sends → NoDueReceiver s.entries → NoneDueAnyMore s s
   told_over s sends entries = record {
     rest = refl;
     sends = λ t. told_idle (get s.sends t) (sends t);
@@ -176,6 +176,6 @@ module _ {B S : Type 0} (rings : B → ℕ → S → B → Type 0) {T : Type 0} 
   none_left (Rung named signal rung rest) = none_left rest
 
   -- after a round of rings all are told, and all else is as it was
-  pub all_told : {old new : State T S} {bell end : B} → Rings rings old bell new end → AllTold old new
+  pub all_told : {old new : State T S} {bell end : B} → Rings rings old bell new end → NoneDueAnyMore old new
   all_told (Over sends entries) = told_over _ sends entries
   all_told (Rung named signal rung rest) = told_first _ _ _ _ named (all_told rest)

@@ -5,14 +5,14 @@ use Rattle.flume_model.specs.declared.step.Reply.{Reply}
 use Rattle.flume_state.specs.Sends.{NoDueSend}
 use Rattle.flume_state.specs.Receivers.{NoDueReceiver}
 use Rattle.flume_state.specs.State.{State}
-use Rattle.flume_core.specs.StandsFor.{IsLedTo, Keeps}
+use Rattle.flume_core.specs.Represents.{IsReachable, SameLogs}
 use Rattle.flume_calls.specs.Turns.{Turned}
-use Rattle.flume_calls.specs.Due.{Rings}
+use Rattle.flume_calls.specs.Rings.{Rings}
 
 module _ {T S : Type 0} where
   -- some run led to the state, and no ticket is due: it is so between two calls
   pub record IsAtRest (A : Type 0) (s : State T S) : Type 0 where
-    pub led : IsLedTo A s
+    pub led : IsReachable A s
     pub sends : NoDueSend s.sends
     pub receivers : NoDueReceiver s.entries
 
@@ -27,4 +27,4 @@ module _ {T S A N B : Type 0} (rings : B → ℕ → S → B → Type 0) where
     pub outcome : outcomes old between answer
     pub rang : Rings rings between bell new rung
     -- the rings are no steps
-    pub stands : Keeps A between new
+    pub stands : SameLogs A between new

@@ -7,7 +7,7 @@ pub mod ReceiveOutcomes
 pub mod SendGates
 pub mod ReceiveGates
 pub mod SelectGates
-pub mod Due
+pub mod Rings
 pub mod Polls
 pub mod PolledReceives
 pub mod PolledSends

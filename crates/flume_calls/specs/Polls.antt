@@ -4,8 +4,8 @@ use Rattle.flume_model.specs.declared.step.Step.{Step}
 use Rattle.flume_model.specs.declared.step.Reply.{Reply}
 use Rattle.flume_state.specs.State.{State}
 use Rattle.flume_state.specs.Due.{BecomesDue}
-use Rattle.flume_core.specs.StandsFor.{Extends, IsLedTo, Keeps}
-use Rattle.flume_calls.specs.Due.{Rings}
+use Rattle.flume_core.specs.Represents.{Extends, IsReachable, SameLogs}
+use Rattle.flume_calls.specs.Rings.{Rings}
 
 module _ {T S : Type 0} (A : Type 0) where
   -- the channel made at most one step
@@ -14,7 +14,7 @@ module _ {T S : Type 0} (A : Type 0) where
     NoStep : new ≡ old → AtMostOneStep old new
     -- it made this one: who is due after it was due before and still is, or became due by it
     OneStep : (step : Step T) → (reply : Reply T A) → Extends old step reply new
-        → (IsLedTo A old → BecomesDue old step reply new) → AtMostOneStep old new
+        → (IsReachable A old → BecomesDue old step reply new) → AtMostOneStep old new
 
 module _ {T S B : Type 0} (A : Type 0) (rings : B → ℕ → S → B → Type 0) where
   -- One poll, and then one ring of the bell for each ticket that it made due: from the channel and
@@ -26,4 +26,4 @@ module _ {T S B : Type 0} (A : Type 0) (rings : B → ℕ → S → B → Type 0
     pub step : AtMostOneStep A old between
     pub rang : Rings rings between bell new rung
     -- the rings are no steps
-    pub stands : Keeps A between new
+    pub stands : SameLogs A between new

@@ -4,10 +4,10 @@ use Rattle.std.specs.Prelude.{List, ◌∷◌, []}
 use Rattle.flume_model.specs.declared.step.Kind.{Kind}
 use Rattle.flume_model.specs.Limits.{IsOpen, IsClosed, most}
 use Rattle.flume_model.specs.Entries.{entry_of, held_by, again}
-use Rattle.flume_state.specs.Receivers.{standing, looks, blocks, noticed_receiver, waits_on}
-use Rattle.flume_state.specs.declared.entries.Standing.TheVariants.{BlockWaiting}
+use Rattle.flume_state.specs.Receivers.{receiver_status, looks, blocks, noticed_receiver, waits_on}
+use Rattle.flume_state.specs.declared.entries.ReceiverStatus.TheVariants.{BlockWaiting}
 use Rattle.flume_state.specs.State.{State}
-use Rattle.flume_state.specs.Effects.{fronted, taken, unparked, waiting_so, Begins, Departs}
+use Rattle.flume_state.specs.Effects.{with_front, after_take, without_receiver, with_peak, Begins, Departs}
 use Rattle.flume_core.specs.declared.error.RecvTimeoutError.{RecvTimeoutError}
 use Rattle.flume_core.specs.declared.error.RecvTimeoutError.TheVariants.{Timeout, Disconnected}
 use Rattle.flume_core.specs.declared.error.RecvTimeoutError.TheVariants.{NoMemory}
@@ -18,23 +18,23 @@ use Rattle.flume_calls.specs.ReceiveTurns.{IsNone}
 module _ {T S : Type 0} where
   -- the first turn
   pub record FirstReceiveOutcome (old new : State T S) (next : RecvNext T) : Type 0 where
-    pub got : (message : T) (rest : List T) → (fronted old).queue ≡ message ∷ rest
-        → (next ≡ Done (Ok message)) × (new ≡ taken rest old)
+    pub got : (message : T) (rest : List T) → (with_front old).queue ≡ message ∷ rest
+        → (next ≡ Done (Ok message)) × (new ≡ after_take rest old)
     pub disconnected : (next ≡ Done (Err Disconnected))
-        ↔ ((fronted old).queue ≡ []) × IsClosed old.senders old.receivers
+        ↔ ((with_front old).queue ≡ []) × IsClosed old.senders old.receivers
     pub need_signal : (next ≡ NeedSignal)
-        ↔ ((fronted old).queue ≡ []) × IsOpen old.senders old.receivers
+        ↔ ((with_front old).queue ≡ []) × IsOpen old.senders old.receivers
     pub unchanged : IsNone next → new ≡ old
 
   -- the turn that may park, with its kind and its signal
   pub record ParkReceiveOutcome (kind : Kind) (signal : S) (old new : State T S)
       (next : RecvNext T) : Type 0 where
-    pub got : (message : T) (rest : List T) → (fronted old).queue ≡ message ∷ rest
-        → (next ≡ Done (Ok message)) × (new ≡ taken rest old)
+    pub got : (message : T) (rest : List T) → (with_front old).queue ≡ message ∷ rest
+        → (next ≡ Done (Ok message)) × (new ≡ after_take rest old)
     pub disconnected : (next ≡ Done (Err Disconnected))
-        ↔ ((fronted old).queue ≡ []) × IsClosed old.senders old.receivers
+        ↔ ((with_front old).queue ≡ []) × IsClosed old.senders old.receivers
     pub parked : (ticket : ℕ) → next ≡ Park ticket → Begins old new ticket kind signal
-    pub spent : (fronted old).queue ≡ [] → IsOpen old.senders old.receivers → most ≤ old.next
+    pub spent : (with_front old).queue ≡ [] → IsOpen old.senders old.receivers → most ≤ old.next
         → next ≡ Done (Err NoMemory)
     pub unchanged : (error : RecvTimeoutError) → next ≡ Done (Err error) → new ≡ old
 
@@ -43,22 +43,22 @@ module _ {T S : Type 0} where
   pub record AgainReceiveOutcome (call : ℕ) (late : Bool) (signal : Option S)
       (old new : State T S) (next : RecvNext T) : Type 0 where
     pub waits : (next ≡ Park call) ↔ (late ≡ false)
-        × ((standing call old.entries ≡ Some BlockWaiting)
-        ⊎ ((looks (standing call old.entries) ≡ true)
-        × ((fronted old).queue ≡ []) × IsOpen old.senders old.receivers))
+        × ((receiver_status call old.entries ≡ Some BlockWaiting)
+        ⊎ ((looks (receiver_status call old.entries) ≡ true)
+        × ((with_front old).queue ≡ []) × IsOpen old.senders old.receivers))
     pub replaced : next ≡ Park call
-        → new ≡ waiting_so (again call (noticed_receiver (waits_on signal) call old.entries)) old
+        → new ≡ with_peak (again call (noticed_receiver (waits_on signal) call old.entries)) old
     pub collected : (message : T) → held_by (entry_of call old.entries) ≡ Some message
-        → (next ≡ Done (Ok message)) × (new ≡ unparked call old)
+        → (next ≡ Done (Ok message)) × (new ≡ without_receiver call old)
     pub got : (message : T) (rest : List T) → late ≡ false
-        → looks (standing call old.entries) ≡ true → (fronted old).queue ≡ message ∷ rest
-        → (next ≡ Done (Ok message)) × (new ≡ unparked call (taken rest old))
+        → looks (receiver_status call old.entries) ≡ true → (with_front old).queue ≡ message ∷ rest
+        → (next ≡ Done (Ok message)) × (new ≡ without_receiver call (after_take rest old))
     pub got_late : (message : T) (rest : List T) → late ≡ true
-        → blocks (standing call old.entries) ≡ true → (fronted old).queue ≡ message ∷ rest
-        → (next ≡ Done (Ok message)) × (new ≡ unparked call (taken rest old))
-    pub ended : late ≡ false → looks (standing call old.entries) ≡ true
-        → (fronted old).queue ≡ [] → IsClosed old.senders old.receivers
-        → (next ≡ Done (Err Disconnected)) × (new ≡ unparked call old)
+        → blocks (receiver_status call old.entries) ≡ true → (with_front old).queue ≡ message ∷ rest
+        → (next ≡ Done (Ok message)) × (new ≡ without_receiver call (after_take rest old))
+    pub ended : late ≡ false → looks (receiver_status call old.entries) ≡ true
+        → (with_front old).queue ≡ [] → IsClosed old.senders old.receivers
+        → (next ≡ Done (Err Disconnected)) × (new ≡ without_receiver call old)
     pub no_ticket : entry_of call old.entries ≡ None
         → (next ≡ Done (Err Disconnected)) × (new ≡ old)
     pub timeout : next ≡ Done (Err Timeout)

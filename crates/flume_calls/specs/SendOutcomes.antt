@@ -8,7 +8,7 @@ use Rattle.flume_state.specs.Notices.{resignalled}
 use Rattle.flume_state.specs.Sends.{blocked, noticed_send}
 use Rattle.flume_state.specs.State.{State, accepted_at}
 use Rattle.flume_state.specs.Effects.{Joins, Returns}
-use Rattle.flume_core.specs.StandsFor.{IsLedTo}
+use Rattle.flume_core.specs.Represents.{IsReachable}
 use Rattle.flume_core.specs.Waiting.{FindsNoRoom}
 use Rattle.flume_core.specs.declared.error.SendTimeoutError.TheVariants.{Timeout, Disconnected}
 use Rattle.flume_calls.specs.declared.calls.send.SendNext.{SendNext}
@@ -37,7 +37,7 @@ module _ {T S : Type 0} where
       sends = insert old.sends old.next (blocked signal);
       next = old.next + 1;
     }
-    pub ticket : IsLedTo A old → (ticket : ℕ) → next ≡ Park ticket → ticket ≡ old.next
+    pub ticket : IsReachable A old → (ticket : ℕ) → next ≡ Park ticket → ticket ≡ old.next
     pub unchanged : IsBack next → new ≡ old
 
   -- a turn of the send parked under the ticket, by whether its deadline is reached, with a signal
@@ -51,8 +51,8 @@ module _ {T S : Type 0} where
     pub accepted : accepted_at old call ≡ Some true → (next ≡ Done (Ok tt))
         × (new ≡ record old { sends = remove old.sends call })
     pub no_ticket : get old.sends call ≡ None → (next ≡ Done (Ok tt)) × (new ≡ old)
-    pub taken_in : IsLedTo A old → next ≡ Done (Ok tt) → accepted_at old call ≢ Some false
+    pub taken_in : IsReachable A old → next ≡ Done (Ok tt) → accepted_at old call ≢ Some false
     pub timeout : (back : T) → next ≡ Done (Err (Timeout back))
         → (late ≡ true) × Returns old new call back false
     pub disconnected : (back : T) → next ≡ Done (Err (Disconnected back))
-        → (closed : Bool) × Returns old new call back closed × (IsLedTo A old → closed ≡ true)
+        → (closed : Bool) × Returns old new call back closed × (IsReachable A old → closed ≡ true)

@@ -3,7 +3,7 @@ use Rattle.flume_model.specs.declared.step.Step.{Step}
 use Rattle.flume_model.specs.declared.step.Reply.{Reply}
 use Rattle.flume_state.specs.State.{State}
 use Rattle.flume_state.specs.Due.{BecomesDue}
-use Rattle.flume_core.specs.StandsFor.{Extends, IsLedTo}
+use Rattle.flume_core.specs.Represents.{Extends, IsReachable}
 
 module _ {T S A N : Type 0} where
   -- the channel made this one step, and the turn answered as its table says to the step's reply
@@ -14,5 +14,5 @@ module _ {T S A N : Type 0} where
     -- step leads to
     pub stepped : Extends old step reply new
     -- who is due after it was due before and still is, or became due by this step
-    pub dues : IsLedTo A old → BecomesDue old step reply new
+    pub dues : IsReachable A old → BecomesDue old step reply new
     pub answered : table reply answer

@@ -2,9 +2,9 @@
 ghost use Rattle.std.specs.Prelude.{◌≡◌, ◌≢◌, ℕ, Some, None};
 ghost use Rattle.flume_state.specs.Sends.{NoDueSend};
 ghost use Rattle.flume_state.specs.Receivers.{NoDueReceiver};
-ghost use Rattle.flume_state.specs.Told.{signal_of};
-ghost use Rattle.flume_core.specs.StandsFor.{Keeps};
-ghost use Rattle.flume_calls.specs.Due.{Rings, AllTold};
+ghost use Rattle.flume_state.specs.Signals.{signal_of};
+ghost use Rattle.flume_core.specs.Represents.{SameLogs};
+ghost use Rattle.flume_calls.specs.Rings.{Rings, NoneDueAnyMore};
 
 use flume_core::chan::Chan;
 use std::alloc::Allocator;
@@ -39,8 +39,8 @@ pub fn fire_due<T: Drop, S: Drop, A: Allocator + Copy, B: Bell<S>>(
     ensures rings { Rings B.rings chan.old bell.old chan.new bell.new }
     ensures sends { NoDueSend chan.new.sends }
     ensures receivers { NoDueReceiver chan.new.entries }
-    ensures told { AllTold chan.old chan.new }
-    ensures stands { Keeps A chan.old chan.new }
+    ensures told { NoneDueAnyMore chan.old chan.new }
+    ensures stands { SameLogs A chan.old chan.new }
 {
     while let Some(ticket) = chan.next_due() {
         ring_for(chan, ticket, bell);

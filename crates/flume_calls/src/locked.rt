@@ -4,9 +4,9 @@ ghost use Rattle.std.specs.Option.{option_copied, option_and_then};
 ghost use Rattle.flume_model.specs.Log.{opens};
 ghost use Rattle.flume_state.specs.Sends.{NoDueSend};
 ghost use Rattle.flume_state.specs.Receivers.{NoDueReceiver};
-ghost use Rattle.flume_state.specs.State.{State, opened};
-ghost use Rattle.flume_state.specs.Told.{signal_of};
-ghost use Rattle.flume_core.specs.StandsFor.{IsLedTo};
+ghost use Rattle.flume_state.specs.State.{State, new_state};
+ghost use Rattle.flume_state.specs.Signals.{signal_of};
+ghost use Rattle.flume_core.specs.Represents.{IsReachable};
 ghost use Rattle.flume_core.specs.StateFacts.{ChannelFacts};
 ghost use Rattle.flume_calls.specs.AtRest.{IsAtRest, IsCall};
 ghost use Rattle.flume_calls.specs.Polls.{IsPollCall};
@@ -54,7 +54,7 @@ impl<T: Drop, S: Drop, A: Allocator + Copy> Locked<T, S, A> {
     /// A new channel of this capacity: `None` holds any number of messages. Takes no memory.
     #[inline(always)]
     pub fn new(alloc: A, capacity: Option<usize>) -> Self
-        ensures state { result ≡ opened (opens capacity 1) }
+        ensures state { result ≡ new_state (opens capacity 1) }
     {
         Locked {
             chan: Chan::new(alloc, capacity),
@@ -63,7 +63,7 @@ impl<T: Drop, S: Drop, A: Allocator + Copy> Locked<T, S, A> {
 
     /// What holds of the channel whenever its lock is free. Does nothing.
     pub fn facts(&self)
-        ensures led { IsLedTo A self.now }
+        ensures led { IsReachable A self.now }
         ensures facts { ChannelFacts self.now }
         ensures no_send_is_due { NoDueSend self.now.sends }
         ensures no_receiver_is_due { NoDueReceiver self.now.entries }
@@ -78,7 +78,7 @@ impl<T: Drop, S: Drop, A: Allocator + Copy> Locked<T, S, A> {
             self.old bell.old self.new bell.new result }
         ensures answers { C.answers turn result }
     {
-        let answer = turn.make(&mut self.chan);
+        let answer = turn.apply(&mut self.chan);
         fire_due(&mut self.chan, bell);
         answer
     }

@@ -3,7 +3,7 @@
 use crate::turn::Turn;
 use flume_core::chan::Chan;
 use flume_core::error::CapacityError;
-use flume_core::step::{Reply, Step};
+use flume_model::step::{Reply, Step};
 use std::alloc::Allocator;
 
 /// The steps that are answered by their reply as it is.
@@ -23,8 +23,8 @@ pub enum Single {
 
 impl<T: Drop, S: Drop, A: Allocator + Copy> Turn<T, S, A> for Single {
     ghost use Rattle.std.specs.Prelude.{◌≡◌};
-    ghost use Rattle.flume_core.specs.StandsFor.{ChangesNothing};
-    ghost use Rattle.flume_core.specs.Comes.{Comes};
+    ghost use Rattle.flume_core.specs.Represents.{ChangesNothing};
+    ghost use Rattle.flume_core.specs.PossibleReply.{PossibleReply};
     ghost use Rattle.flume_calls.specs.Singles.{step_of};
 
     type Answer = Reply<T, A>;
@@ -33,11 +33,11 @@ impl<T: Drop, S: Drop, A: Allocator + Copy> Turn<T, S, A> for Single {
 
     ghost table = { λ _ reply answer. answer ≡ reply };
 
-    ghost answers = { λ turn. Comes (step_of turn) };
+    ghost answers = { λ turn. PossibleReply (step_of turn) };
 
     ghost outcome = { λ turn old new reply. ChangesNothing (step_of turn) reply → new ≡ old };
 
-    fn make(self, chan: &mut Chan<T, S, A>) -> Reply<T, A> {
+    fn apply(self, chan: &mut Chan<T, S, A>) -> Reply<T, A> {
         match self {
             Single::Drain => chan.drain(),
             Single::CloneSender => chan.clone_sender(),
@@ -74,7 +74,7 @@ impl<T: Drop, S: Drop, A: Allocator + Copy> Turn<T, S, A> for AskNumber {
 
     ghost outcome = { λ _ old new _. new ≡ old };
 
-    fn make(self, chan: &mut Chan<T, S, A>) -> usize {
+    fn apply(self, chan: &mut Chan<T, S, A>) -> usize {
         let reply = match self {
             AskNumber::Len => chan.len(),
             AskNumber::SenderCount => chan.sender_count(),
@@ -113,7 +113,7 @@ impl<T: Drop, S: Drop, A: Allocator + Copy> Turn<T, S, A> for AskTruth {
 
     ghost outcome = { λ _ old new _. new ≡ old };
 
-    fn make(self, chan: &mut Chan<T, S, A>) -> bool {
+    fn apply(self, chan: &mut Chan<T, S, A>) -> bool {
         let reply = match self {
             AskTruth::IsEmpty => chan.is_empty(),
             AskTruth::IsFull => chan.is_full(),
@@ -145,7 +145,7 @@ impl<T: Drop, S: Drop, A: Allocator + Copy> Turn<T, S, A> for AskCapacity {
 
     ghost outcome = { λ _ old new _. new ≡ old };
 
-    fn make(self, chan: &mut Chan<T, S, A>) -> Option<usize> {
+    fn apply(self, chan: &mut Chan<T, S, A>) -> Option<usize> {
         match chan.capacity() {
             Reply::Capacity(capacity) => capacity,
             _ => unreachable!(),
@@ -176,7 +176,7 @@ impl<T: Drop, S: Drop, A: Allocator + Copy> Turn<T, S, A> for SetCapacity {
 
     ghost outcome = { λ _ old new answer. OnErr answer (new ≡ old) };
 
-    fn make(self, chan: &mut Chan<T, S, A>) -> Result<(), CapacityError> {
+    fn apply(self, chan: &mut Chan<T, S, A>) -> Result<(), CapacityError> {
         match chan.set_capacity(self.capacity) {
             Reply::Done => Ok(()),
             Reply::Unbounded => Err(CapacityError::Unbounded),

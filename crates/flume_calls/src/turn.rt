@@ -26,7 +26,7 @@ pub trait Turn<T, S, A: Allocator> {
     ghost outcome: { Self → State T S → State T S → Self.Answer → Type 0 };
 
     /// Makes the step, and answers to its reply.
-    fn make(self, chan: &mut Chan<T, S, A>) -> Self::Answer
+    fn apply(self, chan: &mut Chan<T, S, A>) -> Self::Answer
         ensures turn { Turned {A = A} (step self) (table self) chan.old chan.new result }
         ensures answers { answers self result }
         ensures outcome { outcome self chan.old chan.new result };

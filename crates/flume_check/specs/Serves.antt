@@ -1,6 +1,6 @@
 -- What the program writes for the bytes that it reads.
 use Rattle.std.specs.Prelude.{◌≡◌, ℕ, ◌⊎◌, List, [], ◌∷◌, ◌++◌, Option, Some, codes}
-use Rattle.flume_history.specs.Told.{Judges}
+use Rattle.flume_history.specs.HistoryText.{Judges}
 
 -- all of this was written and the status is the good one, or the status tells of a fault
 abbrev pub Finishes : List ℕ → ℕ → Option (List ℕ) → ℕ → Type 0

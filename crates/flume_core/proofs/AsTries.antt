@@ -10,14 +10,14 @@ use Rattle.flume_model.specs.Line.{capacity, boundary}
 use Rattle.flume_model.specs.Channel.{channel}
 use Rattle.flume_model.specs.Replies.{IsReply}
 use Rattle.flume_state.specs.State.{State}
-use Rattle.flume_core.specs.StandsFor.{StandsFor}
-use Rattle.flume_core.specs.Comes.{Comes}
+use Rattle.flume_core.specs.Represents.{Represents}
+use Rattle.flume_core.specs.PossibleReply.{PossibleReply}
 use Rattle.flume_core.proofs.Views.{room_or_full}
 
 module _ {T A S : Type 0} where
   -- where two steps with their replies make the same change, they leave the same state
   stands_by : (o : Opening) (log : Log T A) (p q : Step T × Reply T A) (s : State T S) → change log q.0 q.1 ≡ change log p.0 p.1
-      → IsReply (channel o log) q.0 q.1 → StandsFor o (p ∷ log) s → StandsFor o (q ∷ log) s
+      → IsReply (channel o log) q.0 q.1 → Represents o (p ∷ log) s → Represents o (q ∷ log) s
   stands_by o log p q s e reply h = record {
     run = (reply, h.run.1);
     capacity_is = rw e h.capacity_is;
@@ -35,8 +35,8 @@ module _ {T A S : Type 0} where
   }
 
   -- a send that doesn't find the queue full is answered as a send that doesn't wait
-  pub send_as_try : (o : Opening) (log : Log T A) (m : T) (r : Reply T A) (s : State T S) → StandsFor o ((TrySend m, r) ∷ log) s
-      → ((x : T) → r ≢ Full x) → StandsFor o ((Send m, r) ∷ log) s
+  pub send_as_try : (o : Opening) (log : Log T A) (m : T) (r : Reply T A) (s : State T S) → Represents o ((TrySend m, r) ∷ log) s
+      → ((x : T) → r ≢ Full x) → Represents o ((Send m, r) ∷ log) s
   send_as_try o log m (Sent filled) s h differs = stands_by o log _ _ s refl h.run.0 h
   send_as_try o log m (Closed back) s h differs = stands_by o log _ _ s refl h.run.0 h
   send_as_try o log m (NoMemory back) s h differs =
@@ -46,8 +46,8 @@ module _ {T A S : Type 0} where
   send_as_try o log m _ s h differs = absurd h.run.0
 
   -- a receive that finds the line not empty, or the channel closed, is answered as one that doesn't wait
-  pub recv_as_try : (o : Opening) (log : Log T A) (kind : Kind) (r : Reply T A) (s : State T S) → StandsFor o ((TryRecv, r) ∷ log) s
-      → r ≢ Empty → StandsFor o ((Recv kind, r) ∷ log) s
+  pub recv_as_try : (o : Opening) (log : Log T A) (kind : Kind) (r : Reply T A) (s : State T S) → Represents o ((TryRecv, r) ∷ log) s
+      → r ≢ Empty → Represents o ((Recv kind, r) ∷ log) s
   recv_as_try o log kind (Got m) s h differs = stands_by o log _ _ s refl h.run.0 h
   recv_as_try o log kind Ended s h differs = stands_by o log _ _ s refl h.run.0 h
   recv_as_try o log kind (NoMemory back) s h differs = stands_by o log _ _ s refl (inl h.run.0.0, h.run.0.1) h
@@ -56,7 +56,7 @@ module _ {T A S : Type 0} where
 
 module _ {T A : Type 0} where
   -- a send that doesn't find the queue full has a reply that a send has
-  pub send_comes : (m : T) (r : Reply T A) → Comes (TrySend m) r → ((x : T) → r ≢ Full x) → Comes (Send m) r
+  pub send_comes : (m : T) (r : Reply T A) → PossibleReply (TrySend m) r → ((x : T) → r ≢ Full x) → PossibleReply (Send m) r
   send_comes m (Sent filled) comes differs = comes
   send_comes m (Closed back) comes differs = comes
   send_comes m (NoMemory back) comes differs = comes
@@ -64,12 +64,12 @@ module _ {T A : Type 0} where
   send_comes m _ comes differs = absurd comes
 
   -- a receive that finds the line not empty, or the channel closed, has a reply that a receive has
-  pub recv_comes : (kind : Kind) (r : Reply T A) → Comes TryRecv r → r ≢ Empty → Comes (Recv kind) r
+  pub recv_comes : (kind : Kind) (r : Reply T A) → PossibleReply TryRecv r → r ≢ Empty → PossibleReply (Recv kind) r
   recv_comes kind (Got m) comes differs = comes
   recv_comes kind Ended comes differs = comes
   recv_comes kind Empty comes differs = absurd (differs refl)
   recv_comes kind _ comes differs = absurd comes
 
   -- a send that doesn't wait never finds the tickets spent
-  pub try_never_spent : (m : T) (r : Reply T A) → Comes (TrySend m) r → (back : Option T) → r ≢ Spent back
+  pub try_never_spent : (m : T) (r : Reply T A) → PossibleReply (TrySend m) r → (back : Option T) → r ≢ Spent back
   try_never_spent m r comes back is = absurd (rw is at comes)

@@ -9,9 +9,9 @@ use Rattle.flume_model.specs.declared.step.Reply.TheVariants.{NoTicket, Got, End
 use Rattle.flume_model.specs.declared.entry.Entry.{Entry}
 use Rattle.flume_model.specs.declared.entry.Mark.TheVariants.{Filled}
 use Rattle.flume_state.specs.declared.notice.Notice.{Notice}
-use Rattle.flume_state.specs.declared.entries.Standing.{Standing}
-use Rattle.flume_state.specs.declared.entries.Standing.TheVariants.{Filled as IsFilled, BlockWaiting}
-use Rattle.flume_state.specs.declared.entries.Standing.TheVariants.{Waiting as IsWaiting, Woken as IsWoken}
+use Rattle.flume_state.specs.declared.entries.ReceiverStatus.{ReceiverStatus}
+use Rattle.flume_state.specs.declared.entries.ReceiverStatus.TheVariants.{Filled as IsFilled, BlockWaiting}
+use Rattle.flume_state.specs.declared.entries.ReceiverStatus.TheVariants.{Waiting as IsWaiting, Woken as IsWoken}
 use Rattle.flume_model.specs.Log.{Log, Opening, was_filled}
 use Rattle.flume_model.specs.Counts.{senders, receivers}
 use Rattle.flume_model.specs.Limits.{IsOpen, IsClosed, is_closed}
@@ -20,11 +20,11 @@ use Rattle.flume_model.specs.Entries.{is_woken, is_filled, entry_of, again, leav
 use Rattle.flume_model.specs.Parked.{LogEntry, entries}
 use Rattle.flume_model.specs.Channel.{channel}
 use Rattle.flume_model.specs.WaitLaws.{is_block, block_woken}
-use Rattle.flume_state.specs.Receivers.{standing_of, standing, looks, blocks, noticed_receiver}
+use Rattle.flume_state.specs.Receivers.{status_of, receiver_status, looks, blocks, noticed_receiver}
 use Rattle.flume_model.specs.Entries.{held_by, held_in}
 use Rattle.flume_state.specs.State.{State, bare}
-use Rattle.flume_core.specs.StandsFor.{StandsFor}
-use Rattle.flume_state.specs.Effects.{fronted, taken, unparked, departed, waiting_so}
+use Rattle.flume_core.specs.Represents.{Represents}
+use Rattle.flume_state.specs.Effects.{with_front, after_take, without_receiver, after_withdrawal, with_peak}
 use Rattle.flume_model.proofs.Fits.{fills_none}
 use Rattle.flume_model.proofs.EntryShape.{told_filled}
 use Rattle.flume_model.proofs.waits.WokenBlocks.{woken_block_while_closed}
@@ -55,39 +55,39 @@ module _ {T : Type 0} where
 
 module _ {T S : Type 0} where
   -- where one stands, there is an entry
-  one_found : (found : Option (Entry T (Notice S))) (st : Standing) → option_map standing_of found ≡ Some st
-      → (e : Entry T (Notice S)) × (found ≡ Some e) × (standing_of e ≡ st)
+  one_found : (found : Option (Entry T (Notice S))) (st : ReceiverStatus) → option_map status_of found ≡ Some st
+      → (e : Entry T (Notice S)) × (found ≡ Some e) × (status_of e ≡ st)
   one_found None st e = absurd (let no : ⊥ = cc in no)
-  one_found (Some x) st e = (x, refl, (let same : standing_of x ≡ st = cc in same))
+  one_found (Some x) st e = (x, refl, (let same : status_of x ≡ st = cc in same))
 
 module _ {T A S : Type 0} where
   -- an entry of the state in the log
-  entry_in_log : {o : Opening} {log : Log T A} {s : State T S} → StandsFor o log s → (t : ℕ) (e : Entry T (Notice S))
+  entry_in_log : {o : Opening} {log : Log T A} {s : State T S} → Represents o log s → (t : ℕ) (e : Entry T (Notice S))
       → entry_of t s.entries ≡ Some e → entry_of t (entries o log) ≡ Some (bare e)
   entry_in_log {o} {log} {s} h t e found = entry_at_log h t ∙ ap (option_map bare) found
 
   -- such an entry was filled or not as its mark says
-  told_in_log : {o : Opening} {log : Log T A} {s : State T S} → StandsFor o log s → (t : ℕ) (e : Entry T (Notice S)) (b : Bool)
+  told_in_log : {o : Opening} {log : Log T A} {s : State T S} → Represents o log s → (t : ℕ) (e : Entry T (Notice S)) (b : Bool)
       → entry_of t s.entries ≡ Some e → is_filled e.mark ≡ b → was_filled log t ≡ b
   told_in_log {o} {log} {s} h t e b found is = told_filled o log h.run t (bare e) (entry_in_log h t e found) ∙ is
 
   -- nobody is parked under the ticket
-  pub poll_none : (o : Opening) (log : Log T A) (s new : State T S) (t : ℕ) → StandsFor o log s
-      → standing t s.entries ≡ None → new ≡ s → StandsFor o ((Poll t, NoTicket) ∷ log) new
+  pub poll_none : (o : Opening) (log : Log T A) (s new : State T S) (t : ℕ) → Represents o log s
+      → receiver_status t s.entries ≡ None → new ≡ s → Represents o ((Poll t, NoTicket) ∷ log) new
   poll_none o log s new t h none is =
-      let found = none_mapped standing_of (entry_of t s.entries) none in
+      let found = none_mapped status_of (entry_of t s.entries) none in
       still o log _ s new h (rw (entry_at_log h t, found) tt) refl is
 
-  pub withdraw_none : (o : Opening) (log : Log T A) (s new : State T S) (t : ℕ) → StandsFor o log s
-      → standing t s.entries ≡ None → new ≡ s → StandsFor o ((Withdraw t, NoTicket) ∷ log) new
+  pub withdraw_none : (o : Opening) (log : Log T A) (s new : State T S) (t : ℕ) → Represents o log s
+      → receiver_status t s.entries ≡ None → new ≡ s → Represents o ((Withdraw t, NoTicket) ∷ log) new
   withdraw_none o log s new t h none is =
-      let found = none_mapped standing_of (entry_of t s.entries) none in
+      let found = none_mapped status_of (entry_of t s.entries) none in
       still o log _ s new h (rw (entry_at_log h t, found) tt) refl is
 
   -- a filled one gets its message
-  pub poll_collects : (o : Opening) (log : Log T A) (s new : State T S) (t : ℕ) (r : Reply T A) → StandsFor o log s
-      → standing t s.entries ≡ Some IsFilled → (m : T) × (held_by (entry_of t s.entries) ≡ Some m) × (r ≡ Got m)
-      → new ≡ unparked t s → StandsFor o ((Poll t, r) ∷ log) new
+  pub poll_collects : (o : Opening) (log : Log T A) (s new : State T S) (t : ℕ) (r : Reply T A) → Represents o log s
+      → receiver_status t s.entries ≡ Some IsFilled → (m : T) × (held_by (entry_of t s.entries) ≡ Some m) × (r ≡ Got m)
+      → new ≡ without_receiver t s → Represents o ((Poll t, r) ∷ log) new
   poll_collects o log s new t r h stands got is =
       let at = one_found (entry_of t s.entries) IsFilled stands in
       let filled = filled_with at.0.kind at.0.mark at.2 in
@@ -98,9 +98,9 @@ module _ {T A S : Type 0} where
       (rw (entry_in_log h t at.0 at.1) (polled_collected A (channel o log) at.0.kind at.0.mark got.0 (filled.1 ∙ ap (λ x. Filled x) same)))
       (rw told refl) is)
 
-  pub withdraw_collects : (o : Opening) (log : Log T A) (s new : State T S) (t : ℕ) (r : Reply T A) → StandsFor o log s
-      → standing t s.entries ≡ Some IsFilled → (m : T) × (held_by (entry_of t s.entries) ≡ Some m) × (r ≡ Got m)
-      → new ≡ unparked t s → StandsFor o ((Withdraw t, r) ∷ log) new
+  pub withdraw_collects : (o : Opening) (log : Log T A) (s new : State T S) (t : ℕ) (r : Reply T A) → Represents o log s
+      → receiver_status t s.entries ≡ Some IsFilled → (m : T) × (held_by (entry_of t s.entries) ≡ Some m) × (r ≡ Got m)
+      → new ≡ without_receiver t s → Represents o ((Withdraw t, r) ∷ log) new
   withdraw_collects o log s new t r h stands got is =
       let at = one_found (entry_of t s.entries) IsFilled stands in
       let filled = filled_with at.0.kind at.0.mark at.2 in
@@ -112,32 +112,32 @@ module _ {T A S : Type 0} where
       (rw told refl) is)
 
   -- one that blocks and waits, waits on
-  pub poll_waits : (o : Opening) (log : Log T A) (s new : State T S) (t : ℕ) (f : Notice S → Notice S) → StandsFor o log s
-      → standing t s.entries ≡ Some BlockWaiting → new ≡ waiting_so (again t (noticed_receiver f t s.entries)) s
-      → StandsFor o ((Poll t, WaitsOn) ∷ log) new
+  pub poll_waits : (o : Opening) (log : Log T A) (s new : State T S) (t : ℕ) (f : Notice S → Notice S) → Represents o log s
+      → receiver_status t s.entries ≡ Some BlockWaiting → new ≡ with_peak (again t (noticed_receiver f t s.entries)) s
+      → Represents o ((Poll t, WaitsOn) ∷ log) new
   poll_waits o log s new t f h stands is =
       let at = one_found (entry_of t s.entries) BlockWaiting stands in
       asks o log _ s new t f h (rw (entry_in_log h t at.0 at.1) (polled_blocked A (channel o log) at.0.kind at.0.mark at.2)) refl is
 
   -- one that looks takes the front
-  pub poll_takes : (o : Opening) (log : Log T A) (s new : State T S) (t : ℕ) (st : Standing) (m : T) (rest : List T) → StandsFor o log s
-      → standing t s.entries ≡ Some st → looks (Some st) ≡ true → (fronted s).queue ≡ m ∷ rest → new ≡ unparked t (taken rest s)
-      → StandsFor o ((Poll t, Got m) ∷ log) new
+  pub poll_takes : (o : Opening) (log : Log T A) (s new : State T S) (t : ℕ) (st : ReceiverStatus) (m : T) (rest : List T) → Represents o log s
+      → receiver_status t s.entries ≡ Some st → looks (Some st) ≡ true → (with_front s).queue ≡ m ∷ rest → new ≡ without_receiver t (after_take rest s)
+      → Represents o ((Poll t, Got m) ∷ log) new
   poll_takes o log s new t st m rest h stands looking front is =
       let at = one_found (entry_of t s.entries) st stands in
-      let look : looks (Some (standing_of at.0)) ≡ true = ap (λ x. looks (Some x)) at.2 ∙ looking in
+      let look : looks (Some (status_of at.0)) ≡ true = ap (λ x. looks (Some x)) at.2 ∙ looking in
       let told = told_in_log h t at.0 false at.1 (looks_unfilled at.0.kind at.0.mark look) in
       takes o log _ s new m (Some t) rest h
       (rw (entry_in_log h t at.0 at.1) (polled_got A (channel o log) at.0.kind at.0.mark m look (front_line o log s m rest h front)))
       (rw told refl) front is
 
   -- one that looks finds the channel at its end
-  pub poll_ends : (o : Opening) (log : Log T A) (s new : State T S) (t : ℕ) (st : Standing) → StandsFor o log s
-      → standing t s.entries ≡ Some st → looks (Some st) ≡ true → (fronted s).queue ≡ [] → IsClosed s.senders s.receivers
-      → new ≡ unparked t s → StandsFor o ((Poll t, Ended) ∷ log) new
+  pub poll_ends : (o : Opening) (log : Log T A) (s new : State T S) (t : ℕ) (st : ReceiverStatus) → Represents o log s
+      → receiver_status t s.entries ≡ Some st → looks (Some st) ≡ true → (with_front s).queue ≡ [] → IsClosed s.senders s.receivers
+      → new ≡ without_receiver t s → Represents o ((Poll t, Ended) ∷ log) new
   poll_ends o log s new t st h stands looking none closed is =
       let at = one_found (entry_of t s.entries) st stands in
-      let look : looks (Some (standing_of at.0)) ≡ true = ap (λ x. looks (Some x)) at.2 ∙ looking in
+      let look : looks (Some (status_of at.0)) ≡ true = ap (λ x. looks (Some x)) at.2 ∙ looking in
       let empty_ : s.queue ≡ [] = fronted_empty s none in
       departs o log _ s new t None h
       (rw (entry_in_log h t at.0 at.1)
@@ -145,13 +145,13 @@ module _ {T A S : Type 0} where
       refl (sym (fills_none t s.queue s.entries empty_)) (is ∙ sym (departed_empty t s empty_))
 
   -- one that looks waits on, or again
-  pub poll_waits_on : (o : Opening) (log : Log T A) (s new : State T S) (t : ℕ) (st : Standing) (f : Notice S → Notice S)
-      → StandsFor o log s
-      → standing t s.entries ≡ Some st → looks (Some st) ≡ true → (fronted s).queue ≡ [] → IsOpen s.senders s.receivers
-      → new ≡ waiting_so (again t (noticed_receiver f t s.entries)) s → StandsFor o ((Poll t, WaitsOn) ∷ log) new
+  pub poll_waits_on : (o : Opening) (log : Log T A) (s new : State T S) (t : ℕ) (st : ReceiverStatus) (f : Notice S → Notice S)
+      → Represents o log s
+      → receiver_status t s.entries ≡ Some st → looks (Some st) ≡ true → (with_front s).queue ≡ [] → IsOpen s.senders s.receivers
+      → new ≡ with_peak (again t (noticed_receiver f t s.entries)) s → Represents o ((Poll t, WaitsOn) ∷ log) new
   poll_waits_on o log s new t st f h stands looking none open_ is =
       let at = one_found (entry_of t s.entries) st stands in
-      let look : looks (Some (standing_of at.0)) ≡ true = ap (λ x. looks (Some x)) at.2 ∙ looking in
+      let look : looks (Some (status_of at.0)) ≡ true = ap (λ x. looks (Some x)) at.2 ∙ looking in
       let is_open = open_at_log h open_ in
       asks o log _ s new t f h
       (rw (entry_in_log h t at.0 at.1)
@@ -170,24 +170,24 @@ module _ {T A S : Type 0} where
               absurd (omega (arith, is_open, shut))
 
   -- one that blocks leaves with the front
-  pub withdraw_takes : (o : Opening) (log : Log T A) (s new : State T S) (t : ℕ) (st : Standing) (m : T) (rest : List T) → StandsFor o log s
-      → standing t s.entries ≡ Some st → blocks (Some st) ≡ true → (fronted s).queue ≡ m ∷ rest → new ≡ unparked t (taken rest s)
-      → StandsFor o ((Withdraw t, Got m) ∷ log) new
+  pub withdraw_takes : (o : Opening) (log : Log T A) (s new : State T S) (t : ℕ) (st : ReceiverStatus) (m : T) (rest : List T) → Represents o log s
+      → receiver_status t s.entries ≡ Some st → blocks (Some st) ≡ true → (with_front s).queue ≡ m ∷ rest → new ≡ without_receiver t (after_take rest s)
+      → Represents o ((Withdraw t, Got m) ∷ log) new
   withdraw_takes o log s new t st m rest h stands blocking front is =
       let at = one_found (entry_of t s.entries) st stands in
-      let block : blocks (Some (standing_of at.0)) ≡ true = ap (λ x. blocks (Some x)) at.2 ∙ blocking in
+      let block : blocks (Some (status_of at.0)) ≡ true = ap (λ x. blocks (Some x)) at.2 ∙ blocking in
       let told = told_in_log h t at.0 false at.1 (blocks_unfilled at.0.kind at.0.mark block) in
       takes o log _ s new m (Some t) rest h
       (rw (entry_in_log h t at.0 at.1) (gone_got A (channel o log) t at.0.kind at.0.mark m block (front_line o log s m rest h front)))
       (rw told refl) front is
 
   -- one that blocks leaves with no message
-  pub withdraw_leaves : (o : Opening) (log : Log T A) (s new : State T S) (t : ℕ) (st : Standing) (closed : Bool) → StandsFor o log s
-      → standing t s.entries ≡ Some st → blocks (Some st) ≡ true → (fronted s).queue ≡ [] → closed ≡ is_closed s.senders s.receivers
-      → new ≡ unparked t s → StandsFor o ((Withdraw t, Gone closed None) ∷ log) new
+  pub withdraw_leaves : (o : Opening) (log : Log T A) (s new : State T S) (t : ℕ) (st : ReceiverStatus) (closed : Bool) → Represents o log s
+      → receiver_status t s.entries ≡ Some st → blocks (Some st) ≡ true → (with_front s).queue ≡ [] → closed ≡ is_closed s.senders s.receivers
+      → new ≡ without_receiver t s → Represents o ((Withdraw t, Gone closed None) ∷ log) new
   withdraw_leaves o log s new t st closed h stands blocking none told is =
       let at = one_found (entry_of t s.entries) st stands in
-      let block : blocks (Some (standing_of at.0)) ≡ true = ap (λ x. blocks (Some x)) at.2 ∙ blocking in
+      let block : blocks (Some (status_of at.0)) ≡ true = ap (λ x. blocks (Some x)) at.2 ∙ blocking in
       let empty_ : s.queue ≡ [] = fronted_empty s none in
       departs o log _ s new t None h
       (rw (entry_in_log h t at.0 at.1)
@@ -195,10 +195,10 @@ module _ {T A S : Type 0} where
       refl (sym (fills_none t s.queue s.entries empty_)) (is ∙ sym (departed_empty t s empty_))
 
   -- one of another kind leaves, and passes its wake on
-  pub withdraw_passes : (o : Opening) (log : Log T A) (s new : State T S) (t : ℕ) (st : Standing) (closed : Bool) (filled : Option ℕ)
-      → StandsFor o log s → standing t s.entries ≡ Some st → (st ≡ IsWaiting) ⊎ (st ≡ IsWoken)
-      → closed ≡ is_closed s.senders s.receivers → filled ≡ leave_fills t s.queue s.entries → new ≡ departed t s
-      → StandsFor o ((Withdraw t, Gone closed filled) ∷ log) new
+  pub withdraw_passes : (o : Opening) (log : Log T A) (s new : State T S) (t : ℕ) (st : ReceiverStatus) (closed : Bool) (filled : Option ℕ)
+      → Represents o log s → receiver_status t s.entries ≡ Some st → (st ≡ IsWaiting) ⊎ (st ≡ IsWoken)
+      → closed ≡ is_closed s.senders s.receivers → filled ≡ leave_fills t s.queue s.entries → new ≡ after_withdrawal t s
+      → Represents o ((Withdraw t, Gone closed filled) ∷ log) new
   withdraw_passes o log s new t st closed filled h stands other told fills is =
       let at = one_found (entry_of t s.entries) st stands in
       let parts = other_parts at.0.kind at.0.mark (⊎_elim (λ a. inl (at.2 ∙ a)) (λ b. inr (at.2 ∙ b)) other) in

@@ -11,7 +11,7 @@ use Rattle.flume_state.specs.declared.notice.Notice.{Notice}
 use Rattle.flume_model.specs.Entries.{is_waiting, is_woken, some_wait, waiting_count, round, round_fills, round_for}
 use Rattle.flume_model.specs.Entries.{round_for_fills, all_woken, entry_of, held_by, without, again_as, again, passes_on}
 use Rattle.flume_model.specs.Entries.{after_leave, leave_fills}
-use Rattle.flume_model.specs.Parked.{untold}
+use Rattle.flume_model.specs.Parked.{same_notice}
 use Rattle.flume_state.specs.Receivers.{noticed_receiver}
 use Rattle.flume_state.specs.State.{bare}
 
@@ -52,12 +52,12 @@ module _ {T N : Type 0} where
       by_case false other rest = simp other (ap (λ l. bare e ∷ l) rest)
 
   -- a wake round
-  pub bare_round : (tell : N → N) (m : T) (es : List (Entry T N)) → map bare (round tell m es) ≡ round untold m (map bare es)
+  pub bare_round : (tell : N → N) (m : T) (es : List (Entry T N)) → map bare (round tell m es) ≡ round same_notice m (map bare es)
   bare_round tell m [] = refl
   bare_round tell m (e ∷ es) = by_case (is_waiting e.mark) refl e.kind refl (bare_round tell m es)
     where
-      by_case : (b : Bool) → is_waiting e.mark ≡ b → (k : Kind) → e.kind ≡ k → map bare (round tell m es) ≡ round untold m (map bare es)
-          → map bare (round tell m (e ∷ es)) ≡ round untold m (map bare (e ∷ es))
+      by_case : (b : Bool) → is_waiting e.mark ≡ b → (k : Kind) → e.kind ≡ k → map bare (round tell m es) ≡ round same_notice m (map bare es)
+          → map bare (round tell m (e ∷ es)) ≡ round same_notice m (map bare (e ∷ es))
       by_case true waits Stream k rest = simp (waits, k) (ap₂ (λ a l. a ∷ l) refl rest)
       by_case true waits Plain k rest = simp (waits, k) refl
       by_case true waits Arm k rest = simp (waits, k) refl
@@ -71,7 +71,7 @@ module _ {T N : Type 0} where
 
   -- a round where there is a queue
   pub bare_round_for : (tell : N → N) (queue : List T) (es : List (Entry T N))
-      → map bare (round_for tell queue es) ≡ round_for untold queue (map bare es)
+      → map bare (round_for tell queue es) ≡ round_for same_notice queue (map bare es)
   bare_round_for tell [] es = refl
   bare_round_for tell (m ∷ queue) es = bare_round tell m es
 
@@ -80,12 +80,12 @@ module _ {T N : Type 0} where
   bare_round_for_fills (m ∷ queue) es = bare_fills es
 
   -- all who wait are woken
-  pub bare_all_woken : (tell : N → N) (es : List (Entry T N)) → map bare (all_woken tell es) ≡ all_woken untold (map bare es)
+  pub bare_all_woken : (tell : N → N) (es : List (Entry T N)) → map bare (all_woken tell es) ≡ all_woken same_notice (map bare es)
   bare_all_woken tell [] = refl
   bare_all_woken tell (e ∷ es) = by_case (is_waiting e.mark) refl (bare_all_woken tell es)
     where
-      by_case : (b : Bool) → is_waiting e.mark ≡ b → map bare (all_woken tell es) ≡ all_woken untold (map bare es)
-          → map bare (all_woken tell (e ∷ es)) ≡ all_woken untold (map bare (e ∷ es))
+      by_case : (b : Bool) → is_waiting e.mark ≡ b → map bare (all_woken tell es) ≡ all_woken same_notice (map bare es)
+          → map bare (all_woken tell (e ∷ es)) ≡ all_woken same_notice (map bare (e ∷ es))
       by_case true waits rest = simp waits (ap₂ (λ a l. a ∷ l) refl rest)
       by_case false waits rest = simp waits (ap (λ l. bare e ∷ l) rest)
 
@@ -113,12 +113,12 @@ module _ {T N : Type 0} where
 
   -- one leaves
   pub bare_after_leave : (tell : N → N) (t : ℕ) (queue : List T) (es : List (Entry T N))
-      → map bare (after_leave tell t queue es) ≡ after_leave untold t queue (map bare es)
+      → map bare (after_leave tell t queue es) ≡ after_leave same_notice t queue (map bare es)
   bare_after_leave tell t queue es = go (passes_on (entry_of t es)) refl
     where
-      go : (b : Bool) → passes_on (entry_of t es) ≡ b → map bare (after_leave tell t queue es) ≡ after_leave untold t queue (map bare es)
+      go : (b : Bool) → passes_on (entry_of t es) ≡ b → map bare (after_leave tell t queue es) ≡ after_leave same_notice t queue (map bare es)
       go true e =
-          rw (bare_passes t es, e) (bare_round_for tell queue (without t es) ∙ ap (round_for untold queue) (bare_without t es))
+          rw (bare_passes t es, e) (bare_round_for tell queue (without t es) ∙ ap (round_for same_notice queue) (bare_without t es))
       go false e = rw (bare_passes t es, e) (bare_without t es)
 
   pub bare_leave_fills : (t : ℕ) (queue : List T) (es : List (Entry T N)) → leave_fills t queue (map bare es) ≡ leave_fills t queue es

@@ -15,8 +15,8 @@ use Rattle.flume_model.specs.Limits.{HasRoom, IsAtCapacity, is_full}
 use Rattle.flume_state.specs.Messages.{Blocked}
 use Rattle.flume_state.specs.Sends.{SendMap, changed, accepted_now}
 use Rattle.flume_state.specs.State.{State, offers_of}
-use Rattle.flume_core.specs.StandsFor.{StandsFor}
-use Rattle.flume_state.specs.Effects.{filled_up, filled_up_from}
+use Rattle.flume_core.specs.Represents.{Represents}
+use Rattle.flume_state.specs.Effects.{after_admissions, after_admissions_of}
 use Rattle.flume_model.proofs.order.LineSteps.{line_drains, apart_in_line, line_over}
 use Rattle.flume_core.proofs.Views.{mark, status, status_is, greatest_kept, queued_length, queue_at_log, offered_messages, line_length, nil_by}
 use Rattle.flume_core.proofs.Marks.{marks_moved_in}
@@ -73,7 +73,7 @@ module _ {T S : Type 0} where
 
   -- blocked messages move in while there is room
   pub moves_in : (xs : List (Blocked T)) (s : State T S) → s.blocked ≡ xs → IsInCapacity s.capacity (length s.queue)
-      → MovedIn xs s (filled_up_from xs s)
+      → MovedIn xs s (after_admissions_of xs s)
   moves_in [] s at in_ = record {
     moved = [];
     later = [];
@@ -89,8 +89,8 @@ module _ {T S : Type 0} where
 
       by_case : ((is_full s.capacity (length s.queue) ≡ true) × IsAtCapacity s.capacity (length s.queue))
           ⊎ ((is_full s.capacity (length s.queue) ≡ false) × HasRoom s.capacity (length s.queue))
-          → ((u : State T S) → u.blocked ≡ xs → IsInCapacity u.capacity (length u.queue) → MovedIn xs u (filled_up_from xs u))
-          → MovedIn (b ∷ xs) s (filled_up_from (b ∷ xs) s)
+          → ((u : State T S) → u.blocked ≡ xs → IsInCapacity u.capacity (length u.queue) → MovedIn xs u (after_admissions_of xs u))
+          → MovedIn (b ∷ xs) s (after_admissions_of (b ∷ xs) s)
       by_case (inl full) further = record {
         moved = [];
         later = b ∷ xs;
@@ -124,34 +124,34 @@ module _ {T S : Type 0} where
       (λ before x rest e. apart (b ∷ before) x rest (ap (λ l. b ∷ l) e)) q
 
   -- none moves in where the queue is full
-  pub fills_none_full : (s : State T S) → IsAtCapacity s.capacity (length s.queue) → filled_up s ≡ s
+  pub fills_none_full : (s : State T S) → IsAtCapacity s.capacity (length s.queue) → after_admissions s ≡ s
   fills_none_full s full = go s.blocked
     where
-      go : (xs : List (Blocked T)) → filled_up_from xs s ≡ s
+      go : (xs : List (Blocked T)) → after_admissions_of xs s ≡ s
       go [] = refl
       go (b ∷ later) = rw (full_known s.capacity (length s.queue) full) refl
 
 module _ {T A S : Type 0} where
   -- the blocked messages of a state have tickets apart
-  pub apart_blocked : {o : Opening} {log : Log T A} {s : State T S} → StandsFor o log s → ApartFrom s.blocked
+  pub apart_blocked : {o : Opening} {log : Log T A} {s : State T S} → Represents o log s → ApartFrom s.blocked
   apart_blocked {o} {log} {s} h before b later e =
       (apart_in_line o log h.run h.queued (offers_of before) (offers_of later) b.ticket b.message
       (h.line_is ∙ ap (λ l. h.queued ++ l) (ap offers_of e ∙ map-append _ before (b ∷ later)))).1
 
   -- all queued messages are handed out, and blocked ones move in
-  pub drains : (o : Opening) (past : Log T A) (p : Step T × Reply T A) (old new : State T S) (list : List T) → StandsFor o past old
-      → IsReply (channel o past) p.0 p.1 → change past p.0 p.1 ≡ Drains list → new ≡ filled_up (record old { queue = [] })
-      → StandsFor o (p ∷ past) new
+  pub drains : (o : Opening) (past : Log T A) (p : Step T × Reply T A) (old new : State T S) (list : List T) → Represents o past old
+      → IsReply (channel o past) p.0 p.1 → change past p.0 p.1 ≡ Drains list → new ≡ after_admissions (record old { queue = [] })
+      → Represents o (p ∷ past) new
   drains o past p old new list h reply e is = by_over (is_over past) refl
     where
-      at : MovedIn old.blocked (record old { queue = [] }) (filled_up (record old { queue = [] }))
+      at : MovedIn old.blocked (record old { queue = [] }) (after_admissions (record old { queue = [] }))
       at = moves_in old.blocked (record old { queue = [] }) refl (room_for_none old.capacity)
         where
           room_for_none : (cap_ : Option ℕ) → IsInCapacity cap_ 0
           room_for_none None = tt
           room_for_none (Some c) = omega arith
 
-      by_over : (b : Bool) → is_over past ≡ b → StandsFor o (p ∷ past) new
+      by_over : (b : Bool) → is_over past ≡ b → Represents o (p ∷ past) new
       by_over false open_ =
           let fit = fits_as o past p (Drains list) h.run reply e in
           let still_open = over_same past p (Drains list) e refl ∙ open_ in
@@ -187,7 +187,7 @@ module _ {T A S : Type 0} where
       by_over true over =
           let none : length old.queue + length old.blocked ≡ 0 = sym (line_length h) ∙ ap length (line_over past over) in
           let none_blocked : old.blocked ≡ [] = nil_by old.blocked (λ some. omega arith) in
-          let same : new ≡ record old { queue = [] } = is ∙ ap (λ xs. filled_up_from xs (record old { queue = [] })) none_blocked in
+          let same : new ≡ record old { queue = [] } = is ∙ ap (λ xs. after_admissions_of xs (record old { queue = [] })) none_blocked in
           stands_as o (p ∷ past) new _ same (stands_over o past p (Drains list) old _ h reply e
           (over_same past p (Drains list) e refl ∙ over) (λ c. refl) refl refl refl none_blocked
           (λ t. status_is h t ∙ ap (λ b. status b (has_ticket t (offers_of old.blocked))) (none_live past t over))

@@ -11,11 +11,11 @@ use Rattle.flume_model.specs.Line.{boundary_after, capacity_after, issued, issue
 use Rattle.flume_model.specs.Channel.{channel, has_ticket}
 use Rattle.flume_model.specs.Replies.{IsReply}
 use Rattle.flume_model.specs.Entries.{waiting_count}
-use Rattle.flume_model.specs.Parked.{entries_after, is_shut}
+use Rattle.flume_model.specs.Parked.{entries_after, is_closed_after}
 use Rattle.flume_state.specs.Sends.{SendMap}
 use Rattle.flume_state.specs.Receivers.{Entries}
-use Rattle.flume_state.specs.State.{State, emptied, offers_of, bare}
-use Rattle.flume_core.specs.StandsFor.{StandsFor}
+use Rattle.flume_state.specs.State.{State, with_nothing_left, offers_of, bare}
+use Rattle.flume_core.specs.Represents.{Represents}
 use Rattle.flume_model.proofs.EntryShape.{told_filled}
 use Rattle.flume_model.proofs.Fits.{not_over_yet}
 use Rattle.flume_model.proofs.order.Kept.{keeps_line}
@@ -67,7 +67,7 @@ module _ {T A S : Type 0} where
   -- such a change leaves this state, while the channel isn't over
   pub keeps_standing : (o : Opening) (past : Log T A) (p : Step T × Reply T A) (done : Change T) (old new : State T S)
       (m : SendMap S) (es : Entries T S) (peak next : ℕ)
-      → StandsFor o past old → IsReply (channel o past) p.0 p.1 → change past p.0 p.1 ≡ done → moves_none done ≡ true
+      → Represents o past old → IsReply (channel o past) p.0 p.1 → change past p.0 p.1 ≡ done → moves_none done ≡ true
       → is_over (p ∷ past) ≡ false
       → new ≡ record old {
         senders = senders_after old.senders done;
@@ -78,8 +78,8 @@ module _ {T A S : Type 0} where
         next = next;
       }
       → SameMarks m old.sends
-      → map bare es ≡ entries_after old.queue (not (is_shut past) && is_shut (p ∷ past)) (map bare old.entries) done
-      → peak ≡ max old.peak (waiting_count es) → next ≡ old.next + issued done → StandsFor o (p ∷ past) new
+      → map bare es ≡ entries_after old.queue (not (is_closed_after past) && is_closed_after (p ∷ past)) (map bare old.entries) done
+      → peak ≡ max old.peak (waiting_count es) → next ≡ old.next + issued done → Represents o (p ∷ past) new
   keeps_standing o past p done old new m es peak next h reply e none open_ is marks entered peaked issued_ =
       let all = keeps_all done none in
       let before : is_over past ≡ false = not_over_yet o past p (told_filled o past h.run) (reply, h.run) open_ in
@@ -101,12 +101,12 @@ module _ {T A S : Type 0} where
       })
 
   -- nothing changes but signals and due marks
-  pub still_signal : (o : Opening) (past : Log T A) (p : Step T × Reply T A) (old new : State T S) (m : SendMap S) → StandsFor o past old
+  pub still_signal : (o : Opening) (past : Log T A) (p : Step T × Reply T A) (old new : State T S) (m : SendMap S) → Represents o past old
       → IsReply (channel o past) p.0 p.1 → change past p.0 p.1 ≡ Stays → new ≡ record old { sends = m } → SameMarks m old.sends
-      → StandsFor o (p ∷ past) new
+      → Represents o (p ∷ past) new
   still_signal o past p old new m h reply e is marks = by_case (is_over past) refl
     where
-      by_case : (b : Bool) → is_over past ≡ b → StandsFor o (p ∷ past) new
+      by_case : (b : Bool) → is_over past ≡ b → Represents o (p ∷ past) new
       by_case false open_ =
           keeps_standing o past p Stays old new m old.entries old.peak old.next h reply e refl
           (over_same past p Stays e refl ∙ open_) is marks refl (peak_kept h old.entries (omega arith)) (omega arith)
@@ -118,13 +118,13 @@ module _ {T A S : Type 0} where
           (none_parked h over) refl (omega arith) refl refl)
 
   -- nothing changes
-  pub still : (o : Opening) (past : Log T A) (p : Step T × Reply T A) (old new : State T S) → StandsFor o past old
-      → IsReply (channel o past) p.0 p.1 → change past p.0 p.1 ≡ Stays → new ≡ old → StandsFor o (p ∷ past) new
+  pub still : (o : Opening) (past : Log T A) (p : Step T × Reply T A) (old new : State T S) → Represents o past old
+      → IsReply (channel o past) p.0 p.1 → change past p.0 p.1 ≡ Stays → new ≡ old → Represents o (p ∷ past) new
   still o past p old new h reply e is = still_signal o past p old new old.sends h reply e is (λ t. refl)
 
   -- an end joins or leaves, and one is left
   pub counts_open : (o : Opening) (past : Log T A) (p : Step T × Reply T A) (done : Change T) (old new : State T S) (m : SendMap S)
-      (es : Entries T S) → StandsFor o past old → IsReply (channel o past) p.0 p.1 → change past p.0 p.1 ≡ done → moves_none done ≡ true
+      (es : Entries T S) → Represents o past old → IsReply (channel o past) p.0 p.1 → change past p.0 p.1 ≡ done → moves_none done ≡ true
       → new ≡ record old {
         senders = senders_after old.senders done;
         receivers = receivers_after old.receivers done;
@@ -132,9 +132,9 @@ module _ {T A S : Type 0} where
         entries = es;
       }
       → SameMarks m old.sends
-      → map bare es ≡ entries_after old.queue (not (is_shut past) && is_shut (p ∷ past)) (map bare old.entries) done
+      → map bare es ≡ entries_after old.queue (not (is_closed_after past) && is_closed_after (p ∷ past)) (map bare old.entries) done
       → waiting_count es ≤ waiting_count old.entries → issued done ≡ 0
-      → 0 < senders_after old.senders done + receivers_after old.receivers done → StandsFor o (p ∷ past) new
+      → 0 < senders_after old.senders done + receivers_after old.receivers done → Represents o (p ∷ past) new
   counts_open o past p done old new m es h reply e none is marks entered fewer issued_ some =
       let a : senders_after old.senders done ≡ senders (p ∷ past) =
       ap (λ n. senders_after n done) h.senders_are ∙ sym (ap (senders_after (senders past)) e) in
@@ -145,9 +145,9 @@ module _ {T A S : Type 0} where
 
   -- an end leaves, and none is left
   pub counts_over : (o : Opening) (past : Log T A) (p : Step T × Reply T A) (done : Change T) (old new : State T S)
-      → StandsFor o past old → IsReply (channel o past) p.0 p.1 → change past p.0 p.1 ≡ done → moves_none done ≡ true
-      → issued done ≡ 0 → new ≡ emptied (record old { senders = senders_after old.senders done; receivers = receivers_after old.receivers done })
-      → senders_after old.senders done + receivers_after old.receivers done ≡ 0 → StandsFor o (p ∷ past) new
+      → Represents o past old → IsReply (channel o past) p.0 p.1 → change past p.0 p.1 ≡ done → moves_none done ≡ true
+      → issued done ≡ 0 → new ≡ with_nothing_left (record old { senders = senders_after old.senders done; receivers = receivers_after old.receivers done })
+      → senders_after old.senders done + receivers_after old.receivers done ≡ 0 → Represents o (p ∷ past) new
   counts_over o past p done old new h reply e moves issued_ is none =
       let a : senders_after old.senders done ≡ senders (p ∷ past) =
       ap (λ n. senders_after n done) h.senders_are ∙ sym (ap (senders_after (senders past)) e) in

@@ -13,7 +13,7 @@ use Rattle.flume_model.specs.Parked.{entries}
 use Rattle.flume_model.specs.Fills.{FillIs, IsOf, shown}
 use Rattle.flume_model.specs.Laws.{InOrder}
 use Rattle.flume_state.specs.State.{State, offers_of}
-use Rattle.flume_core.specs.StandsFor.{StandsFor, Extends}
+use Rattle.flume_core.specs.Represents.{Represents, Extends}
 use Rattle.flume_core.specs.Headline.{Headline}
 use Rattle.flume_model.proofs.fills.FillsOrder.{in_order}
 use Rattle.flume_core.proofs.Bare.{bare_held}
@@ -30,8 +30,8 @@ module _ {T A S : Type 0} where
   -- of these steps, those before the rest were done and had these replies, whatever the log before
   abbrev pub DoneUpTo : State T S → State T S → List (Step T) → List (Step T) → List (Reply T A) → Type 0
   DoneUpTo old now steps rest replies =
-      (o : Opening) (log : Log T A) → StandsFor o log old
-      → (past : Log T A) × StandsFor o past now
+      (o : Opening) (log : Log T A) → Represents o log old
+      → (past : Log T A) × Represents o past now
       × ((later : List (Reply T A)) → after past rest later ≡ after log steps (replies ++ later))
 
   -- none is done yet
@@ -49,20 +49,20 @@ module _ {T A S : Type 0} where
 
   -- all are done
   pub all_done : (old now : State T S) (steps rest : List (Step T)) (replies : List (Reply T A)) → DoneUpTo old now steps rest replies
-      → rest ≡ [] → (o : Opening) (log : Log T A) → StandsFor o log old → StandsFor o (after log steps replies) now
+      → rest ≡ [] → (o : Opening) (log : Log T A) → Represents o log old → Represents o (after log steps replies) now
   all_done old now steps rest replies done none o log h =
       let so_far = done o log h in
       let same : so_far.0 ≡ after log steps replies = rw (none, append-nil) at (so_far.2 []) in
-      let P : Log T A → Type 0 = λ past. StandsFor o past now in
+      let P : Log T A → Type 0 = λ past. Represents o past now in
       subst P same so_far.1
 
   -- while an end is there, the queued and the blocked offers are the kept ones that weren't handed out
-  left_is : (o : Opening) (log : Log T A) (s : State T S) (h : StandsFor o log s) → is_over log ≡ false
+  left_is : (o : Opening) (log : Log T A) (s : State T S) (h : Represents o log s) → is_over log ≡ false
       → h.queued ++ offers_of s.blocked ≡ drop (hand_outs log) (kept log)
   left_is o log s h open_ = sym h.line_is ∙ rw open_ refl
 
   -- the queue is the kept offers from the hand-outs on, up to the boundary
-  queue_is_front : (o : Opening) (log : Log T A) (s : State T S) → StandsFor o log s
+  queue_is_front : (o : Opening) (log : Log T A) (s : State T S) → Represents o log s
       → s.queue ≡ messages (take (boundary o log) (drop (hand_outs log) (kept log)))
   queue_is_front o log s h = go (is_over log) refl
     where
@@ -78,13 +78,13 @@ module _ {T A S : Type 0} where
           rw (sym (left_is o log s h open_), ← h.boundary_is, ← queued_length h, take-append_seam h.queued (offers_of s.blocked)) h.queue_is
 
   -- the blocked messages are the rest of them, while an end is there
-  blocked_are_rest : (o : Opening) (log : Log T A) (s : State T S) → StandsFor o log s → is_over log ≡ false
+  blocked_are_rest : (o : Opening) (log : Log T A) (s : State T S) → Represents o log s → is_over log ≡ false
       → offers_of s.blocked ≡ drop (boundary o log) (drop (hand_outs log) (kept log))
   blocked_are_rest o log s h open_ =
       rw (sym (left_is o log s h open_), ← h.boundary_is, ← queued_length h, drop-append_seam h.queued (offers_of s.blocked)) refl
 
   -- a hand-out is of the same message by the entries of the state as by those of the log
-  same_hand_out : (o : Opening) (log : Log T A) (s : State T S) → StandsFor o log s
+  same_hand_out : (o : Opening) (log : Log T A) (s : State T S) → Represents o log s
       → (given : HandOut T) (m : T) → IsOf (entries o log) log given m → IsOf s.entries log given m
   same_hand_out o log s h (Shown shows) m of_it = of_it
   same_hand_out o log s h (FilledIn t) m of_it =
@@ -92,13 +92,13 @@ module _ {T A S : Type 0} where
       (ap held_by (entry_at_log h t) ∙ bare_held (entry_of t s.entries)) of_it
 
   -- the messages are handed out in order, by the entries of the state
-  order : (o : Opening) (log : Log T A) (s : State T S) → StandsFor o log s → InOrder s.entries log
+  order : (o : Opening) (log : Log T A) (s : State T S) → Represents o log s → InOrder s.entries log
   order o log s h j given at =
       let found = in_order o log h.run j given at in
       (found.0, found.1, same_hand_out o log s h given found.0.message found.2)
 
   -- what stands for a log has the headline
-  pub headline : (o : Opening) (log : Log T A) (s : State T S) → StandsFor o log s → Headline o log s
+  pub headline : (o : Opening) (log : Log T A) (s : State T S) → Represents o log s → Headline o log s
   headline o log s h = record {
     in_order = order o log s h;
     queue_is_front = queue_is_front o log s h;

@@ -13,7 +13,7 @@ use Rattle.flume_model.specs.Channel.{has_ticket}
 use Rattle.flume_state.specs.Messages.{Blocked}
 use Rattle.flume_state.specs.Sends.{SendMap, blocked as blocked_send, changed, accepted_now}
 use Rattle.flume_state.specs.State.{State, offers_of}
-use Rattle.flume_core.specs.StandsFor.{StandsFor}
+use Rattle.flume_core.specs.Represents.{Represents}
 use Rattle.flume_model.proofs.Tickets.{has_ticket-append}
 use Rattle.flume_model.proofs.order.LineSteps.{apart_in_line}
 use Rattle.flume_state.proofs.SendsLaws.{get-insert_same, get-insert_other, get-remove_same, get-remove_other, get-changed_same}
@@ -77,7 +77,7 @@ module _ {T S : Type 0} where
 
 module _ {T A S : Type 0} where
   -- the marks once a send's ticket is spent
-  pub marks_removed : {o : Opening} {past : Log T A} {old : State T S} → StandsFor o past old → (t q : ℕ) (waits : Bool)
+  pub marks_removed : {o : Opening} {past : Log T A} {old : State T S} → Represents o past old → (t q : ℕ) (waits : Bool)
       → (eqb t q ≡ false → waits ≡ has_ticket q (offers_of old.blocked))
       → mark (remove old.sends t) q ≡ status (false || (is_live past q && not (eqb t q))) waits
   marks_removed {o} {past} {old} h t q waits same = ⊎_elim here there (cases_eq q t)
@@ -98,7 +98,7 @@ module _ {T A S : Type 0} where
           ∙ ap (status (is_live past q)) (same other))
 
   -- the marks once a send has blocked under the next ticket
-  pub marks_inserted : {o : Opening} {past : Log T A} {old : State T S} → StandsFor o past old → (m : T) (signal : S) (q : ℕ)
+  pub marks_inserted : {o : Opening} {past : Log T A} {old : State T S} → Represents o past old → (m : T) (signal : S) (q : ℕ)
       → mark (insert old.sends old.next (blocked_send signal)) q
       ≡ status (eqb old.next q || (is_live past q && not false))
       (has_ticket q (offers_of (old.blocked ++ record { ticket = old.next; message = m } ∷ [])))
@@ -127,7 +127,7 @@ module _ {T A S : Type 0} where
           (has_push q old.blocked _ ∙ ap (λ b. has_ticket q (offers_of old.blocked) || (b || false)) other ∙ or-false _))
 
   -- the marks once the first blocked message has moved in
-  pub marks_admitted : (o : Opening) (past : Log T A) (old : State T S) (b : Blocked T) (later : List (Blocked T)) → StandsFor o past old
+  pub marks_admitted : (o : Opening) (past : Log T A) (old : State T S) (b : Blocked T) (later : List (Blocked T)) → Represents o past old
       → old.blocked ≡ b ∷ later → (q : ℕ)
       → mark (changed old.sends b.ticket accepted_now) q ≡ status (is_live past q && true) (has_ticket q (offers_of later))
   marks_admitted o past old b later h at q =

@@ -17,8 +17,8 @@ use Rattle.flume_state.specs.Messages.{Blocked}
 use Rattle.flume_state.specs.Sends.{blocked as blocked_send}
 use Rattle.flume_state.specs.Notices.{due_now}
 use Rattle.flume_state.specs.State.{State, offers_of}
-use Rattle.flume_core.specs.StandsFor.{StandsFor}
-use Rattle.flume_state.specs.Effects.{rounded}
+use Rattle.flume_core.specs.Represents.{Represents}
+use Rattle.flume_state.specs.Effects.{after_wake_round}
 use Rattle.flume_state.specs.Receivers.{unfilled}
 use Rattle.flume_model.proofs.order.Kept.{keeps_line}
 use Rattle.flume_model.proofs.order.Parts.{at_most}
@@ -44,7 +44,7 @@ module _ {T : Type 0} where
 
 module _ {T A S : Type 0} where
   -- nobody is blocked where a message is queued
-  none_blocked_joining : {o : Opening} {log : Log T A} {s : State T S} → StandsFor o log s → TakesIn (channel o log) → s.blocked ≡ []
+  none_blocked_joining : {o : Opening} {log : Log T A} {s : State T S} → Represents o log s → TakesIn (channel o log) → s.blocked ≡ []
   none_blocked_joining {o} {log} {s} h takes = by_case (some_wait s.entries) refl
     where
       by_case : (b : Bool) → some_wait s.entries ≡ b → s.blocked ≡ []
@@ -53,9 +53,9 @@ module _ {T A S : Type 0} where
 
   -- a message is queued, and a wake round follows
   pub queues : (o : Opening) (past : Log T A) (p : Step T × Reply T A) (old new : State T S) (m : T) (filled : Option ℕ) (space : ℕ)
-      → StandsFor o past old → IsReply (channel o past) p.0 p.1 → change past p.0 p.1 ≡ Queues m filled
+      → Represents o past old → IsReply (channel o past) p.0 p.1 → change past p.0 p.1 ≡ Queues m filled
       → filled ≡ round_for_fills (old.queue ++ m ∷ []) old.entries
-      → new ≡ rounded (record old { queue = old.queue ++ m ∷ []; space = space }) → StandsFor o (p ∷ past) new
+      → new ≡ after_wake_round (record old { queue = old.queue ++ m ∷ []; space = space }) → Represents o (p ∷ past) new
   queues o past p old new m filled space h reply e fills is =
       let x : Offer T = record { message = m; ticket = None } in
       let fit = fits_as o past p (Queues m filled) h.run reply e in
@@ -88,14 +88,14 @@ module _ {T A S : Type 0} where
 
   -- a message is blocked
   pub blocks : (o : Opening) (past : Log T A) (p : Step T × Reply T A) (old new : State T S) (m : T) (signal : S) (space : ℕ)
-      → StandsFor o past old → IsReply (channel o past) p.0 p.1 → change past p.0 p.1 ≡ Blocks m old.next
+      → Represents o past old → IsReply (channel o past) p.0 p.1 → change past p.0 p.1 ≡ Blocks m old.next
       → new ≡ record old {
         blocked = old.blocked ++ record { ticket = old.next; message = m } ∷ [];
         space = space;
         sends = insert old.sends old.next (blocked_send signal);
         next = old.next + 1;
       }
-      → StandsFor o (p ∷ past) new
+      → Represents o (p ∷ past) new
   blocks o past p old new m signal space h reply e is =
       let b : Blocked T = record { ticket = old.next; message = m } in
       let fit = fits_as o past p (Blocks m old.next) h.run reply e in
@@ -119,9 +119,9 @@ module _ {T A S : Type 0} where
       })
 
   -- a send learns that its message was accepted
-  pub accepts : (o : Opening) (past : Log T A) (p : Step T × Reply T A) (old new : State T S) (t : ℕ) → StandsFor o past old
+  pub accepts : (o : Opening) (past : Log T A) (p : Step T × Reply T A) (old new : State T S) (t : ℕ) → Represents o past old
       → IsReply (channel o past) p.0 p.1 → change past p.0 p.1 ≡ Accepts t → new ≡ record old { sends = remove old.sends t }
-      → StandsFor o (p ∷ past) new
+      → Represents o (p ∷ past) new
   accepts o past p old new t h reply e is =
       let fit = fits_as o past p (Accepts t) h.run reply e in
       let open_ : is_over past ≡ false = live_not_over past t fit.0 in
@@ -143,10 +143,10 @@ module _ {T A S : Type 0} where
 
   -- a blocked message is withdrawn
   pub withdraws : (o : Opening) (past : Log T A) (p : Step T × Reply T A) (old new : State T S) (t : ℕ) (m : T)
-      (before later : List (Blocked T)) → StandsFor o past old
+      (before later : List (Blocked T)) → Represents o past old
       → IsReply (channel o past) p.0 p.1 → change past p.0 p.1 ≡ Withdraws t
       → old.blocked ≡ before ++ record { ticket = t; message = m } ∷ later
-      → new ≡ record old { blocked = before ++ later; sends = remove old.sends t } → StandsFor o (p ∷ past) new
+      → new ≡ record old { blocked = before ++ later; sends = remove old.sends t } → Represents o (p ∷ past) new
   withdraws o past p old new t m before later h reply e at is =
       let fit = fits_as o past p (Withdraws t) h.run reply e in
       let open_ : is_over past ≡ false = live_not_over past t fit.1.0 in

@@ -18,8 +18,8 @@ use Rattle.flume_model.specs.Parked.{LogEntry, entries}
 use Rattle.flume_state.specs.Notices.{due_now}
 use Rattle.flume_state.specs.Receivers.{begins, noticed_receiver}
 use Rattle.flume_state.specs.State.{State, offers_of, bare}
-use Rattle.flume_core.specs.StandsFor.{StandsFor}
-use Rattle.flume_state.specs.Effects.{unparked, departed, waiting_so}
+use Rattle.flume_core.specs.Represents.{Represents}
+use Rattle.flume_state.specs.Effects.{without_receiver, after_withdrawal, with_peak}
 use Rattle.flume_state.specs.Receivers.{unfilled}
 use Rattle.flume_model.proofs.order.LineSteps.{line_leaves}
 use Rattle.flume_model.proofs.waits.WaitingOpen.{nothing_once_over}
@@ -48,13 +48,13 @@ module _ {T N : Type 0} where
 
 module _ {T S : Type 0} where
   -- what a receiver that leaves with no message leaves
-  departed_is : (t : ℕ) (s : State T S) → departed t s ≡ record s {
+  departed_is : (t : ℕ) (s : State T S) → after_withdrawal t s ≡ record s {
     queue = unfilled (leave_fills t s.queue s.entries) s.queue;
     entries = after_leave due_now t s.queue s.entries;
   }
   departed_is t s = by_case (passes_on (entry_of t s.entries)) refl
     where
-      by_case : (b : Bool) → passes_on (entry_of t s.entries) ≡ b → departed t s ≡ record s {
+      by_case : (b : Bool) → passes_on (entry_of t s.entries) ≡ b → after_withdrawal t s ≡ record s {
         queue = unfilled (leave_fills t s.queue s.entries) s.queue;
         entries = after_leave due_now t s.queue s.entries;
       }
@@ -62,16 +62,16 @@ module _ {T S : Type 0} where
       by_case false stays = rw stays refl
 
   -- where nothing is queued, no wake is passed on
-  pub departed_empty : (t : ℕ) (s : State T S) → s.queue ≡ [] → departed t s ≡ unparked t s
+  pub departed_empty : (t : ℕ) (s : State T S) → s.queue ≡ [] → after_withdrawal t s ≡ without_receiver t s
   departed_empty t s none = by_case (passes_on (entry_of t s.entries)) refl
     where
-      by_case : (b : Bool) → passes_on (entry_of t s.entries) ≡ b → departed t s ≡ unparked t s
+      by_case : (b : Bool) → passes_on (entry_of t s.entries) ≡ b → after_withdrawal t s ≡ without_receiver t s
       by_case true passes =
-          rw passes (ap (λ q. record (unparked t s) {
+          rw passes (ap (λ q. record (without_receiver t s) {
             queue = unfilled (round_for_fills q (without t s.entries)) q;
             entries = round_for due_now q (without t s.entries);
           }) none
-          ∙ sym (ap (λ q. record (unparked t s) { queue = q }) none))
+          ∙ sym (ap (λ q. record (without_receiver t s) { queue = q }) none))
       by_case false stays = rw stays refl
 
 module _ {T A : Type 0} where
@@ -89,10 +89,10 @@ module _ {T A : Type 0} where
 module _ {T A S : Type 0} where
   -- a receiver parks
   pub parks : (o : Opening) (past : Log T A) (p : Step T × Reply T A) (old new : State T S) (kind : Kind) (signal : S)
-      → StandsFor o past old
+      → Represents o past old
       → IsReply (channel o past) p.0 p.1 → change past p.0 p.1 ≡ Parks old.next kind
-      → new ≡ waiting_so (old.entries ++ begins old.next kind signal ∷ []) (record old { next = old.next + 1 })
-      → StandsFor o (p ∷ past) new
+      → new ≡ with_peak (old.entries ++ begins old.next kind signal ∷ []) (record old { next = old.next + 1 })
+      → Represents o (p ∷ past) new
   parks o past p old new kind signal h reply e is =
       let fit = fits_as o past p (Parks old.next kind) h.run reply e in
       let es = old.entries ++ begins old.next kind signal ∷ [] in
@@ -102,9 +102,9 @@ module _ {T A S : Type 0} where
 
   -- a receiver waits on, or again behind all others
   pub asks : (o : Opening) (past : Log T A) (p : Step T × Reply T A) (old new : State T S) (t : ℕ) (f : Notice S → Notice S)
-      → StandsFor o past old
+      → Represents o past old
       → IsReply (channel o past) p.0 p.1 → change past p.0 p.1 ≡ Asks t
-      → new ≡ waiting_so (again t (noticed_receiver f t old.entries)) old → StandsFor o (p ∷ past) new
+      → new ≡ with_peak (again t (noticed_receiver f t old.entries)) old → Represents o (p ∷ past) new
   asks o past p old new t f h reply e is =
       let fit = fits_as o past p (Asks t) h.run reply e in
       let es = again t (noticed_receiver f t old.entries) in
@@ -113,8 +113,8 @@ module _ {T A S : Type 0} where
       (bare_again t (noticed_receiver f t old.entries) ∙ ap (again t) (bare_noticed f t old.entries)) refl (omega arith)
 
   -- a filled receiver leaves with its message
-  pub collects : (o : Opening) (past : Log T A) (p : Step T × Reply T A) (old new : State T S) (t : ℕ) → StandsFor o past old
-      → IsReply (channel o past) p.0 p.1 → change past p.0 p.1 ≡ Collects t → new ≡ unparked t old → StandsFor o (p ∷ past) new
+  pub collects : (o : Opening) (past : Log T A) (p : Step T × Reply T A) (old new : State T S) (t : ℕ) → Represents o past old
+      → IsReply (channel o past) p.0 p.1 → change past p.0 p.1 ≡ Collects t → new ≡ without_receiver t old → Represents o (p ∷ past) new
   collects o past p old new t h reply e is =
       let fit = fits_as o past p (Collects t) h.run reply e in
       let es = without t old.entries in
@@ -124,9 +124,9 @@ module _ {T A S : Type 0} where
 
   -- a receiver leaves with no message, and its wake is passed on
   pub departs : (o : Opening) (past : Log T A) (p : Step T × Reply T A) (old new : State T S) (t : ℕ) (filled : Option ℕ)
-      → StandsFor o past old
+      → Represents o past old
       → IsReply (channel o past) p.0 p.1 → change past p.0 p.1 ≡ Leaves t filled → filled ≡ leave_fills t old.queue old.entries
-      → new ≡ departed t old → StandsFor o (p ∷ past) new
+      → new ≡ after_withdrawal t old → Represents o (p ∷ past) new
   departs o past p old new t filled h reply e fills is =
       let fit = fits_as o past p (Leaves t filled) h.run reply e in
       let open_ : is_over past ≡ false = entry_not_over o past t fit.0.entry h.run fit.0.found in

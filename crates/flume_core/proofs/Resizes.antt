@@ -12,8 +12,8 @@ use Rattle.flume_model.specs.Channel.{channel, has_ticket}
 use Rattle.flume_model.specs.Replies.{IsReply}
 use Rattle.flume_model.specs.Limits.{HasRoom, IsAtCapacity, is_full}
 use Rattle.flume_state.specs.State.{State, offers_of}
-use Rattle.flume_state.specs.Effects.{filled_up, resized}
-use Rattle.flume_core.specs.StandsFor.{StandsFor}
+use Rattle.flume_state.specs.Effects.{after_admissions, with_capacity}
+use Rattle.flume_core.specs.Represents.{Represents}
 use Rattle.flume_model.proofs.order.Kept.{keeps_line}
 use Rattle.flume_model.proofs.order.LineSteps.{line_stays}
 use Rattle.flume_core.proofs.Views.{status, status_is, queued_length, offered_messages}
@@ -32,8 +32,8 @@ grows_long c n more later within (inr none) = omega arith
 
 module _ {T A S : Type 0} where
   -- the capacity is set
-  pub resizes : (o : Opening) (past : Log T A) (p : Step T × Reply T A) (old new : State T S) (c : ℕ) → StandsFor o past old
-      → IsReply (channel o past) p.0 p.1 → change past p.0 p.1 ≡ Resizes c → new ≡ resized c old → StandsFor o (p ∷ past) new
+  pub resizes : (o : Opening) (past : Log T A) (p : Step T × Reply T A) (old new : State T S) (c : ℕ) → Represents o past old
+      → IsReply (channel o past) p.0 p.1 → change past p.0 p.1 ≡ Resizes c → new ≡ with_capacity c old → Represents o (p ∷ past) new
   resizes o past p old new c h reply e is = by_room (full_or_room (Some c) (length old.queue))
     where
       set_ : State T S
@@ -50,7 +50,7 @@ module _ {T A S : Type 0} where
 
       by_room : ((is_full (Some c) (length old.queue) ≡ true) × IsAtCapacity (Some c) (length old.queue))
           ⊎ ((is_full (Some c) (length old.queue) ≡ false) × HasRoom (Some c) (length old.queue))
-          → StandsFor o (p ∷ past) new
+          → Represents o (p ∷ past) new
       by_room (inl full) =
           stands_as o (p ∷ past) new set_ (is ∙ fills_none_full set_ full.1) (stands_open o past p (Resizes c) old set_ h reply e still_open record {
             capacity_is = refl;
@@ -69,7 +69,7 @@ module _ {T A S : Type 0} where
           })
       by_room (inr room) =
           let below : length old.queue ≤ c = let lt = room.1 in omega arith in
-          let at : MovedIn old.blocked set_ (filled_up set_) = moves_in old.blocked set_ refl below in
+          let at : MovedIn old.blocked set_ (after_admissions set_) = moves_in old.blocked set_ refl below in
           let parts : offers_of old.blocked ≡ offers_of at.moved ++ offers_of at.later =
           ap offers_of at.parts ∙ map-append _ at.moved at.later in
           let whole : line (p ∷ past) ≡ (h.queued ++ offers_of at.moved) ++ offers_of at.later =

@@ -12,12 +12,12 @@ use Rattle.flume_model.specs.Line.{line, boundary, queue, boundary_after, capaci
 use Rattle.flume_model.specs.Channel.{channel, has_ticket}
 use Rattle.flume_model.specs.Replies.{IsReply, IsRun}
 use Rattle.flume_model.specs.Entries.{waiting_count}
-use Rattle.flume_model.specs.Parked.{entries, entries_after, is_shut}
+use Rattle.flume_model.specs.Parked.{entries, entries_after, is_closed_after}
 use Rattle.flume_model.proofs.EntryShape.{told_filled}
 use Rattle.flume_core.proofs.Bare.{bare_waiting}
 use Rattle.flume_state.specs.Receivers.{Entries}
 use Rattle.flume_state.specs.State.{State, offers_of, bare}
-use Rattle.flume_core.specs.StandsFor.{StandsFor}
+use Rattle.flume_core.specs.Represents.{Represents}
 use Rattle.flume_model.proofs.Fits.{Fits, fits}
 use Rattle.flume_model.proofs.order.LineSteps.{line_over}
 use Rattle.flume_model.proofs.waits.WaitingOpen.{nothing_once_over}
@@ -87,7 +87,7 @@ pub record LeftBy {T A S : Type 0} (o : Opening) (past : Log T A) (p : Step T ×
   pub marks : (t : ℕ) → mark new.sends t
       ≡ status (issues done t || (is_live past t && not (spends done t))) (has_ticket t (offers_of new.blocked))
   pub entries_are : map bare new.entries
-      ≡ entries_after old.queue (not (is_shut past) && is_shut (p ∷ past)) (map bare old.entries) done
+      ≡ entries_after old.queue (not (is_closed_after past) && is_closed_after (p ∷ past)) (map bare old.entries) done
   pub peak_is : new.peak ≡ max old.peak (waiting_count new.entries)
   pub next_is : new.next ≡ old.next + issued done
   pub senders_are : new.senders ≡ senders_after old.senders done
@@ -95,15 +95,15 @@ pub record LeftBy {T A S : Type 0} (o : Opening) (past : Log T A) (p : Step T ×
 
 module _ {T A S : Type 0} where
   -- a state equal to one that stands for a log
-  pub stands_as : (o : Opening) (log : Log T A) (s u : State T S) → s ≡ u → StandsFor o log u → StandsFor o log s
-  stands_as o log s u e h = subst (λ (x : State T S). StandsFor o log x) (sym e) h
+  pub stands_as : (o : Opening) (log : Log T A) (s u : State T S) → s ≡ u → Represents o log u → Represents o log s
+  stands_as o log s u e h = subst (λ (x : State T S). Represents o log x) (sym e) h
 
   -- what such a step leaves stands for the longer log
-  pub stands_open : (o : Opening) (past : Log T A) (p : Step T × Reply T A) (done : Change T) (old new : State T S) → StandsFor o past old
+  pub stands_open : (o : Opening) (past : Log T A) (p : Step T × Reply T A) (done : Change T) (old new : State T S) → Represents o past old
       → IsReply (channel o past) p.0 p.1 → change past p.0 p.1 ≡ done → is_over (p ∷ past) ≡ false → LeftBy o past p done old new
-      → StandsFor o (p ∷ past) new
+      → Represents o (p ∷ past) new
   stands_open o past p done old new h reply e open_ by =
-      let closes = not (is_shut past) && is_shut (p ∷ past) in
+      let closes = not (is_closed_after past) && is_closed_after (p ∷ past) in
       let in_force : new.capacity ≡ capacity o (p ∷ past) =
       by.capacity_is ∙ ap (λ c. capacity_after c done) h.capacity_is ∙ sym (ap (capacity_after (capacity o past)) e) in
       let counted : length new.queue ≡ boundary o (p ∷ past) =
@@ -138,14 +138,14 @@ module _ {T A S : Type 0} where
       }
 
   -- once over, what has no message and no ticket left stands for the log
-  pub stands_over : (o : Opening) (past : Log T A) (p : Step T × Reply T A) (done : Change T) (old new : State T S) → StandsFor o past old
+  pub stands_over : (o : Opening) (past : Log T A) (p : Step T × Reply T A) (done : Change T) (old new : State T S) → Represents o past old
       → IsReply (channel o past) p.0 p.1 → change past p.0 p.1 ≡ done → is_over (p ∷ past) ≡ true
       → ((c : Option ℕ) → capacity_after c done ≡ c)
       → new.capacity ≡ old.capacity → new.greatest ≡ old.greatest → new.queue ≡ [] → new.blocked ≡ []
       → ((t : ℕ) → mark new.sends t ≡ None) → new.entries ≡ [] → new.peak ≡ old.peak
       → new.next ≡ old.next + issued done → new.senders ≡ senders_after old.senders done
       → new.receivers ≡ receivers_after old.receivers done
-      → StandsFor o (p ∷ past) new
+      → Represents o (p ∷ past) new
   stands_over o past p done old new h reply e over keeps same_capacity same_greatest no_queue no_blocked no_sends no_entries same_peak next senders_
       receivers_ =
       let in_force : new.capacity ≡ capacity o (p ∷ past) =
@@ -170,10 +170,10 @@ module _ {T A S : Type 0} where
       }
 
   -- where no more wait, the peak stays
-  pub peak_kept : {o : Opening} {log : Log T A} {s : State T S} → StandsFor o log s → (es : Entries T S)
+  pub peak_kept : {o : Opening} {log : Log T A} {s : State T S} → Represents o log s → (es : Entries T S)
       → waiting_count es ≤ waiting_count s.entries → s.peak ≡ max s.peak (waiting_count es)
   peak_kept {o} {log} {s} h es fewer = let within = waiting_within h in omega arith
 
   -- once over, nobody is parked
-  pub none_parked : {o : Opening} {log : Log T A} {s : State T S} → StandsFor o log s → is_over log ≡ true → s.entries ≡ []
+  pub none_parked : {o : Opening} {log : Log T A} {s : State T S} → Represents o log s → is_over log ≡ true → s.entries ≡ []
   none_parked {o} {log} {s} h over = nil_mapped bare s.entries (h.entries_are ∙ (nothing_once_over o log h.run over).1)

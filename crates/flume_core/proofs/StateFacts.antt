@@ -18,7 +18,7 @@ use Rattle.flume_state.specs.Messages.{Blocked}
 use Rattle.flume_model.specs.Laws.{Rising}
 use Rattle.flume_model.specs.WaitLaws.{Apart, block_woken}
 use Rattle.flume_state.specs.State.{State, accepted_at, offers_of, bare}
-use Rattle.flume_core.specs.StandsFor.{StandsFor}
+use Rattle.flume_core.specs.Represents.{Represents}
 use Rattle.flume_core.specs.StateFacts.{SendersBlockAtCapacity, ReceiversWaitWhileOpen, WokenCoverQueued}
 use Rattle.flume_core.specs.StateFacts.{QueuedAndWaitingAreBounded, ReceiverTicketsApart, SendTicketsApart, BlockedTicketsRise}
 use Rattle.flume_core.specs.StateFacts.{BlockedSendsAreLive, AcceptedBeforeBlocked, EmptyOnceOver, BlockingWokenByClosing, ChannelFacts}
@@ -65,7 +65,7 @@ module _ {T : Type 0} where
 
 module _ {T A S : Type 0} where
   -- a sender is blocked only at capacity, and while no receiver waits
-  pub senders_block : (o : Opening) (log : Log T A) (s : State T S) → StandsFor o log s → SendersBlockAtCapacity s
+  pub senders_block : (o : Opening) (log : Log T A) (s : State T S) → Represents o log s → SendersBlockAtCapacity s
   senders_block o log s h some = (at_capacity h some, by_case (some_wait s.entries) refl)
     where
       by_case : (b : Bool) → some_wait s.entries ≡ b → b ≡ false
@@ -73,37 +73,37 @@ module _ {T A S : Type 0} where
       by_case false waits = refl
 
   -- a receiver waits only while the channel is open and no sender is blocked
-  pub receivers_wait : (o : Opening) (log : Log T A) (s : State T S) → StandsFor o log s → ReceiversWaitWhileOpen s
+  pub receivers_wait : (o : Opening) (log : Log T A) (s : State T S) → Represents o log s → ReceiversWaitWhileOpen s
   receivers_wait o log s h some = (
     subst₂ IsOpen (sym h.senders_are) (sym h.receivers_are) (waits_while_open o log h.run (waiting_at_log h ∙ some)).0,
     none_blocked_waiting h some,
   )
 
   -- while a receiver waits as many stand woken as messages are queued
-  pub woken_cover : (o : Opening) (log : Log T A) (s : State T S) → StandsFor o log s → WokenCoverQueued s
+  pub woken_cover : (o : Opening) (log : Log T A) (s : State T S) → Represents o log s → WokenCoverQueued s
   woken_cover o log s h some =
       subst₂ (λ a b. a ≤ b) (sym h.boundary_is) (sym (ap woken_count h.entries_are) ∙ bare_woken s.entries)
       (covered o log h.run (waiting_at_log h ∙ some))
 
   -- what is queued and who waits are bounded
-  pub queued_bounded : (o : Opening) (log : Log T A) (s : State T S) → StandsFor o log s → QueuedAndWaitingAreBounded s
+  pub queued_bounded : (o : Opening) (log : Log T A) (s : State T S) → Represents o log s → QueuedAndWaitingAreBounded s
   queued_bounded o log s h =
       let waiting : waiting_count (entries o log) ≡ waiting_count s.entries =
       sym (ap waiting_count h.entries_are) ∙ bare_waiting s.entries in
       rw (h.greatest_is, h.peak_is, h.boundary_is, sym waiting) (bounded o log h.run)
 
   -- the tickets of parked receivers are apart
-  pub receivers_apart : (o : Opening) (log : Log T A) (s : State T S) → StandsFor o log s → ReceiverTicketsApart s
+  pub receivers_apart : (o : Opening) (log : Log T A) (s : State T S) → Represents o log s → ReceiverTicketsApart s
   receivers_apart o log s h =
       rw h.next_is (bare_apart (next_ticket o log) s.entries (rw h.entries_are (entries_apart o log h.run)))
 
   -- how a send ticket stands
-  stands_live : (o : Opening) (log : Log T A) (s : State T S) → StandsFor o log s → (t : ℕ) (accepted : Bool)
+  stands_live : (o : Opening) (log : Log T A) (s : State T S) → Represents o log s → (t : ℕ) (accepted : Bool)
       → accepted_at s t ≡ Some accepted → (is_live log t ≡ true) × (has_ticket t (blocked o log) ≡ not accepted)
   stands_live o log s h t accepted e = live_by (is_live log t) (has_ticket t (blocked o log)) accepted (sym (h.sends_are t) ∙ e)
 
   -- the tickets of live sends are apart from those
-  pub sends_apart : (o : Opening) (log : Log T A) (s : State T S) → StandsFor o log s → SendTicketsApart s
+  pub sends_apart : (o : Opening) (log : Log T A) (s : State T S) → Represents o log s → SendTicketsApart s
   sends_apart o log s h t accepted e =
       let sides = sides_apart o log h.run t (stands_live o log s h t accepted e).0 in (
         rw h.next_is sides.0,
@@ -111,7 +111,7 @@ module _ {T A S : Type 0} where
       )
 
   -- once both ends are gone, nothing is left
-  pub empty_over : (o : Opening) (log : Log T A) (s : State T S) → StandsFor o log s → EmptyOnceOver s
+  pub empty_over : (o : Opening) (log : Log T A) (s : State T S) → Represents o log s → EmptyOnceOver s
   empty_over o log s h none =
       let over : is_over log ≡ true =
       eq-eqb (senders log + receivers log) 0 (ap₂ (λ a b. a + b) (sym h.senders_are) (sym h.receivers_are) ∙ none) in
@@ -125,7 +125,7 @@ module _ {T A S : Type 0} where
       )
 
   -- the tickets of blocked messages rise
-  pub blocked_rise : (o : Opening) (log : Log T A) (s : State T S) → StandsFor o log s → BlockedTicketsRise s
+  pub blocked_rise : (o : Opening) (log : Log T A) (s : State T S) → Represents o log s → BlockedTicketsRise s
   blocked_rise o log s h = rw h.next_is (by_case (is_over log) refl)
     where
       over_at_state : is_over log ≡ true → s.senders + s.receivers ≡ 0
@@ -144,21 +144,21 @@ module _ {T A S : Type 0} where
           rising_behind (next_ticket o log) (gone ++ h.queued) (offers_of s.blocked) (rw all at rising)
 
   -- each blocked message is of a live send that wasn't accepted
-  pub blocked_live : (o : Opening) (log : Log T A) (s : State T S) → StandsFor o log s → BlockedSendsAreLive s
+  pub blocked_live : (o : Opening) (log : Log T A) (s : State T S) → Represents o log s → BlockedSendsAreLive s
   blocked_live o log s h =
       all_tickets (λ u. accepted_at s u ≡ Some false) s.blocked (λ u of.
       let is : has_ticket u (blocked o log) ≡ true = ap (has_ticket u) (blocked_is h) ∙ of in
       h.sends_are u ∙ ap₂ status (blocked_are_live o log h.run u is) is)
 
   -- a live send that was accepted has a ticket below those of blocked ones
-  pub accepted_before : (o : Opening) (log : Log T A) (s : State T S) → StandsFor o log s → AcceptedBeforeBlocked s
+  pub accepted_before : (o : Opening) (log : Log T A) (s : State T S) → Represents o log s → AcceptedBeforeBlocked s
   accepted_before o log s h t e =
       let stands = stands_live o log s h t true e in
       all_tickets (λ u. t < u) s.blocked
       (λ u of. accepted_below_blocked o log h.run t u stands.0 stands.1 (ap (has_ticket u) (blocked_is h) ∙ of))
 
   -- one that blocks stands woken only in a closed channel
-  pub blocking_woken : (o : Opening) (log : Log T A) (s : State T S) → StandsFor o log s → BlockingWokenByClosing s
+  pub blocking_woken : (o : Opening) (log : Log T A) (s : State T S) → Represents o log s → BlockingWokenByClosing s
   blocking_woken o log s h woken =
       let law = woken_block_while_closed o log h.run (sym (ap block_woken h.entries_are) ∙ bare_block_woken s.entries ∙ woken) in (
         subst₂ IsClosed (sym h.senders_are) (sym h.receivers_are) law.0,
@@ -166,7 +166,7 @@ module _ {T A S : Type 0} where
       )
 
   -- all of these
-  pub channel_facts : (o : Opening) (log : Log T A) (s : State T S) → StandsFor o log s → ChannelFacts s
+  pub channel_facts : (o : Opening) (log : Log T A) (s : State T S) → Represents o log s → ChannelFacts s
   channel_facts o log s h = record {
     senders_block_at_capacity = senders_block o log s h;
     receivers_wait_while_open = receivers_wait o log s h;

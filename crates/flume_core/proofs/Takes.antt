@@ -16,11 +16,11 @@ use Rattle.flume_model.specs.Limits.{HasRoom, IsAtCapacity, is_full}
 use Rattle.flume_state.specs.Messages.{Blocked}
 use Rattle.flume_state.specs.Sends.{changed, accepted_now}
 use Rattle.flume_state.specs.State.{State, offers_of, bare}
-use Rattle.flume_core.specs.StandsFor.{StandsFor}
-use Rattle.flume_state.specs.Effects.{admitted, admitted_from, refilled, fronted, fronted_from, taken as taken_state}
+use Rattle.flume_core.specs.Represents.{Represents}
+use Rattle.flume_state.specs.Effects.{after_admission, after_admission_of, after_refill, with_front, with_front_of, after_take as taken_state}
 use Rattle.flume_model.specs.declared.entry.Entry.{Entry}
 use Rattle.flume_model.specs.Entries.{waiting_count, without}
-use Rattle.flume_model.specs.Parked.{entries_after, is_shut}
+use Rattle.flume_model.specs.Parked.{entries_after, is_closed_after}
 use Rattle.flume_core.proofs.Bare.{bare_without}
 use Rattle.flume_model.proofs.WaitingCounts.{fewer_without}
 use Rattle.flume_core.proofs.Stands.{peak_kept}
@@ -82,12 +82,12 @@ module _ {T A S : Type 0} where
   -- the front of the line leaves
   taken : (o : Opening) (past : Log T A) (p : Step T × Reply T A) (old new : State T S) (m : T) (receiver : Option ℕ) (x : Offer T)
       (queued : List (Offer T))
-      → StandsFor o past old → IsReply (channel o past) p.0 p.1 → change past p.0 p.1 ≡ Takes m receiver
+      → Represents o past old → IsReply (channel o past) p.0 p.1 → change past p.0 p.1 ≡ Takes m receiver
       → line past ≡ x ∷ (queued ++ offers_of new.blocked) → new.queue ≡ messages queued
       → length new.queue ≡ max (length old.queue - 1) (capped old.capacity (length queued + length new.blocked))
       → ((t : ℕ) → mark new.sends t ≡ status (is_live past t && true) (has_ticket t (offers_of new.blocked)))
       → new.capacity ≡ old.capacity → new.greatest ≡ old.greatest → new.next ≡ old.next → new.senders ≡ old.senders → new.receivers ≡ old.receivers
-      → new.entries ≡ released receiver old.entries → new.peak ≡ old.peak → StandsFor o (p ∷ past) new
+      → new.entries ≡ released receiver old.entries → new.peak ≡ old.peak → Represents o (p ∷ past) new
   taken o past p old new m receiver x queued h reply e at queue long marks same_capacity same_greatest same_next same_senders same_receivers left_parked
       same_peak =
       let open_ : is_over past ≡ false = open_at past [] (queued ++ offers_of new.blocked) x at in
@@ -104,7 +104,7 @@ module _ {T A S : Type 0} where
         length_is = long ∙ ap (λ c. max (length old.queue - 1) (capped c (length queued + length new.blocked))) (sym same_capacity)
             ∙ ap (λ n. max (length old.queue - 1) (capped new.capacity n)) (sym many);
         marks = marks;
-        entries_are = ap (map bare) left_parked ∙ released_bare receiver old.entries m old.queue (not (is_shut past) && is_shut (p ∷ past));
+        entries_are = ap (map bare) left_parked ∙ released_bare receiver old.entries m old.queue (not (is_closed_after past) && is_closed_after (p ∷ past));
         peak_is = same_peak ∙ peak_kept h new.entries
             (let fewer = released_fewer receiver old.entries in let same = ap waiting_count left_parked in omega arith);
         next_is = omega arith;
@@ -113,7 +113,7 @@ module _ {T A S : Type 0} where
       }
 
   -- the offers behind the front one
-  behind : (o : Opening) (past : Log T A) (old : State T S) (m : T) (rest : List T) → StandsFor o past old → old.queue ≡ m ∷ rest
+  behind : (o : Opening) (past : Log T A) (old : State T S) (m : T) (rest : List T) → Represents o past old → old.queue ≡ m ∷ rest
       → (x : Offer T) × (queued : List (Offer T)) × (line past ≡ x ∷ (queued ++ offers_of old.blocked)) × (rest ≡ messages queued)
   behind o past old m rest h front =
       let at = front_at h.queued m rest (sym h.queue_is ∙ front) in
@@ -122,10 +122,10 @@ module _ {T A S : Type 0} where
 
   -- the front message leaves, and no message moves in
   takes_one : (o : Opening) (past : Log T A) (p : Step T × Reply T A) (old new : State T S) (m : T) (receiver : Option ℕ) (rest : List T)
-      → StandsFor o past old
+      → Represents o past old
       → IsReply (channel o past) p.0 p.1 → change past p.0 p.1 ≡ Takes m receiver → old.queue ≡ m ∷ rest
       → new ≡ record old { queue = rest; entries = released receiver old.entries }
-      → IsAtCapacity old.capacity (length rest) ⊎ (old.blocked ≡ []) → StandsFor o (p ∷ past) new
+      → IsAtCapacity old.capacity (length rest) ⊎ (old.blocked ≡ []) → Represents o (p ∷ past) new
   takes_one o past p old new m receiver rest h reply e front is full =
       let at = behind o past old m rest h front in
       let n : length rest ≡ length at.1 = ap length at.3 ∙ length-map at.1 _ in
@@ -142,7 +142,7 @@ module _ {T A S : Type 0} where
   -- the front message leaves, and the first blocked message moves in
   takes_and_admits : (o : Opening) (past : Log T A) (p : Step T × Reply T A) (old new : State T S) (m : T) (receiver : Option ℕ)
       (rest : List T)
-      (b : Blocked T) (later : List (Blocked T)) → StandsFor o past old
+      (b : Blocked T) (later : List (Blocked T)) → Represents o past old
       → IsReply (channel o past) p.0 p.1 → change past p.0 p.1 ≡ Takes m receiver → old.queue ≡ m ∷ rest → old.blocked ≡ b ∷ later
       → new ≡ record old {
         queue = rest ++ b.message ∷ [];
@@ -150,7 +150,7 @@ module _ {T A S : Type 0} where
         sends = changed old.sends b.ticket accepted_now;
         entries = released receiver old.entries;
       }
-      → HasRoom old.capacity (length rest) → StandsFor o (p ∷ past) new
+      → HasRoom old.capacity (length rest) → Represents o (p ∷ past) new
   takes_and_admits o past p old new m receiver rest b later h reply e front at is room =
       let x : Offer T = record { message = b.message; ticket = Some b.ticket } in
       let place = behind o past old m rest h front in
@@ -171,7 +171,7 @@ module _ {T A S : Type 0} where
 
   -- nothing is queued, and the first blocked message is handed out
   takes_direct : (o : Opening) (past : Log T A) (p : Step T × Reply T A) (old new : State T S) (m : T) (receiver : Option ℕ)
-      (b : Blocked T) (later : List (Blocked T)) → StandsFor o past old
+      (b : Blocked T) (later : List (Blocked T)) → Represents o past old
       → IsReply (channel o past) p.0 p.1 → change past p.0 p.1 ≡ Takes m receiver → old.queue ≡ [] → old.blocked ≡ b ∷ later
       → new ≡ record old {
         queue = [];
@@ -179,7 +179,7 @@ module _ {T A S : Type 0} where
         sends = changed old.sends b.ticket accepted_now;
         entries = released receiver old.entries;
       }
-      → StandsFor o (p ∷ past) new
+      → Represents o (p ∷ past) new
   takes_direct o past p old new m receiver b later h reply e none at is =
       let x : Offer T = record { message = b.message; ticket = Some b.ticket } in
       let zero_long : length old.queue ≡ 0 = ap length none in
@@ -195,9 +195,9 @@ module _ {T A S : Type 0} where
 
   -- a message is handed out, from a queue that isn't empty
   takes_queued : (o : Opening) (past : Log T A) (p : Step T × Reply T A) (old new : State T S) (m : T) (receiver : Option ℕ) (rest : List T)
-      → StandsFor o past old
+      → Represents o past old
       → IsReply (channel o past) p.0 p.1 → change past p.0 p.1 ≡ Takes m receiver → old.queue ≡ m ∷ rest
-      → new ≡ freed receiver (refilled (record old { queue = rest })) → StandsFor o (p ∷ past) new
+      → new ≡ freed receiver (after_refill (record old { queue = rest })) → Represents o (p ∷ past) new
   takes_queued o past p old new m receiver rest h reply e front is = by_case (full_or_room old.capacity (length rest)) old.blocked refl
     where
       left : State T S
@@ -205,46 +205,46 @@ module _ {T A S : Type 0} where
 
       by_case : ((is_full old.capacity (length rest) ≡ true) × IsAtCapacity old.capacity (length rest))
           ⊎ ((is_full old.capacity (length rest) ≡ false) × HasRoom old.capacity (length rest))
-          → (xs : List (Blocked T)) → old.blocked ≡ xs → StandsFor o (p ∷ past) new
+          → (xs : List (Blocked T)) → old.blocked ≡ xs → Represents o (p ∷ past) new
       by_case (inl full) xs at =
-          let same : new ≡ freed receiver left = is ∙ ap (λ b. freed receiver (if not b then admitted left else left)) full.0 in
+          let same : new ≡ freed receiver left = is ∙ ap (λ b. freed receiver (if not b then after_admission left else left)) full.0 in
           takes_one o past p old new m receiver rest h reply e front same (inl full.1)
       by_case (inr room) [] at =
           let same : new ≡ freed receiver left =
-          is ∙ ap (λ b. freed receiver (if not b then admitted left else left)) room.0
-          ∙ ap (λ xs. freed receiver (admitted_from xs left)) at in
+          is ∙ ap (λ b. freed receiver (if not b then after_admission left else left)) room.0
+          ∙ ap (λ xs. freed receiver (after_admission_of xs left)) at in
           takes_one o past p old new m receiver rest h reply e front same (inr at)
       by_case (inr room) (b ∷ later) at =
           takes_and_admits o past p old new m receiver rest b later h reply e front at
-          (is ∙ ap (λ b. freed receiver (if not b then admitted left else left)) room.0
-          ∙ ap (λ xs. freed receiver (admitted_from xs left)) at) room.1
+          (is ∙ ap (λ b. freed receiver (if not b then after_admission left else left)) room.0
+          ∙ ap (λ xs. freed receiver (after_admission_of xs left)) at) room.1
 
   -- a message is handed out
   pub takes : (o : Opening) (past : Log T A) (p : Step T × Reply T A) (old new : State T S) (m : T) (receiver : Option ℕ) (rest : List T)
-      → StandsFor o past old
-      → IsReply (channel o past) p.0 p.1 → change past p.0 p.1 ≡ Takes m receiver → (fronted old).queue ≡ m ∷ rest
-      → new ≡ freed receiver (taken_state rest old) → StandsFor o (p ∷ past) new
+      → Represents o past old
+      → IsReply (channel o past) p.0 p.1 → change past p.0 p.1 ≡ Takes m receiver → (with_front old).queue ≡ m ∷ rest
+      → new ≡ freed receiver (taken_state rest old) → Represents o (p ∷ past) new
   takes o past p old new m receiver rest h reply e front is = by_queue old.queue old.blocked refl refl
     where
-      by_queue : (q : List T) (xs : List (Blocked T)) → old.queue ≡ q → old.blocked ≡ xs → StandsFor o (p ∷ past) new
+      by_queue : (q : List T) (xs : List (Blocked T)) → old.queue ≡ q → old.blocked ≡ xs → Represents o (p ∷ past) new
       by_queue (m' ∷ rest') xs queue at =
-          takes_queued o past p old new m receiver rest h reply e (sym (ap (λ q. (fronted_from q old).queue) queue) ∙ front)
-          (is ∙ ap (λ q. freed receiver (refilled (record (fronted_from q old) { queue = rest }))) queue)
+          takes_queued o past p old new m receiver rest h reply e (sym (ap (λ q. (with_front_of q old).queue) queue) ∙ front)
+          (is ∙ ap (λ q. freed receiver (after_refill (record (with_front_of q old) { queue = rest }))) queue)
       by_queue [] [] queue at =
-          let nothing : (admitted_from [] old).queue ≡ m ∷ rest =
-          sym (ap (λ q. (fronted_from q old).queue) queue ∙ ap (λ xs. (admitted_from xs old).queue) at) ∙ front in
+          let nothing : (after_admission_of [] old).queue ≡ m ∷ rest =
+          sym (ap (λ q. (with_front_of q old).queue) queue ∙ ap (λ xs. (after_admission_of xs old).queue) at) ∙ front in
           absurd (let none : ⊥ = cc in none)
       by_queue [] (b ∷ later) queue at =
           let left : List T → State T S = λ r. record old { queue = r; blocked = later; sends = changed old.sends b.ticket accepted_now } in
           let one : old.queue ++ b.message ∷ [] ≡ m ∷ rest =
-          sym (ap (λ q. (fronted_from q old).queue) queue ∙ ap (λ xs. (admitted_from xs old).queue) at) ∙ front in
+          sym (ap (λ q. (with_front_of q old).queue) queue ∙ ap (λ xs. (after_admission_of xs old).queue) at) ∙ front in
           let only : b.message ∷ [] ≡ m ∷ rest = sym (ap (λ q. q ++ b.message ∷ []) queue) ∙ one in
           let empty : rest ≡ [] = cc in
           let zero_long : length old.queue ≡ 0 = ap length queue in
           let waits : length old.blocked ≡ suc (length later) = ap length at in
           let full : IsAtCapacity old.capacity 0 = subst (IsAtCapacity old.capacity) zero_long (at_capacity h (omega arith)) in
           takes_direct o past p old new m receiver b later h reply e queue at
-          (is ∙ ap (λ q. freed receiver (refilled (record (fronted_from q old) { queue = rest }))) queue
-          ∙ ap (λ xs. freed receiver (refilled (record (admitted_from xs old) { queue = rest }))) at
-          ∙ ap (λ r. freed receiver (refilled (left r))) empty
-          ∙ ap (λ c. freed receiver (if not c then admitted (left []) else left [])) (full_known old.capacity 0 full))
+          (is ∙ ap (λ q. freed receiver (after_refill (record (with_front_of q old) { queue = rest }))) queue
+          ∙ ap (λ xs. freed receiver (after_refill (record (after_admission_of xs old) { queue = rest }))) at
+          ∙ ap (λ r. freed receiver (after_refill (left r))) empty
+          ∙ ap (λ c. freed receiver (if not c then after_admission (left []) else left [])) (full_known old.capacity 0 full))

@@ -11,12 +11,12 @@ use Rattle.flume_state.specs.declared.notice.Notice.{Notice}
 use Rattle.flume_state.specs.declared.sends.LiveSend.{LiveSend}
 use Rattle.flume_model.specs.Log.{Log, Opening}
 use Rattle.flume_state.specs.Messages.{Blocked}
-use Rattle.flume_state.specs.Notices.{told, due_now}
+use Rattle.flume_state.specs.Notices.{no_longer_due, due_now}
 use Rattle.flume_state.specs.Sends.{SendMap, changed, noticed_send, with_notice}
 use Rattle.flume_state.specs.State.{State, bare}
-use Rattle.flume_core.specs.StandsFor.{StandsFor}
-use Rattle.flume_state.specs.Receivers.{Entries, Tells}
-use Rattle.flume_state.specs.Effects.{all_due}
+use Rattle.flume_core.specs.Represents.{Represents}
+use Rattle.flume_state.specs.Receivers.{Entries, NamesReceiver}
+use Rattle.flume_state.specs.Effects.{with_all_due}
 use Rattle.flume_core.proofs.Views.{mark, SameMarks}
 use Rattle.flume_state.proofs.SendsLaws.{get-changed_same, get-changed_other}
 
@@ -44,21 +44,21 @@ module _ {S : Type 0} where
   same_marks_noticed f m k t = same_marks_changed m k (with_notice f) (λ x. refl) t
 
   -- naming what is due keeps all marks
-  pub same_marks_told : (m n : SendMap S) (named : Option ℕ) → IfSome named (λ t. n ≡ noticed_send told t m) → IfNone named (n ≡ m)
+  pub same_marks_told : (m n : SendMap S) (named : Option ℕ) → IfSome named (λ t. n ≡ noticed_send no_longer_due t m) → IfNone named (n ≡ m)
       → SameMarks n m
   same_marks_told m n None some none t = rw none refl
-  same_marks_told m n (Some k) some none t = rw some (same_marks_noticed told m k t)
+  same_marks_told m n (Some k) some none t = rw some (same_marks_noticed no_longer_due m k t)
 
 module _ {T S : Type 0} where
   -- marking blocked sends due keeps all marks of whether they were accepted
-  pub same_marks_due : (some : List (Blocked T)) (m : SendMap S) → SameMarks (all_due some m) m
+  pub same_marks_due : (some : List (Blocked T)) (m : SendMap S) → SameMarks (with_all_due some m) m
   same_marks_due [] m t = refl
   same_marks_due (b ∷ some) m t =
       same_marks_due some (noticed_send due_now b.ticket m) t ∙ same_marks_noticed due_now m b.ticket t
 
 module _ {T S : Type 0} where
   -- telling one receiver changes nothing that a log knows
-  pub told_bare : (old new : Entries T S) (named : Option ℕ) → IfSome named (λ t. Tells old new t) → IfNone named (new ≡ old)
+  pub told_bare : (old new : Entries T S) (named : Option ℕ) → IfSome named (λ t. NamesReceiver old new t) → IfNone named (new ≡ old)
       → map bare new ≡ map bare old
   told_bare old new None some none = ap (map bare) none
   told_bare old new (Some t) some none =
@@ -66,10 +66,10 @@ module _ {T S : Type 0} where
 
 module _ {T A S : Type 0} where
   -- what a log knows of a state doesn't change where no mark does
-  pub stands_told : (o : Opening) (log : Log T A) (old new : State T S) (m : SendMap S) (es : Entries T S) → StandsFor o log old
-      → new ≡ record old { sends = m; entries = es } → SameMarks m old.sends → map bare es ≡ map bare old.entries → StandsFor o log new
+  pub stands_told : (o : Opening) (log : Log T A) (old new : State T S) (m : SendMap S) (es : Entries T S) → Represents o log old
+      → new ≡ record old { sends = m; entries = es } → SameMarks m old.sends → map bare es ≡ map bare old.entries → Represents o log new
   stands_told o log old new m es h e marks same =
-      let P : State T S → Type 0 = λ s. StandsFor o log s in
+      let P : State T S → Type 0 = λ s. Represents o log s in
       subst P (sym e) record {
         run = h.run;
         capacity_is = h.capacity_is;

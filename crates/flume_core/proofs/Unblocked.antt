@@ -4,7 +4,7 @@ use Rattle.std.specs.Prelude.{IfSome}
 use Rattle.flume_state.specs.Messages.{Messages}
 use Rattle.flume_state.specs.State.{State}
 use Rattle.flume_core.proofs.Views.{nil_by}
-use Rattle.flume_state.specs.Effects.{admitted, admitted_from, refilled, fronted, fronted_from, taken}
+use Rattle.flume_state.specs.Effects.{after_admission, after_admission_of, after_refill, with_front, with_front_of, after_take}
 
 -- one value, whichever way it is chosen
 either : {X : Type 0} (b : Bool) (x y : X) → x ≡ y → (if b then x else y) ≡ y
@@ -13,28 +13,28 @@ either false x y same = refl
 
 module _ {T S : Type 0} where
   -- no message joins the queue
-  admits_none : (s : State T S) → s.blocked ≡ [] → admitted s ≡ s
-  admits_none s none = ap (λ b. admitted_from b s) none
+  admits_none : (s : State T S) → s.blocked ≡ [] → after_admission s ≡ s
+  admits_none s none = ap (λ b. after_admission_of b s) none
 
   -- the front is that of the queue
-  pub fronted_alone : (s : State T S) → s.blocked ≡ [] → fronted s ≡ s
+  pub fronted_alone : (s : State T S) → s.blocked ≡ [] → with_front s ≡ s
   fronted_alone s none = go s.queue
     where
-      go : (q : List T) → fronted_from q s ≡ s
+      go : (q : List T) → with_front_of q s ≡ s
       go [] = admits_none s none
       go (m ∷ rest) = refl
 
   -- a take leaves the rest of the queue
-  pub taken_alone : (rest : List T) (s : State T S) → s.blocked ≡ [] → taken rest s ≡ record s { queue = rest }
+  pub taken_alone : (rest : List T) (s : State T S) → s.blocked ≡ [] → after_take rest s ≡ record s { queue = rest }
   taken_alone rest s none =
-      ap (λ f. refilled (record f { queue = rest })) (fronted_alone s none)
+      ap (λ f. after_refill (record f { queue = rest })) (fronted_alone s none)
       ∙ either _ _ _ (admits_none (record s { queue = rest }) none)
 
   -- the front of the queue goes out, and leaves what a take leaves
   pub takes_alone : (s : State T S) (l : Messages T) (r : Option T) → length s.blocked ≡ 0
       → IfSome r (λ m. record { queued = s.queue; blocked = s.blocked; space = s.space } ≡ record l { queued = m ∷ l.queued })
-      → IfSome r (λ m. (rest : List T) × ((fronted s).queue ≡ m ∷ rest)
-      × (record s { queue = l.queued; blocked = l.blocked; space = l.space } ≡ taken rest s))
+      → IfSome r (λ m. (rest : List T) × ((with_front s).queue ≡ m ∷ rest)
+      × (record s { queue = l.queued; blocked = l.blocked; space = l.space } ≡ after_take rest s))
   takes_alone s l None none h = tt
   takes_alone s l (Some m) none h =
       let empty_ = nil_by s.blocked (λ more. omega arith) in

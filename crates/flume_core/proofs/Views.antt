@@ -18,7 +18,7 @@ use Rattle.flume_model.specs.Limits.{HasRoom, IsAtCapacity, IsOpen, IsClosed}
 use Rattle.flume_state.specs.Messages.{Blocked}
 use Rattle.flume_state.specs.Sends.{SendMap}
 use Rattle.flume_state.specs.State.{State, offers_of, bare}
-use Rattle.flume_core.specs.StandsFor.{StandsFor}
+use Rattle.flume_core.specs.Represents.{Represents}
 use Rattle.flume_model.proofs.order.Runs.{blocked_at_capacity, waits_whole}
 use Rattle.flume_core.proofs.Bare.{bare_some_wait, bare_waiting, bare_entry}
 
@@ -107,22 +107,22 @@ module _ {T A : Type 0} where
 
 module _ {T A S : Type 0} where
   -- as many offers are queued as messages
-  pub queued_length : {o : Opening} {log : Log T A} {s : State T S} (h : StandsFor o log s) → length h.queued ≡ length s.queue
+  pub queued_length : {o : Opening} {log : Log T A} {s : State T S} (h : Represents o log s) → length h.queued ≡ length s.queue
   queued_length {o} {log} {s} h = sym (ap length h.queue_is ∙ length-map h.queued (λ offer. offer.message))
 
   -- the blocked offers
-  pub blocked_is : {o : Opening} {log : Log T A} {s : State T S} → StandsFor o log s → blocked o log ≡ offers_of s.blocked
+  pub blocked_is : {o : Opening} {log : Log T A} {s : State T S} → Represents o log s → blocked o log ≡ offers_of s.blocked
   blocked_is {o} {log} {s} h = rw h.line_is (drop_at h.queued (offers_of s.blocked) (boundary o log) (queued_length h ∙ h.boundary_is))
 
   -- the messages of the line
-  pub line_messages : {o : Opening} {log : Log T A} {s : State T S} → StandsFor o log s
+  pub line_messages : {o : Opening} {log : Log T A} {s : State T S} → Represents o log s
       → messages (line log) ≡ s.queue ++ map (λ b. b.message) s.blocked
   line_messages {o} {log} {s} h =
       ap messages h.line_is ∙ map-append _ h.queued (offers_of s.blocked)
       ∙ ap (λ l. l ++ messages (offers_of s.blocked)) (sym h.queue_is) ∙ ap (λ l. s.queue ++ l) (offered_messages s.blocked)
 
   -- how long the line is
-  pub line_length : {o : Opening} {log : Log T A} {s : State T S} → StandsFor o log s → length
+  pub line_length : {o : Opening} {log : Log T A} {s : State T S} → Represents o log s → length
       (line log) ≡ length s.queue + length s.blocked
   line_length {o} {log} {s} h =
       let sum : length (line log) ≡ length h.queued + length (offers_of s.blocked) =
@@ -132,12 +132,12 @@ module _ {T A S : Type 0} where
       omega arith
 
   -- how each ticket stands
-  pub status_is : {o : Opening} {log : Log T A} {s : State T S} → StandsFor o log s → (t : ℕ)
+  pub status_is : {o : Opening} {log : Log T A} {s : State T S} → Represents o log s → (t : ℕ)
       → mark s.sends t ≡ status (is_live log t) (has_ticket t (offers_of s.blocked))
   status_is {o} {log} {s} h t = h.sends_are t ∙ ap (λ l. status (is_live log t) (has_ticket t l)) (blocked_is h)
 
   -- where a message is blocked, the queue is at capacity
-  pub at_capacity : {o : Opening} {log : Log T A} {s : State T S} → StandsFor o log s → 0 < length s.blocked
+  pub at_capacity : {o : Opening} {log : Log T A} {s : State T S} → Represents o log s → 0 < length s.blocked
       → IsAtCapacity s.capacity (length s.queue)
   at_capacity {o} {log} {s} h some =
       let long = line_length h in
@@ -145,13 +145,13 @@ module _ {T A S : Type 0} where
       rw (h.capacity_is, h.boundary_is) (blocked_at_capacity o log h.run (omega arith))
 
   -- the queued messages
-  pub queue_at_log : {o : Opening} {log : Log T A} {s : State T S} → StandsFor o log s → queue o log ≡ s.queue
+  pub queue_at_log : {o : Opening} {log : Log T A} {s : State T S} → Represents o log s → queue o log ≡ s.queue
   queue_at_log {o} {log} {s} h =
       ap (λ l. messages (take (boundary o log) l)) h.line_is
       ∙ ap messages (take_at h.queued (offers_of s.blocked) (boundary o log) (queued_length h ∙ h.boundary_is)) ∙ sym h.queue_is
 
   -- where a message is queued, the log queues one
-  pub some_queued : {o : Opening} {log : Log T A} {s : State T S} → StandsFor o log s → s.queue ≢ [] → 0 < boundary o log
+  pub some_queued : {o : Opening} {log : Log T A} {s : State T S} → Represents o log s → s.queue ≢ [] → 0 < boundary o log
   some_queued {o} {log} {s} h some = go s.queue refl
     where
       go : (q : List T) → s.queue ≡ q → 0 < boundary o log
@@ -159,16 +159,16 @@ module _ {T A S : Type 0} where
       go (m ∷ q) e = let long = ap length e in let n = h.boundary_is in omega arith
 
   -- whether some receiver waits
-  pub waiting_at_log : {o : Opening} {log : Log T A} {s : State T S} → StandsFor o log s → some_wait (entries o log) ≡ some_wait s.entries
+  pub waiting_at_log : {o : Opening} {log : Log T A} {s : State T S} → Represents o log s → some_wait (entries o log) ≡ some_wait s.entries
   waiting_at_log {o} {log} {s} h = ap some_wait (sym h.entries_are) ∙ bare_some_wait s.entries
 
   -- the entry with a ticket
-  pub entry_at_log : {o : Opening} {log : Log T A} {s : State T S} → StandsFor o log s → (t : ℕ)
+  pub entry_at_log : {o : Opening} {log : Log T A} {s : State T S} → Represents o log s → (t : ℕ)
       → entry_of t (entries o log) ≡ option_map bare (entry_of t s.entries)
   entry_at_log {o} {log} {s} h t = ap (entry_of t) (sym h.entries_are) ∙ bare_entry t s.entries
 
   -- no more wait than the peak says
-  pub waiting_within : {o : Opening} {log : Log T A} {s : State T S} → StandsFor o log s → waiting_count s.entries ≤ s.peak
+  pub waiting_within : {o : Opening} {log : Log T A} {s : State T S} → Represents o log s → waiting_count s.entries ≤ s.peak
   waiting_within {o} {log} {s} h =
       let a : waiting_count s.entries ≡ waiting_count (entries o log) = sym (bare_waiting s.entries) ∙ ap waiting_count h.entries_are in
       let b = h.peak_is in
@@ -176,12 +176,12 @@ module _ {T A S : Type 0} where
       omega arith
 
   -- the greatest capacity so far is at least the one in force
-  pub greatest_kept : {o : Opening} {log : Log T A} {s : State T S} → StandsFor o log s → s.greatest ≡ greater s.greatest s.capacity
+  pub greatest_kept : {o : Opening} {log : Log T A} {s : State T S} → Represents o log s → s.greatest ≡ greater s.greatest s.capacity
   greatest_kept {o} {log} {s} h =
       h.greatest_is ∙ greatest_covers o log ∙ ap₂ greater (sym h.greatest_is) (sym h.capacity_is)
 
   -- while a receiver waits, none is blocked
-  pub none_blocked_waiting : {o : Opening} {log : Log T A} {s : State T S} → StandsFor o log s → some_wait s.entries ≡ true → s.blocked ≡ []
+  pub none_blocked_waiting : {o : Opening} {log : Log T A} {s : State T S} → Represents o log s → some_wait s.entries ≡ true → s.blocked ≡ []
   none_blocked_waiting {o} {log} {s} h some =
       let long = line_length h in
       let n = h.boundary_is in
@@ -189,38 +189,38 @@ module _ {T A S : Type 0} where
       nil_by s.blocked (λ more. omega arith)
 
   -- where the queue has room, none is blocked
-  pub none_blocked : {o : Opening} {log : Log T A} {s : State T S} → StandsFor o log s → HasRoom s.capacity (length s.queue)
+  pub none_blocked : {o : Opening} {log : Log T A} {s : State T S} → Represents o log s → HasRoom s.capacity (length s.queue)
       → s.blocked ≡ []
   none_blocked {o} {log} {s} h room =
       nil_by s.blocked (λ some. room_or_full s.capacity (length s.queue) room (at_capacity h some))
 
   -- a blocked message of a live ticket
-  pub is_blocked : {o : Opening} {log : Log T A} {s : State T S} → StandsFor o log s → (t : ℕ) (m : T) (before later : List (Blocked T))
+  pub is_blocked : {o : Opening} {log : Log T A} {s : State T S} → Represents o log s → (t : ℕ) (m : T) (before later : List (Blocked T))
       → s.blocked ≡ before ++ record { ticket = t; message = m } ∷ later → is_live log t ≡ true → IsBlocked (channel o log) t m
   is_blocked {o} {log} {s} h t m before later e live =
       (live, offers_of before, offers_of later, blocked_is h ∙ ap offers_of e ∙ map-append _ before _)
 
   -- an open state has an open log
-  pub open_at_log : {o : Opening} {log : Log T A} {s : State T S} → StandsFor o log s
+  pub open_at_log : {o : Opening} {log : Log T A} {s : State T S} → Represents o log s
       → IsOpen s.senders s.receivers → IsOpen (senders log) (receivers log)
   open_at_log {o} {log} {s} h is = let a = h.senders_are in let b = h.receivers_are in subst₂ IsOpen a b is
 
   -- a closed state has a closed log
-  pub closed_at_log : {o : Opening} {log : Log T A} {s : State T S} → StandsFor o log s
+  pub closed_at_log : {o : Opening} {log : Log T A} {s : State T S} → Represents o log s
       → IsClosed s.senders s.receivers → IsClosed (senders log) (receivers log)
   closed_at_log {o} {log} {s} h is = subst₂ IsClosed h.senders_are h.receivers_are is
 
   -- a queue with room has room in the log
-  pub room_at_log : {o : Opening} {log : Log T A} {s : State T S} → StandsFor o log s
+  pub room_at_log : {o : Opening} {log : Log T A} {s : State T S} → Represents o log s
       → HasRoom s.capacity (length s.queue) → HasRoom (capacity o log) (boundary o log)
   room_at_log {o} {log} {s} h is = subst₂ HasRoom h.capacity_is h.boundary_is is
 
   -- where the queue has room in the log it has room
-  pub room_at_state : {o : Opening} {log : Log T A} {s : State T S} → StandsFor o log s
+  pub room_at_state : {o : Opening} {log : Log T A} {s : State T S} → Represents o log s
       → HasRoom (capacity o log) (boundary o log) → HasRoom s.capacity (length s.queue)
   room_at_state {o} {log} {s} h is = subst₂ HasRoom (sym h.capacity_is) (sym h.boundary_is) is
 
   -- a queue at capacity is at capacity in the log
-  pub full_at_log : {o : Opening} {log : Log T A} {s : State T S} → StandsFor o log s
+  pub full_at_log : {o : Opening} {log : Log T A} {s : State T S} → Represents o log s
       → IsAtCapacity s.capacity (length s.queue) → IsAtCapacity (capacity o log) (boundary o log)
   full_at_log {o} {log} {s} h is = subst₂ IsAtCapacity h.capacity_is h.boundary_is is

@@ -8,7 +8,7 @@ use Rattle.flume_model.specs.Replies.{IsRun}
 use Rattle.flume_model.specs.Laws.{InOrder}
 use Rattle.flume_model.specs.Beginnings.{IsBeginning}
 use Rattle.flume_state.specs.State.{State, offers_of}
-use Rattle.flume_core.specs.StandsFor.{StandsFor}
+use Rattle.flume_core.specs.Represents.{Represents}
 use Rattle.flume_core.specs.StateFacts.{WokenCoverQueued, QueuedAndWaitingAreBounded}
 
 module _ {T A S : Type 0} where
@@ -36,4 +36,4 @@ module _ {T A : Type 0} where
   abbrev pub HeadlineThroughout : Type 0 → Opening → Log T A → Type 0
   HeadlineThroughout S opening log =
       (before : Log T A) → IsBeginning log before
-      → (s : State T S) → StandsFor opening before s → Headline opening before s
+      → (s : State T S) → Represents opening before s → Headline opening before s

@@ -1,5 +1,5 @@
-pub mod StandsFor
-pub mod Comes
+pub mod Represents
+pub mod PossibleReply
 pub mod Waiting
 pub mod Wanting
 pub mod StateFacts

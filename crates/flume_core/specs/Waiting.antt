@@ -2,13 +2,13 @@
 use Rattle.std.specs.Prelude.{◌≡◌, ℕ, false, Some, [], length}
 use Rattle.flume_model.specs.Limits.{IsOpen, IsAtCapacity}
 use Rattle.flume_model.specs.Entries.{some_wait}
-use Rattle.flume_state.specs.Effects.{fronted}
+use Rattle.flume_state.specs.Effects.{with_front}
 use Rattle.flume_state.specs.State.{State, accepted_at}
 
 module _ {T S : Type 0} where
   -- a receive finds nothing: no message is queued or blocked, and the channel is open
   abbrev pub FindsNothing : State T S → Type 0
-  FindsNothing s = ((fronted s).queue ≡ []) × IsOpen s.senders s.receivers
+  FindsNothing s = ((with_front s).queue ≡ []) × IsOpen s.senders s.receivers
 
   -- an offer finds no room: the channel is open, no receiver waits, and the queue has reached its
   -- capacity

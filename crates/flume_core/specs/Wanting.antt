@@ -4,7 +4,7 @@ use Rattle.flume_model.specs.declared.step.Step.{Step}
 use Rattle.flume_model.specs.declared.step.Step.TheVariants.{TrySend, Send, TryRecv, Recv}
 use Rattle.flume_model.specs.declared.step.Step.TheVariants.{Poll, Drain}
 use Rattle.flume_model.specs.Limits.{IsOpen, most}
-use Rattle.flume_state.specs.Receivers.{standing, only_leaves}
+use Rattle.flume_state.specs.Receivers.{receiver_status, only_leaves}
 use Rattle.flume_state.specs.State.{State}
 use Rattle.flume_core.specs.Waiting.{FindsNothing, FindsNoRoom}
 
@@ -18,6 +18,6 @@ module _ {T S : Type 0} where
   MayWant s TryRecv = 0 < length s.blocked
   MayWant s (Recv kind) = (0 < length s.blocked) ⊎ (FindsNothing s × (s.next < most))
   MayWant s (Poll ticket) =
-      (only_leaves (standing ticket s.entries) ≡ true) × (0 < length s.blocked)
+      (only_leaves (receiver_status ticket s.entries) ≡ true) × (0 < length s.blocked)
   MayWant s Drain = 0 < length s.queue
   MayWant s _ = ⊥

@@ -2,10 +2,10 @@
 ghost use Rattle.std.specs.Prelude.{◌≡◌, ◌≤◌, [], length, IsTrue, ◌↔◌};
 ghost use Rattle.flume_model.specs.Log.{opens};
 ghost use Rattle.flume_model.specs.Limits.{IsOpen, HasRoom};
-ghost use Rattle.flume_state.specs.State.{State, opened};
-ghost use Rattle.flume_core.specs.StandsFor.{StandsFor, Extends, ChangesNothing, IsLedTo};
+ghost use Rattle.flume_state.specs.State.{State, new_state};
+ghost use Rattle.flume_core.specs.Represents.{Represents, Extends, ChangesNothing, IsReachable};
 ghost use Rattle.flume_state.specs.Due.{BecomesDue};
-ghost use Rattle.flume_core.specs.Comes.{Comes};
+ghost use Rattle.flume_core.specs.PossibleReply.{PossibleReply};
 
 mod capacity;
 mod ends;
@@ -75,8 +75,8 @@ impl<T: Drop, S: Drop, A: Allocator + Copy> Chan<T, S, A> {
     /// ```
     #[inline(always)]
     pub fn new(alloc: A, capacity: Option<usize>) -> Self
-        ensures state { result ≡ opened (opens capacity 1) }
-        ensures stands { StandsFor {A = A} (opens capacity 1) [] result }
+        ensures state { result ≡ new_state (opens capacity 1) }
+        ensures stands { Represents {A = A} (opens capacity 1) [] result }
     {
         Chan::starting_at(alloc, capacity, 1)
     }
@@ -89,8 +89,8 @@ impl<T: Drop, S: Drop, A: Allocator + Copy> Chan<T, S, A> {
     /// ```
     #[inline(always)]
     pub fn starting_at(alloc: A, capacity: Option<usize>, ticket: u64) -> Self
-        ensures state { result ≡ opened (opens capacity ticket) }
-        ensures stands { StandsFor {A = A} (opens capacity ticket) [] result }
+        ensures state { result ≡ new_state (opens capacity ticket) }
+        ensures stands { Represents {A = A} (opens capacity ticket) [] result }
     {
         Chan {
             capacity,
@@ -132,8 +132,8 @@ impl<T: Drop, A: Allocator + Copy> Chan<T, (), A> {
     /// ```
     pub fn step(&mut self, step: Step<T>) -> Reply<T, A>
         ensures step { Extends self.old step result self.new }
-        ensures dues { IsLedTo A self.old → BecomesDue self.old step result self.new }
-        ensures comes { Comes step result }
+        ensures dues { IsReachable A self.old → BecomesDue self.old step result self.new }
+        ensures comes { PossibleReply step result }
         ensures space { self.old.space ≤ self.new.space }
         ensures unchanged { ChangesNothing step result → self.new ≡ self.old }
     {

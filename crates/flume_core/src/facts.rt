@@ -1,7 +1,7 @@
 //! What holds of the state of a channel.
 ghost use Rattle.std.specs.Prelude.{◌≤◌};
 ghost use Rattle.flume_state.specs.State.{message_count};
-ghost use Rattle.flume_core.specs.StandsFor.{IsLedTo};
+ghost use Rattle.flume_core.specs.Represents.{IsReachable};
 ghost use Rattle.flume_core.specs.StateFacts.{ChannelFacts};
 
 use crate::chan::Chan;
@@ -17,7 +17,7 @@ use std::alloc::Allocator;
 /// facts(&chan);
 /// ```
 pub fn facts<T: Drop, S: Drop, A: Allocator + Copy>(chan: &Chan<T, S, A>)
-    ensures facts { IsLedTo A chan.now → ChannelFacts chan.now }
+    ensures facts { IsReachable A chan.now → ChannelFacts chan.now }
     ensures fits { message_count chan.now ≤ chan.now.space }
 {
     let _ = chan.room();

@@ -2,7 +2,7 @@
 ghost use Rattle.std.specs.Prelude.{◌≡◌, vec_len, IfOk, IfErr, OnErr};
 ghost use Rattle.flume_model.specs.Log.{Log, Opening};
 ghost use Rattle.flume_model.specs.Offers.{after};
-ghost use Rattle.flume_core.specs.StandsFor.{StandsFor};
+ghost use Rattle.flume_core.specs.Represents.{Represents};
 ghost use Rattle.flume_model.specs.Beginnings.{HoldsThroughout};
 ghost use Rattle.flume_core.specs.Headline.{Headline, HeadlineThroughout};
 
@@ -25,16 +25,16 @@ pub fn run<T: Drop, A: Allocator + Copy>(
     steps: Vec<Step<T>, A>,
 ) -> Result<Vec<Reply<T, A>, A>, Vec<Step<T>, A>>
     ensures steps { IfOk result (λ replies. (opening : Opening) (log : Log T A)
-        → StandsFor opening log chan.old
-        → StandsFor opening (after log steps.items replies.items) chan.new) }
+        → Represents opening log chan.old
+        → Represents opening (after log steps.items replies.items) chan.new) }
     ensures headline { IfOk result (λ replies. (opening : Opening) (log : Log T A)
-        → StandsFor opening log chan.old
+        → Represents opening log chan.old
         → Headline opening (after log steps.items replies.items) chan.new) }
     ensures throughout { IfOk result (λ replies. (opening : Opening) (log : Log T A)
-        → StandsFor opening log chan.old
+        → Represents opening log chan.old
         → HoldsThroughout opening (after log steps.items replies.items)) }
     ensures headline_throughout { IfOk result (λ replies. (opening : Opening) (log : Log T A)
-        → StandsFor opening log chan.old
+        → Represents opening log chan.old
         → HeadlineThroughout (Unit {0}) opening (after log steps.items replies.items)) }
     ensures one_each { IfOk result (λ replies. vec_len replies ≡ vec_len steps) }
     ensures returned { IfErr result (λ back. back.items ≡ steps.items) }
@@ -61,9 +61,9 @@ pub fn run<T: Drop, A: Allocator + Copy>(
 /// ```
 pub fn headline_of_steps<T, S, A: Allocator>(chan: &Chan<T, S, A>)
     ensures headline { (opening : Opening) (log : Log T A)
-        → StandsFor opening log chan.now → Headline opening log chan.now }
+        → Represents opening log chan.now → Headline opening log chan.now }
     ensures throughout { (opening : Opening) (log : Log T A)
-        → StandsFor opening log chan.now → HoldsThroughout opening log }
+        → Represents opening log chan.now → HoldsThroughout opening log }
     ensures headline_throughout { (opening : Opening) (log : Log T A)
-        → StandsFor opening log chan.now → HeadlineThroughout S opening log }
+        → Represents opening log chan.now → HeadlineThroughout S opening log }
 {}

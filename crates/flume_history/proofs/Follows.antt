@@ -12,7 +12,7 @@ use Rattle.flume_model.specs.Channel.{channel}
 use Rattle.flume_model.specs.Replies.{IsReply, IsRun}
 use Rattle.flume_audit.specs.Weights.{SameReply}
 use Rattle.flume_state.specs.State.{State}
-use Rattle.flume_core.specs.StandsFor.{StandsFor}
+use Rattle.flume_core.specs.Represents.{Represents}
 use Rattle.flume_core.specs.Wanting.{MayWant}
 use Rattle.flume_history.specs.SameRuns.{IsWant, SameSteps}
 use Rattle.flume_history.specs.Histories.{IsSaidOf, IsHistory, BreaksAt}
@@ -76,7 +76,7 @@ module _ {T A X : Type 0} (says : X → Reply T A → Type 0) (goes : GoesByMess
 
 module _ {T A X : Type 0} (says : X → Reply T A → Type 0) where
   -- where memory may not be wanted, or not so, no want is lawful that this is said of
-  pub no_other_want : {S : Type 0} {o : Opening} {log : Log T A} {s : State T S} → StandsFor o log s → (x : X) (step : Step T)
+  pub no_other_want : {S : Type 0} {o : Opening} {log : Log T A} {s : State T S} → Represents o log s → (x : X) (step : Step T)
       → (MayWant s step → says x (NoMemory (handed_in step)) → ⊥)
       → (reply : Reply T A) → IsReply (channel o log) step reply → says x reply → IsWant reply → ⊥
   no_other_want {S} {o} {log} {s} h x step none (NoMemory back) is said w =

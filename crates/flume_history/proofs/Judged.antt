@@ -9,8 +9,8 @@ use Rattle.flume_model.specs.Log.{Log, Opening, opens}
 use Rattle.flume_model.specs.Channel.{channel}
 use Rattle.flume_model.specs.Replies.{IsRun}
 use Rattle.flume_history.specs.Histories.{IsSaidOf, BreaksAt}
-use Rattle.flume_history.specs.Told.{Pair, Says, IsToldScript, IsLawfulText, Shows, Breaks, break_text}
-use Rattle.flume_history.specs.ToldReading.{pairs_of}
+use Rattle.flume_history.specs.HistoryText.{Pair, Says, IsHistoryText, IsLawfulText, Shows, Breaks, break_text}
+use Rattle.flume_history.specs.HistoryReading.{pairs_of}
 use Rattle.flume_history.proofs.Follows.{TellsWant, same_steps, breaks_at}
 use Rattle.flume_history.proofs.OneRun.{one_run}
 use Rattle.flume_history.proofs.ReplyWants.{same_want}
@@ -46,7 +46,7 @@ shown_after {A} o said log step should run so shows other run' so' =
 
 -- where what was said isn't lawful, the history breaks
 pub told_break : {A : Type 0} (input : List ℕ) (capacity : Option ℕ) (history : List Pair) (place : ℕ) (step : Step ℕ) (said : List ℕ)
-    → IsToldScript (lines input) capacity history → place < length history
+    → IsHistoryText (lines input) capacity history → place < length history
     → (step, said) ≡ get_or history place (step, said) → (log : Log ℕ A) → IsRun (opens capacity 1) log
     → IsSaidOf Says (reverse (take place history)) log → (should : List ℕ)
     → Shows A (channel (opens capacity 1) log) step should × (IsLawfulText A (channel (opens capacity 1) log) step said → ⊥)
@@ -60,7 +60,7 @@ told_break {A} input capacity history place step said reads within at log run so
       step = step;
       said = said;
       later = drop (suc place) history;
-      reads = subst (IsToldScript (lines input) capacity) cut reads;
+      reads = subst (IsHistoryText (lines input) capacity) cut reads;
       breaks = subst₂ (BreaksAt {A = A} Says (opens capacity 1)) cut (sym count)
           (breaks_at Says tells_want (opens capacity 1) history place (step, said) log within at run so
           (λ reply lawful told. shows.1 (reply, lawful, told)));

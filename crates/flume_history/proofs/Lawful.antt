@@ -7,11 +7,11 @@ use Rattle.flume_model.specs.Log.{Log, Opening}
 use Rattle.flume_model.specs.Channel.{channel}
 use Rattle.flume_model.specs.Replies.{IsReply}
 use Rattle.flume_state.specs.State.{State}
-use Rattle.flume_core.specs.StandsFor.{StandsFor}
+use Rattle.flume_core.specs.Represents.{Represents}
 use Rattle.flume_core.specs.Wanting.{MayWant}
 use Rattle.flume_script.specs.ReplyTexts.{reply_text}
 use Rattle.flume_history.specs.SameRuns.{IsWant}
-use Rattle.flume_history.specs.Told.{IsLawfulText, Shows}
+use Rattle.flume_history.specs.HistoryText.{IsLawfulText, Shows}
 use Rattle.flume_history.specs.Wants.{handed_in}
 use Rattle.flume_history.proofs.OneBlocked.{one_blocked}
 use Rattle.flume_history.proofs.OneReply.{one_reply}
@@ -19,7 +19,7 @@ use Rattle.flume_history.proofs.OneRun.{want_or_not}
 use Rattle.flume_history.proofs.ReplyWants.{same_want, same_text}
 use Rattle.flume_history.proofs.Wanting.{want_allowed, want_only}
 
-module _ {A S : Type 0} {o : Opening} {log : Log ℕ A} {s : State ℕ S} (h : StandsFor o log s) (step : Step ℕ) (own : Reply ℕ A)
+module _ {A S : Type 0} {o : Opening} {log : Log ℕ A} {s : State ℕ S} (h : Represents o log s) (step : Step ℕ) (own : Reply ℕ A)
     (lawful : IsReply (channel o log) step own) (no_want : IsWant own → ⊥) where
   -- a lawful reply that is no want has the text of the channel's own
   own_text : (reply : Reply ℕ A) → IsReply (channel o log) step reply → (IsWant reply → ⊥) → reply_text reply ≡ reply_text own

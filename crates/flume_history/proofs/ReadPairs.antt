@@ -4,8 +4,8 @@ use Rattle.std.specs.List.{AllZip}
 use Rattle.std.specs.Str.Lines.{lines}
 use Rattle.std.proofs.lemmas.List.{append_assoc, length_push, length-map, map-append}
 use Rattle.flume_model.specs.declared.step.Step.{Step}
-use Rattle.flume_history.specs.Told.{Pair, IsPairLine, IsNoPair, PairsUpTo}
-use Rattle.flume_history.specs.ToldReading.{pairs_of}
+use Rattle.flume_history.specs.HistoryText.{Pair, IsPairLine, IsNoPair, PairsUpTo}
+use Rattle.flume_history.specs.HistoryReading.{pairs_of}
 use Rattle.flume_script.proofs.ScriptSteps.{length_all_zip, all_zip_push}
 
 -- of the lines of the whole, those before the rest are these pairs

@@ -15,7 +15,7 @@ use Rattle.flume_model.specs.Limits.{is_closed}
 use Rattle.flume_model.specs.Offers.{offers, offered, withdrawn, withdraws, kept, handed_out, handed}
 use Rattle.flume_model.specs.Line.{line, capacity, capacity_after, boundary, boundary_after, queue}
 use Rattle.flume_model.specs.Line.{blocked, messages, next_ticket, issued, is_live, issues, spends}
-use Rattle.flume_model.specs.Parked.{LogEntry, entries, entries_after, is_shut}
+use Rattle.flume_model.specs.Parked.{LogEntry, entries, entries_after, is_closed_after}
 use Rattle.flume_model.specs.Channel.{Channel, channel}
 use Rattle.flume_audit.specs.Weights.{SameReply}
 use Rattle.flume_history.specs.SameRuns.{SameLog}
@@ -126,7 +126,7 @@ module _ {T A : Type 0} (o : Opening) where
   over_same log other h =
       ap2 (λ s r. s + r == 0) (senders_same log other h) (receivers_same log other h)
 
-  shut_same : (log other : Log T A) → SameChanges log other → is_shut log ≡ is_shut other
+  shut_same : (log other : Log T A) → SameChanges log other → is_closed_after log ≡ is_closed_after other
   shut_same log other h =
       ap2 is_closed (senders_same log other h) (receivers_same log other h)
 

@@ -21,11 +21,11 @@ use Rattle.flume_model.specs.Channel.{Channel, TakesNoneIn, channel}
 use Rattle.flume_model.specs.Asking.{IsPolledMark, IsPolled, IsGoneMark, IsGone}
 use Rattle.flume_model.specs.Replies.{IsReply}
 use Rattle.flume_state.specs.declared.notice.Notice.{Notice}
-use Rattle.flume_state.specs.Effects.{fronted}
+use Rattle.flume_state.specs.Effects.{with_front}
 use Rattle.flume_state.specs.Messages.{Blocked}
-use Rattle.flume_state.specs.Receivers.{standing_as, standing_of, only_leaves}
+use Rattle.flume_state.specs.Receivers.{status_by, status_of, only_leaves}
 use Rattle.flume_state.specs.State.{State, bare}
-use Rattle.flume_core.specs.StandsFor.{StandsFor}
+use Rattle.flume_core.specs.Represents.{Represents}
 use Rattle.flume_core.specs.Waiting.{FindsNoRoom}
 use Rattle.flume_core.specs.Wanting.{MayWant}
 use Rattle.flume_core.proofs.Answering.{takes_in, takes_none_in, empty_line}
@@ -37,7 +37,7 @@ room_else : (capacity : Option ℕ) (n : ℕ) → (IsAtCapacity capacity n → �
 room_else None n full = tt
 room_else (Some c) n full = omega (arith, full)
 
-module _ {T A S : Type 0} {o : Opening} {log : Log T A} {s : State T S} (h : StandsFor o log s) where
+module _ {T A S : Type 0} {o : Opening} {log : Log T A} {s : State T S} (h : Represents o log s) where
   -- the channel is open where the state says so
   open_at_state : IsOpen (channel o log).senders (channel o log).receivers → IsOpen s.senders s.receivers
   open_at_state is = subst₂ IsOpen (sym h.senders_are) (sym h.receivers_are) is
@@ -71,20 +71,20 @@ module _ {T A S : Type 0} {o : Opening} {log : Log T A} {s : State T S} (h : Sta
   )
 
   -- where the line is empty, no message comes to the front
-  nothing_at_state : messages (line log) ≡ [] → (fronted s).queue ≡ []
+  nothing_at_state : messages (line log) ≡ [] → (with_front s).queue ≡ []
   nothing_at_state none = go s.queue s.blocked refl refl
     where
       whole : s.queue ++ map (λ b. b.message) s.blocked ≡ []
       whole = sym (line_messages h) ∙ none
 
-      go : (q : List T) (xs : List (Blocked T)) → s.queue ≡ q → s.blocked ≡ xs → (fronted s).queue ≡ []
+      go : (q : List T) (xs : List (Blocked T)) → s.queue ≡ q → s.blocked ≡ xs → (with_front s).queue ≡ []
       go [] [] queue at = rw (queue, at) refl
       go [] (x ∷ xs) queue at = absurd (let parts = rw (queue, at) at whole in let no : ⊥ = cc in no)
       go (m ∷ q) xs queue at = absurd (let parts = rw queue at whole in let no : ⊥ = cc in no)
 
 module _ {T : Type 0} (A : Type 0) (c : Channel T) where
   -- one that looks anew, and doesn't block, may want memory where a message is blocked
-  polled_so : (kind : Kind) (mark : Mark T) → only_leaves (Some (standing_as kind mark)) ≡ true
+  polled_so : (kind : Kind) (mark : Mark T) → only_leaves (Some (status_by kind mark)) ≡ true
       → c.boundary < length c.line → IsPolledMark {A = A} c kind mark (NoMemory None)
   polled_so Block (Filled held) looks on = absurd (let no : ⊥ = cc in no)
   polled_so Block StillWaits looks on = absurd (let no : ⊥ = cc in no)
@@ -101,7 +101,7 @@ module _ {T : Type 0} (A : Type 0) (c : Channel T) where
 
   -- and no other does
   polled_only : (kind : Kind) (mark : Mark T) (back : Option T) → IsPolledMark {A = A} c kind mark (NoMemory back)
-      → (only_leaves (Some (standing_as kind mark)) ≡ true) × (c.boundary < length c.line) × (back ≡ None)
+      → (only_leaves (Some (status_by kind mark)) ≡ true) × (c.boundary < length c.line) × (back ≡ None)
   polled_only Block (Filled held) back h = absurd h
   polled_only Block StillWaits back h = absurd h
   polled_only Block Woken back h = absurd h
@@ -136,17 +136,17 @@ module _ {T : Type 0} (A : Type 0) (c : Channel T) where
 
 module _ {T S : Type 0} (A : Type 0) (c : Channel T) where
   -- a poll of the entry that was found wants memory there
-  found_so : (found : Option (Entry T (Notice S))) → only_leaves (option_map standing_of found) ≡ true
+  found_so : (found : Option (Entry T (Notice S))) → only_leaves (option_map status_of found) ≡ true
       → c.boundary < length c.line → IsPolled {A = A} c (option_map bare found) (NoMemory None)
   found_so None looks on = absurd (let no : ⊥ = cc in no)
   found_so (Some e) looks on = polled_so A c e.kind e.mark looks on
 
   found_only : (found : Option (Entry T (Notice S))) (back : Option T) → IsPolled {A = A} c (option_map bare found) (NoMemory back)
-      → (only_leaves (option_map standing_of found) ≡ true) × (c.boundary < length c.line) × (back ≡ None)
+      → (only_leaves (option_map status_of found) ≡ true) × (c.boundary < length c.line) × (back ≡ None)
   found_only None back h = absurd h
   found_only (Some e) back h = polled_only A c e.kind e.mark back h
 
-module _ {T A S : Type 0} {o : Opening} {log : Log T A} {s : State T S} (h : StandsFor o log s) where
+module _ {T A S : Type 0} {o : Opening} {log : Log T A} {s : State T S} (h : Represents o log s) where
   -- where the state says that memory may be wanted, the abstract channel may answer so
   pub want_allowed : (step : Step T) → MayWant s step → IsReply {A = A} (channel o log) step (NoMemory (handed_in step))
   want_allowed (TrySend m) may =

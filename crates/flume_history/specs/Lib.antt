@@ -2,5 +2,5 @@ pub mod SameRuns
 pub mod Equal
 pub mod Histories
 pub mod Wants
-pub mod Told
-pub mod ToldReading
+pub mod HistoryText
+pub mod HistoryReading

@@ -3,7 +3,7 @@ ghost use Rattle.std.specs.Prelude.{◌≡◌, ◌↔◌, ℕ, ◌∷◌, true, 
 ghost use Rattle.flume_model.specs.Channel.{channel};
 ghost use Rattle.flume_model.specs.Log.{Log, Opening, opens};
 ghost use Rattle.flume_model.specs.Replies.{IsReply};
-ghost use Rattle.flume_core.specs.StandsFor.{StandsFor};
+ghost use Rattle.flume_core.specs.Represents.{Represents};
 ghost use Rattle.flume_history.specs.Equal.{Equals};
 ghost use Rattle.flume_history.specs.Histories.{IsHistory, BreaksAt};
 ghost use Rattle.flume_history.specs.Wants.{handed_in};
@@ -70,11 +70,11 @@ fn follows<T: Copy + Eq + Drop, A: Allocator + Copy>(
     told: &Reply<T, A>,
 ) -> Option<bool>
     ensures so { result ≡ Some true → (opening : Opening) (log : Log T A)
-        → StandsFor opening log chan.old
+        → Represents opening log chan.old
         → (reply : Reply T A) × Equals T.eq told.now reply
-        × StandsFor opening ((step.now, reply) ∷ log) chan.new }
+        × Represents opening ((step.now, reply) ∷ log) chan.new }
     ensures otherwise { result ≡ Some false → (opening : Opening) (log : Log T A)
-        → StandsFor opening log chan.old
+        → Represents opening log chan.old
         → (reply : Reply T A) → IsReply (channel opening log) step.now reply
         → Equals T.eq told.now reply → ⊥ }
 {

@@ -7,7 +7,7 @@ ghost use Rattle.flume_model.specs.declared.step.Reply.{Reply};
 ghost use Rattle.flume_model.specs.declared.step.Step.{Step};
 ghost use Rattle.flume_audit.specs.Weights.{SameReply};
 ghost use Rattle.flume_state.specs.State.{State};
-ghost use Rattle.flume_core.specs.StandsFor.{StandsFor};
+ghost use Rattle.flume_core.specs.Represents.{Represents};
 ghost use Rattle.flume_core.specs.Wanting.{MayWant};
 ghost use Rattle.flume_history.specs.Equal.{equal_replies, Equals};
 ghost use Rattle.flume_history.specs.Histories.{IsHistory};
@@ -44,11 +44,11 @@ pub fn runs_are_histories<T: Eq, A: Allocator>()
 /// with that want, and with the message that the step hands in; nowhere else, and with no other.
 pub fn memory_may_be_wanted_as_defined<T, S, A: Allocator>()
     ensures allowed { (opening : Opening) (log : Log T A) (s : State T S) (step : Step T)
-        → StandsFor opening log s
+        → Represents opening log s
         → MayWant s step
         ↔ IsReply {A = A} (channel opening log) step (Reply.NoMemory (handed_in step)) }
     ensures no_other { (opening : Opening) (log : Log T A) (s : State T S) (step : Step T)
-        (back : Option T) → StandsFor opening log s
+        (back : Option T) → Represents opening log s
         → IsReply {A = A} (channel opening log) step (Reply.NoMemory back)
         → back ≡ handed_in step }
 {}

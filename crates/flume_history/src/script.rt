@@ -1,8 +1,8 @@
 //! Histories as text: steps with what was said of their replies, and whether a channel answers so.
-ghost use Rattle.flume_core.specs.StandsFor.{StandsFor};
-ghost use Rattle.flume_history.specs.Told.{IsLawfulText, IsToldScript, Judges, Says, Shows};
-ghost use Rattle.flume_history.specs.Told.{break_text};
-ghost use Rattle.flume_history.specs.ToldReading.{pairs_of};
+ghost use Rattle.flume_core.specs.Represents.{Represents};
+ghost use Rattle.flume_history.specs.HistoryText.{IsLawfulText, IsHistoryText, Judges, Says, Shows};
+ghost use Rattle.flume_history.specs.HistoryText.{break_text};
+ghost use Rattle.flume_history.specs.HistoryReading.{pairs_of};
 ghost use Rattle.flume_model.specs.Channel.{channel};
 ghost use Rattle.flume_model.specs.Log.{Log, Opening};
 ghost use Rattle.flume_model.specs.declared.step.Reply.{Reply};
@@ -65,7 +65,7 @@ fn judge<A: Allocator + Copy>(
     pairs: &[(Step<u64>, &[u8])],
 ) -> Result<Script<A>, NoMemory>
     ensures judges { IfOk result (λ script. (input : List ℕ)
-        → IsToldScript (lines input) capacity (pairs_of pairs.now)
+        → IsHistoryText (lines input) capacity (pairs_of pairs.now)
         → Judges A input script.text.items script.status) }
 {
     let mut chan = Chan::new(alloc, capacity);
@@ -90,11 +90,11 @@ fn should_be<A: Allocator + Copy>(
     said: &[u8],
 ) -> Result<Option<Vec<u8, A>>, NoMemory>
     ensures so { IfOk result (λ r. IfNone r ((opening : Opening) (log : Log ℕ A)
-        → StandsFor opening log chan.old
+        → Represents opening log chan.old
         → (reply : Reply ℕ A) × Says said.now reply
-        × StandsFor opening ((step, reply) ∷ log) chan.new)) }
+        × Represents opening ((step, reply) ∷ log) chan.new)) }
     ensures otherwise { IfOk result (λ r. IfSome r (λ should. (opening : Opening) (log : Log ℕ A)
-        → StandsFor opening log chan.old
+        → Represents opening log chan.old
         → Shows A (channel opening log) step should.items
         × ¬ IsLawfulText A (channel opening log) step said.now)) }
 {

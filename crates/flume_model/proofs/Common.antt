@@ -37,7 +37,7 @@ pub use Rattle.flume_model.specs.Log.{Log, Opening, Change, Queues, Blocks, Acce
 pub use Rattle.flume_model.specs.Log.{Leaves, SenderJoins, ReceiverJoins, SenderLeaves, ReceiverLeaves, Resizes, Stays, is_ticket, filled_by}
 pub use Rattle.flume_model.specs.Log.{was_filled, change, Offer, HandOut, Shown, FilledIn, capped}
 pub use Rattle.flume_model.specs.Offers.{fill, handed, kept, handed_out, hand_outs, offered, withdraws, offers, withdrawn}
-pub use Rattle.flume_model.specs.Parked.{LogEntry, untold, entries_after, entries, is_shut, parks, peak}
+pub use Rattle.flume_model.specs.Parked.{LogEntry, same_notice, entries_after, entries, is_closed_after, parks, peak}
 pub use Rattle.flume_model.specs.Producers.{HandedOutInOrder}
 pub use Rattle.flume_model.specs.Replies.{IsRun, IsReply}
 pub use Rattle.flume_model.specs.WaitLaws.{Apart, EntriesApart, SidesApart, ToldFilled, block_woken, is_block, IsWithin, Bounded, Covered}

@@ -2,7 +2,7 @@
 use Rattle.flume_model.proofs.Common.{◌≡◌, ℕ, ◌+◌, ◌<◌, ◌≤◌, Bool, true, false, ◌||◌, if◌then◌else◌, eqb, List, Option, Some, None, refl}
 use Rattle.flume_model.proofs.Common.{sym, ◌∙◌, ap, arith, inl, inr, ◌⊎◌, eqb-true, ne_eqb, Channel, is_filled, is_woken, all_woken}
 use Rattle.flume_model.proofs.Common.{entry_of, round, round_fills, without, issued, issues, Change, Queues, Blocks, Takes, Parks, Asks}
-use Rattle.flume_model.proofs.Common.{Collects, Leaves, SenderLeaves, ReceiverLeaves, is_ticket, LogEntry, untold, entries_after, Apart}
+use Rattle.flume_model.proofs.Common.{Collects, Leaves, SenderLeaves, ReceiverLeaves, is_ticket, LogEntry, same_notice, entries_after, Apart}
 use Rattle.flume_model.proofs.Common.{Mark, common_steps}
 use Rattle.flume_model.proofs.EntryLists.{tickets_round, tickets_woken, ticket_of, fills_none_else, none_same, none_without, none_push}
 use Rattle.flume_model.proofs.EntryLists.{round_for_push, again_cases, leave_cases}
@@ -18,35 +18,35 @@ module _ {T : Type 0} where
   fills _ = None
 
   -- a round leaves the tickets apart
-  apart_round : (n : ℕ) (front : T) (es : List (LogEntry T)) → Apart n es → Apart n (round untold front es)
-  apart_round n front es h = apart_same n es (round untold front es) (sym (tickets_round untold front es)) h
+  apart_round : (n : ℕ) (front : T) (es : List (LogEntry T)) → Apart n es → Apart n (round same_notice front es)
+  apart_round n front es h = apart_same n es (round same_notice front es) (sym (tickets_round same_notice front es)) h
 
   -- a wake round gives no entry a ticket that none had
-  none_round : (t : ℕ) (front : T) (es : List (LogEntry T)) → entry_of t es ≡ None → entry_of t (round untold front es) ≡ None
-  none_round t front es h = none_same t es (round untold front es) (sym (tickets_round untold front es)) h
+  none_round : (t : ℕ) (front : T) (es : List (LogEntry T)) → entry_of t es ≡ None → entry_of t (round same_notice front es) ≡ None
+  none_round t front es h = none_same t es (round same_notice front es) (sym (tickets_round same_notice front es)) h
 
   -- where an end leaves, the tickets stay apart
-  apart_close : (n : ℕ) (closes : Bool) (es : List (LogEntry T)) → Apart n es → Apart (n + 0) (if closes then all_woken untold es else es)
-  apart_close n true es h = apart_above n (n + 0) _ (omega arith) (apart_same n es _ (sym (tickets_woken untold es)) h)
+  apart_close : (n : ℕ) (closes : Bool) (es : List (LogEntry T)) → Apart n es → Apart (n + 0) (if closes then all_woken same_notice es else es)
+  apart_close n true es h = apart_above n (n + 0) _ (omega arith) (apart_same n es _ (sym (tickets_woken same_notice es)) h)
   apart_close n false es h = apart_above n (n + 0) es (omega arith) h
 
   -- no entry has a ticket then that none had
   none_close : (t : ℕ) (closes : Bool) (es : List (LogEntry T)) → entry_of t es ≡ None
-      → entry_of t (if closes then all_woken untold es else es) ≡ None
-  none_close t true es h = none_same t es _ (sym (tickets_woken untold es)) h
+      → entry_of t (if closes then all_woken same_notice es else es) ≡ None
+  none_close t true es h = none_same t es _ (sym (tickets_woken same_notice es)) h
   none_close t false es h = h
 
   -- where an end leaves, those entries are filled that were
   filled_close : (was : ℕ → Bool) (closes : Bool) (es : List (LogEntry T)) → FilledBy was es
-      → FilledBy was (if closes then all_woken untold es else es)
-  filled_close was closes es h = grind (arith, common_steps, filled_woken untold was es)
+      → FilledBy was (if closes then all_woken same_notice es else es)
+  filled_close was closes es h = grind (arith, common_steps, filled_woken same_notice was es)
 
   -- after a change that fits, the tickets of entries are apart
   pub apart_by : (c : Channel T) (closes : Bool) (done : Change T) → Fits c done → Apart c.next c.entries
       → Apart (c.next + issued done) (entries_after c.queue closes c.entries done)
   apart_by c closes (Queues m filled) h apart =
       apart_above c.next (c.next + 0) _ (omega arith)
-      (round_for_push (Apart c.next) untold c.queue m c.entries (λ front. apart_round c.next front c.entries apart))
+      (round_for_push (Apart c.next) same_notice c.queue m c.entries (λ front. apart_round c.next front c.entries apart))
   apart_by c closes (Takes m (Some t)) h apart = apart_above c.next (c.next + 0) _ (omega arith) (apart_without c.next t c.entries apart)
   apart_by c closes (Parks t kind) h apart =
       let same : t ≡ c.next = h.3 in
@@ -60,7 +60,7 @@ module _ {T : Type 0} where
   apart_by c closes (Collects t) h apart = apart_above c.next (c.next + 0) _ (omega arith) (apart_without c.next t c.entries apart)
   apart_by c closes (Leaves t filled) h apart =
       let others = apart_without c.next t c.entries apart in
-      apart_above c.next (c.next + 0) _ (omega arith) (leave_cases (λ es f. Apart c.next es) untold t c.queue c.entries
+      apart_above c.next (c.next + 0) _ (omega arith) (leave_cases (λ es f. Apart c.next es) same_notice t c.queue c.entries
       (λ none. others) (λ passes front rest e. apart_round c.next front (without t c.entries) others))
   apart_by c closes SenderLeaves h apart = apart_close c.next closes c.entries apart
   apart_by c closes ReceiverLeaves h apart = apart_close c.next closes c.entries apart
@@ -71,7 +71,7 @@ module _ {T : Type 0} where
   pub fills_none : (c : Channel T) (done : Change T) (t : ℕ) → Fits c done → entry_of t c.entries ≡ None → is_ticket t (fills done) ≡ false
   fills_none c (Queues m filled) t h none = ap (is_ticket t) h.1 ∙ fills_none_else t c.entries none
   fills_none c (Leaves u filled) t h none =
-      ap (is_ticket t) h.1 ∙ leave_cases (λ es f. is_ticket t f ≡ false) untold u c.queue c.entries (λ e. refl)
+      ap (is_ticket t) h.1 ∙ leave_cases (λ es f. is_ticket t f ≡ false) same_notice u c.queue c.entries (λ e. refl)
       (λ passes front rest e. fills_none_else t (without u c.entries) (none_without t u c.entries none))
   fills_none c _ t h none = refl
 
@@ -80,8 +80,8 @@ module _ {T : Type 0} where
       → ((t : ℕ) → c.next ≤ t → was t ≡ false) → FilledBy was c.entries
       → FilledBy (λ t. is_ticket t (fills done) || was t) (entries_after c.queue closes c.entries done)
   filled_by_change c closes (Queues m filled) was h apart past all =
-      rw h.1 (round_for_push (FilledBy (λ t. is_ticket t (round_fills c.entries) || was t)) untold c.queue m c.entries
-      (λ front. filled_round untold front c.next was c.entries apart all))
+      rw h.1 (round_for_push (FilledBy (λ t. is_ticket t (round_fills c.entries) || was t)) same_notice c.queue m c.entries
+      (λ front. filled_round same_notice front c.next was c.entries apart all))
   filled_by_change c closes (Takes m (Some t)) was h apart past all = filled_without was t c.entries all
   filled_by_change c closes (Parks t kind) was h apart past all =
       let same : t ≡ c.next = h.3 in
@@ -96,9 +96,9 @@ module _ {T : Type 0} where
   filled_by_change c closes (Collects t) was h apart past all = filled_without was t c.entries all
   filled_by_change c closes (Leaves t filled) was h apart past all =
       let others = filled_without was t c.entries all in
-      rw h.1 (leave_cases (λ es f. FilledBy (λ u. is_ticket u f || was u) es) untold t c.queue c.entries (λ e. others)
+      rw h.1 (leave_cases (λ es f. FilledBy (λ u. is_ticket u f || was u) es) same_notice t c.queue c.entries (λ e. others)
       (λ passes front rest e.
-      filled_round untold front c.next was (without t c.entries) (apart_without c.next t c.entries apart) others))
+      filled_round same_notice front c.next was (without t c.entries) (apart_without c.next t c.entries apart) others))
   filled_by_change c closes SenderLeaves was h apart past all = filled_close was closes c.entries all
   filled_by_change c closes ReceiverLeaves was h apart past all = filled_close was closes c.entries all
   filled_by_change c closes _ was h apart past all = all
@@ -112,7 +112,7 @@ module _ {T : Type 0} where
   pub none_by : (c : Channel T) (closes : Bool) (done : Change T) (t : ℕ) → parks_under done t ≡ false → entry_of t c.entries ≡ None
       → entry_of t (entries_after c.queue closes c.entries done) ≡ None
   none_by c closes (Queues m filled) t e none =
-      round_for_push (λ es. entry_of t es ≡ None) untold c.queue m c.entries (λ front. none_round t front c.entries none)
+      round_for_push (λ es. entry_of t es ≡ None) same_notice c.queue m c.entries (λ front. none_round t front c.entries none)
   none_by c closes (Takes m (Some u)) t e none = none_without t u c.entries none
   none_by c closes (Parks u kind) t e none = none_push t c.entries _ none e
   none_by c closes (Asks u) t e none =
@@ -130,7 +130,7 @@ module _ {T : Type 0} where
   none_by c closes (Collects u) t e none = none_without t u c.entries none
   none_by c closes (Leaves u filled) t e none =
       let others = none_without t u c.entries none in
-      leave_cases (λ es f. entry_of t es ≡ None) untold u c.queue c.entries (λ e2. others)
+      leave_cases (λ es f. entry_of t es ≡ None) same_notice u c.queue c.entries (λ e2. others)
       (λ passes front rest e2. none_round t front (without u c.entries) others)
   none_by c closes SenderLeaves t e none = none_close t closes c.entries none
   none_by c closes ReceiverLeaves t e none = none_close t closes c.entries none

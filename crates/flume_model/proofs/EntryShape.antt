@@ -2,7 +2,7 @@
 use Rattle.flume_model.proofs.Common.{◌≡◌, ℕ, ◌+◌, ◌<◌, ◌≤◌, Bool, true, false, not, ◌||◌, ◌&&◌, if◌then◌else◌, [], ◌∷◌, Option, Some, None}
 use Rattle.flume_model.proofs.Common.{refl, sym, ◌∙◌, ap, subst, arith, inl, inr, ◌⊎◌, or_from, or_cases, and_parts, channel, is_over}
 use Rattle.flume_model.proofs.Common.{entry_of, next_ticket, queue, issued, issues, spends, is_live, Log, Opening, Takes, Collects}
-use Rattle.flume_model.proofs.Common.{filled_by, was_filled, is_ticket, change, entries_after, entries, is_shut, IsReply, IsRun}
+use Rattle.flume_model.proofs.Common.{filled_by, was_filled, is_ticket, change, entries_after, entries, is_closed_after, IsReply, IsRun}
 use Rattle.flume_model.proofs.Common.{EntriesApart, SidesApart, ToldFilled, Reply, Step, Poll, Withdraw, common_steps}
 use Rattle.flume_model.proofs.EntryMarks.{FilledBy, filled_found, none_past}
 use Rattle.flume_model.proofs.AskingCases.{polled_cases, gone_cases}
@@ -57,7 +57,7 @@ module _ {T A : Type 0} where
       fit = fits o past p.0 p.1 (told_in o past h) reply
 
       closes : Bool
-      closes = not (is_shut past) && is_shut (p ∷ past)
+      closes = not (is_closed_after past) && is_closed_after (p ∷ past)
 
       told : filled_by p.1 ≡ fills (change past p.0 p.1)
       told = told_by o past p.0 p.1 reply
@@ -69,7 +69,7 @@ module _ {T A : Type 0} where
 
       FilledNow : Option ℕ → Type 0
       FilledNow f = FilledBy (λ t. is_ticket t f || was_filled past t)
-          (entries_after (queue o past) (not (is_shut past) && is_shut (p ∷ past)) (entries o past) (change past p.0 p.1))
+          (entries_after (queue o past) (not (is_closed_after past) && is_closed_after (p ∷ past)) (entries o past) (change past p.0 p.1))
 
       marks_now : FilledNow (filled_by p.1)
       marks_now =

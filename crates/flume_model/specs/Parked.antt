@@ -17,8 +17,8 @@ abbrev pub LogEntry : Type 0 → Type 0
 LogEntry T = Entry T (Unit {0})
 
 -- there is nothing to be told
-abbrev pub untold : Unit {0} → Unit {0}
-untold nothing = nothing
+abbrev pub same_notice : Unit {0} → Unit {0}
+same_notice nothing = nothing
 
 module _ {T : Type 0} where
   -- a receiver that has just parked
@@ -27,30 +27,30 @@ module _ {T : Type 0} where
 
   -- the entries after a change, where this was the queue, and the change closes the channel or not
   abbrev pub entries_after : List T → Bool → List (LogEntry T) → Change T → List (LogEntry T)
-  entries_after queue closes entries (Queues m filled) = round_for untold (queue ++ m ∷ []) entries
+  entries_after queue closes entries (Queues m filled) = round_for same_notice (queue ++ m ∷ []) entries
   entries_after queue closes entries (Takes message (Some ticket)) = without ticket entries
   entries_after queue closes entries (Parks ticket kind) = entries ++ parks ticket kind ∷ []
   entries_after queue closes entries (Asks ticket) = again ticket entries
   entries_after queue closes entries (Collects ticket) = without ticket entries
   entries_after queue closes entries (Leaves ticket filled) =
-      after_leave untold ticket queue entries
+      after_leave same_notice ticket queue entries
   entries_after queue closes entries SenderLeaves =
-      if closes then all_woken untold entries else entries
+      if closes then all_woken same_notice entries else entries
   entries_after queue closes entries ReceiverLeaves =
-      if closes then all_woken untold entries else entries
+      if closes then all_woken same_notice entries else entries
   entries_after queue closes entries _ = entries
 
 module _ {T A : Type 0} where
   -- all senders or all receivers are gone
-  abbrev pub is_shut : Log T A → Bool
-  is_shut log = is_closed (senders log) (receivers log)
+  abbrev pub is_closed_after : Log T A → Bool
+  is_closed_after log = is_closed (senders log) (receivers log)
 
   -- the parked receivers after a log; none once both ends are gone
   abbrev pub entries : Opening → Log T A → List (LogEntry T)
   entries opening [] = []
   entries opening (p ∷ past) =
       if is_over (p ∷ past) then []
-      else entries_after (queue opening past) (not (is_shut past) && is_shut (p ∷ past))
+      else entries_after (queue opening past) (not (is_closed_after past) && is_closed_after (p ∷ past))
       (entries opening past) (change past p.0 p.1)
 
   -- the most that waited at once so far

@@ -12,7 +12,7 @@ pub mod writing;
 use flume_core::chan::Chan;
 use flume_core::error::NoMemory;
 use flume_core::run::run;
-use flume_core::step::Step;
+use flume_model::step::Step;
 use reading::{Reading, read_script};
 use std::alloc::{Allocator, Global};
 use writing::{write_replies, write_wrong};

@@ -10,7 +10,7 @@ ghost use Rattle.std.specs.Str.Lines.{lines, strip_carriage_return};
 ghost use Rattle.std.specs.Str.Parse.{IsNumeral, digits_value};
 
 use flume_core::error::NoMemory;
-use flume_core::step::{Kind, Step};
+use flume_model::step::{Kind, Step};
 use std::alloc::{AllocError, Allocator};
 use std::str;
 

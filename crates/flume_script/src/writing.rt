@@ -8,7 +8,7 @@ ghost use Rattle.std.specs.Prelude.{IfNone, IfOk, IfSome, OnOk, ◌≡◌, [], �
 ghost use Rattle.std.specs.Prelude.{codes, string_bytes};
 
 use flume_core::error::NoMemory;
-use flume_core::step::Reply;
+use flume_model::step::Reply;
 use std::alloc::Allocator;
 
 // Adds the text of the reply to a send that was taken in.

@@ -11,8 +11,9 @@ use Rattle.flume_chain.proofs.Rings.{once_same, once_none, once_back, with_same,
 use Rattle.flume_chain.proofs.Tables.{item, found_put, without_at}
 use Rattle.flume_state.specs.declared.ticketed.Ticketed.{Ticketed}
 use Rattle.flume_state.specs.Sends.{changed}
-use Rattle.flume_state.specs.Ticketed.{is_ticket, place_of, ticket_times, revalued}
-use Rattle.flume_state.specs.SendChain.{put_under, by_ticket}
+use Rattle.flume_state.specs.Ticketed.{place_of, ticket_times, revalued}
+use Rattle.flume_model.specs.Log.{is_ticket}
+use Rattle.flume_state.specs.SendLayout.{put_under, by_ticket}
 use Rattle.flume_state.proofs.SendsLaws.{same_by, get-insert_same, get-insert_other, changed-insert, remove-insert}
 
 -- two numbers are the same either way round

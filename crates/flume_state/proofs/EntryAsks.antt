@@ -9,7 +9,7 @@ use Rattle.flume_model.specs.Entries.{is_waiting, is_woken, waiting_count, again
 use Rattle.flume_model.specs.declared.entry.Entry.{Entry}
 use Rattle.flume_model.specs.declared.entry.Mark.{Mark}
 use Rattle.flume_model.specs.declared.entry.Mark.TheVariants.{Waiting, Woken, Filled}
-use Rattle.flume_state.specs.Parked.{Each, Sorted, asked_as, entries_in, entry_in, off}
+use Rattle.flume_state.specs.EntryLayout.{Each, EntryLayout, asked_as, entries_in, entry_in, off}
 use Rattle.flume_state.specs.Receivers.{Entries, noticed_receiver, waits_on}
 use Rattle.flume_state.specs.Ticketed.{revalued}
 use Rattle.flume_state.specs.declared.entries.Parked.{Parked}
@@ -59,9 +59,9 @@ module _ {T S : Type 0} where
   ]
 
   -- one that waits has a value with which it waits on
-  sorted_stays : (items : Items T S) (due waits : Option ℕ) (n t k : ℕ) (v : Parked T S) → Sorted items due waits n
+  sorted_stays : (items : Items T S) (due waits : Option ℕ) (n t k : ℕ) (v : Parked T S) → EntryLayout items due waits n
       → (q : Seated items t k) → is_waiting q.element.value.mark ≡ true → is_waiting v.mark ≡ true → v.notice.due ≡ false
-      → Sorted (revalued k items v) due waits n
+      → EntryLayout (revalued k items v) due waits n
   sorted_stays items due waits n t k v s q did does quiet =
       let x = item k q.element in
       let y = item k (with_value q.element v) in
@@ -96,9 +96,9 @@ module _ {T S : Type 0} where
       ∙ revalued_at k q.before q.after q.element q.element.value q.clear q.behind ∙ sym q.is
 
   -- one that wasn't woken asks again: the parts stand as before
-  pub asks_sorted : (items : Items T S) (due waits : Option ℕ) (n t k : ℕ) (signal : Option S) (m : Mark T) → Sorted items due waits n
+  pub asks_sorted : (items : Items T S) (due waits : Option ℕ) (n t k : ℕ) (signal : Option S) (m : Mark T) → EntryLayout items due waits n
       → (q : Seated items t k) → q.element.value.mark ≡ m → is_woken m ≡ false
-      → Sorted (revalued k items (asked_as m signal q.element.value)) due waits n
+      → EntryLayout (revalued k items (asked_as m signal q.element.value)) due waits n
   asks_sorted items due waits n t k signal Waiting s q is asleep =
       sorted_stays items due waits n t k (asked_as Waiting signal q.element.value) s q (ap is_waiting is) refl refl
   asks_sorted items due waits n t k signal Woken s q is asleep = absurd (let none : ⊥ = cc in none)
@@ -189,8 +189,8 @@ module _ {T S : Type 0} where
 
   -- a woken one waits behind all others
   pub again_sorted : (items : Items T S) (due waits next : Option ℕ) (n t k : ℕ) (signal : Option S) (m : Mark T)
-      → Sorted items due waits n → (q : Seated items t k) → q.element.value.mark ≡ m → is_woken m ≡ true → next ≡ place_after items k
-      → Sorted (behind_all items k (with_value q.element (asked_as m signal q.element.value)))
+      → EntryLayout items due waits n → (q : Seated items t k) → q.element.value.mark ≡ m → is_woken m ≡ true → next ≡ place_after items k
+      → EntryLayout (behind_all items k (with_value q.element (asked_as m signal q.element.value)))
       (option_or (off due k next) (Some k)) (option_or (off waits k next) (Some k)) (n + 1)
   again_sorted items due waits next n t k signal Waiting s q is woken after = absurd (let none : ⊥ = cc in none)
   again_sorted items due waits next n t k signal (Filled message) s q is woken after = absurd (let none : ⊥ = cc in none)

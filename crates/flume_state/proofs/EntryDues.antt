@@ -5,7 +5,7 @@ use Rattle.flume_chain.proofs.Tables.{item, after_at}
 use Rattle.flume_model.specs.Entries.{is_waiting, waiting_count}
 use Rattle.flume_model.specs.declared.entry.Mark.{Mark}
 use Rattle.flume_state.specs.Notices.{due_now}
-use Rattle.flume_state.specs.Parked.{Each, Sorted, entries_in, entry_in, first_marked, first_waiting}
+use Rattle.flume_state.specs.EntryLayout.{Each, EntryLayout, entries_in, entry_in, first_marked, first_waiting}
 use Rattle.flume_state.specs.Ticketed.{revalued}
 use Rattle.flume_state.specs.Receivers.{Entries}
 use Rattle.flume_state.specs.declared.entries.Parked.{Parked}
@@ -37,46 +37,46 @@ module _ {T S : Type 0} where
   marked_skip d tell m (x ∷ xs) es all = rw all.1 (ap (λ l. entry_in x ∷ l) (marked_skip d tell m xs es all.3))
 
   -- the entries of the three parts
-  three : (items : Items T S) (due waits : Option ℕ) (n : ℕ) (s : Sorted items due waits n)
+  three : (items : Items T S) (due waits : Option ℕ) (n : ℕ) (s : EntryLayout items due waits n)
       → entries_in items ≡ entries_in s.quiet ++ (entries_in s.dues ++ entries_in s.last)
   three items due waits n s = ap entries_in s.is ∙ entries-append s.quiet (s.dues ++ s.last)
       ∙ ap (λ l. entries_in s.quiet ++ l) (entries-append s.dues s.last)
 
   -- whoever waits first is the first of the last part
-  pub first_of_last : (items : Items T S) (due waits : Option ℕ) (n : ℕ) (s : Sorted items due waits n)
+  pub first_of_last : (items : Items T S) (due waits : Option ℕ) (n : ℕ) (s : EntryLayout items due waits n)
       → first_waiting (entries_in items) ≡ first_waiting (entries_in s.last)
   first_of_last items due waits n s = ap first_waiting (three items due waits n s)
       ∙ waiting_skip false s.quiet (entries_in s.dues ++ entries_in s.last) s.are_quiet
       ∙ waiting_skip true s.dues (entries_in s.last) s.are_due
 
   -- and is marked there
-  mark_of_last : (tell : Notice S → Notice S) (m : Mark T) (items : Items T S) (due waits : Option ℕ) (n : ℕ) (s : Sorted items due waits n)
+  mark_of_last : (tell : Notice S → Notice S) (m : Mark T) (items : Items T S) (due waits : Option ℕ) (n : ℕ) (s : EntryLayout items due waits n)
       → first_marked tell m (entries_in items) ≡ entries_in s.quiet ++ (entries_in s.dues ++ first_marked tell m (entries_in s.last))
   mark_of_last tell m items due waits n s = ap (first_marked tell m) (three items due waits n s)
       ∙ marked_skip false tell m s.quiet (entries_in s.dues ++ entries_in s.last) s.are_quiet
       ∙ ap (λ l. entries_in s.quiet ++ l) (marked_skip true tell m s.dues (entries_in s.last) s.are_due)
 
   -- where the boundary names no place, nobody waits
-  none_last : (items : Items T S) (due waits : Option ℕ) (n : ℕ) (s : Sorted items due waits n) → waits ≡ None → s.last ≡ []
+  none_last : (items : Items T S) (due waits : Option ℕ) (n : ℕ) (s : EntryLayout items due waits n) → waits ≡ None → s.last ≡ []
   none_last items due waits n s none = empty s.last (sym none ∙ s.first_waits)
     where
       empty : (xs : Items T S) → None ≡ first_place xs → xs ≡ []
       empty [] h = refl
       empty (x ∷ xs) h = absurd (let some : ⊥ = cc in some)
 
-  pub nobody_waits : (items : Items T S) (due waits : Option ℕ) (n : ℕ) → Sorted items due waits n → waits ≡ None
+  pub nobody_waits : (items : Items T S) (due waits : Option ℕ) (n : ℕ) → EntryLayout items due waits n → waits ≡ None
       → first_waiting (entries_in items) ≡ None
   nobody_waits items due waits n s none =
       first_of_last items due waits n s ∙ ap (λ l. first_waiting (entries_in l)) (none_last items due waits n s none)
 
-  pub nobody_marked : (tell : Notice S → Notice S) (m : Mark T) (items : Items T S) (due waits : Option ℕ) (n : ℕ) → Sorted items due waits n
+  pub nobody_marked : (tell : Notice S → Notice S) (m : Mark T) (items : Items T S) (due waits : Option ℕ) (n : ℕ) → EntryLayout items due waits n
       → waits ≡ None → entries_in items ≡ first_marked tell m (entries_in items)
   nobody_marked tell m items due waits n s none =
       let same : first_marked tell m (entries_in s.last) ≡ entries_in s.last = rw (none_last items due waits n s none) refl in
       three items due waits n s ∙ sym (mark_of_last tell m items due waits n s ∙ ap (λ l. entries_in s.quiet ++ (entries_in s.dues ++ l)) same)
 
   -- the first that waits, at its place alone
-  pub record FirstWaiting (items : Items T S) (due waits : Option ℕ) (n : ℕ) (k : ℕ) (s : Sorted items due waits n) : Type 0 where
+  pub record FirstWaiting (items : Items T S) (due waits : Option ℕ) (n : ℕ) (k : ℕ) (s : EntryLayout items due waits n) : Type 0 where
     pub element : Ticketed (Parked T S)
     pub after : Items T S
     pub last : s.last ≡ item k element ∷ after
@@ -87,7 +87,7 @@ module _ {T S : Type 0} where
     pub class : Is true false element
     pub others : Each true false after
 
-  pub waits_at : (items : Items T S) (due waits : Option ℕ) (n : ℕ) (k : ℕ) (s : Sorted items due waits n) → waits ≡ Some k
+  pub waits_at : (items : Items T S) (due waits : Option ℕ) (n : ℕ) (k : ℕ) (s : EntryLayout items due waits n) → waits ≡ Some k
       → FirstWaiting items due waits n k s
   waits_at items due waits n k s h =
       let f = front_at s.last k (sym h ∙ s.first_waits) in
@@ -108,7 +108,7 @@ module _ {T S : Type 0} where
       }
 
   -- its entry is the first that waits
-  pub waits_first : (items : Items T S) (due waits : Option ℕ) (n : ℕ) (k : ℕ) (s : Sorted items due waits n) (w : FirstWaiting items due waits n k s)
+  pub waits_first : (items : Items T S) (due waits : Option ℕ) (n : ℕ) (k : ℕ) (s : EntryLayout items due waits n) (w : FirstWaiting items due waits n k s)
       → first_waiting (entries_in items) ≡ Some (entry_in (item k w.element))
   waits_first items due waits n k s w =
       first_of_last items due waits n s ∙ ap (λ l. first_waiting (entries_in l)) w.last ∙ rw w.class.1 refl
@@ -118,9 +118,9 @@ module _ {T S : Type 0} where
   woken_value m p = record p { mark = m; notice = due_now p.notice }
 
   -- the first that waits is due from now on, and the boundary is behind it
-  pub sorted_woken : (items : Items T S) (due waits : Option ℕ) (n : ℕ) (k : ℕ) (m : Mark T) (s : Sorted items due waits n)
+  pub sorted_woken : (items : Items T S) (due waits : Option ℕ) (n : ℕ) (k : ℕ) (m : Mark T) (s : EntryLayout items due waits n)
       (w : FirstWaiting items due waits n k s) → is_waiting m ≡ false
-      → Sorted (revalued k items (woken_value m w.element.value)) due (place_after items k) (n - 1)
+      → EntryLayout (revalued k items (woken_value m w.element.value)) due (place_after items k) (n - 1)
   sorted_woken items due waits n k m s w awake =
       let v = woken_value m w.element.value in
       let x = item k w.element in
@@ -149,7 +149,7 @@ module _ {T S : Type 0} where
       }
 
   -- and is marked among the entries
-  pub woken_entries : (items : Items T S) (due waits : Option ℕ) (n : ℕ) (k : ℕ) (m : Mark T) (s : Sorted items due waits n)
+  pub woken_entries : (items : Items T S) (due waits : Option ℕ) (n : ℕ) (k : ℕ) (m : Mark T) (s : EntryLayout items due waits n)
       (w : FirstWaiting items due waits n k s)
       → entries_in (revalued k items (woken_value m w.element.value)) ≡ first_marked due_now m (entries_in items)
   woken_entries items due waits n k m s w =
@@ -162,7 +162,7 @@ module _ {T S : Type 0} where
       ∙ sym (mark_of_last due_now m items due waits n s ∙ ap (λ l. entries_in s.quiet ++ (entries_in s.dues ++ l)) here)
 
   -- some wait where one does
-  pub waits_some : (items : Items T S) (due waits : Option ℕ) (n : ℕ) (k : ℕ) (s : Sorted items due waits n) → FirstWaiting items due waits n k s → 1 ≤ n
+  pub waits_some : (items : Items T S) (due waits : Option ℕ) (n : ℕ) (k : ℕ) (s : EntryLayout items due waits n) → FirstWaiting items due waits n k s → 1 ≤ n
   waits_some items due waits n k s w =
       let one : weight (entry_in (item k w.element)) ≡ 1 = rw w.class.1 refl in
       let sum = ap (λ l. waiting_count (entries_in l)) w.is ∙ waits-append (s.quiet ++ s.dues) (item k w.element ∷ w.after) in

@@ -6,7 +6,7 @@ use Rattle.std.specs.Option.{option_or}
 use Rattle.flume_chain.specs.Chained.{once, times, Placed, places, found, without, first_place, place_after}
 use Rattle.flume_chain.proofs.Rings.{times-append, once_same, once_none, once_back, with_same}
 use Rattle.flume_chain.proofs.Tables.{item, found_put, found_some, without_none, after_at}
-use Rattle.flume_state.specs.Parked.{off}
+use Rattle.flume_state.specs.EntryLayout.{off}
 use Rattle.flume_state.specs.Ticketed.{revalued}
 use Rattle.flume_state.specs.declared.ticketed.Ticketed.{Ticketed}
 

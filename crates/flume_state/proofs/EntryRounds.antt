@@ -9,7 +9,7 @@ use Rattle.flume_model.specs.declared.step.Kind.{Kind}
 use Rattle.flume_model.specs.declared.step.Kind.TheVariants.{Stream}
 use Rattle.flume_model.specs.Entries.{is_waiting, waiting_count, marked, met, filled_at}
 use Rattle.flume_model.specs.Entries.{round, round_fills, all_woken}
-use Rattle.flume_state.specs.Parked.{first_waiting, first_marked}
+use Rattle.flume_state.specs.EntryLayout.{first_waiting, first_marked}
 
 -- where a sum is 0, so is what is added, and the bit that adds 1 is false
 sum_zero : (b : Bool) (n : ℕ) → (if b then 1 else 0) + n ≡ 0 → (b ≡ false) × (n ≡ 0)

@@ -7,8 +7,9 @@ use Rattle.flume_chain.proofs.Tables.{item, without_at}
 use Rattle.flume_model.specs.Entries.{entry_of, without as without_ticket}
 use Rattle.flume_model.specs.declared.entry.Entry.{Entry}
 use Rattle.flume_model.proofs.EntryLists.{none_parts}
-use Rattle.flume_state.specs.Parked.{Each, Sorted, entries_in, entry_in, ticket_or}
-use Rattle.flume_state.specs.Ticketed.{is_ticket, place_of}
+use Rattle.flume_state.specs.EntryLayout.{Each, EntryLayout, entries_in, entry_in, ticket_or}
+use Rattle.flume_state.specs.Ticketed.{place_of}
+use Rattle.flume_model.specs.Log.{is_ticket}
 use Rattle.flume_state.specs.Receivers.{Entries, noticed_receiver}
 use Rattle.flume_state.specs.declared.entries.Parked.{Parked}
 use Rattle.flume_state.specs.declared.notice.Notice.{Notice}
@@ -74,7 +75,7 @@ module _ {T S : Type 0} where
   held-append [] ys h g = g
   held-append (x ∷ xs) ys h g = (h.0, held-append xs ys h.1 g)
 
-  held-sorted : (items : Items T S) (due waits : Option ℕ) (n : ℕ) → Sorted items due waits n → Held items
+  held-sorted : (items : Items T S) (due waits : Option ℕ) (n : ℕ) → EntryLayout items due waits n → Held items
   held-sorted items due waits n s = subst Held (sym s.is)
       (held-append s.quiet (s.dues ++ s.last) (held-each false false s.quiet s.are_quiet)
       (held-append s.dues s.last (held-each false true s.dues s.are_due) (held-each true false s.last s.wait)))
@@ -144,7 +145,7 @@ module _ {T S : Type 0} where
     pub entry : entry_of t (entries_in items) ≡ Some (entry_in (item k element))
 
   -- what stands at the place that a ticket finds
-  pub seated : (items : Items T S) (due waits : Option ℕ) (n t k : ℕ) → Sorted items due waits n → place_of t items ≡ Some k
+  pub seated : (items : Items T S) (due waits : Option ℕ) (n t k : ℕ) → EntryLayout items due waits n → place_of t items ≡ Some k
       → Seated items t k
   seated items due waits n t k s h =
       let o = owner items t k (held-sorted items due waits n s) h in
@@ -168,7 +169,7 @@ module _ {T S : Type 0} where
       }
 
   -- where a ticket finds no place, nobody is parked under it
-  pub nobody : (items : Items T S) (due waits : Option ℕ) (n t : ℕ) → Sorted items due waits n → place_of t items ≡ None
+  pub nobody : (items : Items T S) (due waits : Option ℕ) (n t : ℕ) → EntryLayout items due waits n → place_of t items ≡ None
       → entry_of t (entries_in items) ≡ None
   nobody items due waits n t s h = absent t items (held-sorted items due waits n s) h
 

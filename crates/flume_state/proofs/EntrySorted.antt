@@ -6,7 +6,7 @@ use Rattle.flume_chain.specs.Chained.{times, Placed, places, found, without, fir
 use Rattle.flume_chain.proofs.Rings.{once_more}
 use Rattle.flume_chain.proofs.Tables.{item, without_at}
 use Rattle.flume_model.specs.Entries.{is_waiting, waiting_count}
-use Rattle.flume_state.specs.Parked.{Each, Sorted, entries_in, entry_in, off, ticket_or}
+use Rattle.flume_state.specs.EntryLayout.{Each, EntryLayout, entries_in, entry_in, off, ticket_or}
 use Rattle.flume_state.specs.declared.entries.Parked.{Parked}
 use Rattle.flume_state.specs.declared.ticketed.Ticketed.{Ticketed}
 use Rattle.flume_state.proofs.EntryListLemmas.{count-append, count-le, weight}
@@ -44,9 +44,9 @@ module _ {T S : Type 0} where
   ]
 
   -- one more that waits and isn't due stands behind all others
-  pub sorted_push : (items : Items T S) (due waits : Option ℕ) (n : ℕ) (k : ℕ) (e : Ticketed (Parked T S)) → Sorted items due waits n
+  pub sorted_push : (items : Items T S) (due waits : Option ℕ) (n : ℕ) (k : ℕ) (e : Ticketed (Parked T S)) → EntryLayout items due waits n
       → found items k ≡ None → Is true false e → length (items ++ item k e ∷ []) ≤ 4294967295
-      → Sorted (items ++ item k e ∷ []) (option_or due (Some k)) (option_or waits (Some k)) (n + 1)
+      → EntryLayout (items ++ item k e ∷ []) (option_or due (Some k)) (option_or waits (Some k)) (n + 1)
   sorted_push items due waits n k e s fresh is fits =
       let x = item k e in
       let joined : (s.dues ++ s.last) ++ x ∷ [] ≡ s.dues ++ (s.last ++ x ∷ []) = append_assoc s.dues s.last (x ∷ []) in
@@ -80,9 +80,9 @@ module _ {T S : Type 0} where
       omega arith
 
   -- the others, where the one at a place leaves
-  pub sorted_without : (items : Items T S) (due waits next : Option ℕ) (n m : ℕ) (k : ℕ) (e : Ticketed (Parked T S)) → Sorted items due waits n
+  pub sorted_without : (items : Items T S) (due waits next : Option ℕ) (n m : ℕ) (k : ℕ) (e : Ticketed (Parked T S)) → EntryLayout items due waits n
       → found items k ≡ Some e → next ≡ place_after items k → m + cond (is_waiting e.value.mark) 1 0 ≡ n
-      → Sorted (without items k) (off due k next) (off waits k next) m
+      → EntryLayout (without items k) (off due k next) (off waits k next) m
   sorted_without items due waits next n m k e s here after less =
       let inner = without-append s.dues s.last k in
       let last_is : items ≡ (s.quiet ++ s.dues) ++ s.last = s.is ∙ sym (append_assoc s.quiet s.dues s.last) in
@@ -111,11 +111,11 @@ module _ {T S : Type 0} where
   length-entries (x ∷ items) = ap suc (length-entries items)
 
   -- fewer wait than a number of 64 bits can count
-  pub waits_few : (items : Items T S) (due waits : Option ℕ) (n : ℕ) → Sorted items due waits n → n ≤ 4294967295
+  pub waits_few : (items : Items T S) (due waits : Option ℕ) (n : ℕ) → EntryLayout items due waits n → n ≤ 4294967295
   waits_few items due waits n s = omega (arith, s.count, s.fits, count-le (entries_in items), length-entries items)
 
   -- one that is found is of one of the three parts
-  pub found_class : (items : Items T S) (due waits : Option ℕ) (n : ℕ) (k : ℕ) (e : Ticketed (Parked T S)) → Sorted items due waits n
+  pub found_class : (items : Items T S) (due waits : Option ℕ) (n : ℕ) (k : ℕ) (e : Ticketed (Parked T S)) → EntryLayout items due waits n
       → found items k ≡ Some e → Is false false e ⊎ Is false true e ⊎ Is true false e
   found_class items due waits n k e s h = elim (found_part s.quiet (s.dues ++ s.last) k e (ap (λ l. found l k) (sym s.is) ∙ h)) [
     | inl q ↦ inl (each_found false false s.quiet k e s.are_quiet q)
@@ -145,14 +145,14 @@ module _ {T S : Type 0} where
       ]
 
   -- some wait where one that is found does
-  pub one_waits : (items : Items T S) (due waits : Option ℕ) (n : ℕ) (k : ℕ) (e : Ticketed (Parked T S)) → Sorted items due waits n
+  pub one_waits : (items : Items T S) (due waits : Option ℕ) (n : ℕ) (k : ℕ) (e : Ticketed (Parked T S)) → EntryLayout items due waits n
       → found items k ≡ Some e → is_waiting e.value.mark ≡ true → 1 ≤ n
   one_waits items due waits n k e s here waits_too =
       let one : weight (entry_in (item k e)) ≡ 1 = rw waits_too refl in
       omega (arith, s.count, one, waits-without items k e s.apart here)
 
   -- nobody is parked
-  pub sorted_empty : (items : Items T S) → items ≡ [] → Sorted items None None 0
+  pub sorted_empty : (items : Items T S) → items ≡ [] → EntryLayout items None None 0
   sorted_empty items none = record {
     quiet = [];
     dues = [];

@@ -8,10 +8,10 @@ use Rattle.flume_chain.proofs.Rings.{once_same}
 use Rattle.flume_chain.proofs.Tables.{item, after_at}
 use Rattle.flume_model.specs.Entries.{waiting_count}
 use Rattle.flume_model.specs.declared.entry.Entry.{Entry}
-use Rattle.flume_state.specs.Notices.{told}
-use Rattle.flume_state.specs.Parked.{Each, Sorted, entries_in, entry_in, ticket_or}
+use Rattle.flume_state.specs.Notices.{no_longer_due}
+use Rattle.flume_state.specs.EntryLayout.{Each, EntryLayout, entries_in, entry_in, ticket_or}
 use Rattle.flume_state.specs.Ticketed.{revalued}
-use Rattle.flume_state.specs.Receivers.{Entries, NoDueReceiver, Tells}
+use Rattle.flume_state.specs.Receivers.{Entries, NoDueReceiver, NamesReceiver}
 use Rattle.flume_state.specs.declared.entries.Parked.{Parked}
 use Rattle.flume_state.specs.declared.notice.Notice.{Notice}
 use Rattle.flume_state.specs.declared.ticketed.Ticketed.{Ticketed}
@@ -57,7 +57,7 @@ module _ {T S : Type 0} where
       absurd (omega arith)
 
   -- where both boundaries are at one place no receiver is due
-  pub none_due : (items : Items T S) (due waits : Option ℕ) (n : ℕ) → Sorted items due waits n → due ≡ waits → NoDueReceiver (entries_in items)
+  pub none_due : (items : Items T S) (due waits : Option ℕ) (n : ℕ) → EntryLayout items due waits n → due ≡ waits → NoDueReceiver (entries_in items)
   none_due items due waits n s same =
       let none = nothing_between s.quiet s.dues s.last (subst Apart s.is s.apart) (sym s.first_due ∙ same ∙ s.first_waits) in
       let two : entries_in items ≡ entries_in s.quiet ++ entries_in s.last =
@@ -67,7 +67,7 @@ module _ {T S : Type 0} where
       (no_due false s.quiet s.are_quiet) (no_due true s.last s.wait))
 
   -- the first that is due, at its place alone
-  pub record Dues (items : Items T S) (due waits : Option ℕ) (n : ℕ) (k : ℕ) (s : Sorted items due waits n) : Type 0 where
+  pub record Dues (items : Items T S) (due waits : Option ℕ) (n : ℕ) (k : ℕ) (s : EntryLayout items due waits n) : Type 0 where
     pub element : Ticketed (Parked T S)
     pub others : Items T S
     pub dues : s.dues ≡ item k element ∷ others
@@ -83,7 +83,7 @@ module _ {T S : Type 0} where
   front_due [] last k other h = absurd (other refl)
   front_due (x ∷ xs) last k other h = front_at (x ∷ xs) k h
 
-  pub dues_at : (items : Items T S) (due waits : Option ℕ) (n : ℕ) (k : ℕ) (s : Sorted items due waits n) → due ≢ waits → due ≡ Some k
+  pub dues_at : (items : Items T S) (due waits : Option ℕ) (n : ℕ) (k : ℕ) (s : EntryLayout items due waits n) → due ≢ waits → due ≡ Some k
       → Dues items due waits n k s
   dues_at items due waits n k s other h =
       let f = front_due s.dues s.last k (λ same. other (s.first_due ∙ same ∙ sym s.first_waits)) (sym h ∙ s.first_due) in
@@ -103,7 +103,7 @@ module _ {T S : Type 0} where
       }
 
   -- where no boundary is named none is due
-  pub no_boundary : (items : Items T S) (due waits : Option ℕ) (n : ℕ) → Sorted items due waits n → due ≡ None → due ≡ waits
+  pub no_boundary : (items : Items T S) (due waits : Option ℕ) (n : ℕ) → EntryLayout items due waits n → due ≡ None → due ≡ waits
   no_boundary items due waits n s none = none ∙ sym (empty s.dues s.last (sym none ∙ s.first_due)) ∙ sym s.first_waits
     where
       empty : (xs ys : Items T S) → None ≡ first_place (xs ++ ys) → first_place ys ≡ None
@@ -112,11 +112,11 @@ module _ {T S : Type 0} where
 
   -- the value of one that was named
   abbrev pub told_value : Parked T S → Parked T S
-  told_value p = record p { notice = told p.notice }
+  told_value p = record p { notice = no_longer_due p.notice }
 
   -- the first that was due is due no more, and the boundary is behind it
-  pub sorted_told : (items : Items T S) (due waits : Option ℕ) (n : ℕ) (k : ℕ) (s : Sorted items due waits n) (d : Dues items due waits n k s)
-      → Sorted (revalued k items (told_value d.element.value)) (place_after items k) waits n
+  pub sorted_told : (items : Items T S) (due waits : Option ℕ) (n : ℕ) (k : ℕ) (s : EntryLayout items due waits n) (d : Dues items due waits n k s)
+      → EntryLayout (revalued k items (told_value d.element.value)) (place_after items k) waits n
   sorted_told items due waits n k s d =
       let v = told_value d.element.value in
       let x = item k d.element in
@@ -141,9 +141,9 @@ module _ {T S : Type 0} where
       }
 
   -- and it was told
-  pub tells : (items : Items T S) (due waits : Option ℕ) (n : ℕ) (k t : ℕ) (es : Entries T S) (s : Sorted items due waits n)
+  pub tells : (items : Items T S) (due waits : Option ℕ) (n : ℕ) (k t : ℕ) (es : Entries T S) (s : EntryLayout items due waits n)
       (d : Dues items due waits n k s) → entries_in items ≡ es → d.element.ticket ≡ Some t
-      → Tells es (entries_in (revalued k items (told_value d.element.value))) t
+      → NamesReceiver es (entries_in (revalued k items (told_value d.element.value))) t
   tells items due waits n k t es s d view ticket = record {
     before = entries_in s.quiet;
     entry = entry_in (item k d.element);

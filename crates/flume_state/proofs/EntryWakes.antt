@@ -6,7 +6,7 @@ use Rattle.flume_model.specs.declared.step.Kind.{Kind}
 use Rattle.flume_model.specs.declared.step.Kind.TheVariants.{Block, Plain, Stream, Arm}
 use Rattle.flume_model.specs.Entries.{waiting_count, round, round_fills, round_for, round_for_fills}
 use Rattle.flume_state.specs.Messages.{Messages}
-use Rattle.flume_state.specs.Parked.{first_waiting, first_marked}
+use Rattle.flume_state.specs.EntryLayout.{first_waiting, first_marked}
 use Rattle.flume_state.specs.Receivers.{unfilled}
 use Rattle.flume_state.proofs.EntryRounds.{named, round_on, fills_on, round_ends, fills_end, none_wait, round_idle, fills_idle}
 

@@ -10,8 +10,9 @@ use Rattle.flume_chain.proofs.Tables.{item, found_put, after_at}
 use Rattle.flume_state.specs.declared.sends.LiveSend.{LiveSend}
 use Rattle.flume_state.specs.declared.ticketed.Ticketed.{Ticketed}
 use Rattle.flume_state.specs.Sends.{SendMap, send_due_in, is_due_send}
-use Rattle.flume_state.specs.SendChain.{Element, by_ticket, AllLined, Lined}
-use Rattle.flume_state.specs.Ticketed.{is_ticket, ticket_times, revalued, ticket_in}
+use Rattle.flume_state.specs.SendLayout.{Element, by_ticket, EachDueIs, SendLayout}
+use Rattle.flume_state.specs.Ticketed.{ticket_times, revalued, ticket_in}
+use Rattle.flume_model.specs.Log.{is_ticket}
 use Rattle.flume_state.proofs.ByTicket.{under, value_none}
 use Rattle.flume_state.proofs.ByTicket.{Stands, stands_value, stands_written}
 use Rattle.flume_state.proofs.SendLines.{times_both, tickets_both, lined_append}
@@ -20,11 +21,11 @@ module _ {S : Type 0} where
   -- the first send that is due, by its ticket and its value
   pub record FirstDue (items : List (Element S)) (t p : ℕ) (v : LiveSend S) : Type 0 where
     pub stands : Stands t p v items
-    pub none_due : AllLined false stands.before
-    pub all_due : AllLined true stands.after
+    pub none_due : EachDueIs false stands.before
+    pub all_due : EachDueIs true stands.after
     pub due : v.notice.due ≡ true
 
-  first_of : (quiet late : List (Element S)) (t p : ℕ) (v : LiveSend S) → Some p ≡ first_place late → AllLined false quiet → AllLined true late
+  first_of : (quiet late : List (Element S)) (t p : ℕ) (v : LiveSend S) → Some p ≡ first_place late → EachDueIs false quiet → EachDueIs true late
       → ((k : ℕ) → times k (places (quiet ++ late)) ≤ 1) → ((u : ℕ) → ticket_times u (quiet ++ late) ≤ 1)
       → Some t ≡ ticket_in (found (quiet ++ late) p) → Some v ≡ option_map (λ e. e.value) (found (quiet ++ late) p) → FirstDue (quiet ++ late) t p v
   first_of quiet [] t p v first none all apart single ticket value = absurd (let no : ⊥ = cc in no)
@@ -60,7 +61,7 @@ module _ {S : Type 0} where
         due = sym (ap (λ w. w.notice.due) value_is) ∙ all.1;
       }
 
-  pub first_due : (items : List (Element S)) (d : Option ℕ) (t p : ℕ) (v : LiveSend S) → Lined items d → d ≡ Some p
+  pub first_due : (items : List (Element S)) (d : Option ℕ) (t p : ℕ) (v : LiveSend S) → SendLayout items d → d ≡ Some p
       → ((k : ℕ) → times k (places items) ≤ 1) → ((u : ℕ) → ticket_times u items ≤ 1)
       → Some t ≡ ticket_in (found items p) → Some v ≡ option_map (λ e. e.value) (found items p) → FirstDue items t p v
   first_due items d t p v l is apart single ticket value =
@@ -70,7 +71,7 @@ module _ {S : Type 0} where
 
   -- it is told: the next is the first that is due
   pub told_kept : (items : List (Element S)) (t p : ℕ) (v w : LiveSend S) → FirstDue items t p v → w.notice.due ≡ false
-      → Lined (revalued p items w) (place_after (revalued p items w) p)
+      → SendLayout (revalued p items w) (place_after (revalued p items w) p)
   told_kept items t p v w f e =
       let s = f.stands in
       let is = stands_written t p v w items s in
@@ -89,7 +90,7 @@ module _ {S : Type 0} where
   told_due items m t p v view f =
       ap (λ n. send_due_in (get n t)) (sym view) ∙ ap send_due_in (stands_value t p v items f.stands) ∙ f.due
 
-  first_ticket : (quiet late : List (Element S)) (p : ℕ) → Some p ≡ first_place late → AllLined true late
+  first_ticket : (quiet late : List (Element S)) (p : ℕ) → Some p ≡ first_place late → EachDueIs true late
       → ((k : ℕ) → times k (places (quiet ++ late)) ≤ 1) → None ≡ ticket_in (found (quiet ++ late) p) → ⊥
   first_ticket quiet [] p first all apart ticket = let no : ⊥ = cc in no
   first_ticket quiet (y ∷ late) p first all apart ticket =
@@ -105,7 +106,7 @@ module _ {S : Type 0} where
       let no : ⊥ = cc in no
 
   -- the first that is due has a ticket
-  pub due_ticket : (items : List (Element S)) (d : Option ℕ) (p : ℕ) → Lined items d → d ≡ Some p
+  pub due_ticket : (items : List (Element S)) (d : Option ℕ) (p : ℕ) → SendLayout items d → d ≡ Some p
       → ((k : ℕ) → times k (places items) ≤ 1) → None ≡ ticket_in (found items p) → ⊥
   due_ticket items d p l is apart ticket =
       subst (λ (xs : List (Element S)). ((k : ℕ) → times k (places xs) ≤ 1) → None ≡ ticket_in (found xs p) → ⊥)

@@ -5,7 +5,7 @@ use Rattle.std.proofs.lemmas.List.{append-nil}
 use Rattle.flume_chain.specs.Chained.{Placed}
 use Rattle.flume_state.specs.declared.ticketed.Ticketed.{Ticketed}
 use Rattle.flume_state.specs.Messages.{Blocked, Messages}
-use Rattle.flume_state.specs.Lined.{queued_ahead, blocked_ahead, queued_of, blocked_of, line_of, Lined}
+use Rattle.flume_state.specs.LineLayout.{queued_ahead, blocked_ahead, queued_of, blocked_of, line_of, LineLayout}
 
 module _ {T : Type 0} where
   -- where none is queued, the first isn't, and it has a ticket
@@ -76,12 +76,12 @@ module _ {T : Type 0} where
       λ i. record { queued = queued i; blocked = blocked i; space = space }
 
   -- the line of elements that are laid out
-  pub laid : (items : List (Placed (Ticketed T))) (first : Option ℕ) (count space : ℕ) (w : Lined items first count)
+  pub laid : (items : List (Placed (Ticketed T))) (first : Option ℕ) (count space : ℕ) (w : LineLayout items first count)
       → line_of items space ≡ record { queued = queued_of w.front; blocked = blocked_of w.back; space = space }
   laid items first count space w = ap (λ l. line_of l space) w.is ∙ line_joined w.front w.back space w.none_blocked w.none_queued
 
   -- how many are queued, and how many blocked
-  pub counts : (items : List (Placed (Ticketed T))) (first : Option ℕ) (count space : ℕ) (line : Messages T) → Lined items first count
+  pub counts : (items : List (Placed (Ticketed T))) (first : Option ℕ) (count space : ℕ) (line : Messages T) → LineLayout items first count
       → line_of items space ≡ line → (length items - count ≡ length line.queued) × (count ≡ length line.blocked)
   counts items first count space line w view =
       let is = sym (laid items first count space w) ∙ view in

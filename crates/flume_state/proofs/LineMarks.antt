@@ -8,8 +8,8 @@ use Rattle.flume_state.specs.Ticketed.{ticket_in}
 use Rattle.flume_state.specs.Messages.{Messages}
 use Rattle.flume_state.specs.Notices.{due_now}
 use Rattle.flume_state.specs.Sends.{SendMap, noticed_send}
-use Rattle.flume_state.specs.Effects.{all_due}
-use Rattle.flume_state.specs.Lined.{blocked_of, line_of, Lined}
+use Rattle.flume_state.specs.Effects.{with_all_due}
+use Rattle.flume_state.specs.LineLayout.{blocked_of, line_of, LineLayout}
 use Rattle.flume_state.proofs.PlacedLemmas.{Apart, ahead_none, found_here, after_here, headed}
 use Rattle.flume_state.proofs.LineLemmas.{laid}
 
@@ -46,17 +46,17 @@ module _ {T S : Type 0} where
     pub rest : List (Placed (Ticketed T))
     pub is : items ≡ before ++ rest
     pub here : at ≡ first_place rest
-    pub marks : all_due (blocked_of rest) sends ≡ done
+    pub marks : with_all_due (blocked_of rest) sends ≡ done
 
   -- it begins at the first blocked one
   pub walk_begins : (items : List (Placed (Ticketed T))) (first : Option ℕ) (count space : ℕ) (line : Messages T) (sends : SendMap S)
-      → Lined items first count → line_of items space ≡ line → Walks items first sends (all_due line.blocked sends)
+      → LineLayout items first count → line_of items space ≡ line → Walks items first sends (with_all_due line.blocked sends)
   walk_begins items first count space line sends w view = record {
     before = w.front;
     rest = w.back;
     is = w.is;
     here = w.boundary;
-    marks = ap (λ (l : Messages T). all_due l.blocked sends) (sym (laid items first count space w) ∙ view);
+    marks = ap (λ (l : Messages T). with_all_due l.blocked sends) (sym (laid items first count space w) ∙ view);
   }
 
   -- it is over where no place is left
@@ -64,16 +64,16 @@ module _ {T S : Type 0} where
       → Walks items at sends done → at ≡ None → sends ≡ done
   walk_ends items at sends done w none =
       elim w.rest as (λ r. w.rest ≡ r → sends ≡ done) [
-        | [] ↦ λ e. ap (λ r. all_due (blocked_of r) sends) (sym e) ∙ w.marks
+        | [] ↦ λ e. ap (λ r. with_all_due (blocked_of r) sends) (sym e) ∙ w.marks
         | x ∷ xs ↦ λ e. absurd (let no : None ≡ Some x.place = sym none ∙ w.here ∙ ap first_place e in let bad : ⊥ = cc in bad)
       ] refl
 
   -- one ahead of others is marked before them
   one_marked : (x : Placed (Ticketed T)) (xs : List (Placed (Ticketed T))) (sends : SendMap S)
-      → all_due (blocked_of (x ∷ xs)) sends ≡ all_due (blocked_of xs) (marked_at x.element.ticket sends)
+      → with_all_due (blocked_of (x ∷ xs)) sends ≡ with_all_due (blocked_of xs) (marked_at x.element.ticket sends)
   one_marked x xs sends = elim x.element.ticket as (λ t.
-      all_due (blocked_of (record { place = x.place; element = record { ticket = t; value = x.element.value } } ∷ xs)) sends
-      ≡ all_due (blocked_of xs) (marked_at t sends)) [
+      with_all_due (blocked_of (record { place = x.place; element = record { ticket = t; value = x.element.value } } ∷ xs)) sends
+      ≡ with_all_due (blocked_of xs) (marked_at t sends)) [
         | None ↦ refl
         | Some t ↦ refl
       ]
@@ -109,8 +109,8 @@ module _ {T S : Type 0} where
           is = moved;
           here = after;
           marks =
-              ap (λ t. all_due (blocked_of h.tail) (marked_at t sends)) ticket
-              ∙ sym (one_marked h.head h.tail sends) ∙ ap (λ r. all_due (blocked_of r) sends) (sym h.is) ∙ w.marks;
+              ap (λ t. with_all_due (blocked_of h.tail) (marked_at t sends)) ticket
+              ∙ sym (one_marked h.head h.tail sends) ∙ ap (λ r. with_all_due (blocked_of r) sends) (sym h.is) ∙ w.marks;
         };
         fewer = omega arith;
       }

@@ -7,7 +7,7 @@ use Rattle.flume_chain.proofs.ChainLaws.{length-put_before, length-without}
 use Rattle.flume_state.specs.declared.ticketed.Ticketed.{Ticketed}
 use Rattle.flume_state.specs.Ticketed.{put_ahead, released}
 use Rattle.flume_state.specs.Messages.{Messages, count}
-use Rattle.flume_state.specs.Lined.{line_of, space_of, Lined}
+use Rattle.flume_state.specs.LineLayout.{line_of, space_of, LineLayout}
 use Rattle.flume_state.proofs.LineLemmas.{counts}
 
 module _ {T : Type 0} where
@@ -34,7 +34,7 @@ module _ {T : Type 0} where
           omega arith
 
   -- as many messages stand as elements
-  pub total : (items : List (Placed (Ticketed T))) (first : Option ℕ) (n space : ℕ) (line : Messages T) → Lined items first n → line_of items space ≡ line
+  pub total : (items : List (Placed (Ticketed T))) (first : Option ℕ) (n space : ℕ) (line : Messages T) → LineLayout items first n → line_of items space ≡ line
       → count line ≡ length items
   total items first n space line w view =
       let both = counts items first n space line w view in
@@ -43,7 +43,7 @@ module _ {T : Type 0} where
       omega (arith, both.0, both.1)
 
   -- while there is space for more messages, there is room for more elements
-  pub has_room : (chain : Chained (Ticketed T)) (first : Option ℕ) (n : ℕ) (line : Messages T) → Lined chain.items first n
+  pub has_room : (chain : Chained (Ticketed T)) (first : Option ℕ) (n : ℕ) (line : Messages T) → LineLayout chain.items first n
       → line_of chain.items (space_of chain) ≡ line → count line < line.space → 0 < chain.room
   has_room chain first n line w view more =
       let all = total chain.items first n (space_of chain) line w view in

@@ -7,14 +7,14 @@ use Rattle.flume_chain.specs.Chained.{Placed, first_place, found, without, behin
 use Rattle.flume_state.specs.declared.ticketed.Ticketed.{Ticketed}
 use Rattle.flume_state.specs.Ticketed.{put_ahead, released, ticket_in}
 use Rattle.flume_state.specs.Messages.{Blocked, Messages, Admits}
-use Rattle.flume_state.specs.Lined.{blocked_ahead, queued_of, blocked_of, line_of, Lined}
+use Rattle.flume_state.specs.LineLayout.{blocked_ahead, queued_of, blocked_of, line_of, LineLayout}
 use Rattle.flume_state.proofs.PlacedLemmas.{Apart, ahead_none, found_here, without_here, after_here, put_ahead_between, unticketed, released_here}
 use Rattle.flume_state.proofs.PlacedLemmas.{headed, first_left}
 use Rattle.flume_state.proofs.LineLemmas.{queued_append, blocked_append, none_queued_append, unqueued, unblocked, laid, counts}
 
 -- elements laid out so, which are this line
 pub record Lays {T : Type 0} (items : List (Placed (Ticketed T))) (first : Option ℕ) (count : ℕ) (line : Messages T) : Type 0 where
-  pub lined : Lined items first count
+  pub lined : LineLayout items first count
   pub view : line_of items line.space ≡ line
 
 module _ {T : Type 0} where
@@ -28,14 +28,14 @@ module _ {T : Type 0} where
 
   -- a message that joins the queue stands between both parts
   pub queues : (items new : List (Placed (Ticketed T))) (first : Option ℕ) (count place space more : ℕ) (m : T) (line : Messages T)
-      → Lined items first count → line_of items space ≡ line → Apart items → new ≡ put_ahead items first (queued_at place m)
+      → LineLayout items first count → line_of items space ≡ line → Apart items → new ≡ put_ahead items first (queued_at place m)
       → Lays new first count (record line { queued = line.queued ++ m ∷ []; space = more })
   queues items new first count place space more m line w view apart is =
       let x = queued_at place m in
       let joined : new ≡ w.front ++ x ∷ [] ++ w.back =
       is ∙ ap₂ (λ (l : List (Placed (Ticketed T))) (o : Option ℕ). put_ahead l o x) w.is w.boundary
       ∙ put_ahead_between w.front w.back x (subst Apart w.is apart) ∙ sym (append_assoc w.front (x ∷ []) w.back) in
-      let made : Lined new first count = record {
+      let made : LineLayout new first count = record {
         front = w.front ++ x ∷ [];
         back = w.back;
         is = joined;
@@ -58,14 +58,14 @@ module _ {T : Type 0} where
 
   -- a message that blocks stands behind all others
   pub blocks : (items new : List (Placed (Ticketed T))) (first : Option ℕ) (count place space more t queued all : ℕ) (m : T) (line : Messages T)
-      → Lined items first count → line_of items space ≡ line → new ≡ items ++ blocked_at place t m ∷ []
+      → LineLayout items first count → line_of items space ≡ line → new ≡ items ++ blocked_at place t m ∷ []
       → queued ≡ length line.queued → all ≡ length new
       → Lays new (option_or first (Some place)) (all - queued)
       (record line { blocked = line.blocked ++ record { ticket = t; message = m } ∷ []; space = more })
   blocks items new first count place space more t queued all m line w view is are total =
       let x = blocked_at place t m in
       let joined : new ≡ w.front ++ (w.back ++ x ∷ []) = is ∙ ap (λ (l : List (Placed (Ticketed T))). l ++ x ∷ []) w.is ∙ append_assoc w.front w.back (x ∷ []) in
-      let made : Lined new (option_or first (Some place)) (all - queued) = record {
+      let made : LineLayout new (option_or first (Some place)) (all - queued) = record {
         front = w.front;
         back = w.back ++ x ∷ [];
         is = joined;
@@ -92,7 +92,7 @@ module _ {T : Type 0} where
   pub record Takes (items new : List (Placed (Ticketed T))) (first : Option ℕ) (count : ℕ) (line : Messages T) : Type 0 where
     pub message : T
     pub is_first : option_map (λ e. e.value) (first_element items) ≡ Some message
-    pub lined : Lined new first count
+    pub lined : LineLayout new first count
     pub view : line ≡ record (line_of new line.space) { queued = message ∷ queued_of new }
 
   takes_from : (front back : List (Placed (Ticketed T))) (items new : List (Placed (Ticketed T))) (first : Option ℕ) (count space : ℕ) (line : Messages T)
@@ -124,7 +124,7 @@ module _ {T : Type 0} where
       }
 
   pub takes : (items new : List (Placed (Ticketed T))) (first : Option ℕ) (count space : ℕ) (line : Messages T)
-      → Lined items first count → line_of items space ≡ line → length line.queued ≢ 0 → new ≡ behind_first items → Takes items new first count line
+      → LineLayout items first count → line_of items space ≡ line → length line.queued ≢ 0 → new ≡ behind_first items → Takes items new first count line
   takes items new first count space line w view some rest =
       takes_from w.front w.back items new first count space line w.is w.none_blocked w.none_queued w.boundary w.counted view some rest
 
@@ -138,7 +138,7 @@ module _ {T : Type 0} where
     pub others : queued_of (before ++ after) ≡ []
 
   pub stands : (items before after : List (Placed (Ticketed T))) (first : Option ℕ) (count space : ℕ) (x : Placed (Ticketed T)) (line : Messages T)
-      → (w : Lined items first count) → line_of items space ≡ line → w.back ≡ before ++ x ∷ after → Stands items line w.front before after x
+      → (w : LineLayout items first count) → line_of items space ≡ line → w.back ≡ before ++ x ∷ after → Stands items line w.front before after x
   stands items before after first count space x line w view split =
       let none = none_queued_append before (x ∷ after) (ap queued_of (sym split) ∙ w.none_queued) in
       let own = unqueued x.element.ticket x.element.value (queued_of after) none.1 in
@@ -171,13 +171,13 @@ module _ {T : Type 0} where
 
   -- one of the blocked messages leaves
   pub leaves : (items new before after : List (Placed (Ticketed T))) (first next : Option ℕ) (count space place : ℕ) (x : Placed (Ticketed T))
-      (line : Messages T) (result : Option T) (w : Lined items first count) → Stands items line w.front before after x → line_of items space ≡ line
+      (line : Messages T) (result : Option T) (w : LineLayout items first count) → Stands items line w.front before after x → line_of items space ≡ line
       → w.back ≡ before ++ x ∷ after → Apart items → place ≡ x.place → FirstWithout items first next place → TakenOut items new place result
       → Lays new next (count - 1) (record line { blocked = blocked_of before ++ blocked_of after })
   leaves items new before after first next count space place x line result w s view split apart here firsts out =
       let there = out.0 ∙ value_at items w.front before after x line place s apart here in
       let is : new ≡ without items place = subst (λ o. OnSome o (new ≡ without items place)) there out.1 in
-      let made : Lined new next (count - 1) = record {
+      let made : LineLayout new next (count - 1) = record {
         front = w.front;
         back = before ++ after;
         is = is ∙ ap₂ without s.among here ∙ without_here (w.front ++ before) after x (subst Apart s.among apart) ∙ append_assoc w.front before after;
@@ -202,11 +202,11 @@ module _ {T : Type 0} where
   pub record Admitted (items new : List (Placed (Ticketed T))) (next : Option ℕ) (left place : ℕ) (line : Messages T) : Type 0 where
     pub ticket : ℕ
     pub is_first : ticket_in (found items place) ≡ Some ticket
-    pub lined : Lined new next left
+    pub lined : LineLayout new next left
     pub admits : Admits line (line_of new line.space) ticket
 
   pub admitted : (items new : List (Placed (Ticketed T))) (first next : Option ℕ) (count space place : ℕ) (line : Messages T)
-      → Lined items first count → line_of items space ≡ line → Apart items → first ≡ Some place → new ≡ released place items
+      → LineLayout items first count → line_of items space ≡ line → Apart items → first ≡ Some place → new ≡ released place items
       → next ≡ place_after new place → Admitted items new next (count - 1) place line
   admitted items new first next count space place line w view apart some is behind =
       let h = headed w.back place (sym some ∙ w.boundary) in
@@ -215,7 +215,7 @@ module _ {T : Type 0} where
       let one = subst Apart among apart in
       let y = unticketed h.head in
       let joined : new ≡ w.front ++ y ∷ h.tail = is ∙ ap₂ released (sym h.here) among ∙ released_here w.front h.tail h.head one in
-      let made : Lined new next (count - 1) = record {
+      let made : LineLayout new next (count - 1) = record {
         front = w.front ++ y ∷ [];
         back = h.tail;
         is = joined ∙ sym (append_assoc w.front (y ∷ []) h.tail);

@@ -6,7 +6,8 @@ use Rattle.flume_chain.specs.Chained.{once, times, Placed, places, found, withou
 use Rattle.flume_chain.proofs.Rings.{times-append, once_same, once_none, once_back, with_same}
 use Rattle.flume_chain.proofs.Tables.{without_at, put_before_at, after_at, found_put}
 use Rattle.flume_state.specs.declared.ticketed.Ticketed.{Ticketed}
-use Rattle.flume_state.specs.Ticketed.{is_ticket, place_of, put_ahead, released}
+use Rattle.flume_state.specs.Ticketed.{place_of, put_ahead, released}
+use Rattle.flume_model.specs.Log.{is_ticket}
 
 -- the ticket that is there is the one that is looked for
 has_ticket : (t : ℕ) (o : Option ℕ) → is_ticket t o ≡ true → o ≡ Some t

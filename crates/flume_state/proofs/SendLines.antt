@@ -8,7 +8,7 @@ use Rattle.flume_chain.proofs.Rings.{times-append, once_same}
 use Rattle.flume_chain.proofs.Tables.{item, put_before_at}
 use Rattle.flume_state.specs.declared.sends.LiveSend.{LiveSend}
 use Rattle.flume_state.specs.declared.ticketed.Ticketed.{Ticketed}
-use Rattle.flume_state.specs.SendChain.{Element, AllLined, Lined}
+use Rattle.flume_state.specs.SendLayout.{Element, EachDueIs, SendLayout}
 use Rattle.flume_state.specs.Ticketed.{ticket_times, put_ahead}
 use Rattle.flume_state.proofs.ByTicket.{under}
 
@@ -23,29 +23,29 @@ module _ {S : Type 0} where
   tickets_both t [] ys = omega arith
   tickets_both t (x ∷ xs) ys = let rest = tickets_both t xs ys in omega arith
 
-  pub lined_append : (due : Bool) (xs ys : List (Element S)) → AllLined due xs → AllLined due ys → AllLined due (xs ++ ys)
+  pub lined_append : (due : Bool) (xs ys : List (Element S)) → EachDueIs due xs → EachDueIs due ys → EachDueIs due (xs ++ ys)
   lined_append due [] ys h k = k
   lined_append due (x ∷ xs) ys h k = (h.0, h.1, lined_append due xs ys h.2 k)
 
-  lined_back : (due : Bool) (xs ys : List (Element S)) → AllLined due (xs ++ ys) → AllLined due ys
+  lined_back : (due : Bool) (xs ys : List (Element S)) → EachDueIs due (xs ++ ys) → EachDueIs due ys
   lined_back due [] ys h = h
   lined_back due (x ∷ xs) ys h = lined_back due xs ys h.2
 
   -- one between others is replaced
   lined_put : (due : Bool) (xs ys : List (Element S)) (x : Element S) (p t : ℕ) (w : LiveSend S) → w.notice.due ≡ due
-      → AllLined due (xs ++ x ∷ ys) → AllLined due (xs ++ item p (under t w) ∷ ys)
+      → EachDueIs due (xs ++ x ∷ ys) → EachDueIs due (xs ++ item p (under t w) ∷ ys)
   lined_put due [] ys x p t w e h = (refl, e, h.2)
   lined_put due (y ∷ xs) ys x p t w e h = (h.0, h.1, lined_put due xs ys x p t w e h.2)
 
   -- one between others is left out
-  lined_cut : (due : Bool) (xs ys : List (Element S)) (x : Element S) → AllLined due (xs ++ x ∷ ys) → AllLined due (xs ++ ys)
+  lined_cut : (due : Bool) (xs ys : List (Element S)) (x : Element S) → EachDueIs due (xs ++ x ∷ ys) → EachDueIs due (xs ++ ys)
   lined_cut due [] ys x h = h.2
   lined_cut due (y ∷ xs) ys x h = (h.0, h.1, lined_cut due xs ys x h.2)
 
-  pub lined_without : (due : Bool) (xs : List (Element S)) (p : ℕ) → AllLined due xs → AllLined due (without xs p)
+  pub lined_without : (due : Bool) (xs : List (Element S)) (p : ℕ) → EachDueIs due xs → EachDueIs due (without xs p)
   lined_without due [] p h = h
   lined_without due (x ∷ xs) p h =
-      elim (x.place == p) as (λ b. AllLined due (if b then without xs p else x ∷ without xs p)) [
+      elim (x.place == p) as (λ b. EachDueIs due (if b then without xs p else x ∷ without xs p)) [
         | true ↦ lined_without due xs p h.2
         | false ↦ (h.0, h.1, lined_without due xs p h.2)
       ]
@@ -57,9 +57,9 @@ module _ {S : Type 0} where
     pub behind : after ≡ between ++ late
 
   quiet_side : (before after quiet late : List (Element S)) (x : Element S) → before ++ x ∷ after ≡ quiet ++ late
-      → AllLined true late → x.element.value.notice.due ≡ false → QuietSide before after quiet late x
+      → EachDueIs true late → x.element.value.notice.due ≡ false → QuietSide before after quiet late x
   quiet_side before after [] late x is all due =
-      let here : AllLined true (x ∷ after) = lined_back true before (x ∷ after) (subst (AllLined true) (sym is) all) in
+      let here : EachDueIs true (x ∷ after) = lined_back true before (x ∷ after) (subst (EachDueIs true) (sym is) all) in
       let there : x.element.value.notice.due ≡ true = here.1 in
       absurd (let no : ⊥ = cc in no)
   quiet_side [] after (q ∷ quiet) late x is all due =
@@ -83,7 +83,7 @@ module _ {S : Type 0} where
     pub behind : late ≡ between ++ x ∷ after
 
   due_side : (before after quiet late : List (Element S)) (x : Element S) → before ++ x ∷ after ≡ quiet ++ late
-      → AllLined false quiet → x.element.value.notice.due ≡ true → DueSide before after quiet late x
+      → EachDueIs false quiet → x.element.value.notice.due ≡ true → DueSide before after quiet late x
   due_side before after [] late x is none due = record { between = before; ahead = refl; behind = sym is }
   due_side [] after (q ∷ quiet) late x is none due =
       let head : q ≡ x = cc in
@@ -105,7 +105,7 @@ module _ {S : Type 0} where
 
   -- a send is written, and is due where it was
   pub written_lined : (before after : List (Element S)) (p t : ℕ) (v w : LiveSend S) (d : Option ℕ) → w.notice.due ≡ v.notice.due
-      → Lined (before ++ item p (under t v) ∷ after) d → Lined (before ++ item p (under t w) ∷ after) d
+      → SendLayout (before ++ item p (under t v) ∷ after) d → SendLayout (before ++ item p (under t w) ∷ after) d
   written_lined before after p t v w d same l = elim (cases_Bool v.notice.due) [
     | inl due ↦ (
         let r = due_side before after l.quiet l.late (item p (under t v)) l.parts l.none_due due in
@@ -114,7 +114,7 @@ module _ {S : Type 0} where
           late = r.between ++ item p (under t w) ∷ after;
           parts = ap (λ (xs : List (Element S)). xs ++ item p (under t w) ∷ after) r.ahead ∙ append_assoc l.quiet r.between (item p (under t w) ∷ after);
           none_due = l.none_due;
-          all_due = lined_put true r.between after (item p (under t v)) p t w (same ∙ due) (subst (AllLined true) r.behind l.all_due);
+          all_due = lined_put true r.between after (item p (under t v)) p t w (same ∙ due) (subst (EachDueIs true) r.behind l.all_due);
           first = l.first ∙ ap first_place r.behind ∙ first_same r.between after p (under t v) (under t w);
         }
         )
@@ -124,7 +124,7 @@ module _ {S : Type 0} where
           quiet = before ++ item p (under t w) ∷ r.between;
           late = l.late;
           parts = ap (λ (xs : List (Element S)). before ++ item p (under t w) ∷ xs) r.behind ∙ sym (append_assoc before (item p (under t w) ∷ r.between) l.late);
-          none_due = lined_put false before r.between (item p (under t v)) p t w (same ∙ due) (subst (AllLined false) r.ahead l.none_due);
+          none_due = lined_put false before r.between (item p (under t v)) p t w (same ∙ due) (subst (EachDueIs false) r.ahead l.none_due);
           all_due = l.all_due;
           first = l.first;
         }
@@ -137,7 +137,7 @@ module _ {S : Type 0} where
 
   -- a send that wasn't due is, behind all others
   pub moved_lined : (before after : List (Element S)) (p t : ℕ) (v w : LiveSend S) (d : Option ℕ) → v.notice.due ≡ false → w.notice.due ≡ true
-      → Lined (before ++ item p (under t v) ∷ after) d → Lined ((before ++ after) ++ item p (under t w) ∷ []) (option_or d (Some p))
+      → SendLayout (before ++ item p (under t v) ∷ after) d → SendLayout ((before ++ after) ++ item p (under t w) ∷ []) (option_or d (Some p))
   moved_lined before after p t v w d was is l =
       let r = quiet_side before after l.quiet l.late (item p (under t v)) l.parts l.all_due was in
       let last : List (Element S) = item p (under t w) ∷ [] in
@@ -148,7 +148,7 @@ module _ {S : Type 0} where
             ap (λ (xs : List (Element S)). (before ++ xs) ++ last) r.behind
             ∙ ap (λ (xs : List (Element S)). xs ++ last) (sym (append_assoc before r.between l.late))
             ∙ append_assoc (before ++ r.between) l.late last;
-        none_due = lined_cut false before r.between (item p (under t v)) (subst (AllLined false) r.ahead l.none_due);
+        none_due = lined_cut false before r.between (item p (under t v)) (subst (EachDueIs false) r.ahead l.none_due);
         all_due = lined_append true l.late last l.all_due (refl, is, tt);
         first = ap (λ o. option_or o (Some p)) l.first ∙ first_or l.late p (under t w);
       }
@@ -163,15 +163,15 @@ module _ {S : Type 0} where
       let both = times_both y.place quiet (y ∷ late) in
       put_before_at quiet late y.place y.element x (omega arith)
 
-  pub put_is : (items : List (Element S)) (d : Option ℕ) (x : Element S) (l : Lined items d)
+  pub put_is : (items : List (Element S)) (d : Option ℕ) (x : Element S) (l : SendLayout items d)
       → ((k : ℕ) → times k (places items) ≤ 1) → put_ahead items d x ≡ l.quiet ++ x ∷ l.late
   put_is items d x l apart =
       ap₂ (λ (xs : List (Element S)) (o : Option ℕ). put_ahead xs o x) l.parts l.first
       ∙ put_parts l.quiet l.late x (subst (λ (xs : List (Element S)). (k : ℕ) → times k (places xs) ≤ 1) l.parts apart)
 
   -- and the chain is one of such sends again
-  pub put_lined : (items : List (Element S)) (d : Option ℕ) (p t : ℕ) (w : LiveSend S) → w.notice.due ≡ false → Lined items d
-      → ((k : ℕ) → times k (places items) ≤ 1) → Lined (put_ahead items d (item p (under t w))) d
+  pub put_lined : (items : List (Element S)) (d : Option ℕ) (p t : ℕ) (w : LiveSend S) → w.notice.due ≡ false → SendLayout items d
+      → ((k : ℕ) → times k (places items) ≤ 1) → SendLayout (put_ahead items d (item p (under t w))) d
   put_lined items d p t w e l apart = record {
     quiet = l.quiet ++ item p (under t w) ∷ [];
     late = l.late;

@@ -11,8 +11,9 @@ use Rattle.flume_chain.proofs.Tables.{item, after_at, without_none}
 use Rattle.flume_state.specs.declared.sends.LiveSend.{LiveSend}
 use Rattle.flume_state.specs.declared.ticketed.Ticketed.{Ticketed}
 use Rattle.flume_state.specs.Sends.{SendMap, changed, send_due_in, NoDueSend}
-use Rattle.flume_state.specs.SendChain.{Element, by_ticket, AllLined, Lined}
-use Rattle.flume_state.specs.Ticketed.{is_ticket, place_of, ticket_times, put_ahead, revalued}
+use Rattle.flume_state.specs.SendLayout.{Element, by_ticket, EachDueIs, SendLayout}
+use Rattle.flume_state.specs.Ticketed.{place_of, ticket_times, put_ahead, revalued}
+use Rattle.flume_model.specs.Log.{is_ticket}
 use Rattle.flume_state.proofs.SendsLaws.{changed_none, remove_absent}
 use Rattle.flume_state.proofs.ByTicket.{under, value_of, get_by_ticket, value_ahead, value_nowhere, found_somewhere}
 use Rattle.flume_state.proofs.ByTicket.{by_ticket_insert, by_ticket_changed, by_ticket_moved, by_ticket_removed}
@@ -49,10 +50,10 @@ module _ {S : Type 0} where
 
   -- a send that is written is due where it was
   pub written_kept : (items : List (Element S)) (d : Option ℕ) (t p : ℕ) (v w : LiveSend S) → w.notice.due ≡ v.notice.due → Stands t p v items
-      → Lined items d → Lined (revalued p items w) d
+      → SendLayout items d → SendLayout (revalued p items w) d
   written_kept items d t p v w same s l =
-      subst (λ (xs : List (Element S)). Lined xs d) (sym (stands_written t p v w items s))
-      (written_lined s.before s.after p t v w d same (subst (λ (xs : List (Element S)). Lined xs d) s.is l))
+      subst (λ (xs : List (Element S)). SendLayout xs d) (sym (stands_written t p v w items s))
+      (written_lined s.before s.after p t v w d same (subst (λ (xs : List (Element S)). SendLayout xs d) s.is l))
 
   -- a send that is written and goes behind all others
   moved_is : (items new : List (Element S)) (t p : ℕ) (v w : LiveSend S) (r : Bool) (s : Stands t p v items)
@@ -81,13 +82,13 @@ module _ {S : Type 0} where
       → Stands t p v items
       → (r ≡ true ↔ IsSome (found (revalued p items w) p))
       → (r ≡ true → (e : Ticketed (LiveSend S)) → found (revalued p items w) p ≡ Some e → new ≡ without (revalued p items w) p ++ item p e ∷ [])
-      → Lined items d → Lined new (option_or d (Some p))
+      → SendLayout items d → SendLayout new (option_or d (Some p))
   moved_kept items new d t p v w r was is s stood moved l =
-      subst (λ (xs : List (Element S)). Lined xs (option_or d (Some p))) (sym (moved_is items new t p v w r s stood moved))
-      (moved_lined s.before s.after p t v w d was is (subst (λ (xs : List (Element S)). Lined xs d) s.is l))
+      subst (λ (xs : List (Element S)). SendLayout xs (option_or d (Some p))) (sym (moved_is items new t p v w r s stood moved))
+      (moved_lined s.before s.after p t v w d was is (subst (λ (xs : List (Element S)). SendLayout xs d) s.is l))
 
   -- one that blocks is one more
-  pub put_view : (items : List (Element S)) (m : SendMap S) (d : Option ℕ) (t p : ℕ) (w : LiveSend S) → by_ticket items ≡ m → Lined items d
+  pub put_view : (items : List (Element S)) (m : SendMap S) (d : Option ℕ) (t p : ℕ) (w : LiveSend S) → by_ticket items ≡ m → SendLayout items d
       → ((k : ℕ) → times k (places items) ≤ 1) → place_of t items ≡ None
       → by_ticket (put_ahead items d (item p (under t w))) ≡ insert m t w
   put_view items m d t p w view l apart none =
@@ -133,7 +134,7 @@ module _ {S : Type 0} where
       ∙ ap first_place (without_none late y.place (omega arith))))
 
   -- the chain without one that isn't the first that is due
-  pub spent_other : (items : List (Element S)) (d : Option ℕ) (p : ℕ) → d ≢ Some p → Lined items d → Lined (without items p) d
+  pub spent_other : (items : List (Element S)) (d : Option ℕ) (p : ℕ) → d ≢ Some p → SendLayout items d → SendLayout (without items p) d
   spent_other items d p ne l = record {
     quiet = without l.quiet p;
     late = without l.late p;
@@ -144,8 +145,8 @@ module _ {S : Type 0} where
   }
 
   -- the chain without the first that is due
-  pub spent_first : (items : List (Element S)) (d : Option ℕ) (p : ℕ) → d ≡ Some p → ((k : ℕ) → times k (places items) ≤ 1) → Lined items d
-      → Lined (without items p) (place_after items p)
+  pub spent_first : (items : List (Element S)) (d : Option ℕ) (p : ℕ) → d ≡ Some p → ((k : ℕ) → times k (places items) ≤ 1) → SendLayout items d
+      → SendLayout (without items p) (place_after items p)
   spent_first items d p is apart l = record {
     quiet = without l.quiet p;
     late = without l.late p;
@@ -157,7 +158,7 @@ module _ {S : Type 0} where
         ∙ first_next l.quiet l.late p (subst (λ (xs : List (Element S)). (k : ℕ) → times k (places xs) ≤ 1) l.parts apart) (sym l.first ∙ is);
   }
 
-  quiet_value : (t : ℕ) (xs : List (Element S)) → AllLined false xs → send_due_in (value_of t xs) ≡ false
+  quiet_value : (t : ℕ) (xs : List (Element S)) → EachDueIs false xs → send_due_in (value_of t xs) ≡ false
   quiet_value t [] h = refl
   quiet_value t (x ∷ xs) h =
       elim (is_ticket t x.element.ticket) as (λ b. send_due_in (if b then Some x.element.value else value_of t xs) ≡ false) [
@@ -170,7 +171,7 @@ module _ {S : Type 0} where
   none_late quiet (x ∷ late) none = absurd (let no : ⊥ = cc in no)
 
   -- no send is due where there is no first one
-  pub none_first : (items : List (Element S)) (m : SendMap S) → by_ticket items ≡ m → Lined items None → NoDueSend m
+  pub none_first : (items : List (Element S)) (m : SendMap S) → by_ticket items ≡ m → SendLayout items None → NoDueSend m
   none_first items m view l = λ t.
       ap (λ n. send_due_in (get n t)) (sym view)
       ∙ ap send_due_in (get_by_ticket items t ∙ ap (value_of t) (l.parts ∙ none_late l.quiet l.late l.first))
@@ -178,15 +179,15 @@ module _ {S : Type 0} where
 
   -- a ticket that blocks leaves the chain in its order
   pub block_kept : {V : Type 0} (old new : Chained (Ticketed (LiveSend S))) (d : Option ℕ) (t : ℕ) (w : LiveSend S) (r : Result ℕ V)
-      → w.notice.due ≡ false → Lined old.items d → ((k : ℕ) → times k (places old.items) ≤ 1)
-      → IfOk r (λ p. new.items ≡ put_ahead old.items d (item p (under t w))) → OnErr r (new ≡ old) → Lined new.items d
+      → w.notice.due ≡ false → SendLayout old.items d → ((k : ℕ) → times k (places old.items) ≤ 1)
+      → IfOk r (λ p. new.items ≡ put_ahead old.items d (item p (under t w))) → OnErr r (new ≡ old) → SendLayout new.items d
   block_kept old new d t w (Ok p) e l apart put same =
-      subst (λ (xs : List (Element S)). Lined xs d) (sym put) (put_lined old.items d p t w e l apart)
-  block_kept old new d t w (Err v) e l apart put same = subst (λ (s : Chained (Ticketed (LiveSend S))). Lined s.items d) (sym same) l
+      subst (λ (xs : List (Element S)). SendLayout xs d) (sym put) (put_lined old.items d p t w e l apart)
+  block_kept old new d t w (Err v) e l apart put same = subst (λ (s : Chained (Ticketed (LiveSend S))). SendLayout s.items d) (sym same) l
 
   -- and is one more
   pub block_view : {V : Type 0} (old new : Chained (Ticketed (LiveSend S))) (m : SendMap S) (d : Option ℕ) (t p : ℕ) (w : LiveSend S) (r : Result ℕ V)
-      → by_ticket old.items ≡ m → Lined old.items d → ((k : ℕ) → times k (places old.items) ≤ 1)
+      → by_ticket old.items ≡ m → SendLayout old.items d → ((k : ℕ) → times k (places old.items) ≤ 1)
       → IfOk r (λ p. new.items ≡ put_ahead old.items d (item p (under t w))) → OnOk r (place_of t old.items ≡ None)
       → r ≡ Ok p → by_ticket new.items ≡ insert m t w
   block_view old new m d t p w (Ok q) view l apart put none is = ap by_ticket put ∙ put_view old.items m d t q w view l apart none

@@ -5,9 +5,10 @@ use Rattle.std.proofs.lemmas.Bool.{cases_Bool, eqb-false}
 use Rattle.std.proofs.lemmas.List.Elements.{All-nil, All-cons}
 use Rattle.flume_chain.specs.Chained.{Placed}
 use Rattle.flume_state.specs.declared.ticketed.Ticketed.{Ticketed}
-use Rattle.flume_state.specs.Ticketed.{is_ticket, place_of}
+use Rattle.flume_state.specs.Ticketed.{place_of}
+use Rattle.flume_model.specs.Log.{is_ticket}
 use Rattle.flume_state.specs.Messages.{Blocked, Messages, TakesBack}
-use Rattle.flume_state.specs.Lined.{blocked_ahead, blocked_of, line_of, Lined}
+use Rattle.flume_state.specs.LineLayout.{blocked_ahead, blocked_of, line_of, LineLayout}
 use Rattle.flume_state.proofs.PlacedLemmas.{Apart, Holder, holder_of}
 use Rattle.flume_state.proofs.LineLemmas.{unblocked}
 use Rattle.flume_state.proofs.LineSteps.{stands, value_at, leaves, FirstWithout, TakenOut}
@@ -39,20 +40,20 @@ module _ {T : Type 0} where
       ap (λ o. if is_ticket t o then Some x.place else place_of t (xs ++ ys)) first.0 ∙ place_behind t xs ys first.1
 
   -- the first element with a ticket is the first blocked message with it
-  pub holds : (items : List (Placed (Ticketed T))) (first : Option ℕ) (count t place : ℕ) (w : Lined items first count)
+  pub holds : (items : List (Placed (Ticketed T))) (first : Option ℕ) (count t place : ℕ) (w : LineLayout items first count)
       → Some place ≡ place_of t items → Holder w.back t place
   holds items first count t place w found =
       holder_of w.back t place (sym (place_behind t w.front w.back w.none_blocked) ∙ ap (place_of t) (sym w.is) ∙ sym found)
 
   -- so one is blocked
-  pub some_holds : (items : List (Placed (Ticketed T))) (first : Option ℕ) (count t place : ℕ) → Lined items first count
+  pub some_holds : (items : List (Placed (Ticketed T))) (first : Option ℕ) (count t place : ℕ) → LineLayout items first count
       → Some place ≡ place_of t items → 1 ≤ count
   some_holds items first count t place w found =
       let h = holds items first count t place w found in
       omega (arith, w.counted, ap length h.is, length-append h.before (h.holder ∷ h.after))
 
   -- where none has the ticket, no message blocks under it
-  pub absent : (items : List (Placed (Ticketed T))) (first : Option ℕ) (count space t : ℕ) (line : Messages T) → Lined items first count
+  pub absent : (items : List (Placed (Ticketed T))) (first : Option ℕ) (count space t : ℕ) (line : Messages T) → LineLayout items first count
       → line_of items space ≡ line → None ≡ place_of t items → All (λ b. b.ticket ≢ t) line.blocked
   absent items first count space t line w view none =
       subst (λ (l : Messages T). All (λ b. b.ticket ≢ t) l.blocked) view (none_has t items (sym none))
@@ -61,11 +62,11 @@ module _ {T : Type 0} where
   pub record Withdrawn (new : List (Placed (Ticketed T))) (next : Option ℕ) (left t : ℕ) (line : Messages T) (result : Option T) : Type 0 where
     pub message : T
     pub is : result ≡ Some message
-    pub lined : Lined new next left
+    pub lined : LineLayout new next left
     pub takes : TakesBack line (line_of new line.space) t message
 
   pub withdraws : (items new : List (Placed (Ticketed T))) (first next : Option ℕ) (count space t place : ℕ) (line : Messages T) (result : Option T)
-      → Lined items first count → line_of items space ≡ line → Apart items → Some place ≡ place_of t items
+      → LineLayout items first count → line_of items space ≡ line → Apart items → Some place ≡ place_of t items
       → FirstWithout items first next place → TakenOut items new place result → Withdrawn new next (count - 1) t line result
   withdraws items new first next count space t place line result w view apart found firsts out =
       let h = holds items first count t place w found in

@@ -12,117 +12,117 @@ use Rattle.flume_state.specs.Sends.{SendMap, changed, accepted_now, noticed_send
 use Rattle.flume_model.specs.Entries.{all_woken, entry_of, without, round_for, round_for_fills}
 use Rattle.flume_model.specs.Entries.{passes_on, leave_fills, waiting_count}
 use Rattle.flume_state.specs.Receivers.{Entries, begins, unfilled}
-use Rattle.flume_state.specs.State.{State, emptied}
+use Rattle.flume_state.specs.State.{State, with_nothing_left}
 
 module _ {T S : Type 0} where
   -- the live sends, where each of these blocked ones is due
-  abbrev pub all_due : List (Blocked T) → SendMap S → SendMap S
-  all_due [] sends = sends
-  all_due (b ∷ blocked) sends = all_due blocked (noticed_send due_now b.ticket sends)
+  abbrev pub with_all_due : List (Blocked T) → SendMap S → SendMap S
+  with_all_due [] sends = sends
+  with_all_due (b ∷ blocked) sends = with_all_due blocked (noticed_send due_now b.ticket sends)
 
   -- the state whose first blocked message, of these, has joined the queue
-  abbrev pub admitted_from : List (Blocked T) → State T S → State T S
-  admitted_from [] s = s
-  admitted_from (b ∷ later) s = record s {
+  abbrev pub after_admission_of : List (Blocked T) → State T S → State T S
+  after_admission_of [] s = s
+  after_admission_of (b ∷ later) s = record s {
     queue = s.queue ++ b.message ∷ [];
     blocked = later;
     sends = changed s.sends b.ticket accepted_now;
   }
 
   -- the state whose first blocked message, if one is blocked, has joined the queue
-  abbrev pub admitted : State T S → State T S
-  admitted s = admitted_from s.blocked s
+  abbrev pub after_admission : State T S → State T S
+  after_admission s = after_admission_of s.blocked s
 
   -- the state whose first blocked message has joined the queue, where the queue has room
-  abbrev pub refilled : State T S → State T S
-  refilled s = if not (is_full s.capacity (length s.queue)) then admitted s else s
+  abbrev pub after_refill : State T S → State T S
+  after_refill s = if not (is_full s.capacity (length s.queue)) then after_admission s else s
 
   -- the state whose first blocked message has joined the queue, where this queue is empty
-  abbrev pub fronted_from : List T → State T S → State T S
-  fronted_from [] s = admitted s
-  fronted_from (m ∷ rest) s = s
+  abbrev pub with_front_of : List T → State T S → State T S
+  with_front_of [] s = after_admission s
+  with_front_of (m ∷ rest) s = s
 
   -- the state whose first blocked message has joined the queue, where none is queued
-  abbrev pub fronted : State T S → State T S
-  fronted s = fronted_from s.queue s
+  abbrev pub with_front : State T S → State T S
+  with_front s = with_front_of s.queue s
 
   -- the state whose queue takes blocked messages in while it has room, of these blocked ones
-  abbrev pub filled_up_from : List (Blocked T) → State T S → State T S
-  filled_up_from [] s = s
-  filled_up_from (b ∷ later) s =
-      if is_full s.capacity (length s.queue) then s else filled_up_from later (record s {
+  abbrev pub after_admissions_of : List (Blocked T) → State T S → State T S
+  after_admissions_of [] s = s
+  after_admissions_of (b ∷ later) s =
+      if is_full s.capacity (length s.queue) then s else after_admissions_of later (record s {
         queue = s.queue ++ b.message ∷ [];
         blocked = later;
         sends = changed s.sends b.ticket accepted_now;
       })
 
   -- the state whose queue takes blocked messages in while it has room
-  abbrev pub filled_up : State T S → State T S
-  filled_up s = filled_up_from s.blocked s
+  abbrev pub after_admissions : State T S → State T S
+  after_admissions s = after_admissions_of s.blocked s
 
   -- the state with this capacity, whose queue then takes blocked messages in while it has room
-  abbrev pub resized : ℕ → State T S → State T S
-  resized new s = filled_up (record s {
+  abbrev pub with_capacity : ℕ → State T S → State T S
+  with_capacity new s = after_admissions (record s {
     capacity = Some new;
     greatest = greater s.greatest (Some new);
   })
 
   -- the state after a wake round
-  abbrev pub rounded : State T S → State T S
-  rounded s = record s {
+  abbrev pub after_wake_round : State T S → State T S
+  after_wake_round s = record s {
     queue = unfilled (round_for_fills s.queue s.entries) s.queue;
     entries = round_for due_now s.queue s.entries;
   }
 
   -- the state without the parked receiver that has this ticket
-  abbrev pub unparked : ℕ → State T S → State T S
-  unparked ticket s = record s { entries = without ticket s.entries }
+  abbrev pub without_receiver : ℕ → State T S → State T S
+  without_receiver ticket s = record s { entries = without ticket s.entries }
 
   -- the state after the front of the line was handed out, which left this of the queue
-  abbrev pub taken : List T → State T S → State T S
-  taken rest s = refilled (record (fronted s) { queue = rest })
+  abbrev pub after_take : List T → State T S → State T S
+  after_take rest s = after_refill (record (with_front s) { queue = rest })
 
   -- the state without the parked receiver that has this ticket, and after a wake round where it
   -- passes its wake on
-  abbrev pub departed : ℕ → State T S → State T S
-  departed ticket s =
-      if passes_on (entry_of ticket s.entries) then rounded (unparked ticket s)
-      else unparked ticket s
+  abbrev pub after_withdrawal : ℕ → State T S → State T S
+  after_withdrawal ticket s =
+      if passes_on (entry_of ticket s.entries) then after_wake_round (without_receiver ticket s)
+      else without_receiver ticket s
 
   -- the state with these entries, and the peak that they make
-  abbrev pub waiting_so : Entries T S → State T S → State T S
-  waiting_so entries s = record s { entries = entries; peak = max s.peak (waiting_count entries) }
+  abbrev pub with_peak : Entries T S → State T S → State T S
+  with_peak entries s = record s { entries = entries; peak = max s.peak (waiting_count entries) }
 
   -- what an end that left leaves: nothing once both are gone; and where the channel was open and is
   -- closed now, each waiting receiver is woken, and each blocked send is due
-  abbrev pub after_leaving : Bool → State T S → State T S
-  after_leaving was_open s =
-      if s.senders + s.receivers == 0 then emptied s
+  abbrev pub after_end_dropped : Bool → State T S → State T S
+  after_end_dropped was_open s =
+      if s.senders + s.receivers == 0 then with_nothing_left s
       else (if was_open && is_closed s.senders s.receivers then record s {
-        sends = all_due s.blocked s.sends;
+        sends = with_all_due s.blocked s.sends;
         entries = all_woken due_now s.entries;
       } else s)
 
   -- a receiver of this kind parks behind all others, under the next ticket, with this signal
   pub record Begins (old new : State T S) (ticket : ℕ) (kind : Kind) (signal : S) : Type 0 where
-    pub nothing : (fronted old).queue ≡ []
+    pub nothing : (with_front old).queue ≡ []
     pub is_open : IsOpen old.senders old.receivers
     pub below_most : old.next < most
     pub next_is : ticket ≡ old.next
-    pub parked : new ≡ waiting_so (old.entries ++ begins ticket kind signal ∷ [])
+    pub parked : new ≡ with_peak (old.entries ++ begins ticket kind signal ∷ [])
         (record old { next = old.next + 1 })
 
   -- a parked receiver leaves with no message, and its wake fills this one, if it fills one
   pub record Departs (old new : State T S) (ticket : ℕ) (closed : Bool) (filled : Option ℕ)
       : Type 0 where
     pub fills : filled ≡ leave_fills ticket old.queue old.entries
-    pub becomes : new ≡ departed ticket old
+    pub becomes : new ≡ after_withdrawal ticket old
     pub closed_is : closed ≡ is_closed old.senders old.receivers
 
   -- a message joins the queue, and a wake round follows, which fills this receiver, if it fills one
   pub record Joins (old new : State T S) (message : T) (filled : Option ℕ) : Type 0 where
     pub fills : filled ≡ round_for_fills (old.queue ++ message ∷ []) old.entries
-    pub becomes : new ≡ rounded (record old {
+    pub becomes : new ≡ after_wake_round (record old {
       queue = old.queue ++ message ∷ [];
       space = new.space;
     })

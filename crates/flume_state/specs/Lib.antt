@@ -3,13 +3,13 @@ pub mod Places
 pub mod Ticketed
 pub mod TicketedLends
 pub mod Messages
-pub mod Lined
+pub mod LineLayout
 pub mod Notices
 pub mod Sends
-pub mod SendChain
+pub mod SendLayout
 pub mod Receivers
-pub mod Parked
+pub mod EntryLayout
 pub mod State
 pub mod Effects
-pub mod Told
+pub mod Signals
 pub mod Due

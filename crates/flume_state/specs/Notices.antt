@@ -15,8 +15,8 @@ module _ {S : Type 0} where
   due_now n = record n { due = true }
 
   -- one that is due no more
-  abbrev pub told : Notice S → Notice S
-  told n = record n { due = false }
+  abbrev pub no_longer_due : Notice S → Notice S
+  no_longer_due n = record n { due = false }
 
   -- one with another signal, where one is given
   abbrev pub resignalled : Option S → Notice S → Notice S

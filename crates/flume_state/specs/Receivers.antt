@@ -11,12 +11,12 @@ use Rattle.flume_model.specs.declared.entry.Entry.{Entry}
 use Rattle.flume_model.specs.declared.entry.Mark.{Mark}
 use Rattle.flume_model.specs.declared.entry.Mark.TheVariants.{Waiting, Woken, Filled}
 use Rattle.flume_state.specs.declared.notice.Notice.{Notice}
-use Rattle.flume_state.specs.Notices.{fresh, told, resignalled}
-use Rattle.flume_state.specs.declared.entries.Standing.{Standing}
-use Rattle.flume_state.specs.declared.entries.Standing.TheVariants.{Filled as IsFilled}
-use Rattle.flume_state.specs.declared.entries.Standing.TheVariants.{BlockWaiting, BlockWoken}
-use Rattle.flume_state.specs.declared.entries.Standing.TheVariants.{Waiting as IsWaiting}
-use Rattle.flume_state.specs.declared.entries.Standing.TheVariants.{Woken as IsWoken}
+use Rattle.flume_state.specs.Notices.{fresh, no_longer_due, resignalled}
+use Rattle.flume_state.specs.declared.entries.ReceiverStatus.{ReceiverStatus}
+use Rattle.flume_state.specs.declared.entries.ReceiverStatus.TheVariants.{Filled as IsFilled}
+use Rattle.flume_state.specs.declared.entries.ReceiverStatus.TheVariants.{BlockWaiting, BlockWoken}
+use Rattle.flume_state.specs.declared.entries.ReceiverStatus.TheVariants.{Waiting as IsWaiting}
+use Rattle.flume_state.specs.declared.entries.ReceiverStatus.TheVariants.{Woken as IsWoken}
 
 -- the entries of a state
 abbrev pub Entries : Type 0 → Type 0 → Type 0
@@ -29,20 +29,20 @@ unfilled (Some ticket) [] = []
 unfilled (Some ticket) (front ∷ queue) = queue
 
 -- it asks by looking at the line
-abbrev pub looks : Option Standing → Bool
+abbrev pub looks : Option ReceiverStatus → Bool
 looks (Some BlockWoken) = true
 looks (Some IsWaiting) = true
 looks (Some IsWoken) = true
 looks _ = false
 
 -- it blocks, and isn't filled: it leaves with the front of the line
-abbrev pub blocks : Option Standing → Bool
+abbrev pub blocks : Option ReceiverStatus → Bool
 blocks (Some BlockWaiting) = true
 blocks (Some BlockWoken) = true
 blocks _ = false
 
 -- it doesn't block, and isn't filled: it leaves with no message
-abbrev pub only_leaves : Option Standing → Bool
+abbrev pub only_leaves : Option ReceiverStatus → Bool
 only_leaves (Some IsWaiting) = true
 only_leaves (Some IsWoken) = true
 only_leaves _ = false
@@ -50,16 +50,16 @@ only_leaves _ = false
 module _ {S : Type 0} where
   -- the notice of one that waits on, with another signal where one is given
   abbrev pub waits_on : Option S → Notice S → Notice S
-  waits_on given n = told (resignalled given n)
+  waits_on given n = no_longer_due (resignalled given n)
 
 module _ {T : Type 0} where
   -- what decides how a parked receiver is answered
-  abbrev pub standing_as : Kind → Mark T → Standing
-  standing_as kind (Filled message) = IsFilled
-  standing_as Block Waiting = BlockWaiting
-  standing_as Block Woken = BlockWoken
-  standing_as kind Waiting = IsWaiting
-  standing_as kind Woken = IsWoken
+  abbrev pub status_by : Kind → Mark T → ReceiverStatus
+  status_by kind (Filled message) = IsFilled
+  status_by Block Waiting = BlockWaiting
+  status_by Block Woken = BlockWoken
+  status_by kind Waiting = IsWaiting
+  status_by kind Woken = IsWoken
 
 module _ {T S : Type 0} where
   -- a receiver that has just parked, with this signal
@@ -79,12 +79,12 @@ module _ {T S : Type 0} where
       else e ∷ noticed_receiver f t entries
 
   -- how an entry stands
-  abbrev pub standing_of : Entry T (Notice S) → Standing
-  standing_of e = standing_as e.kind e.mark
+  abbrev pub status_of : Entry T (Notice S) → ReceiverStatus
+  status_of e = status_by e.kind e.mark
 
   -- how the receiver with a ticket stands
-  abbrev pub standing : ℕ → Entries T S → Option Standing
-  standing t entries = option_map standing_of (entry_of t entries)
+  abbrev pub receiver_status : ℕ → Entries T S → Option ReceiverStatus
+  receiver_status t entries = option_map status_of (entry_of t entries)
 
   -- no parked receiver is due
   abbrev pub NoDueReceiver : Entries T S → Type 0
@@ -96,11 +96,11 @@ module _ {T S : Type 0} where
   due_count (e ∷ entries) = (if e.notice.due then 1 else 0) + due_count entries
 
   -- one that was due, under this ticket, is due no more
-  pub record Tells (old new : Entries T S) (ticket : ℕ) : Type 0 where
+  pub record NamesReceiver (old new : Entries T S) (ticket : ℕ) : Type 0 where
     pub before : Entries T S
     pub entry : Entry T (Notice S)
     pub later : Entries T S
     pub found : old ≡ before ++ entry ∷ later
     pub is_it : entry.ticket ≡ ticket
     pub was_due : entry.notice.due ≡ true
-    pub told : new ≡ before ++ record entry { notice = told entry.notice } ∷ later
+    pub told : new ≡ before ++ record entry { notice = no_longer_due entry.notice } ∷ later

@@ -31,8 +31,8 @@ pub record State (T S : Type 0) : Type 0 where
 
 module _ {T S : Type 0} where
   -- a new channel
-  abbrev pub opened : Opening → State T S
-  opened opening = record {
+  abbrev pub new_state : Opening → State T S
+  new_state opening = record {
     capacity = opening.capacity;
     greatest = opening.capacity;
     queue = [];
@@ -47,8 +47,8 @@ module _ {T S : Type 0} where
   }
 
   -- no message and no ticket is left
-  abbrev pub emptied : State T S → State T S
-  emptied s = record s { queue = []; blocked = []; sends = empty; entries = [] }
+  abbrev pub with_nothing_left : State T S → State T S
+  with_nothing_left s = record s { queue = []; blocked = []; sends = empty; entries = [] }
 
   -- how many messages stand, queued and blocked
   abbrev pub message_count : State T S → ℕ

@@ -3,14 +3,10 @@
 use Rattle.std.specs.Prelude.{◌≡◌, ℕ, ◌+◌, ◌≤◌, ◌==◌, Bool, false, if◌then◌else◌}
 use Rattle.std.specs.Prelude.{List, [], ◌∷◌, ◌++◌, Option, Some, None}
 use Rattle.std.specs.FinMap.{get}
+use Rattle.flume_model.specs.Log.{is_ticket}
 use Rattle.flume_chain.specs.Chained.{Placed, put_before, times, places}
 use Rattle.flume_state.specs.declared.ticketed.Ticketed.{Ticketed}
 use Rattle.flume_state.specs.Places.{PlaceMap}
-
--- the ticket that may be there is this one
-abbrev pub is_ticket : ℕ → Option ℕ → Bool
-is_ticket t None = false
-is_ticket t (Some u) = u == t
 
 module _ {E : Type 0} where
   -- the ticket of an element that may be there

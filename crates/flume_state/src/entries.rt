@@ -6,8 +6,8 @@ ghost use Rattle.flume_model.specs.Entries.{is_woken, some_wait, waiting_count};
 ghost use Rattle.flume_model.specs.Entries.{entry_of, held_by, held_in};
 ghost use Rattle.flume_model.specs.Entries.{without, again};
 ghost use Rattle.flume_state.specs.Receivers.{begins, waits_on, noticed_receiver};
-ghost use Rattle.flume_state.specs.Receivers.{standing_as, standing_of};
-ghost use Rattle.flume_state.specs.Parked.{asked_again, off};
+ghost use Rattle.flume_state.specs.Receivers.{status_by, status_of};
+ghost use Rattle.flume_state.specs.EntryLayout.{asked_again, off};
 
 mod wakes;
 
@@ -20,7 +20,7 @@ use std::marker::Model;
 
 /// What decides how a parked receiver is answered.
 #[derive(Clone, Copy, Drop)]
-pub enum Standing {
+pub enum ReceiverStatus {
     /// It holds a message.
     Filled,
     /// It blocks, and waits.
@@ -54,20 +54,20 @@ pub struct Entries<T, S, A: Allocator> {
     waiting: usize,
 }
 
-impl Standing {
+impl ReceiverStatus {
     // How a receiver of this kind stands that has this mark.
-    fn of<T>(kind: Kind, mark: &Mark<T>) -> Standing
-        ensures standing { result ≡ standing_as kind mark.now }
+    fn of<T>(kind: Kind, mark: &Mark<T>) -> ReceiverStatus
+        ensures status { result ≡ status_by kind mark.now }
     {
         match mark {
-            Mark::Filled(_) => Standing::Filled,
+            Mark::Filled(_) => ReceiverStatus::Filled,
             Mark::Waiting => match kind {
-                Kind::Block => Standing::BlockWaiting,
-                _ => Standing::Waiting,
+                Kind::Block => ReceiverStatus::BlockWaiting,
+                _ => ReceiverStatus::Waiting,
             },
             Mark::Woken => match kind {
-                Kind::Block => Standing::BlockWoken,
-                _ => Standing::Woken,
+                Kind::Block => ReceiverStatus::BlockWoken,
+                _ => ReceiverStatus::Woken,
             },
         }
     }
@@ -118,13 +118,13 @@ fn moved_off(boundary: Option<u32>, place: u32, next: Option<u32>) -> Option<u32
 
 impl<T, S, A: Allocator> Model for Entries<T, S, A> {
     ghost use Rattle.flume_state.specs.Receivers.{Entries as EntryList};
-    ghost use Rattle.flume_state.specs.Parked.{entries_in, Sorted};
+    ghost use Rattle.flume_state.specs.EntryLayout.{entries_in, EntryLayout};
 
     ghost Value = { EntryList T S };
 
     ghost view = { λ s. entries_in s.chain.items };
 
-    ghost invariant = { λ s. Sorted s.chain.items s.due s.waits s.waiting };
+    ghost invariant = { λ s. EntryLayout s.chain.items s.due s.waits s.waiting };
 }
 
 impl<T: Drop, S: Drop, A: Allocator + Copy> Entries<T, S, A> {
@@ -187,12 +187,12 @@ impl<T: Drop, S: Drop, A: Allocator + Copy> Entries<T, S, A> {
     }
 
     /// How the receiver with this ticket stands. `None` where nobody is parked under it.
-    pub fn standing(&self, ticket: u64) -> Option<Standing>
-        ensures standing { result ≡ option_map standing_of (entry_of ticket self.now) }
+    pub fn status(&self, ticket: u64) -> Option<ReceiverStatus>
+        ensures status { result ≡ option_map status_of (entry_of ticket self.now) }
     {
         let place = self.chain.find(ticket)?;
         let parked = self.chain.get(place)?;
-        Some(Standing::of(parked.kind, &parked.mark))
+        Some(ReceiverStatus::of(parked.kind, &parked.mark))
     }
 
     /// The signal that the receiver with this ticket left last. `None` where nobody is parked under

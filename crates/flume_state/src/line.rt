@@ -4,7 +4,7 @@ ghost use Rattle.std.specs.Prelude.{IfNone, IfSome, IfOk, IfErr, OnOk, OnErr, Is
 ghost use Rattle.std.specs.List.{All};
 ghost use Rattle.flume_chain.specs.Chained.{place_after};
 ghost use Rattle.flume_state.specs.Messages.{Admits, TakesBack, count};
-ghost use Rattle.flume_state.specs.Effects.{all_due};
+ghost use Rattle.flume_state.specs.Effects.{with_all_due};
 
 use crate::sends::Sends;
 use crate::ticketed::TicketChain;
@@ -28,11 +28,11 @@ impl<T, A: Allocator> Model for Line<T, A> {
 
     ghost Value = { Messages T };
 
-    ghost use Rattle.flume_state.specs.Lined.{line_of, space_of, Lined};
+    ghost use Rattle.flume_state.specs.LineLayout.{line_of, space_of, LineLayout};
 
     ghost view = { λ s. line_of s.chain.items (space_of s.chain) };
 
-    ghost invariant = { λ s. Lined s.chain.items s.blocked s.blocked_len };
+    ghost invariant = { λ s. LineLayout s.chain.items s.blocked s.blocked_len };
 }
 
 // The place of the first blocked one, once that at a place has left.
@@ -179,7 +179,7 @@ impl<T: Drop, A: Allocator + Copy> Line<T, A> {
 
     /// Marks the send of each blocked message due, the first one's first. Takes no memory.
     pub fn mark_blocked<S: Drop>(&self, sends: &mut Sends<S, A>)
-        ensures marked { sends.new ≡ all_due self.now.blocked sends.old }
+        ensures marked { sends.new ≡ with_all_due self.now.blocked sends.old }
     {
         let mut next = self.blocked;
         while let Some(place) = next {

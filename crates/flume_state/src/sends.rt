@@ -2,9 +2,9 @@
 ghost use Rattle.std.specs.Prelude.{◌≡◌, ◌==◌, true, false, None, OnOk, OnErr, IfSome, IfNone};
 ghost use Rattle.std.specs.Option.{option_map, option_copied};
 ghost use Rattle.std.specs.FinMap.{empty, get, insert, remove};
-ghost use Rattle.flume_state.specs.Notices.{due_now, told, resignalled};
+ghost use Rattle.flume_state.specs.Notices.{due_now, no_longer_due, resignalled};
 ghost use Rattle.flume_state.specs.Sends.{blocked, accepted_now, changed, noticed_send};
-ghost use Rattle.flume_state.specs.SendChain.{due_accepting};
+ghost use Rattle.flume_state.specs.SendLayout.{due_accepting};
 ghost use Rattle.flume_state.specs.Sends.{is_due_send, NoDueSend};
 
 use crate::notice::Notice;
@@ -32,7 +32,7 @@ pub struct Sends<S, A: Allocator> {
 
 impl<S, A: Allocator> Model for Sends<S, A> {
     ghost use Rattle.flume_state.specs.Sends.{SendMap, send_map_code};
-    ghost use Rattle.flume_state.specs.SendChain.{by_ticket, Lined};
+    ghost use Rattle.flume_state.specs.SendLayout.{by_ticket, SendLayout};
 
     ghost Value = { SendMap S };
 
@@ -40,7 +40,7 @@ impl<S, A: Allocator> Model for Sends<S, A> {
 
     ghost view = { λ s. by_ticket s.chain.items };
 
-    ghost invariant = { λ s. Lined s.chain.items s.due };
+    ghost invariant = { λ s. SendLayout s.chain.items s.due };
 }
 
 impl<S: Drop, A: Allocator + Copy> Sends<S, A> {
@@ -180,7 +180,7 @@ impl<S: Drop, A: Allocator + Copy> Sends<S, A> {
     #[inline(always)]
     pub fn next_due(&mut self) -> Option<u64>
         ensures was_due { IfSome result (λ t. is_due_send self.old t ≡ true) }
-        ensures taken { IfSome result (λ t. self.new ≡ noticed_send told t self.old) }
+        ensures taken { IfSome result (λ t. self.new ≡ noticed_send no_longer_due t self.old) }
         ensures none_due { IfNone result (NoDueSend self.old) }
         ensures unchanged { IfNone result (self.new ≡ self.old) }
     {
@@ -195,7 +195,7 @@ impl<S: Drop, A: Allocator + Copy> Sends<S, A> {
     #[inline(never)]
     fn tell_first(&mut self) -> Option<u64>
         ensures was_due { IfSome result (λ t. is_due_send self.old t ≡ true) }
-        ensures taken { IfSome result (λ t. self.new ≡ noticed_send told t self.old) }
+        ensures taken { IfSome result (λ t. self.new ≡ noticed_send no_longer_due t self.old) }
         ensures none_due { IfNone result (NoDueSend self.old) }
         ensures unchanged { IfNone result (self.new ≡ self.old) }
     {

@@ -4,7 +4,7 @@ use crate::fixtures::{Heap, had, holds, text_is};
 use core_tests::draws::Draws;
 use ends_tests::counting::Counting;
 use flume_core::chan::Chan;
-use flume_core::step::Reply;
+use flume_model::step::Reply;
 use flume_script::writing::write_reply;
 use std::alloc::Global;
 use std::process::Abort;

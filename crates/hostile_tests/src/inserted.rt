@@ -3,7 +3,7 @@
 use crate::fixtures::{had, holds, text_is};
 use core_tests::judge::Told;
 use flume_core::chan::Chan;
-use flume_core::step::Step;
+use flume_model::step::Step;
 use flume_script::reading::{opening_of, step_of};
 use flume_script::writing::write_reply;
 use std::alloc::Global;

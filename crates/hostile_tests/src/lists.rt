@@ -4,7 +4,7 @@ use crate::fixtures::{Heap, had, holds, text_is};
 use ends_tests::counting::Counting;
 use flume_core::chan::Chan;
 use flume_core::run::run;
-use flume_core::step::Step;
+use flume_model::step::Step;
 use flume_script::reading::{Reading, read_script};
 use flume_script::run_script;
 use flume_script::writing::write_replies;

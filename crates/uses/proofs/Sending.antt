@@ -9,7 +9,7 @@ use Rattle.flume_model.specs.declared.step.Reply.TheVariants.{Waiting, NoTicket,
 use Rattle.flume_model.specs.declared.step.Reply.TheVariants.{NoMemory}
 use Rattle.flume_model.specs.Log.{Log}
 use Rattle.flume_state.specs.State.{State}
-use Rattle.flume_core.specs.StandsFor.{IsLedTo}
+use Rattle.flume_core.specs.Represents.{IsReachable}
 use Rattle.flume_core.specs.declared.error.SendTimeoutError.{SendTimeoutError}
 use Rattle.flume_core.specs.declared.error.SendTimeoutError.TheVariants.{Timeout}
 use Rattle.flume_calls.specs.declared.calls.send.SendNext.{SendNext}
@@ -152,7 +152,7 @@ module _ {T S : Type 0} where
 
 module _ {T A S : Type 0} where
   -- the message that comes back is the one that blocked, however long the log was before
-  came_back : {old new : State T S} (m back : T) (ticket : ℕ) (others : Log T A) → IsLedTo A old
+  came_back : {old new : State T S} (m back : T) (ticket : ℕ) (others : Log T A) → IsReachable A old
       → Leads old ((WithdrawSend ticket, Returned back false) ∷ others ++ blocks m ticket) new → back ≡ m
   came_back m back ticket others led leads =
       let run = rw (append_assoc others (blocks m ticket) led.1) at (leads led.0 led.1 led.2).run in
@@ -237,7 +237,7 @@ module _ {G T S : Type 0} (A : Type 0) (at : G → State T S) where
         Later ticket end.others end.step end.reply (end.accepted ok),
       )
 
-  pub taken_back : {old new : G} {m : T} {result : Ending T} → IsLedTo A (at old)
+  pub taken_back : {old new : G} {m : T} {result : Ending T} → IsReachable A (at old)
       → WholeSend Firsts Arms Parks Agains InWait old m new result
       → (back : T) → result ≡ Err (Timeout back) → IsTakenBack A m back (at old) (at new)
   taken_back led (AtFirst made) back late = absurd (first_in_time made.reply _ made.answered back late)

@@ -7,15 +7,15 @@ use Rattle.flume_model.specs.declared.step.Reply.TheVariants.{Sent, Full, Pendin
 use Rattle.flume_model.specs.declared.step.Reply.TheVariants.{NoTicket, Returned}
 use Rattle.flume_model.specs.Log.{Log, Opening}
 use Rattle.flume_state.specs.State.{State}
-use Rattle.flume_core.specs.StandsFor.{StandsFor}
+use Rattle.flume_core.specs.Represents.{Represents}
 
 module _ {T S A : Type 0} where
   -- each log that stood for the state before stands for the state after with these steps and their
   -- replies before it, the last one first
   abbrev pub Leads : State T S → Log T A → State T S → Type 0
   Leads old steps new =
-      (opening : Opening) (log : Log T A) → StandsFor opening log old
-      → StandsFor opening (steps ++ log) new
+      (opening : Opening) (log : Log T A) → Represents opening log old
+      → Represents opening (steps ++ log) new
 
 module _ {T S : Type 0} where
   -- this one step was made, and the answer is the table's to its reply

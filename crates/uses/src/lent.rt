@@ -15,7 +15,7 @@ use flume_calls::gates::{RecvGate, SendGate, recv_over, send_over};
 use flume_calls::locked::Locked;
 use flume_calls::single::Single;
 use flume_core::error::{RecvTimeoutError, SendTimeoutError};
-use flume_core::step::Kind;
+use flume_model::step::Kind;
 use std::alloc::Allocator;
 use std::sync::Wait;
 

@@ -10,7 +10,7 @@ use crate::shared::Waits;
 use crate::task::Task;
 use flume_calls::polled::PolledReceive;
 use flume_core::error::RecvError;
-use flume_core::step::Kind;
+use flume_model::step::Kind;
 use futures::Future;
 use futures::task::{Context, Poll};
 use std::alloc::{Allocator, Global};
@@ -167,7 +167,7 @@ impl<T: Drop, R: Waits, A: Allocator + Copy> Drop for RecvFut<'_, T, R, A> {
             task: _,
         } = self;
         if let Some(leaves) = call.end() {
-            receiver.get().shared().make_seldom(leaves);
+            receiver.get().shared().call_cold(leaves);
         }
     }
 }

@@ -95,7 +95,7 @@ impl<'a, T: Drop, R: Waits, A: Allocator + Copy> SendFut<'a, T, R, A> {
         ensures sender { self.new.sender ≡ self.old.sender }
     {
         if let Some(takes_back) = self.send.end() {
-            self.sender.get().shared().make_seldom(takes_back);
+            self.sender.get().shared().call_cold(takes_back);
         }
         self.send = PolledSend::Unsent(message);
     }
@@ -185,7 +185,7 @@ impl<T: Drop, R: Waits, A: Allocator + Copy> Drop for SendFut<'_, T, R, A> {
             task: _,
         } = self;
         if let Some(takes_back) = send.end() {
-            sender.get().shared().make_seldom(takes_back);
+            sender.get().shared().call_cold(takes_back);
         }
     }
 }

@@ -12,7 +12,7 @@ use crate::polled::receive::RecvFut;
 use crate::receiver::Receiver;
 use crate::shared::Waits;
 use flume_core::error::RecvError;
-use flume_core::step::Kind;
+use flume_model::step::Kind;
 use futures::task::{Context, Poll};
 use futures::{Future, Stream};
 use std::alloc::{AllocError, Allocator, Global};

@@ -13,7 +13,7 @@ use flume_calls::calls::{AgainReceive, ParkReceive, RecvCall, RecvNext};
 use flume_calls::gates::ArmNext;
 use flume_core::error::RecvError;
 use flume_core::error::RecvTimeoutError::{Disconnected, NoMemory, Timeout};
-use flume_core::step::Kind;
+use flume_model::step::Kind;
 use std::alloc::{Allocator, Global};
 use std::mem::replace;
 use std::sync::Arc;
@@ -111,13 +111,13 @@ where
             ReceiveState::Unstarted => match ArmSignal::new(parker, number) {
                 Some(signal) => {
                     let (kind, signal) = (Kind::Arm, Signal::Arm(signal));
-                    shared.make_seldom(ParkReceive { kind, signal })
+                    shared.call_cold(ParkReceive { kind, signal })
                 }
                 None => return ArmNext::NoMemory,
             },
             ReceiveState::Parked(call) => {
                 let (late, signal) = (false, None);
-                shared.make_seldom(AgainReceive { call, late, signal })
+                shared.call_cold(AgainReceive { call, late, signal })
             }
             ReceiveState::Completed(message) => {
                 self.state = ReceiveState::Completed(message);
@@ -135,7 +135,7 @@ where
             ReceiveState::Parked(call) => {
                 let (late, signal) = (true, None);
                 let shared = self.receiver.shared();
-                match shared.make_seldom(AgainReceive { call, late, signal }) {
+                match shared.call_cold(AgainReceive { call, late, signal }) {
                     RecvNext::Done(result) => drop(result),
                     _ => unreachable!(),
                 }

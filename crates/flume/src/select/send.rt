@@ -108,13 +108,13 @@ where
             SendState::Unstarted(message) => match ArmSignal::new(parker, number) {
                 Some(signal) => {
                     let signal = Signal::Arm(signal);
-                    shared.make_seldom(ParkSend { message, signal })
+                    shared.call_cold(ParkSend { message, signal })
                 }
                 None => return ArmNext::NoMemory,
             },
             SendState::Parked(call) => {
                 let (late, signal) = (false, None);
-                shared.make_seldom(AgainSend { call, late, signal })
+                shared.call_cold(AgainSend { call, late, signal })
             }
             SendState::Completed(result) => {
                 self.state = SendState::Completed(result);
@@ -132,7 +132,7 @@ where
             SendState::Parked(call) => {
                 let (late, signal) = (true, None);
                 let shared = self.sender.shared();
-                match shared.make_seldom(AgainSend { call, late, signal }) {
+                match shared.call_cold(AgainSend { call, late, signal }) {
                     SendNext::Done(result) => drop(result),
                     _ => unreachable!(),
                 }

@@ -10,7 +10,7 @@ ghost use Rattle.flume_calls.specs.ReceiveOutcomes.{AgainReceiveOutcome};
 use crate::turn::Turn;
 use flume_core::chan::Chan;
 use flume_core::error::RecvTimeoutError::{self, Disconnected, NoMemory, Timeout};
-use flume_core::step::{Kind, Reply, Step};
+use flume_model::step::{Kind, Reply, Step};
 use std::alloc::Allocator;
 use std::marker::Model;
 
@@ -68,7 +68,7 @@ impl RecvCall {
         ensures answers { IsFirst result }
         ensures outcome { FirstReceiveOutcome chan.old chan.new result }
     {
-        FirstReceive.make(chan)
+        FirstReceive.apply(chan)
     }
 
     /// The turn that may park: asks for the message at the front, with a kind and a signal for the
@@ -91,7 +91,7 @@ impl RecvCall {
         ensures answers { IsParking result }
         ensures outcome { ParkReceiveOutcome kind signal chan.old chan.new result }
     {
-        ParkReceive { kind, signal }.make(chan)
+        ParkReceive { kind, signal }.apply(chan)
     }
 
     /// A later turn; `late` says that the deadline is reached. `Done(Ok)`: the message that filled
@@ -122,7 +122,7 @@ impl RecvCall {
         ensures outcome { AgainReceiveOutcome self late signal chan.old chan.new result }
     {
         let call = self;
-        AgainReceive { call, late, signal }.make(chan)
+        AgainReceive { call, late, signal }.apply(chan)
     }
 }
 
@@ -144,7 +144,7 @@ impl<T: Drop, S: Drop, A: Allocator + Copy> Turn<T, S, A> for FirstReceive {
     ghost outcome = { λ _. FirstReceiveOutcome };
 
     #[inline(always)]
-    fn make(self, chan: &mut Chan<T, S, A>) -> RecvNext<T> {
+    fn apply(self, chan: &mut Chan<T, S, A>) -> RecvNext<T> {
         match chan.try_recv() {
             Reply::Got(message) => RecvNext::Done(Ok(message)),
             Reply::Empty => RecvNext::NeedSignal,
@@ -176,7 +176,7 @@ impl<T: Drop, S: Drop, A: Allocator + Copy> Turn<T, S, A> for ParkReceive<S> {
 
     ghost outcome = { λ turn. ParkReceiveOutcome turn.kind turn.signal };
 
-    fn make(self, chan: &mut Chan<T, S, A>) -> RecvNext<T> {
+    fn apply(self, chan: &mut Chan<T, S, A>) -> RecvNext<T> {
         match chan.recv(self.kind, self.signal) {
             Reply::Got(message) => RecvNext::Done(Ok(message)),
             Reply::Parked(ticket) => RecvNext::Park(RecvCall { ticket }),
@@ -209,7 +209,7 @@ impl<T: Drop, S: Drop, A: Allocator + Copy> Turn<T, S, A> for AgainReceive<S> {
 
     ghost outcome = { λ turn. AgainReceiveOutcome turn.call turn.late turn.signal };
 
-    fn make(self, chan: &mut Chan<T, S, A>) -> RecvNext<T> {
+    fn apply(self, chan: &mut Chan<T, S, A>) -> RecvNext<T> {
         let AgainReceive { call, late, signal } = self;
         if late {
             match chan.withdraw(call.ticket) {

@@ -10,7 +10,7 @@ ghost use Rattle.flume_calls.specs.SendOutcomes.{AgainSendOutcome};
 use crate::turn::Turn;
 use flume_core::chan::Chan;
 use flume_core::error::SendTimeoutError::{self, Disconnected, NoMemory, Timeout};
-use flume_core::step::{Reply, Step};
+use flume_model::step::{Reply, Step};
 use std::alloc::Allocator;
 use std::marker::Model;
 
@@ -70,7 +70,7 @@ impl SendCall {
         ensures answers { IsFirst message result }
         ensures outcome { FirstSendOutcome message chan.old chan.new result }
     {
-        FirstSend { message }.make(chan)
+        FirstSend { message }.apply(chan)
     }
 
     /// The turn that may park: offers the message, with a signal for the case that it blocks.
@@ -92,7 +92,7 @@ impl SendCall {
         ensures answers { IsParking message result }
         ensures outcome { ParkSendOutcome A message signal chan.old chan.new result }
     {
-        ParkSend { message, signal }.make(chan)
+        ParkSend { message, signal }.apply(chan)
     }
 
     /// A later turn; `late` says that the deadline is reached. `Done(Ok)`: the message was taken
@@ -121,7 +121,7 @@ impl SendCall {
         ensures outcome { AgainSendOutcome A self late signal chan.old chan.new result }
     {
         let call = self;
-        AgainSend { call, late, signal }.make(chan)
+        AgainSend { call, late, signal }.apply(chan)
     }
 
     /// Whether it is blocked, in an open channel: `again`, not late, answers `Park` then. It
@@ -155,7 +155,7 @@ impl<T: Drop, S: Drop, A: Allocator + Copy> Turn<T, S, A> for FirstSend<T> {
     ghost outcome = { λ turn. FirstSendOutcome turn.message };
 
     #[inline(always)]
-    fn make(self, chan: &mut Chan<T, S, A>) -> SendNext<T> {
+    fn apply(self, chan: &mut Chan<T, S, A>) -> SendNext<T> {
         match chan.try_send(self.message) {
             Reply::Sent { .. } => SendNext::Done(Ok(())),
             Reply::Full(message) => SendNext::NeedSignal(message),
@@ -188,7 +188,7 @@ impl<T: Drop, S: Drop, A: Allocator + Copy> Turn<T, S, A> for ParkSend<T, S> {
 
     ghost outcome = { λ turn. ParkSendOutcome A turn.message turn.signal };
 
-    fn make(self, chan: &mut Chan<T, S, A>) -> SendNext<T> {
+    fn apply(self, chan: &mut Chan<T, S, A>) -> SendNext<T> {
         match chan.send(self.message, self.signal) {
             Reply::Sent { .. } => SendNext::Done(Ok(())),
             Reply::Pending(ticket) => SendNext::Park(SendCall { ticket }),
@@ -223,7 +223,7 @@ impl<T: Drop, S: Drop, A: Allocator + Copy> Turn<T, S, A> for AgainSend<S> {
 
     ghost outcome = { λ turn. AgainSendOutcome A turn.call turn.late turn.signal };
 
-    fn make(self, chan: &mut Chan<T, S, A>) -> SendNext<T> {
+    fn apply(self, chan: &mut Chan<T, S, A>) -> SendNext<T> {
         let AgainSend { call, late, signal } = self;
         if late {
             match chan.withdraw_send(call.ticket) {

@@ -9,7 +9,7 @@ use super::Polled;
 use crate::calls::{AgainReceive, RecvCall, RecvNext};
 use flume_core::chan::Chan;
 use flume_core::error::{RecvError, RecvTimeoutError};
-use flume_core::step::Kind;
+use flume_model::step::Kind;
 use std::alloc::Allocator;
 
 /// A receive that is polled, as a future or a stream is: it is parked under a ticket, or not. It
@@ -44,7 +44,7 @@ impl PolledReceive {
     /// let mut receive = PolledReceive::new(Kind::Plain);
     /// receive.poll(&mut chan, &mut Some(10));      // None: it waits, with the signal 10
     /// if let Some(leaves) = receive.end() {
-    ///     leaves.make(&mut chan);                  // Done(Err(Timeout)): it leaves
+    ///     leaves.apply(&mut chan);                  // Done(Err(Timeout)): it leaves
     /// }
     /// ```
     pub fn end<S>(&mut self) -> Option<AgainReceive<S>>

@@ -18,9 +18,9 @@ use Rattle.flume_state.specs.Notices.{due_now, resignalled}
 use Rattle.flume_state.specs.Sends.{blocked, noticed_send, with_notice}
 use Rattle.flume_state.specs.Receivers.{Entries, begins, noticed_receiver, waits_on}
 use Rattle.flume_state.specs.State.{State}
-use Rattle.flume_state.specs.Effects.{Returns, after_leaving, departed, rounded, taken, unparked, waiting_so, filled_up, resized}
+use Rattle.flume_state.specs.Effects.{Returns, after_end_dropped, after_withdrawal, after_wake_round, after_take, without_receiver, with_peak, after_admissions, with_capacity}
 use Rattle.flume_state.specs.Due.{BecomesDue, SendDue, ReceiverDue, blocked_in, closed_between, receiver_due_in, waits_by}
-use Rattle.flume_core.specs.StandsFor.{IsLedTo, IsRefusal}
+use Rattle.flume_core.specs.Represents.{IsReachable, IsRefusal}
 use Rattle.flume_core.proofs.dues.OneTicket.{send_kept, send_closed, receiver_kept, receiver_waits}
 use Rattle.flume_core.proofs.dues.SendsDue.{accepts_due, all_due_at}
 use Rattle.flume_core.proofs.dues.ReceiversDue.{entry_again, entry_noticed, noticed_idle, again_idle}
@@ -83,7 +83,7 @@ module _ {T S A : Type 0} where
 
   -- a send blocks
   pub blocks : (old new : State T S) (step : Step T) (reply : Reply T A) (message : Blocked T) (signal : S) (space : ℕ)
-      → NoneWaits step reply → IsLedTo A old
+      → NoneWaits step reply → IsReachable A old
       → new ≡ record old {
         blocked = old.blocked ++ message ∷ [];
         space = space;
@@ -97,7 +97,7 @@ module _ {T S A : Type 0} where
 
   -- a wake round
   pub woken : (old new : State T S) (step : Step T) (reply : Reply T A) (queue : List T) (space : ℕ) → NoneWaits step reply
-      → new ≡ rounded (record old { queue = queue; space = space }) → BecomesDue old step reply new
+      → new ≡ after_wake_round (record old { queue = queue; space = space }) → BecomesDue old step reply new
   woken old new step reply queue space idle is =
       by_sides old _ new step reply is refl refl idle (λ t. send_kept (get old.sends t)) (λ u. round_for_due u queue old.entries)
 
@@ -110,57 +110,57 @@ module _ {T S A : Type 0} where
 
   -- messages move in, and a receiver leaves
   moved_left : (old mid new : State T S) (step : Step T) (reply : Reply T A) (t : ℕ) → NoneWaits step reply → MovesIn old mid
-      → entry_of t (without t old.entries) ≡ None → new ≡ unparked t mid → BecomesDue old step reply new
+      → entry_of t (without t old.entries) ≡ None → new ≡ without_receiver t mid → BecomesDue old step reply new
   moved_left old mid new step reply t idle moves alone is =
-      by_sides old (unparked t mid) new step reply is moves.senders moves.receivers idle (accepts_due old.sends mid.sends moves.sends)
+      by_sides old (without_receiver t mid) new step reply is moves.senders moves.receivers idle (accepts_due old.sends mid.sends moves.sends)
       (subst (λ es. ReceiversDue old.entries (without t es)) (sym moves.entries) (gone_receivers old.entries t alone))
 
   -- the front is handed out
-  pub took : (old new : State T S) (step : Step T) (reply : Reply T A) (rest : List T) → NoneWaits step reply → IsLedTo A old
-      → new ≡ taken rest old → BecomesDue old step reply new
+  pub took : (old new : State T S) (step : Step T) (reply : Reply T A) (rest : List T) → NoneWaits step reply → IsReachable A old
+      → new ≡ after_take rest old → BecomesDue old step reply new
   took old new step reply rest idle led is =
       moved old _ new step reply idle (moves_taken old rest (moves_none old (tickets_of old led).live)) is
 
   -- the front is handed out to a parked receiver, which leaves
   pub took_parked : (old new : State T S) (step : Step T) (reply : Reply T A) (rest : List T) (t : ℕ) → NoneWaits step reply
-      → IsLedTo A old → new ≡ unparked t (taken rest old) → BecomesDue old step reply new
+      → IsReachable A old → new ≡ without_receiver t (after_take rest old) → BecomesDue old step reply new
   took_parked old new step reply rest t idle led is =
       let tickets = tickets_of old led in
       moved_left old _ new step reply t idle (moves_taken old rest (moves_none old tickets.live)) (tickets.alone t) is
 
   -- a parked receiver leaves
-  pub left : (old new : State T S) (step : Step T) (reply : Reply T A) (t : ℕ) → NoneWaits step reply → IsLedTo A old
-      → new ≡ unparked t old → BecomesDue old step reply new
+  pub left : (old new : State T S) (step : Step T) (reply : Reply T A) (t : ℕ) → NoneWaits step reply → IsReachable A old
+      → new ≡ without_receiver t old → BecomesDue old step reply new
   left old new step reply t idle led is =
       let tickets = tickets_of old led in
       moved_left old old new step reply t idle (moves_none old tickets.live) (tickets.alone t) is
 
   -- all queued messages are handed out
-  pub drained : (old new : State T S) (step : Step T) (reply : Reply T A) → NoneWaits step reply → IsLedTo A old
-      → new ≡ filled_up (record old { queue = [] }) → BecomesDue old step reply new
+  pub drained : (old new : State T S) (step : Step T) (reply : Reply T A) → NoneWaits step reply → IsReachable A old
+      → new ≡ after_admissions (record old { queue = [] }) → BecomesDue old step reply new
   drained old new step reply idle led is =
       let emptied_ = moves_queue old old [] (moves_none old (tickets_of old led).live) in
       moved old _ new step reply idle (moves_filled_up old _ emptied_) is
 
   -- the capacity is set
-  pub resized_due : (old new : State T S) (step : Step T) (reply : Reply T A) (capacity_ : ℕ) → NoneWaits step reply → IsLedTo A old
-      → new ≡ resized capacity_ old → BecomesDue old step reply new
+  pub resized_due : (old new : State T S) (step : Step T) (reply : Reply T A) (capacity_ : ℕ) → NoneWaits step reply → IsReachable A old
+      → new ≡ with_capacity capacity_ old → BecomesDue old step reply new
   resized_due old new step reply capacity_ idle led is =
       let set_ = moves_capacity old old (Some capacity_) (greater old.greatest (Some capacity_)) (moves_none old (tickets_of old led).live) in
       moved old _ new step reply idle (moves_filled_up old _ set_) is
 
   -- a receiver parks
   pub parked : (old new : State T S) (step : Step T) (reply : Reply T A) (kind : Kind) (signal : S) → NoneWaits step reply
-      → IsLedTo A old
-      → new ≡ waiting_so (old.entries ++ begins old.next kind signal ∷ []) (record old { next = old.next + 1 })
+      → IsReachable A old
+      → new ≡ with_peak (old.entries ++ begins old.next kind signal ∷ []) (record old { next = old.next + 1 })
       → BecomesDue old step reply new
   parked old new step reply kind signal idle led is =
       by_sides old _ new step reply is refl refl idle (λ t. send_kept (get old.sends t))
       (new_receivers old.entries old.next kind signal (tickets_of old led).new_receiver)
 
   -- a parked receiver waits on, or again
-  pub waits : (old new : State T S) (t : ℕ) (given : Option S) → IsLedTo A old
-      → new ≡ waiting_so (again t (noticed_receiver (waits_on given) t old.entries)) old → BecomesDue {A = A} old (Poll t) Waiting new
+  pub waits : (old new : State T S) (t : ℕ) (given : Option S) → IsReachable A old
+      → new ≡ with_peak (again t (noticed_receiver (waits_on given) t old.entries)) old → BecomesDue {A = A} old (Poll t) Waiting new
   waits old new t given led is = subst (λ s. BecomesDue {A = A} old (Poll t) Waiting s) (sym is) record {
     sends = λ u.
         subst (λ c. SendDue c (get old.sends u) (get old.sends u)) (sym (not_closed (is_closed old.senders old.receivers)))
@@ -206,8 +206,8 @@ module _ {T S A : Type 0} where
       }
 
   -- one end less
-  pub leaves : (old new : State T S) (step : Step T) (reply : Reply T A) (n m : ℕ) → NoneWaits step reply → IsLedTo A old
-      → new ≡ after_leaving (not (is_closed old.senders old.receivers)) (record old { senders = n; receivers = m })
+  pub leaves : (old new : State T S) (step : Step T) (reply : Reply T A) (n m : ℕ) → NoneWaits step reply → IsReachable A old
+      → new ≡ after_end_dropped (not (is_closed old.senders old.receivers)) (record old { senders = n; receivers = m })
       → BecomesDue old step reply new
   leaves old new step reply n m idle led is = go (eqb (n + m) 0) (not (is_closed old.senders old.receivers) && is_closed n m) refl refl
     where
@@ -247,13 +247,13 @@ module _ {T S A : Type 0} where
           }
 
   -- a parked receiver leaves, and passes its wake on where it was woken
-  pub passed : (old new : State T S) (step : Step T) (reply : Reply T A) (t : ℕ) → NoneWaits step reply → IsLedTo A old
-      → new ≡ departed t old → BecomesDue old step reply new
+  pub passed : (old new : State T S) (step : Step T) (reply : Reply T A) (t : ℕ) → NoneWaits step reply → IsReachable A old
+      → new ≡ after_withdrawal t old → BecomesDue old step reply new
   passed old new step reply t idle led is = go (passes_on (entry_of t old.entries)) refl
     where
       go : (b : Bool) → passes_on (entry_of t old.entries) ≡ b → BecomesDue old step reply new
       go true e =
           let alone = (tickets_of old led).alone t in
-          by_sides old (rounded (unparked t old)) new step reply (rw e at is) refl refl idle (λ u. send_kept (get old.sends u))
+          by_sides old (after_wake_round (without_receiver t old)) new step reply (rw e at is) refl refl idle (λ u. send_kept (get old.sends u))
           (passed_receivers old.queue old.entries t alone)
       go false e = left old new step reply t idle led (rw e at is)

@@ -5,7 +5,7 @@ use Rattle.flume_model.specs.Limits.{is_full}
 use Rattle.flume_state.specs.Messages.{Blocked}
 use Rattle.flume_state.specs.Sends.{changed, accepted_now}
 use Rattle.flume_state.specs.State.{State}
-use Rattle.flume_state.specs.Effects.{admitted_from, admitted, refilled, fronted_from, fronted, filled_up_from, filled_up, taken}
+use Rattle.flume_state.specs.Effects.{after_admission_of, after_admission, after_refill, with_front_of, with_front, after_admissions_of, after_admissions, after_take}
 use Rattle.flume_core.proofs.dues.SendsDue.{IsBlocked, Accepts, accepts_more}
 
 module _ {T S : Type 0} where
@@ -56,50 +56,50 @@ module _ {T S : Type 0} where
       }
 
   -- the first blocked message is moved in, if one is blocked
-  moves_admitted : (old s : State T S) → MovesIn old s → MovesIn old (admitted s)
+  moves_admitted : (old s : State T S) → MovesIn old s → MovesIn old (after_admission s)
   moves_admitted old s h = by_list s.blocked refl
     where
-      by_list : (xs : List (Blocked T)) → s.blocked ≡ xs → MovesIn old (admitted_from xs s)
+      by_list : (xs : List (Blocked T)) → s.blocked ≡ xs → MovesIn old (after_admission_of xs s)
       by_list [] is = h
       by_list (b ∷ later) is = moves_one old s b later h is
 
   -- where nothing is queued
-  moves_fronted : (old s : State T S) → MovesIn old s → MovesIn old (fronted s)
+  moves_fronted : (old s : State T S) → MovesIn old s → MovesIn old (with_front s)
   moves_fronted old s h = by_queue s.queue
     where
-      by_queue : (q : List T) → MovesIn old (fronted_from q s)
+      by_queue : (q : List T) → MovesIn old (with_front_of q s)
       by_queue [] = moves_admitted old s h
       by_queue (m ∷ rest) = h
 
   -- where the queue has room
-  moves_refilled : (old s : State T S) → MovesIn old s → MovesIn old (refilled s)
+  moves_refilled : (old s : State T S) → MovesIn old s → MovesIn old (after_refill s)
   moves_refilled old s h = by_room (not (is_full s.capacity (length s.queue)))
     where
-      by_room : (b : Bool) → MovesIn old (if b then admitted s else s)
+      by_room : (b : Bool) → MovesIn old (if b then after_admission s else s)
       by_room true = moves_admitted old s h
       by_room false = h
 
   -- as the front is handed out
-  pub moves_taken : (old : State T S) (rest : List T) → MovesIn old old → MovesIn old (taken rest old)
-  moves_taken old rest h = moves_refilled old _ (moves_queue old (fronted old) rest (moves_fronted old old h))
+  pub moves_taken : (old : State T S) (rest : List T) → MovesIn old old → MovesIn old (after_take rest old)
+  moves_taken old rest h = moves_refilled old _ (moves_queue old (with_front old) rest (moves_fronted old old h))
 
   -- while the queue has room
-  pub moves_filled_up : (old s : State T S) → MovesIn old s → MovesIn old (filled_up s)
+  pub moves_filled_up : (old s : State T S) → MovesIn old s → MovesIn old (after_admissions s)
   moves_filled_up old s h = by_list s.blocked s h refl
     where
-      by_list : (xs : List (Blocked T)) (s : State T S) → MovesIn old s → s.blocked ≡ xs → MovesIn old (filled_up_from xs s)
+      by_list : (xs : List (Blocked T)) (s : State T S) → MovesIn old s → s.blocked ≡ xs → MovesIn old (after_admissions_of xs s)
       by_list [] s h is = h
       by_list (b ∷ later) s h is =
           let next = record s { queue = s.queue ++ b.message ∷ []; blocked = later; sends = changed s.sends b.ticket accepted_now } in
           by_room (is_full s.capacity (length s.queue)) (by_list later next (moves_one old s b later h is) refl)
         where
           by_room : (full : Bool)
-              → MovesIn old (filled_up_from later (record s {
+              → MovesIn old (after_admissions_of later (record s {
                 queue = s.queue ++ b.message ∷ [];
                 blocked = later;
                 sends = changed s.sends b.ticket accepted_now;
               }))
-              → MovesIn old (if full then s else filled_up_from later (record s {
+              → MovesIn old (if full then s else after_admissions_of later (record s {
                 queue = s.queue ++ b.message ∷ [];
                 blocked = later;
                 sends = changed s.sends b.ticket accepted_now;

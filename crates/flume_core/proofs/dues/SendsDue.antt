@@ -11,7 +11,7 @@ use Rattle.flume_state.specs.Messages.{Blocked}
 use Rattle.flume_state.specs.Notices.{due_now}
 use Rattle.flume_state.specs.Sends.{SendMap, changed, accepted_now, noticed_send, with_notice}
 use Rattle.flume_state.specs.State.{offers_of}
-use Rattle.flume_state.specs.Effects.{all_due}
+use Rattle.flume_state.specs.Effects.{with_all_due}
 use Rattle.flume_state.specs.Due.{SendDue}
 use Rattle.flume_state.proofs.SendsLaws.{get-changed_same, get-changed_other}
 use Rattle.flume_core.proofs.dues.OneTicket.{send_kept, send_accepted}
@@ -82,7 +82,7 @@ module _ {S : Type 0} where
 module _ {T S : Type 0} where
   -- the sends of these blocked messages are due, and all others as they were
   pub all_due_at : (some : List (Blocked T)) (m : SendMap S) (t : ℕ)
-      → get (all_due some m) t ≡ (if has_ticket t (offers_of some) then option_map (with_notice due_now) (get m t) else get m t)
+      → get (with_all_due some m) t ≡ (if has_ticket t (offers_of some) then option_map (with_notice due_now) (get m t) else get m t)
   all_due_at [] m t = refl
   all_due_at (b ∷ some) m t =
       all_due_at some (noticed_send due_now b.ticket m) t

@@ -12,7 +12,7 @@ use Rattle.flume_model.proofs.EntryMarks.{left_out, none_past}
 use Rattle.flume_state.specs.declared.sends.LiveSend.{LiveSend}
 use Rattle.flume_state.specs.State.{State, offers_of, bare}
 use Rattle.flume_state.specs.Due.{blocked_in}
-use Rattle.flume_core.specs.StandsFor.{StandsFor, IsLedTo}
+use Rattle.flume_core.specs.Represents.{Represents, IsReachable}
 use Rattle.flume_model.proofs.EntryShape.{entries_apart}
 use Rattle.flume_core.proofs.Bare.{bare_entry, bare_without}
 use Rattle.flume_core.proofs.BlockedLive.{blocked_are_live}
@@ -41,7 +41,7 @@ module _ {T S : Type 0} where
 
 module _ {T A S : Type 0} where
   -- that is so
-  pub tickets_of : (s : State T S) → IsLedTo A s → Tickets s
+  pub tickets_of : (s : State T S) → IsReachable A s → Tickets s
   tickets_of s led = record {
     new_send = new_send_at (get s.sends s.next) refl;
     new_receiver = none_mapped bare _ (sym (bare_entry s.next s.entries) ∙ ap (entry_of s.next) h.entries_are
@@ -60,7 +60,7 @@ module _ {T A S : Type 0} where
       log : Log T A
       log = led.1
 
-      h : StandsFor o log s
+      h : Represents o log s
       h = led.2
 
       new_send_at : (x : Option (LiveSend S)) → get s.sends s.next ≡ x → x ≡ None

@@ -2,11 +2,11 @@
 ghost use Rattle.std.specs.Prelude.{◌≡◌, ◌≤◌, ◌↔◌, Some, None};
 ghost use Rattle.flume_model.specs.Limits.{IsBounded, IsOpen, IsClosed};
 ghost use Rattle.flume_model.specs.Line.{greater};
-ghost use Rattle.flume_state.specs.Effects.{resized};
+ghost use Rattle.flume_state.specs.Effects.{with_capacity};
 ghost use Rattle.flume_state.specs.State.{State};
-ghost use Rattle.flume_core.specs.StandsFor.{Extends, IsLedTo, IsRefusal};
+ghost use Rattle.flume_core.specs.Represents.{Extends, IsReachable, IsRefusal};
 ghost use Rattle.flume_state.specs.Due.{BecomesDue};
-ghost use Rattle.flume_core.specs.Comes.{Comes};
+ghost use Rattle.flume_core.specs.PossibleReply.{PossibleReply};
 
 use super::Chan;
 use flume_model::step::{Reply, Step};
@@ -27,16 +27,16 @@ impl<T: Drop, S: Drop, A: Allocator + Copy> Chan<T, S, A> {
     /// ```
     pub fn set_capacity(&mut self, capacity: usize) -> Reply<T, A>
         ensures step { Extends self.old (Step.SetCapacity capacity) result self.new }
-        ensures dues { IsLedTo A self.old
+        ensures dues { IsReachable A self.old
             → BecomesDue self.old (Step.SetCapacity capacity) result self.new }
-        ensures comes { Comes (Step.SetCapacity capacity) result }
+        ensures comes { PossibleReply (Step.SetCapacity capacity) result }
         ensures space { self.old.space ≤ self.new.space }
         ensures unbounded { (result ≡ Reply.Unbounded) ↔ (self.old.capacity ≡ None) }
         ensures ended { (result ≡ Reply.Ended)
             ↔ IsBounded self.old.capacity × IsClosed self.old.senders self.old.receivers }
         ensures done { (result ≡ Reply.Done)
             ↔ IsBounded self.old.capacity × IsOpen self.old.senders self.old.receivers }
-        ensures resized { result ≡ Reply.Done → self.new ≡ resized capacity self.old }
+        ensures resized { result ≡ Reply.Done → self.new ≡ with_capacity capacity self.old }
         ensures unchanged { IsRefusal result → self.new ≡ self.old }
     {
         if self.capacity.is_none() {

@@ -1,11 +1,11 @@
 //! The steps by which ends come and go.
 ghost use Rattle.std.specs.Prelude.{not, ◌≤◌, ◌≡◌, ◌+◌, ◌-◌, ◌<◌, ◌↔◌};
 ghost use Rattle.flume_model.specs.Limits.{is_closed, most};
-ghost use Rattle.flume_state.specs.Effects.{after_leaving};
+ghost use Rattle.flume_state.specs.Effects.{after_end_dropped};
 ghost use Rattle.flume_state.specs.State.{State};
-ghost use Rattle.flume_core.specs.StandsFor.{Extends, IsLedTo, IsRefusal};
+ghost use Rattle.flume_core.specs.Represents.{Extends, IsReachable, IsRefusal};
 ghost use Rattle.flume_state.specs.Due.{BecomesDue};
-ghost use Rattle.flume_core.specs.Comes.{Comes};
+ghost use Rattle.flume_core.specs.PossibleReply.{PossibleReply};
 
 use super::Chan;
 use flume_model::step::{Reply, Step};
@@ -16,8 +16,8 @@ impl<T: Drop, S: Drop, A: Allocator + Copy> Chan<T, S, A> {
     /// no more can be counted. Both leave the channel as it was. Takes no memory.
     pub fn clone_sender(&mut self) -> Reply<T, A>
         ensures step { Extends self.old Step.CloneSender result self.new }
-        ensures dues { IsLedTo A self.old → BecomesDue self.old Step.CloneSender result self.new }
-        ensures comes { Comes Step.CloneSender result }
+        ensures dues { IsReachable A self.old → BecomesDue self.old Step.CloneSender result self.new }
+        ensures comes { PossibleReply Step.CloneSender result }
         ensures space { self.old.space ≤ self.new.space }
         ensures no_end { (result ≡ Reply.NoEnd) ↔ (self.old.senders ≡ 0) }
         ensures count_full { (result ≡ Reply.CountFull) ↔ (self.old.senders ≡ most) }
@@ -40,8 +40,8 @@ impl<T: Drop, S: Drop, A: Allocator + Copy> Chan<T, S, A> {
     /// One more receiver; as `clone_sender`.
     pub fn clone_receiver(&mut self) -> Reply<T, A>
         ensures step { Extends self.old Step.CloneReceiver result self.new }
-        ensures dues { IsLedTo A self.old → BecomesDue self.old Step.CloneReceiver result self.new }
-        ensures comes { Comes Step.CloneReceiver result }
+        ensures dues { IsReachable A self.old → BecomesDue self.old Step.CloneReceiver result self.new }
+        ensures comes { PossibleReply Step.CloneReceiver result }
         ensures space { self.old.space ≤ self.new.space }
         ensures no_end { (result ≡ Reply.NoEnd) ↔ (self.old.receivers ≡ 0) }
         ensures count_full { (result ≡ Reply.CountFull) ↔ (self.old.receivers ≡ most) }
@@ -67,13 +67,13 @@ impl<T: Drop, S: Drop, A: Allocator + Copy> Chan<T, S, A> {
     /// memory.
     pub fn drop_sender(&mut self) -> Reply<T, A>
         ensures step { Extends self.old Step.DropSender result self.new }
-        ensures dues { IsLedTo A self.old → BecomesDue self.old Step.DropSender result self.new }
-        ensures comes { Comes Step.DropSender result }
+        ensures dues { IsReachable A self.old → BecomesDue self.old Step.DropSender result self.new }
+        ensures comes { PossibleReply Step.DropSender result }
         ensures space { self.old.space ≤ self.new.space }
         ensures done { (result ≡ Reply.Done) ↔ (0 < self.old.senders) }
         ensures no_end { (result ≡ Reply.NoEnd) ↔ (self.old.senders ≡ 0) }
         ensures becomes { 0 < self.old.senders → self.new
-            ≡ after_leaving (not (is_closed self.old.senders self.old.receivers))
+            ≡ after_end_dropped (not (is_closed self.old.senders self.old.receivers))
             (record self.old { senders = self.old.senders - 1 }) }
         ensures unchanged { IsRefusal result → self.new ≡ self.old }
     {
@@ -89,13 +89,13 @@ impl<T: Drop, S: Drop, A: Allocator + Copy> Chan<T, S, A> {
     /// One receiver leaves; as `drop_sender`.
     pub fn drop_receiver(&mut self) -> Reply<T, A>
         ensures step { Extends self.old Step.DropReceiver result self.new }
-        ensures dues { IsLedTo A self.old → BecomesDue self.old Step.DropReceiver result self.new }
-        ensures comes { Comes Step.DropReceiver result }
+        ensures dues { IsReachable A self.old → BecomesDue self.old Step.DropReceiver result self.new }
+        ensures comes { PossibleReply Step.DropReceiver result }
         ensures space { self.old.space ≤ self.new.space }
         ensures done { (result ≡ Reply.Done) ↔ (0 < self.old.receivers) }
         ensures no_end { (result ≡ Reply.NoEnd) ↔ (self.old.receivers ≡ 0) }
         ensures becomes { 0 < self.old.receivers → self.new
-            ≡ after_leaving (not (is_closed self.old.senders self.old.receivers))
+            ≡ after_end_dropped (not (is_closed self.old.senders self.old.receivers))
             (record self.old { receivers = self.old.receivers - 1 }) }
         ensures unchanged { IsRefusal result → self.new ≡ self.old }
     {
@@ -111,7 +111,7 @@ impl<T: Drop, S: Drop, A: Allocator + Copy> Chan<T, S, A> {
     // What an end that left leaves behind: nothing once both ends are gone; and where it closed the
     // channel, all that wait are woken, and all blocked sends are to be told.
     fn settle(&mut self, was_open: bool)
-        ensures settled { self.new ≡ after_leaving was_open self.old }
+        ensures settled { self.new ≡ after_end_dropped was_open self.old }
     {
         if self.senders == 0 && self.receivers == 0 {
             self.line.clear();

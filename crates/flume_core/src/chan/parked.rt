@@ -4,20 +4,20 @@ ghost use Rattle.std.specs.Prelude.{None};
 ghost use Rattle.flume_model.specs.Limits.{IsOpen, IsClosed, is_closed};
 ghost use Rattle.flume_model.specs.Entries.{entry_of, again, passes_on, leave_fills};
 ghost use Rattle.flume_model.specs.Entries.{round_for_fills};
-ghost use Rattle.flume_state.specs.Receivers.{standing, looks, blocks, noticed_receiver, waits_on};
+ghost use Rattle.flume_state.specs.Receivers.{receiver_status, looks, blocks, noticed_receiver, waits_on};
 ghost use Rattle.flume_state.specs.Receivers.{only_leaves};
 ghost use Rattle.flume_model.specs.Entries.{held_by};
-ghost use Rattle.flume_state.specs.declared.entries.Standing.TheVariants.{BlockWaiting, Filled};
-ghost use Rattle.flume_state.specs.Effects.{fronted, taken, unparked, departed, rounded};
-ghost use Rattle.flume_state.specs.Effects.{waiting_so, Departs};
+ghost use Rattle.flume_state.specs.declared.entries.ReceiverStatus.TheVariants.{BlockWaiting, Filled};
+ghost use Rattle.flume_state.specs.Effects.{with_front, after_take, without_receiver, after_withdrawal, after_wake_round};
+ghost use Rattle.flume_state.specs.Effects.{with_peak, Departs};
 ghost use Rattle.flume_state.specs.State.{State};
-ghost use Rattle.flume_core.specs.StandsFor.{Extends, IsLedTo, ChangesNothing};
+ghost use Rattle.flume_core.specs.Represents.{Extends, IsReachable, ChangesNothing};
 ghost use Rattle.flume_state.specs.Due.{BecomesDue};
-ghost use Rattle.flume_core.specs.Comes.{Comes};
+ghost use Rattle.flume_core.specs.PossibleReply.{PossibleReply};
 
 use super::Chan;
 use flume_model::step::{Reply, Step};
-use flume_state::entries::Standing;
+use flume_state::entries::ReceiverStatus;
 use std::alloc::Allocator;
 
 impl<T: Drop, S: Drop, A: Allocator + Copy> Chan<T, S, A> {
@@ -35,35 +35,35 @@ impl<T: Drop, S: Drop, A: Allocator + Copy> Chan<T, S, A> {
     /// ```
     pub fn poll(&mut self, ticket: u64, signal: Option<S>) -> Reply<T, A>
         ensures step { Extends self.old (Step.Poll ticket) result self.new }
-        ensures dues { IsLedTo A self.old → BecomesDue self.old (Step.Poll ticket) result self.new }
-        ensures comes { Comes (Step.Poll ticket) result }
+        ensures dues { IsReachable A self.old → BecomesDue self.old (Step.Poll ticket) result self.new }
+        ensures comes { PossibleReply (Step.Poll ticket) result }
         ensures space { self.old.space ≤ self.new.space }
         ensures no_ticket { (result ≡ Reply.NoTicket)
             ↔ (entry_of ticket self.old.entries ≡ None) }
         ensures collected { (message : T)
             → held_by (entry_of ticket self.old.entries) ≡ Some message
-            → (result ≡ Reply.Got message) × (self.new ≡ unparked ticket self.old) }
+            → (result ≡ Reply.Got message) × (self.new ≡ without_receiver ticket self.old) }
         ensures got { (message : T) (rest : List T)
-            → looks (standing ticket self.old.entries) ≡ true
-            → (fronted self.old).queue ≡ message ∷ rest
-            → (result ≡ Reply.Got message) × (self.new ≡ unparked ticket (taken rest self.old)) }
-        ensures ended { (result ≡ Reply.Ended) ↔ (looks (standing ticket self.old.entries) ≡ true)
-            × ((fronted self.old).queue ≡ []) × IsClosed self.old.senders self.old.receivers }
+            → looks (receiver_status ticket self.old.entries) ≡ true
+            → (with_front self.old).queue ≡ message ∷ rest
+            → (result ≡ Reply.Got message) × (self.new ≡ without_receiver ticket (after_take rest self.old)) }
+        ensures ended { (result ≡ Reply.Ended) ↔ (looks (receiver_status ticket self.old.entries) ≡ true)
+            × ((with_front self.old).queue ≡ []) × IsClosed self.old.senders self.old.receivers }
         ensures waiting { (result ≡ Reply.Waiting)
-            ↔ (standing ticket self.old.entries ≡ Some BlockWaiting)
-            ⊎ ((looks (standing ticket self.old.entries) ≡ true)
-            × ((fronted self.old).queue ≡ []) × IsOpen self.old.senders self.old.receivers) }
-        ensures leaves_at_end { result ≡ Reply.Ended → self.new ≡ unparked ticket self.old }
-        ensures waits { result ≡ Reply.Waiting → self.new ≡ waiting_so
+            ↔ (receiver_status ticket self.old.entries ≡ Some BlockWaiting)
+            ⊎ ((looks (receiver_status ticket self.old.entries) ≡ true)
+            × ((with_front self.old).queue ≡ []) × IsOpen self.old.senders self.old.receivers) }
+        ensures leaves_at_end { result ≡ Reply.Ended → self.new ≡ without_receiver ticket self.old }
+        ensures waits { result ≡ Reply.Waiting → self.new ≡ with_peak
             (again ticket (noticed_receiver (waits_on signal) ticket self.old.entries)) self.old }
         ensures unchanged { ChangesNothing (Step.Poll ticket) result → self.new ≡ self.old }
     {
-        let Some(standing) = self.entries.standing(ticket) else {
+        let Some(receiver_status) = self.entries.status(ticket) else {
             return Reply::NoTicket;
         };
-        match standing {
-            Standing::Filled => return self.collect(ticket),
-            Standing::BlockWaiting => {
+        match receiver_status {
+            ReceiverStatus::Filled => return self.collect(ticket),
+            ReceiverStatus::BlockWaiting => {
                 self.wait_on(ticket, signal);
                 return Reply::Waiting;
             }
@@ -95,35 +95,35 @@ impl<T: Drop, S: Drop, A: Allocator + Copy> Chan<T, S, A> {
     /// ```
     pub fn withdraw(&mut self, ticket: u64) -> Reply<T, A>
         ensures step { Extends self.old (Step.Withdraw ticket) result self.new }
-        ensures dues { IsLedTo A self.old
+        ensures dues { IsReachable A self.old
             → BecomesDue self.old (Step.Withdraw ticket) result self.new }
-        ensures comes { Comes (Step.Withdraw ticket) result }
+        ensures comes { PossibleReply (Step.Withdraw ticket) result }
         ensures space { self.old.space ≤ self.new.space }
         ensures no_ticket { (result ≡ Reply.NoTicket)
             ↔ (entry_of ticket self.old.entries ≡ None) }
         ensures collected { (message : T)
             → held_by (entry_of ticket self.old.entries) ≡ Some message
-            → (result ≡ Reply.Got message) × (self.new ≡ unparked ticket self.old) }
+            → (result ≡ Reply.Got message) × (self.new ≡ without_receiver ticket self.old) }
         ensures got { (message : T) (rest : List T)
-            → blocks (standing ticket self.old.entries) ≡ true
-            → (fronted self.old).queue ≡ message ∷ rest
-            → (result ≡ Reply.Got message) × (self.new ≡ unparked ticket (taken rest self.old)) }
+            → blocks (receiver_status ticket self.old.entries) ≡ true
+            → (with_front self.old).queue ≡ message ∷ rest
+            → (result ≡ Reply.Got message) × (self.new ≡ without_receiver ticket (after_take rest self.old)) }
         ensures gone { (closed : Bool) (filled : Option ℕ) → result ≡ Reply.Gone closed filled
             → Departs self.old self.new ticket closed filled }
         ensures leaves { (result ≡ Reply.Gone (is_closed self.old.senders self.old.receivers)
             (leave_fills ticket self.old.queue self.old.entries))
-            ↔ (only_leaves (standing ticket self.old.entries) ≡ true)
-            ⊎ ((blocks (standing ticket self.old.entries) ≡ true)
-            × ((fronted self.old).queue ≡ [])) }
+            ↔ (only_leaves (receiver_status ticket self.old.entries) ≡ true)
+            ⊎ ((blocks (receiver_status ticket self.old.entries) ≡ true)
+            × ((with_front self.old).queue ≡ [])) }
         ensures unchanged { ChangesNothing (Step.Withdraw ticket) result → self.new ≡ self.old }
     {
-        let Some(standing) = self.entries.standing(ticket) else {
+        let Some(receiver_status) = self.entries.status(ticket) else {
             return Reply::NoTicket;
         };
-        match standing {
-            Standing::Filled => return self.collect(ticket),
-            Standing::Waiting => return self.pass_on(ticket, false),
-            Standing::Woken => return self.pass_on(ticket, true),
+        match receiver_status {
+            ReceiverStatus::Filled => return self.collect(ticket),
+            ReceiverStatus::Waiting => return self.pass_on(ticket, false),
+            ReceiverStatus::Woken => return self.pass_on(ticket, true),
             _ => {}
         }
         let front = self.take_front();
@@ -142,17 +142,17 @@ impl<T: Drop, S: Drop, A: Allocator + Copy> Chan<T, S, A> {
     #[inline(always)]
     pub(super) fn wake(&mut self) -> Option<u64>
         ensures fills { result ≡ round_for_fills self.old.queue self.old.entries }
-        ensures rounded { self.new ≡ rounded self.old }
+        ensures rounded { self.new ≡ after_wake_round self.old }
     {
         self.entries.wake(&mut self.line)
     }
 
     // Hands a filled receiver its message.
     fn collect(&mut self, ticket: u64) -> Reply<T, A>
-        requires filled { standing ticket self.old.entries ≡ Some Filled }
+        requires filled { receiver_status ticket self.old.entries ≡ Some Filled }
         ensures got { (message : T) × (held_by (entry_of ticket self.old.entries) ≡ Some message)
             × (result ≡ Reply.Got message) }
-        ensures becomes { self.new ≡ unparked ticket self.old }
+        ensures becomes { self.new ≡ without_receiver ticket self.old }
     {
         match self.entries.remove(ticket) {
             Some(message) => Reply::Got(message),
@@ -163,7 +163,7 @@ impl<T: Drop, S: Drop, A: Allocator + Copy> Chan<T, S, A> {
     // The receiver, which isn't filled, waits on, or again.
     fn wait_on(&mut self, ticket: u64, signal: Option<S>)
         requires unfilled { held_by (entry_of ticket self.old.entries) ≡ None }
-        ensures waits { self.new ≡ waiting_so
+        ensures waits { self.new ≡ with_peak
             (again ticket (noticed_receiver (waits_on signal) ticket self.old.entries)) self.old }
     {
         self.entries.wait_on(ticket, signal);
@@ -175,7 +175,7 @@ impl<T: Drop, S: Drop, A: Allocator + Copy> Chan<T, S, A> {
         requires woken { woken ≡ passes_on (entry_of ticket self.old.entries) }
         ensures gone { result ≡ Reply.Gone (is_closed self.old.senders self.old.receivers)
             (leave_fills ticket self.old.queue self.old.entries) }
-        ensures becomes { self.new ≡ departed ticket self.old }
+        ensures becomes { self.new ≡ after_withdrawal ticket self.old }
     {
         self.entries.remove(ticket);
         let closed = !self.is_open();

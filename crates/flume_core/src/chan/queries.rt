@@ -4,11 +4,11 @@ ghost use Rattle.std.specs.Option.{option_copied};
 ghost use Rattle.flume_model.specs.Limits.{is_closed, is_full};
 ghost use Rattle.flume_state.specs.Sends.{NoDueSend};
 ghost use Rattle.flume_state.specs.Receivers.{NoDueReceiver};
-ghost use Rattle.flume_state.specs.Told.{Names, signal_of};
+ghost use Rattle.flume_state.specs.Signals.{Names, signal_of};
 ghost use Rattle.flume_state.specs.State.{State, message_count};
-ghost use Rattle.flume_core.specs.StandsFor.{Extends, Keeps};
+ghost use Rattle.flume_core.specs.Represents.{Extends, SameLogs};
 ghost use Rattle.flume_state.specs.Due.{BecomesDue};
-ghost use Rattle.flume_core.specs.Comes.{Comes};
+ghost use Rattle.flume_core.specs.PossibleReply.{PossibleReply};
 
 use super::Chan;
 use flume_model::step::{Reply, Step};
@@ -19,7 +19,7 @@ impl<T: Drop, S: Drop, A: Allocator + Copy> Chan<T, S, A> {
     pub fn len(&self) -> Reply<T, A>
         ensures step { Extends self.now Step.Len result self.now }
         ensures dues { BecomesDue self.now Step.Len result self.now }
-        ensures comes { Comes Step.Len result }
+        ensures comes { PossibleReply Step.Len result }
         ensures number { result ≡ Reply.Number (length self.now.queue) }
     {
         Reply::Number(self.line.queued_len())
@@ -29,7 +29,7 @@ impl<T: Drop, S: Drop, A: Allocator + Copy> Chan<T, S, A> {
     pub fn is_empty(&self) -> Reply<T, A>
         ensures step { Extends self.now Step.IsEmpty result self.now }
         ensures dues { BecomesDue self.now Step.IsEmpty result self.now }
-        ensures comes { Comes Step.IsEmpty result }
+        ensures comes { PossibleReply Step.IsEmpty result }
         ensures truth { result ≡ Reply.Truth (length self.now.queue == 0) }
     {
         Reply::Truth(self.line.queued_len() == 0)
@@ -40,7 +40,7 @@ impl<T: Drop, S: Drop, A: Allocator + Copy> Chan<T, S, A> {
     pub fn is_full(&self) -> Reply<T, A>
         ensures step { Extends self.now Step.IsFull result self.now }
         ensures dues { BecomesDue self.now Step.IsFull result self.now }
-        ensures comes { Comes Step.IsFull result }
+        ensures comes { PossibleReply Step.IsFull result }
         ensures truth { result ≡ Reply.Truth (is_full self.now.capacity (length self.now.queue)) }
     {
         Reply::Truth(!self.has_room())
@@ -50,7 +50,7 @@ impl<T: Drop, S: Drop, A: Allocator + Copy> Chan<T, S, A> {
     pub fn capacity(&self) -> Reply<T, A>
         ensures step { Extends self.now Step.Capacity result self.now }
         ensures dues { BecomesDue self.now Step.Capacity result self.now }
-        ensures comes { Comes Step.Capacity result }
+        ensures comes { PossibleReply Step.Capacity result }
         ensures capacity { result ≡ Reply.Capacity self.now.capacity }
     {
         Reply::Capacity(self.capacity)
@@ -60,7 +60,7 @@ impl<T: Drop, S: Drop, A: Allocator + Copy> Chan<T, S, A> {
     pub fn sender_count(&self) -> Reply<T, A>
         ensures step { Extends self.now Step.SenderCount result self.now }
         ensures dues { BecomesDue self.now Step.SenderCount result self.now }
-        ensures comes { Comes Step.SenderCount result }
+        ensures comes { PossibleReply Step.SenderCount result }
         ensures number { result ≡ Reply.Number self.now.senders }
     {
         Reply::Number(self.senders)
@@ -70,7 +70,7 @@ impl<T: Drop, S: Drop, A: Allocator + Copy> Chan<T, S, A> {
     pub fn receiver_count(&self) -> Reply<T, A>
         ensures step { Extends self.now Step.ReceiverCount result self.now }
         ensures dues { BecomesDue self.now Step.ReceiverCount result self.now }
-        ensures comes { Comes Step.ReceiverCount result }
+        ensures comes { PossibleReply Step.ReceiverCount result }
         ensures number { result ≡ Reply.Number self.now.receivers }
     {
         Reply::Number(self.receivers)
@@ -80,7 +80,7 @@ impl<T: Drop, S: Drop, A: Allocator + Copy> Chan<T, S, A> {
     pub fn is_disconnected(&self) -> Reply<T, A>
         ensures step { Extends self.now Step.IsDisconnected result self.now }
         ensures dues { BecomesDue self.now Step.IsDisconnected result self.now }
-        ensures comes { Comes Step.IsDisconnected result }
+        ensures comes { PossibleReply Step.IsDisconnected result }
         ensures truth { result ≡ Reply.Truth (is_closed self.now.senders self.now.receivers) }
     {
         Reply::Truth(!self.is_open())
@@ -114,7 +114,7 @@ impl<T: Drop, S: Drop, A: Allocator + Copy> Chan<T, S, A> {
         ensures named { IfSome result (λ ticket. Names self.old self.new ticket) }
         ensures none { IfNone result (NoDueSend self.old.sends × NoDueReceiver self.old.entries) }
         ensures unchanged { IfNone result (self.new ≡ self.old) }
-        ensures stands { Keeps A self.old self.new }
+        ensures stands { SameLogs A self.old self.new }
     {
         if let Some(ticket) = self.sends.next_due() {
             return Some(ticket);

@@ -3,12 +3,12 @@ ghost use Rattle.std.specs.Prelude.{◌≡◌, ◌≢◌, ◌<◌, ◌≤◌, �
 ghost use Rattle.std.specs.Prelude.{IfNone, IfSome, Option};
 ghost use Rattle.std.specs.Prelude.{None, Vec};
 ghost use Rattle.flume_model.specs.Limits.{IsOpen, IsClosed, most};
-ghost use Rattle.flume_state.specs.Effects.{admitted, fronted, refilled, taken, filled_up};
-ghost use Rattle.flume_state.specs.Effects.{waiting_so, Begins};
+ghost use Rattle.flume_state.specs.Effects.{after_admission, with_front, after_refill, after_take, after_admissions};
+ghost use Rattle.flume_state.specs.Effects.{with_peak, Begins};
 ghost use Rattle.flume_state.specs.State.{State};
-ghost use Rattle.flume_core.specs.StandsFor.{Extends, IsLedTo, IsRefusal};
+ghost use Rattle.flume_core.specs.Represents.{Extends, IsReachable, IsRefusal};
 ghost use Rattle.flume_state.specs.Due.{BecomesDue};
-ghost use Rattle.flume_core.specs.Comes.{Comes};
+ghost use Rattle.flume_core.specs.PossibleReply.{PossibleReply};
 
 use super::Chan;
 use flume_model::step::{Kind, Reply, Step};
@@ -28,16 +28,16 @@ impl<T: Drop, S: Drop, A: Allocator + Copy> Chan<T, S, A> {
     #[inline(always)]
     pub fn try_recv(&mut self) -> Reply<T, A>
         ensures step { Extends self.old Step.TryRecv result self.new }
-        ensures dues { IsLedTo A self.old → BecomesDue self.old Step.TryRecv result self.new }
-        ensures comes { Comes Step.TryRecv result }
+        ensures dues { IsReachable A self.old → BecomesDue self.old Step.TryRecv result self.new }
+        ensures comes { PossibleReply Step.TryRecv result }
         ensures space { self.old.space ≤ self.new.space }
-        ensures got { (message : T) (rest : List T) → (fronted self.old).queue ≡ message ∷ rest
+        ensures got { (message : T) (rest : List T) → (with_front self.old).queue ≡ message ∷ rest
             → (result ≡ Reply.Got message)
-            × (self.new ≡ taken rest self.old) }
+            × (self.new ≡ after_take rest self.old) }
         ensures ended { (result ≡ Reply.Ended)
-            ↔ ((fronted self.old).queue ≡ []) × IsClosed self.old.senders self.old.receivers }
+            ↔ ((with_front self.old).queue ≡ []) × IsClosed self.old.senders self.old.receivers }
         ensures empty { (result ≡ Reply.Empty)
-            ↔ ((fronted self.old).queue ≡ []) × IsOpen self.old.senders self.old.receivers }
+            ↔ ((with_front self.old).queue ≡ []) × IsOpen self.old.senders self.old.receivers }
         ensures unchanged { IsRefusal result → self.new ≡ self.old }
     {
         match self.take_front() {
@@ -60,20 +60,20 @@ impl<T: Drop, S: Drop, A: Allocator + Copy> Chan<T, S, A> {
     /// ```
     pub fn recv(&mut self, kind: Kind, signal: S) -> Reply<T, A>
         ensures step { Extends self.old (Step.Recv kind) result self.new }
-        ensures dues { IsLedTo A self.old → BecomesDue self.old (Step.Recv kind) result self.new }
-        ensures comes { Comes (Step.Recv kind) result }
+        ensures dues { IsReachable A self.old → BecomesDue self.old (Step.Recv kind) result self.new }
+        ensures comes { PossibleReply (Step.Recv kind) result }
         ensures space { self.old.space ≤ self.new.space }
-        ensures got { (message : T) (rest : List T) → (fronted self.old).queue ≡ message ∷ rest
-            → (result ≡ Reply.Got message) × (self.new ≡ taken rest self.old) }
+        ensures got { (message : T) (rest : List T) → (with_front self.old).queue ≡ message ∷ rest
+            → (result ≡ Reply.Got message) × (self.new ≡ after_take rest self.old) }
         ensures ended { (result ≡ Reply.Ended)
-            ↔ ((fronted self.old).queue ≡ []) × IsClosed self.old.senders self.old.receivers }
+            ↔ ((with_front self.old).queue ≡ []) × IsClosed self.old.senders self.old.receivers }
         ensures spent { (result ≡ Reply.Spent None)
-            ↔ ((fronted self.old).queue ≡ []) × IsOpen self.old.senders self.old.receivers
+            ↔ ((with_front self.old).queue ≡ []) × IsOpen self.old.senders self.old.receivers
             × (most ≤ self.old.next) }
         ensures parked { (ticket : ℕ) → result ≡ Reply.Parked ticket
             → Begins self.old self.new ticket kind signal }
         ensures refused { (back : Option T) → result ≡ Reply.NoMemory back
-            → ((fronted self.old).queue ≡ []) × IsOpen self.old.senders self.old.receivers
+            → ((with_front self.old).queue ≡ []) × IsOpen self.old.senders self.old.receivers
             × (self.old.next < most) }
         ensures unchanged { IsRefusal result → self.new ≡ self.old }
     {
@@ -105,12 +105,12 @@ impl<T: Drop, S: Drop, A: Allocator + Copy> Chan<T, S, A> {
     /// ```
     pub fn drain(&mut self) -> Reply<T, A>
         ensures step { Extends self.old Step.Drain result self.new }
-        ensures dues { IsLedTo A self.old → BecomesDue self.old Step.Drain result self.new }
-        ensures comes { Comes Step.Drain result }
+        ensures dues { IsReachable A self.old → BecomesDue self.old Step.Drain result self.new }
+        ensures comes { PossibleReply Step.Drain result }
         ensures space { self.old.space ≤ self.new.space }
         ensures drained { (list : Vec T A) → result ≡ Reply.Drained list
             → (list.items ≡ self.old.queue)
-            × (self.new ≡ filled_up (record self.old { queue = [] })) }
+            × (self.new ≡ after_admissions (record self.old { queue = [] })) }
         ensures refused { (back : Option T) → result ≡ Reply.NoMemory back
             → self.old.queue ≢ [] }
         ensures unchanged { IsRefusal result → self.new ≡ self.old }
@@ -127,9 +127,9 @@ impl<T: Drop, S: Drop, A: Allocator + Copy> Chan<T, S, A> {
     #[inline(always)]
     pub(super) fn take_front(&mut self) -> Option<T>
         ensures some { IfSome result (λ message. (rest : List T)
-            × ((fronted self.old).queue ≡ message ∷ rest)
-            × (self.new ≡ taken rest self.old)) }
-        ensures none { IfNone result ((fronted self.old).queue ≡ []) }
+            × ((with_front self.old).queue ≡ message ∷ rest)
+            × (self.new ≡ after_take rest self.old)) }
+        ensures none { IfNone result ((with_front self.old).queue ≡ []) }
         ensures unchanged { IfNone result (self.new ≡ self.old) }
     {
         if self.line.blocked_len() == 0 {
@@ -143,9 +143,9 @@ impl<T: Drop, S: Drop, A: Allocator + Copy> Chan<T, S, A> {
     #[inline(never)]
     fn take_front_and_refill(&mut self) -> Option<T>
         ensures some { IfSome result (λ message. (rest : List T)
-            × ((fronted self.old).queue ≡ message ∷ rest)
-            × (self.new ≡ taken rest self.old)) }
-        ensures none { IfNone result ((fronted self.old).queue ≡ []) }
+            × ((with_front self.old).queue ≡ message ∷ rest)
+            × (self.new ≡ after_take rest self.old)) }
+        ensures none { IfNone result ((with_front self.old).queue ≡ []) }
         ensures unchanged { IfNone result (self.new ≡ self.old) }
     {
         self.bring_to_front();
@@ -157,7 +157,7 @@ impl<T: Drop, S: Drop, A: Allocator + Copy> Chan<T, S, A> {
     // Where nothing is queued, the first blocked message is the front.
     #[inline(always)]
     fn bring_to_front(&mut self)
-        ensures fronted { self.new ≡ fronted self.old }
+        ensures fronted { self.new ≡ with_front self.old }
     {
         if self.line.queued_len() == 0 {
             self.admit();
@@ -167,7 +167,7 @@ impl<T: Drop, S: Drop, A: Allocator + Copy> Chan<T, S, A> {
     // Where the queue has room, the first blocked message moves in.
     #[inline(always)]
     fn refill(&mut self)
-        ensures refilled { self.new ≡ refilled self.old }
+        ensures refilled { self.new ≡ after_refill self.old }
     {
         if self.has_room() {
             self.admit();
@@ -177,7 +177,7 @@ impl<T: Drop, S: Drop, A: Allocator + Copy> Chan<T, S, A> {
     // Lets the first blocked message into the queue, and its sender is to be told.
     #[inline(always)]
     fn admit(&mut self)
-        ensures admitted { self.new ≡ admitted self.old }
+        ensures admitted { self.new ≡ after_admission self.old }
     {
         if let Some(ticket) = self.line.admit() {
             self.sends.accept(ticket);
@@ -186,7 +186,7 @@ impl<T: Drop, S: Drop, A: Allocator + Copy> Chan<T, S, A> {
 
     // Lets blocked messages into the queue while it has room.
     pub(super) fn fill_up(&mut self)
-        ensures filled { self.new ≡ filled_up self.old }
+        ensures filled { self.new ≡ after_admissions self.old }
     {
         while self.line.blocked_len() > 0 {
             if !self.has_room() {
@@ -198,7 +198,7 @@ impl<T: Drop, S: Drop, A: Allocator + Copy> Chan<T, S, A> {
 
     // Keeps the most that waited at once.
     pub(super) fn count_waiting(&mut self)
-        ensures counted { self.new ≡ waiting_so self.old.entries self.old }
+        ensures counted { self.new ≡ with_peak self.old.entries self.old }
     {
         self.peak = self.peak.max(self.entries.waiting());
     }

@@ -9,9 +9,9 @@ ghost use Rattle.flume_model.specs.Entries.{some_wait};
 ghost use Rattle.flume_state.specs.Effects.{Joins, Returns};
 ghost use Rattle.std.specs.List.{All};
 ghost use Rattle.flume_state.specs.State.{State, accepted_at, message_count};
-ghost use Rattle.flume_core.specs.StandsFor.{Extends, IsLedTo, IsRefusal};
+ghost use Rattle.flume_core.specs.Represents.{Extends, IsReachable, IsRefusal};
 ghost use Rattle.flume_state.specs.Due.{BecomesDue};
-ghost use Rattle.flume_core.specs.Comes.{Comes};
+ghost use Rattle.flume_core.specs.PossibleReply.{PossibleReply};
 ghost use Rattle.flume_core.specs.Waiting.{FindsNoRoom};
 
 use super::Chan;
@@ -36,9 +36,9 @@ impl<T: Drop, S: Drop, A: Allocator + Copy> Chan<T, S, A> {
     #[inline(always)]
     pub fn try_send(&mut self, message: T) -> Reply<T, A>
         ensures step { Extends self.old (Step.TrySend message) result self.new }
-        ensures dues { IsLedTo A self.old
+        ensures dues { IsReachable A self.old
             → BecomesDue self.old (Step.TrySend message) result self.new }
-        ensures comes { Comes (Step.TrySend message) result }
+        ensures comes { PossibleReply (Step.TrySend message) result }
         ensures space { self.old.space ≤ self.new.space }
         ensures closed { (result ≡ Reply.Closed message)
             ↔ IsClosed self.old.senders self.old.receivers }
@@ -78,9 +78,9 @@ impl<T: Drop, S: Drop, A: Allocator + Copy> Chan<T, S, A> {
     /// ```
     pub fn send(&mut self, message: T, signal: S) -> Reply<T, A>
         ensures step { Extends self.old (Step.Send message) result self.new }
-        ensures dues { IsLedTo A self.old
+        ensures dues { IsReachable A self.old
             → BecomesDue self.old (Step.Send message) result self.new }
-        ensures comes { Comes (Step.Send message) result }
+        ensures comes { PossibleReply (Step.Send message) result }
         ensures space { self.old.space ≤ self.new.space }
         ensures closed { (result ≡ Reply.Closed message)
             ↔ IsClosed self.old.senders self.old.receivers }
@@ -129,9 +129,9 @@ impl<T: Drop, S: Drop, A: Allocator + Copy> Chan<T, S, A> {
     /// memory.
     pub fn poll_send(&mut self, ticket: u64, signal: Option<S>) -> Reply<T, A>
         ensures step { Extends self.old (Step.PollSend ticket) result self.new }
-        ensures dues { IsLedTo A self.old
+        ensures dues { IsReachable A self.old
             → BecomesDue self.old (Step.PollSend ticket) result self.new }
-        ensures comes { Comes (Step.PollSend ticket) result }
+        ensures comes { PossibleReply (Step.PollSend ticket) result }
         ensures space { self.old.space ≤ self.new.space }
         ensures no_ticket { get self.old.sends ticket ≡ None → result ≡ Reply.NoTicket }
         ensures accepted { (result ≡ Reply.Accepted)
@@ -164,9 +164,9 @@ impl<T: Drop, S: Drop, A: Allocator + Copy> Chan<T, S, A> {
     /// spent. `NoTicket`: no live send has this ticket, and nothing changes. Takes no memory.
     pub fn withdraw_send(&mut self, ticket: u64) -> Reply<T, A>
         ensures step { Extends self.old (Step.WithdrawSend ticket) result self.new }
-        ensures dues { IsLedTo A self.old
+        ensures dues { IsReachable A self.old
             → BecomesDue self.old (Step.WithdrawSend ticket) result self.new }
-        ensures comes { Comes (Step.WithdrawSend ticket) result }
+        ensures comes { PossibleReply (Step.WithdrawSend ticket) result }
         ensures space { self.old.space ≤ self.new.space }
         ensures no_ticket { get self.old.sends ticket ≡ None → result ≡ Reply.NoTicket }
         ensures accepted { (result ≡ Reply.Accepted)

@@ -1,11 +1,11 @@
 //! Whether a step may be answered with want of memory, by the rule for all channels.
 ghost use Rattle.std.specs.Prelude.{◌≡◌, true, IsTrue, ◌↔◌};
-ghost use Rattle.flume_state.specs.Receivers.{standing, only_leaves};
+ghost use Rattle.flume_state.specs.Receivers.{receiver_status, only_leaves};
 ghost use Rattle.flume_core.specs.Wanting.{MayWant};
 
 use super::Chan;
 use flume_model::step::Step;
-use flume_state::entries::Standing;
+use flume_state::entries::ReceiverStatus;
 use std::alloc::Allocator;
 
 impl<T: Drop, S: Drop, A: Allocator + Copy> Chan<T, S, A> {
@@ -38,10 +38,10 @@ impl<T: Drop, S: Drop, A: Allocator + Copy> Chan<T, S, A> {
 
     // Whether the parked receiver with this ticket, which doesn't block, would look at the line.
     fn looks_anew(&self, ticket: u64) -> bool
-        ensures leaves { IsTrue result ↔ (only_leaves (standing ticket self.now.entries) ≡ true) }
+        ensures leaves { IsTrue result ↔ (only_leaves (receiver_status ticket self.now.entries) ≡ true) }
     {
-        match self.entries.standing(ticket) {
-            Some(Standing::Waiting | Standing::Woken) => true,
+        match self.entries.status(ticket) {
+            Some(ReceiverStatus::Waiting | ReceiverStatus::Woken) => true,
             _ => false,
         }
     }

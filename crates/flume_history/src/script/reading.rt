@@ -1,6 +1,6 @@
 //! The lines of a history, read to steps and what was said of their replies.
-ghost use Rattle.flume_history.specs.Told.{IsNoPair, IsPairLine, PairsUpTo};
-ghost use Rattle.flume_history.specs.ToldReading.{IsTold, pairs_of};
+ghost use Rattle.flume_history.specs.HistoryText.{IsNoPair, IsPairLine, PairsUpTo};
+ghost use Rattle.flume_history.specs.HistoryReading.{IsHistoryReading, pairs_of};
 ghost use Rattle.std.specs.List.{All, AllZip};
 ghost use Rattle.std.specs.Prelude.{IfErr, IfNone, IfOk, IfSome, MatchOption, ◌≡◌, ◌==◌};
 ghost use Rattle.std.specs.Prelude.{ℕ, ◌<◌, List, ◌++◌, false, length, codes};
@@ -78,7 +78,7 @@ pub(crate) fn read_history<A: Allocator + Copy>(
     alloc: A,
     input: &[u8],
 ) -> Result<History<'_, A>, NoMemory>
-    ensures value { IfOk result (λ history. IsTold input.now history) }
+    ensures value { IfOk result (λ history. IsHistoryReading input.now history) }
 {
     let Some((first, rest)) = next_line(input) else {
         return Ok(History::Wrong { line: 1 });

@@ -2,7 +2,7 @@
 use Rattle.flume_model.proofs.Common.{◌≡◌, ℕ, Bool, true, false, if◌then◌else◌, eqb, List, [], ◌∷◌, ◌++◌, Option, Some, None, refl, sym}
 use Rattle.flume_model.proofs.Common.{◌∙◌, ap, eq-eqb, ne_eqb, Channel, is_filled, is_woken, round, round_fills, round_for, all_woken}
 use Rattle.flume_model.proofs.Common.{entry_of, without, held_in, held_by, Change, Queues, Takes, Parks, Asks, Collects, Leaves}
-use Rattle.flume_model.proofs.Common.{SenderLeaves, ReceiverLeaves, is_ticket, LogEntry, untold, entries_after, Apart, Entry, Mark, Waiting}
+use Rattle.flume_model.proofs.Common.{SenderLeaves, ReceiverLeaves, is_ticket, LogEntry, same_notice, entries_after, Apart, Entry, Mark, Waiting}
 use Rattle.flume_model.proofs.Common.{Woken, Filled, Kind, Block, Plain, Stream, Arm, arith, common_steps}
 use Rattle.flume_model.proofs.EntryLists.{fills_none_else, round_for_push, again_cases, leave_cases}
 use Rattle.flume_model.proofs.EntryMarks.{apart_without}
@@ -55,14 +55,14 @@ module _ {T : Type 0} where
 
   -- where an end leaves, a filled entry keeps its message
   held_close : (closes : Bool) (t : ℕ) (m : T) (es : List (LogEntry T)) → IsHeld t m es
-      → IsHeld t m (if closes then all_woken untold es else es)
-  held_close closes t m es h = grind (arith, common_steps, held_woken untold t m es)
+      → IsHeld t m (if closes then all_woken same_notice es else es)
+  held_close closes t m es h = grind (arith, common_steps, held_woken same_notice t m es)
 
   -- through a change that fits, but its own leaving, a filled entry keeps its message
   pub held_by_change : (c : Channel T) (closes : Bool) (done : Change T) (t : ℕ) (m : T) → Fits c done
       → (done ≡ Collects t → ⊥) → IsHeld t m c.entries → IsHeld t m (entries_after c.queue closes c.entries done)
   held_by_change c closes (Queues x filled) t m h stays held =
-      round_for_push (IsHeld t m) untold c.queue x c.entries (λ front. held_round untold front t m c.entries held)
+      round_for_push (IsHeld t m) same_notice c.queue x c.entries (λ front. held_round same_notice front t m c.entries held)
   held_by_change c closes (Takes x (Some u)) t m h stays held =
       let nothing = empty_holds h.1.entry.mark h.1.empty in
       held_without u t m c.entries (unlike u t m h.1.entry c.entries h.1.found nothing held) held
@@ -76,15 +76,15 @@ module _ {T : Type 0} where
   held_by_change c closes (Leaves u filled) t m h stays held =
       let nothing = empty_holds h.0.entry.mark h.0.empty in
       let others = held_without u t m c.entries (unlike u t m h.0.entry c.entries h.0.found nothing held) held in
-      leave_cases (λ es f. IsHeld t m es) untold u c.queue c.entries (λ none. others)
-      (λ passes front rest e. held_round untold front t m (without u c.entries) others)
+      leave_cases (λ es f. IsHeld t m es) same_notice u c.queue c.entries (λ none. others)
+      (λ passes front rest e. held_round same_notice front t m (without u c.entries) others)
   held_by_change c closes SenderLeaves t m h stays held = held_close closes t m c.entries held
   held_by_change c closes ReceiverLeaves t m h stays held = held_close closes t m c.entries held
   held_by_change c closes _ t m h stays held = held
 
   -- the entry that a round fills holds the front after it
   round_holds : (front : T) (n t : ℕ) (es : List (LogEntry T)) → Apart n es → round_fills es ≡ Some t
-      → IsHeld t front (round untold front es)
+      → IsHeld t front (round same_notice front es)
   round_holds front n t [] apart is = absurd (let none : ⊥ = cc in none)
   round_holds front n t (x ∷ es) apart is = by_mark x.kind x.mark is (round_holds front n t es apart.2)
     where
@@ -97,8 +97,8 @@ module _ {T : Type 0} where
           ne_eqb x.ticket t (λ same. (let is_it = eq-eqb t x.ticket (sym same) in let none : ⊥ = cc in none))
 
       by_mark : (k : Kind) (mark : Mark T) → round_fills (as_marked k mark ∷ es) ≡ Some t
-          → (round_fills es ≡ Some t → IsHeld t front (round untold front es))
-          → IsHeld t front (round untold front (as_marked k mark ∷ es))
+          → (round_fills es ≡ Some t → IsHeld t front (round same_notice front es))
+          → IsHeld t front (round same_notice front (as_marked k mark ∷ es))
       by_mark Block Waiting is rest =
           let same : x.ticket ≡ t = cc in
           let found = eq-eqb x.ticket t same in
@@ -120,11 +120,11 @@ module _ {T : Type 0} where
   filled_holds c closes (Queues m filled) t h apart is = by_queue c.queue
     where
       by_queue : (waiting : List T) → (front : T) × (rest : List T) × (waiting ++ m ∷ [] ≡ front ∷ rest)
-          × IsHeld t front (round_for untold (waiting ++ m ∷ []) c.entries)
+          × IsHeld t front (round_for same_notice (waiting ++ m ∷ []) c.entries)
       by_queue [] = (m, [], refl, round_holds m c.next t c.entries apart (sym h.1 ∙ is))
       by_queue (x ∷ waiting) = (x, waiting ++ m ∷ [], refl, round_holds x c.next t c.entries apart (sym h.1 ∙ is))
   filled_holds c closes (Leaves u filled) t h apart is =
-      leave_cases (λ es f. f ≡ Some t → (front : T) × (rest : List T) × (c.queue ≡ front ∷ rest) × IsHeld t front es) untold u c.queue
+      leave_cases (λ es f. f ≡ Some t → (front : T) × (rest : List T) × (c.queue ≡ front ∷ rest) × IsHeld t front es) same_notice u c.queue
       c.entries (λ none by. absurd (let none : ⊥ = cc in none)) (λ passes front rest e by. (
         front,
         rest,

@@ -4,7 +4,7 @@ use Rattle.flume_model.proofs.Common.{refl, sym, ◌∙◌, ap, arith, inl, inr,
 use Rattle.flume_model.proofs.Common.{take_all, take-append-drop, slice_get_within, slice_get, channel, is_over, entry_of, held_by, FillIs}
 use Rattle.flume_model.proofs.Common.{IsOf, shows_to, shown, InOrder, line, boundary, queue, messages, Log, Opening, Offer, HandOut, Shown}
 use Rattle.flume_model.proofs.Common.{FilledIn, Change, Queues, Takes, Collects, Leaves, change, fill, handed, kept, handed_out, hand_outs}
-use Rattle.flume_model.proofs.Common.{LogEntry, entries_after, entries, is_shut, IsRun, Reply, Step, common_steps}
+use Rattle.flume_model.proofs.Common.{LogEntry, entries_after, entries, is_closed_after, IsRun, Reply, Step, common_steps}
 use Rattle.flume_model.proofs.EntryChanges.{fills}
 use Rattle.flume_model.proofs.fills.FillsKept.{held_by_change, first_up, filled_holds, filled_stood}
 use Rattle.flume_model.proofs.fills.FillsShown.{shows_leaves, collects_shows, shows_held, shows_stood, neither, unshown}
@@ -76,7 +76,7 @@ module _ {T A : Type 0} where
       done = change past p.0 p.1
 
       closes : Bool
-      closes = not (is_shut past) && is_shut (p ∷ past)
+      closes = not (is_closed_after past) && is_closed_after (p ∷ past)
 
       by_both : (now before : Option T) → shows_to t p.0 p.1 ≡ now → shown past t ≡ before → Fill o (p ∷ past) t m
       by_both None (Some x) now before =
@@ -136,7 +136,7 @@ module _ {T A : Type 0} where
       done = change past p.0 p.1
 
       closes : Bool
-      closes = not (is_shut past) && is_shut (p ∷ past)
+      closes = not (is_closed_after past) && is_closed_after (p ∷ past)
 
       fit : Fits (channel o past) done
       fit = fits_run o past p run

@@ -3,7 +3,7 @@ use Rattle.flume_model.proofs.Common.{◌≡◌, ℕ, ◌≤◌, Bool, true, fal
 use Rattle.flume_model.proofs.Common.{◌∙◌, ap, arith, inl, inr, ◌⊎◌, eqb-true, eq-eqb, subst, cond-false, IsPolledMark, IsPolled}
 use Rattle.flume_model.proofs.Common.{IsGoneMark, IsGone, Channel, channel, is_over, entry_of, without, held_in, held_by, or_else, shows_to}
 use Rattle.flume_model.proofs.Common.{shown, next_ticket, queue, Log, Opening, Change, Takes, Parks, Collects, was_filled, change, LogEntry}
-use Rattle.flume_model.proofs.Common.{entries_after, entries, is_shut, IsReply, IsRun, Mark, Kind, Reply, Got, Step, Poll, Withdraw}
+use Rattle.flume_model.proofs.Common.{entries_after, entries, is_closed_after, IsReply, IsRun, Mark, Kind, Reply, Got, Step, Poll, Withdraw}
 use Rattle.flume_model.proofs.Common.{common_steps}
 use Rattle.flume_model.proofs.EntryMarks.{none_past, left_out}
 use Rattle.flume_model.proofs.EntryChanges.{parks_under, none_by}
@@ -126,7 +126,7 @@ module _ {T A : Type 0} where
           (before.unissued t (omega arith))
 
       closes : Bool
-      closes = not (is_shut past) && is_shut (p ∷ past)
+      closes = not (is_closed_after past) && is_closed_after (p ∷ past)
 
       parked_then : (t : ℕ) (found : Option (LogEntry T)) → entry_of t (entries o past) ≡ found → (e : LogEntry T)
           → entry_of t (entries_after (queue o past) closes (entries o past) (change past p.0 p.1)) ≡ Some e → shown past t ≡ None

@@ -2,7 +2,7 @@
 use Rattle.flume_model.proofs.Common.{◌≡◌, ℕ, Bool, true, false, List, [], ◌∷◌, ◌++◌, length, Some, zero, suc, refl, sym, ◌∙◌, ap, subst}
 use Rattle.flume_model.proofs.Common.{subst₂, not, ◌&&◌, arith, or_from, cond-true, cond-false, AllZip, slice_get, is_over, some_wait}
 use Rattle.flume_model.proofs.Common.{TicketsRise, BlockedAtCapacity, line, queue, boundary, boundary_after, capacity, Log, Opening, Offer, HandOut}
-use Rattle.flume_model.proofs.Common.{change, kept, handed_out, entries, entries_after, is_shut, IsRun, Reply, Step}
+use Rattle.flume_model.proofs.Common.{change, kept, handed_out, entries, entries_after, is_closed_after, IsRun, Reply, Step}
 use Rattle.flume_model.proofs.Fits.{fits, not_over_yet}
 use Rattle.flume_model.proofs.EntryShape.{told_filled}
 use Rattle.flume_model.proofs.order.Kept.{line_by, line_is_open}
@@ -49,7 +49,7 @@ module _ {T A : Type 0} where
       by_case false open_ =
           let done = change past p.0 p.1 in
           let told = told_filled o past run.1 in
-          let closes = not (is_shut past) && is_shut (p ∷ past) in
+          let closes = not (is_closed_after past) && is_closed_after (p ∷ past) in
           let long : length (line (p ∷ past)) ≡ length (line_by past done) = ap length (line_is_open (p ∷ past) open_) in
           let queued : boundary o (p ∷ past) ≡ boundary_after (capacity o (p ∷ past)) (length (line (p ∷ past))) (boundary o past) done =
           cond-false (is_over (p ∷ past)) 0 _ open_ in

@@ -3,7 +3,7 @@ use Rattle.flume_model.proofs.Common.{◌≡◌, ℕ, ◌-◌, Bool, true, false
 use Rattle.flume_model.proofs.Common.{refl, sym, ◌∙◌, ◌⊎◌, inl, inr, ap, arith, take, length-append, length-take-le, length-map, channel}
 use Rattle.flume_model.proofs.Common.{is_over, is_woken, some_wait, entry_of, all_woken, line, queue, boundary, boundary_after, capacity, capacity_after, Log}
 use Rattle.flume_model.proofs.Common.{Opening, Change, Queues, Blocks, Withdraws, Takes, Drains, Parks, Asks, Collects, Leaves}
-use Rattle.flume_model.proofs.Common.{SenderLeaves, ReceiverLeaves, Resizes, capped, LogEntry, untold, entries, entries_after, common_steps}
+use Rattle.flume_model.proofs.Common.{SenderLeaves, ReceiverLeaves, Resizes, capped, LogEntry, same_notice, entries, entries_after, common_steps}
 use Rattle.flume_model.proofs.WaitingCounts.{wait_round_for, wait_without, wait_after_leave, wait_woken}
 use Rattle.flume_model.proofs.WaitLists.{wait_again}
 use Rattle.flume_model.proofs.Fits.{Fits}
@@ -22,9 +22,9 @@ capped_none capacity = grind (arith, common_steps)
 
 module _ {T : Type 0} where
   -- where one waits after an end left, one waited before
-  wait_closing : (closes : Bool) (es : List (LogEntry T)) → some_wait (if closes then all_woken untold es else es) ≡ true
+  wait_closing : (closes : Bool) (es : List (LogEntry T)) → some_wait (if closes then all_woken same_notice es else es) ≡ true
       → some_wait es ≡ true
-  wait_closing closes es some = grind (arith, common_steps, wait_woken untold es)
+  wait_closing closes es some = grind (arith, common_steps, wait_woken same_notice es)
 
 module _ {T A : Type 0} where
   -- where the entries stay and so does the line, the queue is the whole line as before
@@ -39,7 +39,7 @@ module _ {T A : Type 0} where
       → boundary_after (capacity_after (capacity o past) done) (length (line_by past done)) (boundary o past) done ≡ length (line_by past done)
   waits_after o past (Queues m filled) closes shape h open_ some =
       let long = long_queued o past m filled shape open_ in
-      let before = shape.waits (wait_round_for untold (queue o past ++ m ∷ []) (entries o past) some) in
+      let before = shape.waits (wait_round_for same_notice (queue o past ++ m ∷ []) (entries o past) some) in
       omega arith
   waits_after o past (Blocks m t) closes shape h open_ some = absurd (let none : ⊥ = cc (h.0.1, some) in none)
   waits_after o past (Withdraws t) closes shape h open_ some =
@@ -87,7 +87,7 @@ module _ {T A : Type 0} where
       waits_same o past (Collects t) shape open_ refl (wait_without t (entries o past) some)
   waits_after o past (Leaves t filled) closes shape h open_ some =
       let long = long_left past t filled open_ in
-      let before = shape.waits (wait_after_leave untold t (queue o past) (entries o past) some) in
+      let before = shape.waits (wait_after_leave same_notice t (queue o past) (entries o past) some) in
       omega arith
   waits_after o past SenderLeaves closes shape h open_ some =
       waits_same o past SenderLeaves shape open_ refl (wait_closing closes (entries o past) some)

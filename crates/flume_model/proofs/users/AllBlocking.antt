@@ -3,7 +3,7 @@ use Rattle.flume_model.proofs.Common.{◌≡◌, ℕ, ◌+◌, ◌-◌, ◌≤�
 use Rattle.flume_model.proofs.Common.{subst, cond-true, cond-false, All-head, All-tail, parks_blocking, OnlyBlockingReceivers}
 use Rattle.flume_model.proofs.Common.{IsAtMostCapacity, Channel, channel, is_over, some_wait, round_fills, HasRoom, boundary, greater, greatest}
 use Rattle.flume_model.proofs.Common.{boundary_after, capacity_after, queue, how_many, Log, Opening, Change, Queues, Takes, Drains, Leaves, Resizes, change, capped}
-use Rattle.flume_model.proofs.Common.{entries, is_shut, IsRun, Reply, Step, common_steps}
+use Rattle.flume_model.proofs.Common.{entries, is_closed_after, IsRun, Reply, Step, common_steps}
 use Rattle.flume_model.proofs.Fits.{Fits}
 use Rattle.flume_model.proofs.waits.WaitingSteps.{stepped}
 use Rattle.flume_model.proofs.waits.WaitingLaws.{covered, waits_while_open, woken_block_while_closed}
@@ -79,7 +79,7 @@ module _ {T A : Type 0} where
       by_case true over rest = subst AllBlock (sym (cond-true (is_over (p ∷ past)) [] _ over)) tt
       by_case false still rest =
           subst AllBlock (sym (cond-false (is_over (p ∷ past)) [] _ still))
-          (block_after (queue o past) (not (is_shut past) && is_shut (p ∷ past)) (entries o past) (change past p.0 p.1) rest
+          (block_after (queue o past) (not (is_closed_after past) && is_closed_after (p ∷ past)) (entries o past) (change past p.0 p.1) rest
           (change_parks past p.0 p.1 (All-head (λ q. parks_blocking q.0 ≡ true) p past only)))
 
   -- while one of them waits nothing is queued

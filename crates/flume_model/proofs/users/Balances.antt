@@ -5,7 +5,7 @@ use Rattle.flume_model.proofs.Common.{map-append, drop-map, take_all, length-map
 use Rattle.flume_model.proofs.Common.{is_over, is_woken, is_filled, some_wait, round_fills, all_woken, entry_of, without, again}
 use Rattle.flume_model.proofs.Common.{after_leave, leave_fills, HasRoom, line, capacity, boundary, queue, messages, how_many, Log, Opening, Offer}
 use Rattle.flume_model.proofs.Common.{Change, Queues, Blocks, Withdraws, Takes, Drains, Parks, Asks, Collects, Leaves, SenderLeaves}
-use Rattle.flume_model.proofs.Common.{ReceiverLeaves, change, offered, LogEntry, untold, parks, entries_after, entries, IsRun, Mark}
+use Rattle.flume_model.proofs.Common.{ReceiverLeaves, change, offered, LogEntry, same_notice, parks, entries_after, entries, IsRun, Mark}
 use Rattle.flume_model.proofs.Common.{Waiting, Reply, Step, common_steps}
 use Rattle.flume_model.proofs.Fits.{Fits}
 use Rattle.flume_model.proofs.EntryLists.{again_cases, leave_cases}
@@ -41,8 +41,8 @@ module _ {T : Type 0} where
 
   -- where an end leaves
   balanced_close : (weight : T → ℕ) (closes : Bool) (es : List (LogEntry T))
-      → sum_by weight (held es) ≡ 0 + sum_by weight (held (if closes then all_woken untold es else es))
-  balanced_close weight closes es = grind (arith, common_steps, held_woken untold es)
+      → sum_by weight (held es) ≡ 0 + sum_by weight (held (if closes then all_woken same_notice es else es))
+  balanced_close weight closes es = grind (arith, common_steps, held_woken same_notice es)
 
   -- where one that asks waits again, or keeps its place
   balanced_again : (weight : T → ℕ) (t : ℕ) (es : List (LogEntry T)) → sum_by weight (held es) ≡ 0 + sum_by weight (held (again t es))
@@ -94,18 +94,18 @@ module _ {T A : Type 0} where
   balanced_left : (weight : T → ℕ) (o : Opening) (past : Log T A) (t : ℕ) (e : LogEntry T) → entry_of t (entries o past) ≡ Some e
       → is_filled e.mark ≡ false
       → sum_by weight (drop (how_many (leave_fills t (queue o past) (entries o past))) (messages (line past)))
-      + sum_by weight (held (after_leave untold t (queue o past) (entries o past)))
+      + sum_by weight (held (after_leave same_notice t (queue o past) (entries o past)))
       ≡ weighs weight (line past) + sum_by weight (held (entries o past))
   balanced_left weight o past t e found empty =
       let others = held_without weight t e (entries o past) found in
       let none_held = unfilled_weighs weight e.mark empty in
       leave_cases (λ es f. sum_by weight (drop (how_many f) (messages (line past))) + sum_by weight (held es)
-      ≡ weighs weight (line past) + sum_by weight (held (entries o past))) untold t (queue o past) (entries o past)
+      ≡ weighs weight (line past) + sum_by weight (held (entries o past))) same_notice t (queue o past) (entries o past)
       (λ none. omega arith)
       (λ passes front rest queued.
       (let all : messages (line past) ≡ front ∷ rest ++ messages (drop (boundary o past) (line past)) = queue_behind o past
       ∙ ap (λ l. l ++ messages (drop (boundary o past) (line past))) queued in
-      let rounded = round_front weight untold front (rest ++ messages (drop (boundary o past) (line past)))
+      let rounded = round_front weight same_notice front (rest ++ messages (drop (boundary o past) (line past)))
       (without t (entries o past)) in
       let whole = ap (sum_by weight) all in
       let dropped = ap (λ l. sum_by weight (drop (how_many (round_fills (without t (entries o past)))) l)) all in
@@ -127,7 +127,7 @@ module _ {T A : Type 0} where
       let after = ap (sum_by weight) next in
       let before = sum_by_push weight (queue o past) m in
       let same = ap (sum_by weight) whole in
-      let rounded = queued_weighs weight untold (queue o past) m (entries o past) in
+      let rounded = queued_weighs weight same_notice (queue o past) m (entries o past) in
       let none = ap (sum_by weight) g in
       omega arith
   balanced_by weight o past p closes (Blocks m t) e run h given g open_ still =

@@ -3,7 +3,7 @@ use Rattle.flume_model.proofs.Common.{◌≡◌, ℕ, ◌+◌, ◌-◌, ◌≤�
 use Rattle.flume_model.proofs.Common.{refl, sym, ◌∙◌, ap, arith, max, subst, subst₂, cond-true, Channel, channel, is_over, is_woken}
 use Rattle.flume_model.proofs.Common.{some_wait, waiting_count, round, round_fills, all_woken, entry_of, without, HasRoom, boundary, capacity}
 use Rattle.flume_model.proofs.Common.{boundary_after, capacity_after, greater, greatest, how_many, Log, Opening, Change, Queues, Takes, Drains, Parks, Asks, Collects, Leaves}
-use Rattle.flume_model.proofs.Common.{SenderLeaves, ReceiverLeaves, Resizes, change, capped, LogEntry, untold, entries_after, entries, peak, IsRun}
+use Rattle.flume_model.proofs.Common.{SenderLeaves, ReceiverLeaves, Resizes, change, capped, LogEntry, same_notice, entries_after, entries, peak, IsRun}
 use Rattle.flume_model.proofs.Common.{IsWithin, Bounded, Reply, Step, common_steps}
 use Rattle.flume_model.proofs.Fits.{Fits}
 use Rattle.flume_model.proofs.WaitingCounts.{wait_woken}
@@ -52,8 +52,8 @@ module _ {T : Type 0} where
   fills_nobody es none = grind (arith, common_steps, fills_waiting es)
 
   -- once all are woken none is counted
-  woken_uncounted : (es : List (LogEntry T)) → waiting_count (all_woken untold es) ≡ 0
-  woken_uncounted es = counted_none (all_woken untold es) (wait_woken untold es)
+  woken_uncounted : (es : List (LogEntry T)) → waiting_count (all_woken same_notice es) ≡ 0
+  woken_uncounted es = counted_none (all_woken same_notice es) (wait_woken same_notice es)
 
   -- where an entry leaves, no more wait
   fewer_without : (t : ℕ) (e : LogEntry T) (es : List (LogEntry T)) → entry_of t es ≡ Some e
@@ -62,7 +62,7 @@ module _ {T : Type 0} where
 
   -- where an end leaves
   leaves_close : (c : Channel T) (closes : Bool) → LeavesWithin c.capacity (c.boundary + waiting_count c.entries) c.boundary
-      (waiting_count (if closes then all_woken untold c.entries else c.entries))
+      (waiting_count (if closes then all_woken same_notice c.entries else c.entries))
   leaves_close c true = NoMore (let none = woken_uncounted c.entries in omega arith)
   leaves_close c false = NoMore (omega arith)
 
@@ -79,16 +79,16 @@ module _ {T : Type 0} where
   -- where a message joined the queue
   leaves_queued : (c : Channel T) (front : T) → (some_wait c.entries ≡ false → HasRoom c.capacity c.boundary)
       → LeavesWithin c.capacity (c.boundary + waiting_count c.entries) (c.boundary + 1 - how_many (round_fills c.entries))
-      (waiting_count (round untold front c.entries))
+      (waiting_count (round same_notice front c.entries))
   leaves_queued c front room = by_case (some_wait c.entries) refl
     where
       by_case : (b : Bool) → some_wait c.entries ≡ b
           → LeavesWithin c.capacity (c.boundary + waiting_count c.entries) (c.boundary + 1 - how_many (round_fills c.entries))
-          (waiting_count (round untold front c.entries))
-      by_case true e = let fewer = (round_counts untold front c.entries).fewer e in NoMore (omega arith)
+          (waiting_count (round same_notice front c.entries))
+      by_case true e = let fewer = (round_counts same_notice front c.entries).fewer e in NoMore (omega arith)
       by_case false e =
           let none = counted_none c.entries e in
-          let no_more = (round_counts untold front c.entries).no_more in
+          let no_more = (round_counts same_notice front c.entries).no_more in
           let fills = fills_nobody c.entries e in
           let same : c.boundary + 1 ≡ c.boundary + 1 - how_many (round_fills c.entries) = omega arith in
           let Within : ℕ → Type 0 = λ n. IsWithin c.capacity (c.boundary + waiting_count c.entries) n in
@@ -105,7 +105,7 @@ module _ {T : Type 0} where
       (c.boundary + 1 - how_many f) (waiting_count (entries_after c.queue closes c.entries (Queues m filled))) in
       subst LeavesBy (sym h.1) (round_for_push
       (λ es. LeavesWithin c.capacity (c.boundary + waiting_count c.entries) (c.boundary + 1 - how_many (round_fills c.entries))
-      (waiting_count es)) untold c.queue m c.entries (λ front. leaves_queued c front h.0.1))
+      (waiting_count es)) same_notice c.queue m c.entries (λ front. leaves_queued c front h.0.1))
   leaves_by c closes (Takes m None) n stood h long within =
       leaves_fewer c _ (waiting_count c.entries) (omega arith) (λ some. (let whole = stood.whole some in omega arith))
       (taken_within c.capacity n c.boundary _ (omega arith))
@@ -130,9 +130,9 @@ module _ {T : Type 0} where
   leaves_by c closes (Leaves t filled) n stood h long within =
       let fewer = fewer_without t h.0.entry c.entries h.0.found in
       NoMore (leave_cases (λ es f. c.boundary - how_many filled + waiting_count es ≤ c.boundary + waiting_count c.entries)
-      untold t c.queue c.entries (λ none. omega arith)
+      same_notice t c.queue c.entries (λ none. omega arith)
       (λ passes front rest e.
-      (let no_more = (round_counts untold front (without t c.entries)).no_more in omega arith)))
+      (let no_more = (round_counts same_notice front (without t c.entries)).no_more in omega arith)))
   leaves_by c closes SenderLeaves n stood h long within = leaves_close c closes
   leaves_by c closes ReceiverLeaves n stood h long within = leaves_close c closes
   leaves_by c closes (Resizes new) n stood h long within =

@@ -3,7 +3,7 @@ use Rattle.flume_model.proofs.Common.{◌≡◌, ℕ, ◌+◌, ◌-◌, ◌≤�
 use Rattle.flume_model.proofs.Common.{◌⊎◌, inl, inr, ap, arith, Channel, channel, is_over, is_woken, some_wait, woken_count, round}
 use Rattle.flume_model.proofs.Common.{round_fills, all_woken, entry_of, without, passes_on, after_leave, leave_fills, boundary}
 use Rattle.flume_model.proofs.Common.{boundary_after, capacity_after, how_many, Log, Opening, Change, Queues, Blocks, Takes, Drains, Parks, Asks, Collects}
-use Rattle.flume_model.proofs.Common.{Leaves, SenderLeaves, ReceiverLeaves, Resizes, change, LogEntry, untold, entries_after, entries, IsRun}
+use Rattle.flume_model.proofs.Common.{Leaves, SenderLeaves, ReceiverLeaves, Resizes, change, LogEntry, same_notice, entries_after, entries, IsRun}
 use Rattle.flume_model.proofs.Common.{Covered, Mark, Filled, Reply, Step, common_steps}
 use Rattle.flume_model.proofs.Fits.{Fits}
 use Rattle.flume_model.proofs.WaitingCounts.{wait_round, wait_round_for, wait_without, wait_woken}
@@ -38,22 +38,22 @@ module _ {T : Type 0} where
 
   -- one that leaves and passes its wake on
   covered_passed : (c : Channel T) (t : ℕ) (e : LogEntry T) (front : T) → entry_of t c.entries ≡ Some e
-      → c.boundary ≤ woken_count c.entries → some_wait (round untold front (without t c.entries)) ≡ true
-      → c.boundary - how_many (round_fills (without t c.entries)) ≤ woken_count (round untold front (without t c.entries))
+      → c.boundary ≤ woken_count c.entries → some_wait (round same_notice front (without t c.entries)) ≡ true
+      → c.boundary - how_many (round_fills (without t c.entries)) ≤ woken_count (round same_notice front (without t c.entries))
   covered_passed c t e front found le some =
       let left_ = without_counts t e c.entries found in
       let woken = left_.woken in
       let one = woken_at_most e.mark in
-      let rounded = round_counts untold front (without t c.entries) in
+      let rounded = round_counts same_notice front (without t c.entries) in
       let total = rounded.total in
-      let fewer = rounded.fewer (wait_round untold front (without t c.entries) some) in
+      let fewer = rounded.fewer (wait_round same_notice front (without t c.entries) some) in
       omega arith
 
   -- where an end leaves
   covered_close : (c : Channel T) (closes : Bool) → (some_wait c.entries ≡ true → c.boundary ≤ woken_count c.entries)
-      → some_wait (if closes then all_woken untold c.entries else c.entries) ≡ true
-      → c.boundary ≤ woken_count (if closes then all_woken untold c.entries else c.entries)
-  covered_close c closes before some = grind (arith, common_steps, wait_woken untold c.entries)
+      → some_wait (if closes then all_woken same_notice c.entries else c.entries) ≡ true
+      → c.boundary ≤ woken_count (if closes then all_woken same_notice c.entries else c.entries)
+  covered_close c closes before some = grind (arith, common_steps, wait_woken same_notice c.entries)
 
   -- after a change that fits
   covered_by : (c : Channel T) (closes : Bool) (done : Change T) (n : ℕ) → Stood c → Fits c done → Long c done n
@@ -61,11 +61,11 @@ module _ {T : Type 0} where
       → some_wait (entries_after c.queue closes c.entries done) ≡ true
       → boundary_after (capacity_after c.capacity done) n c.boundary done ≤ woken_count (entries_after c.queue closes c.entries done)
   covered_by c closes (Queues m filled) n stood h long within before some =
-      let le = before (wait_round_for untold _ c.entries some) in
-      let waits = wait_round_for untold _ c.entries some in
+      let le = before (wait_round_for same_notice _ c.entries some) in
+      let waits = wait_round_for same_notice _ c.entries some in
       let fills = ap how_many h.1 in
-      round_for_push (λ es. c.boundary + 1 - how_many filled ≤ woken_count es) untold c.queue m c.entries
-      (λ front. (let rounded = round_counts untold front c.entries in let total = rounded.total in let fewer = rounded.fewer waits in
+      round_for_push (λ es. c.boundary + 1 - how_many filled ≤ woken_count es) same_notice c.queue m c.entries
+      (λ front. (let rounded = round_counts same_notice front c.entries in let total = rounded.total in let fewer = rounded.fewer waits in
       omega arith))
   covered_by c closes (Takes m None) n stood h long within before some =
       let le = before some in let whole = stood.whole some in omega arith
@@ -97,13 +97,13 @@ module _ {T : Type 0} where
   covered_by c closes (Leaves t filled) n stood h long within before some =
       let unfilled = h.0 in
       let fills = ap how_many h.1 in
-      let main : c.boundary - how_many (leave_fills t c.queue c.entries) ≤ woken_count (after_leave untold t c.queue c.entries) =
-      leave_cases (λ es f. some_wait es ≡ true → c.boundary - how_many f ≤ woken_count es) untold t c.queue c.entries
+      let main : c.boundary - how_many (leave_fills t c.queue c.entries) ≤ woken_count (after_leave same_notice t c.queue c.entries) =
+      leave_cases (λ es f. some_wait es ≡ true → c.boundary - how_many f ≤ woken_count es) same_notice t c.queue c.entries
       (λ none waits.
       (let le = covered_left c t unfilled.entry stood unfilled.found none (before (wait_without t c.entries waits)) in omega arith))
       (λ passes front rest e waits.
       covered_passed c t unfilled.entry front unfilled.found
-      (before (wait_without t c.entries (wait_round untold front (without t c.entries) waits))) waits) some in
+      (before (wait_without t c.entries (wait_round same_notice front (without t c.entries) waits))) waits) some in
       omega arith
   covered_by c closes SenderLeaves n stood h long within before some = covered_close c closes before some
   covered_by c closes ReceiverLeaves n stood h long within before some = covered_close c closes before some

@@ -3,7 +3,7 @@ use Rattle.flume_model.proofs.Common.{◌≡◌, ℕ, ◌≤◌, Bool, true, fal
 use Rattle.flume_model.proofs.Common.{ap, arith, drop, eqb-false, length-drop, drop_all, Channel, channel, senders, receivers}
 use Rattle.flume_model.proofs.Common.{senders_after, receivers_after, is_over, is_woken, some_wait, all_woken, IsOpen, is_closed, line}
 use Rattle.flume_model.proofs.Common.{boundary, blocked, is_live, Log, Opening, Change, Queues, Takes, Parks, Asks, Collects, Leaves}
-use Rattle.flume_model.proofs.Common.{SenderJoins, ReceiverJoins, SenderLeaves, ReceiverLeaves, change, untold, entries_after, entries}
+use Rattle.flume_model.proofs.Common.{SenderJoins, ReceiverJoins, SenderLeaves, ReceiverLeaves, change, same_notice, entries_after, entries}
 use Rattle.flume_model.proofs.Common.{IsRun, WaitsWhileOpen, NothingOnceOver, Reply, Step, common_steps}
 use Rattle.flume_model.proofs.Fits.{Fits}
 use Rattle.flume_model.proofs.WaitingCounts.{wait_without, wait_after_leave, wait_woken}
@@ -30,8 +30,8 @@ module _ {T : Type 0} where
   -- where an end leaves
   open_close : (c : Channel T) (s2 r2 : ℕ) (closes : Bool) → closes ≡ (not (is_closed c.senders c.receivers) && is_closed s2 r2)
       → (some_wait c.entries ≡ true → IsOpen c.senders c.receivers)
-      → some_wait (if closes then all_woken untold c.entries else c.entries) ≡ true → IsOpen s2 r2
-  open_close c s2 r2 closes e before some = grind (arith, common_steps, wait_woken untold c.entries, open_still c.senders c.receivers s2 r2)
+      → some_wait (if closes then all_woken same_notice c.entries else c.entries) ≡ true → IsOpen s2 r2
+  open_close c s2 r2 closes e before some = grind (arith, common_steps, wait_woken same_notice c.entries, open_still c.senders c.receivers s2 r2)
 
   -- after a change that fits
   open_by : (c : Channel T) (closes : Bool) (done : Change T) → Fits c done
@@ -45,7 +45,7 @@ module _ {T : Type 0} where
       again_cases (λ es. some_wait es ≡ true → IsOpen c.senders c.receivers) t c.entries before
       (λ x found woken waits. (let same : h.0 ≡ x = cc in (h.2 (ap (λ y. is_woken y.mark) same ∙ woken)).1)) some
   open_by c closes (Collects t) h e before some = before (wait_without t c.entries some)
-  open_by c closes (Leaves t filled) h e before some = before (wait_after_leave untold t c.queue c.entries some)
+  open_by c closes (Leaves t filled) h e before some = before (wait_after_leave same_notice t c.queue c.entries some)
   open_by c closes SenderJoins h e before some = let is_open = before some in omega arith
   open_by c closes ReceiverJoins h e before some = let is_open = before some in omega arith
   open_by c closes SenderLeaves h e before some = open_close c _ _ closes e before some

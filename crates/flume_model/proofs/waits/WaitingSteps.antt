@@ -3,7 +3,7 @@ use Rattle.flume_model.proofs.Common.{◌≡◌, ℕ, ◌+◌, ◌-◌, ◌≤�
 use Rattle.flume_model.proofs.Common.{refl, sym, ◌∙◌, ap, arith, length-append, length-take-le, cond-true, cond-false, take-append-drop}
 use Rattle.flume_model.proofs.Common.{length-drop, length-map, length_push, Channel, channel, is_over, some_wait, line, boundary}
 use Rattle.flume_model.proofs.Common.{boundary_after, capacity, queue, how_many, Log, Opening, Offer, Change, Queues, Blocks, Withdraws, Takes}
-use Rattle.flume_model.proofs.Common.{Drains, Leaves, change, entries_after, entries, is_shut, IsRun, Reply, Step}
+use Rattle.flume_model.proofs.Common.{Drains, Leaves, change, entries_after, entries, is_closed_after, IsRun, Reply, Step}
 use Rattle.flume_model.proofs.Fits.{Fits, not_over_yet}
 use Rattle.flume_model.proofs.EntryShape.{told_filled, fits_run}
 use Rattle.flume_model.proofs.order.Parts.{at_most, front_at, blocked_at, leave_within}
@@ -109,7 +109,7 @@ module _ {T A : Type 0} where
     pub stood : Stood (channel o past)
     pub fit : Fits (channel o past) (change past p.0 p.1)
     pub closes : Bool
-    pub closes_is : closes ≡ (not (is_shut past) && is_shut (p ∷ past))
+    pub closes_is : closes ≡ (not (is_closed_after past) && is_closed_after (p ∷ past))
     pub long : ℕ
     pub long_is : long ≡ length (line (p ∷ past))
     pub line_is : Long (channel o past) (change past p.0 p.1) long
@@ -128,7 +128,7 @@ module _ {T A : Type 0} where
       record {
         stood = stood o past run.1;
         fit = fit;
-        closes = not (is_shut past) && is_shut (p ∷ past);
+        closes = not (is_closed_after past) && is_closed_after (p ∷ past);
         closes_is = refl;
         long = length (line (p ∷ past));
         long_is = refl;

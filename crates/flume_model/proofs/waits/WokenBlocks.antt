@@ -4,7 +4,7 @@ use Rattle.flume_model.proofs.Common.{sym, ◌∙◌, ◌⊎◌, inl, inr, ap, a
 use Rattle.flume_model.proofs.Common.{channel, senders, receivers, senders_after, receivers_after, is_over, is_woken, some_wait, all_woken}
 use Rattle.flume_model.proofs.Common.{without, round, IsClosed, is_closed, line, boundary, boundary_after, capacity_after, blocked, Log, Opening, Change}
 use Rattle.flume_model.proofs.Common.{Queues, Blocks, Takes, Parks, Asks, Collects, Leaves, SenderLeaves, ReceiverLeaves, Resizes, change, LogEntry}
-use Rattle.flume_model.proofs.Common.{untold, entries_after, entries, IsRun, is_block, block_woken, WokenBlockWhileClosed, Reply, Step}
+use Rattle.flume_model.proofs.Common.{same_notice, entries_after, entries, IsRun, is_block, block_woken, WokenBlockWhileClosed, Reply, Step}
 use Rattle.flume_model.proofs.Common.{common_steps}
 use Rattle.flume_model.proofs.Fits.{Fits}
 use Rattle.flume_model.proofs.EntryLists.{round_for_push, again_cases, leave_cases}
@@ -21,7 +21,7 @@ module _ {T : Type 0} where
   block_later x es h = or_right (is_block x.kind && is_woken x.mark) (block_woken es) h
 
   -- a round wakes none that blocks
-  block_round : (front : T) (es : List (LogEntry T)) → block_woken (round untold front es) ≡ true → block_woken es ≡ true
+  block_round : (front : T) (es : List (LogEntry T)) → block_woken (round same_notice front es) ≡ true → block_woken es ≡ true
   block_round front [] h = h
   block_round front (x ∷ es) h = grind (arith, common_steps, block_round front es)
 
@@ -36,7 +36,7 @@ module _ {T : Type 0} where
   block_push es x e h = grind (arith, common_steps, list_any-append)
 
   -- where all that wait are woken, one that blocks stood woken or one waited
-  block_closes : (es : List (LogEntry T)) → block_woken (all_woken untold es) ≡ true → (block_woken es ≡ true) ⊎ (some_wait es ≡ true)
+  block_closes : (es : List (LogEntry T)) → block_woken (all_woken same_notice es) ≡ true → (block_woken es ≡ true) ⊎ (some_wait es ≡ true)
   block_closes [] h = inl h
   block_closes (x ∷ es) h = grind (arith, common_steps, block_closes es)
 
@@ -44,7 +44,7 @@ module _ {T : Type 0} where
   closed_close : (c : Channel T) (s2 r2 n : ℕ) (closes : Bool) → Stood c → n ≡ length c.line
       → closes ≡ (not (is_closed c.senders c.receivers) && is_closed s2 r2) → (IsClosed c.senders c.receivers → IsClosed s2 r2)
       → (block_woken c.entries ≡ true → ClosedWhole c.senders c.receivers (length c.line) c.boundary)
-      → block_woken (if closes then all_woken untold c.entries else c.entries) ≡ true → ClosedWhole s2 r2 n c.boundary
+      → block_woken (if closes then all_woken same_notice c.entries else c.entries) ≡ true → ClosedWhole s2 r2 n c.boundary
   closed_close c s2 r2 n true stood long e stays before some = (
     eqb-true (min s2 r2) 0 (and_parts (not (is_closed c.senders c.receivers)) (is_closed s2 r2) (sym e)).1,
     elim (block_closes c.entries some) as (λ _. n ≤ c.boundary) [
@@ -61,7 +61,7 @@ module _ {T : Type 0} where
       → block_woken (entries_after c.queue closes c.entries done) ≡ true
       → ClosedWhole (senders_after c.senders done) (receivers_after c.receivers done) n (boundary_after (capacity_after c.capacity done) n c.boundary done)
   closed_by c closes (Queues m filled) n stood h long e before some =
-      let was = before (round_for_push (λ es. block_woken es ≡ true → block_woken c.entries ≡ true) untold c.queue m c.entries
+      let was = before (round_for_push (λ es. block_woken es ≡ true → block_woken c.entries ≡ true) same_notice c.queue m c.entries
       (λ front. block_round front c.entries) some) in
       let closed = was.0 in
       let is_open = h.0.0 in
@@ -87,7 +87,7 @@ module _ {T : Type 0} where
   closed_by c closes (Collects t) n stood h long e before some =
       let was = before (block_without t c.entries some) in (was.0, let le = was.1 in omega arith)
   closed_by c closes (Leaves t filled) n stood h long e before some =
-      let was = before (leave_cases (λ es f. block_woken es ≡ true → block_woken c.entries ≡ true) untold t c.queue c.entries
+      let was = before (leave_cases (λ es f. block_woken es ≡ true → block_woken c.entries ≡ true) same_notice t c.queue c.entries
       (λ none others. block_without t c.entries others)
       (λ passes front rest e2 others. block_without t c.entries (block_round front (without t c.entries) others)) some) in
       (was.0, let le = was.1 in omega arith)

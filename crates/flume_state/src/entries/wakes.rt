@@ -4,8 +4,8 @@ ghost use Rattle.std.specs.Option.{option_map};
 ghost use Rattle.flume_model.specs.Entries.{is_waiting, all_woken};
 ghost use Rattle.flume_model.specs.Entries.{round_for, round_for_fills};
 ghost use Rattle.flume_state.specs.Notices.{due_now};
-ghost use Rattle.flume_state.specs.Parked.{first_waiting, first_marked};
-ghost use Rattle.flume_state.specs.Receivers.{unfilled, NoDueReceiver, Tells};
+ghost use Rattle.flume_state.specs.EntryLayout.{first_waiting, first_marked};
+ghost use Rattle.flume_state.specs.Receivers.{unfilled, NoDueReceiver, NamesReceiver};
 
 use super::Entries;
 use crate::line::Line;
@@ -106,7 +106,7 @@ impl<T: Drop, S: Drop, A: Allocator + Copy> Entries<T, S, A> {
     /// Takes no memory.
     #[inline(always)]
     pub fn next_due(&mut self) -> Option<u64>
-        ensures told { IfSome result (λ ticket. Tells self.old self.new ticket) }
+        ensures told { IfSome result (λ ticket. NamesReceiver self.old self.new ticket) }
         ensures none_due { IfNone result (NoDueReceiver self.old) }
         ensures unchanged { IfNone result (self.new ≡ self.old) }
     {
@@ -120,7 +120,7 @@ impl<T: Drop, S: Drop, A: Allocator + Copy> Entries<T, S, A> {
     #[cold]
     #[inline(never)]
     fn tell_first(&mut self) -> Option<u64>
-        ensures told { IfSome result (λ ticket. Tells self.old self.new ticket) }
+        ensures told { IfSome result (λ ticket. NamesReceiver self.old self.new ticket) }
         ensures none_due { IfNone result (NoDueReceiver self.old) }
         ensures unchanged { IfNone result (self.new ≡ self.old) }
     {

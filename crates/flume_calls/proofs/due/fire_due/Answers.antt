@@ -1,5 +1,5 @@
 -- One ring for each that is due, and what the rings leave.
-use Rattle.flume_calls.specs.Due.{Rings, Over, Rung}
+use Rattle.flume_calls.specs.Rings.{Rings, Over, Rung}
 use Rattle.flume_calls.proofs.DueCounts.{fewer_due, still_due_before}
 use Rattle.flume_calls.proofs.Ringing.{still_signal, left_signal, none_left, all_told}
 use Rattle.flume_calls.proofs.due.fire_due.Goals as goal

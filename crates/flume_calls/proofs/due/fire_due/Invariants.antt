@@ -1,7 +1,7 @@
 use Rattle.std.proofs.Common.{◌+◌}
 use Rattle.std.specs.FinMap.{keys}
-use Rattle.flume_core.specs.StandsFor.{Keeps}
-use Rattle.flume_calls.specs.Due.{Rings}
+use Rattle.flume_core.specs.Represents.{SameLogs}
+use Rattle.flume_calls.specs.Rings.{Rings}
 use Rattle.flume_calls.proofs.DueCounts.{DueIn, due_sends, due_entries}
 use Rattle.flume_calls.proofs.due.fire_due.Given as goal
 
@@ -9,7 +9,7 @@ use Rattle.flume_calls.proofs.due.fire_due.Given as goal
 abbrev pub invariant-loop-ticket : goal.invariant-loop-ticket
 invariant-loop-ticket g l = record {
   from_here : (new : _) (end : _) → Rings g.B.Bell.rings l.chan l.bell new end → Rings g.B.Bell.rings l.fn.chan l.fn.bell new end;
-  stands : Keeps g.row.A.Denot l.fn.chan l.chan;
+  stands : SameLogs g.row.A.Denot l.fn.chan l.chan;
   before : DueIn l.chan.sends l.fn.chan.sends;
 }
 

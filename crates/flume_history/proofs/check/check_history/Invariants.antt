@@ -1,6 +1,6 @@
 use Rattle.std.proofs.Common.{take, reverse}
 use Rattle.flume_model.specs.Log.{Log, opens}
-use Rattle.flume_core.specs.StandsFor.{StandsFor}
+use Rattle.flume_core.specs.Represents.{Represents}
 use Rattle.flume_history.specs.Equal.{Equals}
 use Rattle.flume_history.specs.Histories.{IsSaidOf}
 use Rattle.flume_history.proofs.check.check_history.Given as goal
@@ -8,6 +8,6 @@ use Rattle.flume_history.proofs.check.check_history.Given as goal
 -- the channel stands for a run of the steps so far, whose replies equal those that were told
 abbrev pub invariant-loop-place : goal.invariant-loop-place
 invariant-loop-place g l = record {
-  followed : (log : Log g.row.T.Denot g.row.A.Denot) × StandsFor (opens l.fn.capacity 1) log l.chan
+  followed : (log : Log g.row.T.Denot g.row.A.Denot) × Represents (opens l.fn.capacity 1) log l.chan
       × IsSaidOf (Equals g.T.PartialEq.eq) (reverse (take l.place l.history)) log;
 }

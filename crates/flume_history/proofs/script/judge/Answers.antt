@@ -6,8 +6,8 @@ use Rattle.flume_model.specs.declared.step.Step.{Step}
 use Rattle.flume_model.specs.declared.step.Step.TheVariants.{TrySend}
 use Rattle.flume_model.specs.Log.{opens}
 use Rattle.flume_history.specs.Histories.{IsSaidOf}
-use Rattle.flume_history.specs.Told.{Says, break_text}
-use Rattle.flume_history.specs.ToldReading.{pairs_of}
+use Rattle.flume_history.specs.HistoryText.{Says, break_text}
+use Rattle.flume_history.specs.HistoryReading.{pairs_of}
 use Rattle.flume_history.proofs.Follows.{with_next}
 use Rattle.flume_history.proofs.Judged.{pair_at, told_break}
 use Rattle.flume_history.proofs.ReadPairs.{pairs_length}

@@ -5,7 +5,7 @@ use Rattle.flume_calls.proofs.locked.Locked.make.Goals as goal
 pub invariant_of-self : goal.invariant_of-self
 invariant_of-self g c =
     let led = c.self.invariant.led in
-    let turn = c.make-answer.ensures.turn in
+    let turn = c.apply-answer.ensures.turn in
     record {
       led = (
         led.0,
@@ -19,8 +19,8 @@ invariant_of-self g c =
 pub returns-clause-call : goal.returns-clause-call
 returns-clause-call g c = rw (← c.self.view_is) (record {
   between = _;
-  turn = c.make-answer.ensures.turn;
-  outcome = c.make-answer.ensures.outcome;
+  turn = c.apply-answer.ensures.turn;
+  outcome = c.apply-answer.ensures.outcome;
   rang = c.fire_due.ensures.rings;
   stands = c.fire_due.ensures.stands;
 })

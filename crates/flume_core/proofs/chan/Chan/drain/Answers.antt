@@ -3,7 +3,7 @@ use Rattle.std.proofs.Common.{◌≡◌, [], refl, ◌∙◌, sym, arith, rules}
 use Rattle.flume_core.proofs.Views.{queue_at_log, some_queued}
 use Rattle.flume_core.proofs.Keeping.{still}
 use Rattle.flume_core.proofs.Drains.{drains}
-use Rattle.flume_state.specs.Effects.{filled_up}
+use Rattle.flume_state.specs.Effects.{after_admissions}
 use Rattle.flume_state.specs.State.{State}
 use Rattle.flume_core.proofs.Spaces.{space_filled_up}
 use Rattle.flume_core.proofs.dues.AfterStep.{unchanged, drained}
@@ -20,7 +20,7 @@ returns-clause-step g c o log h =
 pub returns-clause-space : goal.returns-clause-space
 returns-clause-space g c =
     let rest : State g.row.T.Denot g.row.S.Denot = record c.args.self.now { queue = [] } in
-    let is : c.fill_up.new.self ≡ filled_up rest = search rules in
+    let is : c.fill_up.new.self ≡ after_admissions rest = search rules in
     let same = space_filled_up rest c.fill_up.new.self is in
     omega (arith, same)
 

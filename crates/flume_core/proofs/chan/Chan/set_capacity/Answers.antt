@@ -2,7 +2,7 @@
 use Rattle.std.proofs.Common.{◌≡◌, Some, None, refl, sym, ◌∙◌, subst, arith, rules}
 use Rattle.flume_model.specs.Limits.{IsBounded, IsOpen, IsClosed}
 use Rattle.flume_model.specs.Line.{greater}
-use Rattle.flume_state.specs.Effects.{filled_up}
+use Rattle.flume_state.specs.Effects.{after_admissions}
 use Rattle.flume_state.specs.State.{State}
 use Rattle.flume_core.proofs.Keeping.{still}
 use Rattle.flume_core.proofs.Resizes.{resizes}
@@ -37,6 +37,6 @@ returns-clause-space g c =
       capacity = Some c.args.capacity;
       greatest = greater c.args.self.now.greatest (Some c.args.capacity);
     } in
-    let is : c.fill_up.new.self ≡ filled_up set_ = search rules in
+    let is : c.fill_up.new.self ≡ after_admissions set_ = search rules in
     let same = space_filled_up set_ c.fill_up.new.self is in
     omega (arith, same)

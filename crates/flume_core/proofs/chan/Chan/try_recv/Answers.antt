@@ -1,6 +1,6 @@
 -- The front is handed out, or nothing is found.
 use Rattle.std.proofs.Common.{◌≡◌, [], None, refl, rules}
-use Rattle.flume_state.specs.Effects.{fronted}
+use Rattle.flume_state.specs.Effects.{with_front}
 use Rattle.flume_core.proofs.Keeping.{still}
 use Rattle.flume_core.proofs.Takes.{takes}
 use Rattle.flume_core.proofs.Views.{open_at_log, closed_at_log}
@@ -16,13 +16,13 @@ returns-in-Some-clause-step g c o log h =
 
 pub returns-in-None-clause-step : goal.returns-in-None-clause-step
 returns-in-None-clause-step g c o log h =
-    let none : (fronted c.args.self.now).queue ≡ [] = search rules in
+    let none : (with_front c.args.self.now).queue ≡ [] = search rules in
     still o log _ c.args.self.now c.take_front.new.self h
     (empty_line o log c.args.self.now h none, open_at_log h (search rules)) refl (search rules)
 
 pub returns-in-None-2-clause-step : goal.returns-in-None-2-clause-step
 returns-in-None-2-clause-step g c o log h =
-    let none : (fronted c.args.self.now).queue ≡ [] = search rules in
+    let none : (with_front c.args.self.now).queue ≡ [] = search rules in
     still o log _ c.args.self.now c.take_front.new.self h
     (empty_line o log c.args.self.now h none, closed_at_log h (closed_where _ _ (search rules))) refl (search rules)
 

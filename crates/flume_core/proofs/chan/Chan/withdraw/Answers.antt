@@ -1,6 +1,6 @@
 -- How a parked receiver is answered that leaves.
 use Rattle.std.proofs.Common.{refl, rules, inl, inr}
-use Rattle.flume_state.specs.declared.entries.Standing.TheVariants.{Waiting, Woken}
+use Rattle.flume_state.specs.declared.entries.ReceiverStatus.TheVariants.{Waiting, Woken}
 use Rattle.flume_core.proofs.Asked.{withdraw_none, withdraw_collects, withdraw_takes, withdraw_leaves, withdraw_passes}
 use Rattle.flume_core.proofs.AskedMarks.{blocks_else}
 use Rattle.flume_core.proofs.dues.AfterStep.{unchanged, left, took_parked, passed}
@@ -25,16 +25,16 @@ returns-in-Woken-clause-step g c o log h =
 
 pub returns-in-Some-front-clause-step : goal.returns-in-Some-front-clause-step
 returns-in-Some-front-clause-step g c o log h =
-    let else_ = c.in_default-standing in
+    let else_ = c.in_default-status in
     let front = c.in-Some-front.ensures.some in
-    withdraw_takes o log c.args.self.now _ c.args.ticket c.in-Some.standing c.in-Some-front.message front.0 h (search rules)
-    (blocks_else c.in-Some.standing else_.not-Filled else_.not-Waiting else_.not-Woken) front.1 (search rules)
+    withdraw_takes o log c.args.self.now _ c.args.ticket c.in-Some.status c.in-Some-front.message front.0 h (search rules)
+    (blocks_else c.in-Some.status else_.not-Filled else_.not-Waiting else_.not-Woken) front.1 (search rules)
 
 pub returns-clause-step : goal.returns-clause-step
 returns-clause-step g c o log h =
-    let else_ = c.in_default-standing in
-    withdraw_leaves o log c.args.self.now _ c.args.ticket c.in-Some.standing _ h (search rules)
-    (blocks_else c.in-Some.standing else_.not-Filled else_.not-Waiting else_.not-Woken) (search rules) (search rules) (search rules)
+    let else_ = c.in_default-status in
+    withdraw_leaves o log c.args.self.now _ c.args.ticket c.in-Some.status _ h (search rules)
+    (blocks_else c.in-Some.status else_.not-Filled else_.not-Waiting else_.not-Woken) (search rules) (search rules) (search rules)
 
 pub returns-in_default-clause-dues : goal.returns-in_default-clause-dues
 returns-in_default-clause-dues g c = λ led. unchanged _ _ _ _ (λ t. refl) (search rules)

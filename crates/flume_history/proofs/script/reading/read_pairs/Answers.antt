@@ -1,5 +1,5 @@
 use Rattle.std.proofs.Common.{◌≡◌, ◌++◌, ◌∷◌, [], length, ap, sym, ◌∙◌, rules}
-use Rattle.flume_history.specs.ToldReading.{pairs_of}
+use Rattle.flume_history.specs.HistoryReading.{pairs_of}
 use Rattle.flume_history.proofs.ReadPairs.{one_more, up_to, pairs_push, pairs_length}
 use Rattle.flume_history.proofs.script.reading.read_pairs.Goals as goal
 

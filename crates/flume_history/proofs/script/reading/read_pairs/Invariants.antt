@@ -1,5 +1,5 @@
 use Rattle.std.proofs.Common.{length}
-use Rattle.flume_history.specs.ToldReading.{pairs_of}
+use Rattle.flume_history.specs.HistoryReading.{pairs_of}
 use Rattle.flume_history.proofs.ReadPairs.{ReadPairs}
 use Rattle.flume_history.proofs.script.reading.read_pairs.Given as goal
 

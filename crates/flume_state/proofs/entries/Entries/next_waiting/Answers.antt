@@ -1,5 +1,5 @@
 use Rattle.std.proofs.Common.{◌≡◌, Some, None, ap, ap₂, sym, ◌∙◌, option_map}
-use Rattle.flume_state.specs.Parked.{first_waiting, ticket_or}
+use Rattle.flume_state.specs.EntryLayout.{first_waiting, ticket_or}
 use Rattle.flume_state.specs.Ticketed.{ticket_in}
 use Rattle.flume_state.proofs.EntryParts.{read_some, read_value}
 use Rattle.flume_state.proofs.EntryDues.{nobody_waits, waits_at, waits_first}

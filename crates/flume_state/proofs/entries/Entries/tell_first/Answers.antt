@@ -1,5 +1,5 @@
 use Rattle.std.proofs.Common.{◌≡◌, None, Some, ap, not, sym, ◌∙◌, subst}
-use Rattle.flume_state.specs.Parked.{ticket_or}
+use Rattle.flume_state.specs.EntryLayout.{ticket_or}
 use Rattle.flume_state.specs.Receivers.{NoDueReceiver}
 use Rattle.flume_state.specs.Ticketed.{ticket_in}
 use Rattle.flume_state.proofs.EntryParts.{read_value}

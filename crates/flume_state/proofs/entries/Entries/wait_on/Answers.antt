@@ -1,6 +1,6 @@
 use Rattle.std.proofs.Common.{ap, arith, refl, sym, ◌∙◌}
 use Rattle.flume_model.specs.Entries.{entry_of, is_woken}
-use Rattle.flume_state.specs.Parked.{asked_again}
+use Rattle.flume_state.specs.EntryLayout.{asked_again}
 use Rattle.flume_state.specs.Receivers.{waits_on}
 use Rattle.flume_state.proofs.EntryAsks.{again_entries, again_sorted, asks_entries, asks_filled, asks_none, asks_sorted, moved, woken_empty}
 use Rattle.flume_state.proofs.EntryParts.{read_some, read_value}

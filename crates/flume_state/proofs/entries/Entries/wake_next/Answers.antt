@@ -1,6 +1,6 @@
 use Rattle.std.proofs.Common.{ap, sym, ◌∙◌}
 use Rattle.flume_state.specs.Notices.{due_now}
-use Rattle.flume_state.specs.Parked.{entries_in, first_marked}
+use Rattle.flume_state.specs.EntryLayout.{entries_in, first_marked}
 use Rattle.flume_state.specs.Ticketed.{revalued}
 use Rattle.flume_state.proofs.EntryParts.{read_some, read_value}
 use Rattle.flume_state.proofs.EntryDues.{nobody_marked, sorted_woken, waits_at, waits_some, woken_entries, woken_value}

@@ -1,5 +1,5 @@
 use Rattle.std.proofs.Common.{refl, sym, ◌∙◌}
-use Rattle.flume_state.specs.SendChain.{due_accepting}
+use Rattle.flume_state.specs.SendLayout.{due_accepting}
 use Rattle.flume_state.proofs.ByTicket.{found_somewhere, stands}
 use Rattle.flume_state.proofs.SendSteps.{none_changed, written_kept, written_view, moved_kept, moved_view}
 use Rattle.flume_state.proofs.sends.Sends.line_up.Goals as goal

@@ -1,5 +1,5 @@
 use Rattle.std.proofs.Common.{refl}
-use Rattle.flume_state.specs.Notices.{told}
+use Rattle.flume_state.specs.Notices.{no_longer_due}
 use Rattle.flume_state.specs.Sends.{with_notice}
 use Rattle.flume_state.proofs.SendSteps.{none_first, written_view}
 use Rattle.flume_state.proofs.FirstDue.{due_ticket, first_due, told_kept, told_due}
@@ -29,4 +29,4 @@ pub returns-clause-taken : goal.returns-clause-taken
 returns-clause-taken g c =
     let f = first_due _ _ c.in_ok-ticket.ticket c.in_ok-place.place _ c.self.invariant c.in_ok-place.was
     c.ticket.ensures.apart c.ticket.ensures.single c.in_ok-ticket.ensures.ticket c.in_ok-send.ensures.value in
-    written_view _ _ _ _ _ (with_notice told) c.self.view_is f.stands
+    written_view _ _ _ _ _ (with_notice no_longer_due) c.self.view_is f.stands

@@ -25,7 +25,7 @@ module _ {T A : Type 0} where
       if is_live log t then Some (not (has_ticket t (blocked opening log))) else None
 
   -- the log is a run, and the state is the one that it leads to
-  pub record StandsFor {S : Type 0} (opening : Opening) (log : Log T A)
+  pub record Represents {S : Type 0} (opening : Opening) (log : Log T A)
       (s : State T S) : Type 0 where
     pub run : IsRun opening log
     pub capacity_is : s.capacity ≡ capacity opening log
@@ -74,15 +74,15 @@ module _ {T A S : Type 0} where
   -- after
   abbrev pub Extends : State T S → Step T → Reply T A → State T S → Type 0
   Extends old step reply new =
-      (opening : Opening) (log : Log T A) → StandsFor opening log old
-      → StandsFor opening ((step, reply) ∷ log) new
+      (opening : Opening) (log : Log T A) → Represents opening log old
+      → Represents opening ((step, reply) ∷ log) new
 
 module _ {T S : Type 0} where
   -- each log that stood for the one state stands for the other
-  abbrev pub Keeps : Type 0 → State T S → State T S → Type 0
-  Keeps A old new =
-      (opening : Opening) (log : Log T A) → StandsFor opening log old → StandsFor opening log new
+  abbrev pub SameLogs : Type 0 → State T S → State T S → Type 0
+  SameLogs A old new =
+      (opening : Opening) (log : Log T A) → Represents opening log old → Represents opening log new
 
   -- some run led to the state
-  abbrev pub IsLedTo : Type 0 → State T S → Type 0
-  IsLedTo A s = (opening : Opening) × (log : Log T A) × StandsFor opening log s
+  abbrev pub IsReachable : Type 0 → State T S → Type 0
+  IsReachable A s = (opening : Opening) × (log : Log T A) × Represents opening log s

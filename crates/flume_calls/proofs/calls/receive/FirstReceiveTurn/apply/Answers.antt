@@ -1,7 +1,7 @@
 -- A receive that doesn't wait gets the front.
 use Rattle.std.proofs.Common.{rules}
 use Rattle.flume_calls.proofs.Got.{same_got}
-use Rattle.flume_calls.proofs.calls.receive.FirstReceiveTurn.make.Goals as goal
+use Rattle.flume_calls.proofs.calls.receive.FirstReceiveTurn.apply.Goals as goal
 
 pub returns-in-Got-clause-outcome : goal.returns-in-Got-clause-outcome
 returns-in-Got-clause-outcome g c = record {

@@ -39,7 +39,7 @@ module _ {T : Type 0} where
 
   -- the elements are the queued ones and behind them the blocked ones, as many as are counted, of
   -- which the first has this place
-  pub record Lined (items : List (Placed (Ticketed T))) (first : Option ℕ) (count : ℕ)
+  pub record LineLayout (items : List (Placed (Ticketed T))) (first : Option ℕ) (count : ℕ)
       : Type 0 where
     pub front : List (Placed (Ticketed T))
     pub back : List (Placed (Ticketed T))

@@ -2,7 +2,7 @@
 use Rattle.std.proofs.Common.{◌≡◌, refl, subst, rules}
 use Rattle.flume_state.specs.Effects.{Begins}
 use Rattle.flume_calls.proofs.Got.{same_got}
-use Rattle.flume_calls.proofs.calls.receive.ParkReceiveTurn.make.Goals as goal
+use Rattle.flume_calls.proofs.calls.receive.ParkReceiveTurn.apply.Goals as goal
 
 pub returns-in-Got-clause-outcome : goal.returns-in-Got-clause-outcome
 returns-in-Got-clause-outcome g c = record {

@@ -30,17 +30,17 @@ module _ {S : Type 0} where
   due_accepting accepts s = record { accepted = accepts || s.accepted; notice = due_now s.notice }
 
   -- each element has a ticket, and is due or not
-  abbrev pub AllLined : Bool → List (Element S) → Type 0
-  AllLined due [] = ⊤
-  AllLined due (x ∷ xs) =
-      IsSome x.element.ticket × (x.element.value.notice.due ≡ due) × AllLined due xs
+  abbrev pub EachDueIs : Bool → List (Element S) → Type 0
+  EachDueIs due [] = ⊤
+  EachDueIs due (x ∷ xs) =
+      IsSome x.element.ticket × (x.element.value.notice.due ≡ due) × EachDueIs due xs
 
   -- the elements are those that aren't due, and then those that are, of which the first is at this
   -- place
-  pub record Lined (items : List (Element S)) (due : Option ℕ) : Type 0 where
+  pub record SendLayout (items : List (Element S)) (due : Option ℕ) : Type 0 where
     pub quiet : List (Element S)
     pub late : List (Element S)
     pub parts : items ≡ quiet ++ late
-    pub none_due : AllLined false quiet
-    pub all_due : AllLined true late
+    pub none_due : EachDueIs false quiet
+    pub all_due : EachDueIs true late
     pub first : due ≡ first_place late

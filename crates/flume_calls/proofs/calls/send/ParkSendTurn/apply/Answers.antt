@@ -1,6 +1,6 @@
 -- An offer that parks has the next ticket.
 use Rattle.std.proofs.Common.{◌≡◌, sym, ◌∙◌, rules}
-use Rattle.flume_calls.proofs.calls.send.ParkSendTurn.make.Goals as goal
+use Rattle.flume_calls.proofs.calls.send.ParkSendTurn.apply.Goals as goal
 
 pub returns-in-Pending-clause-outcome : goal.returns-in-Pending-clause-outcome
 returns-in-Pending-clause-outcome g c = record {

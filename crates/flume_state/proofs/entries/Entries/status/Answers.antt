@@ -1,14 +1,14 @@
 use Rattle.std.proofs.Common.{Some, ap, sym, ◌∙◌, option_map}
 use Rattle.flume_model.specs.Entries.{entry_of}
-use Rattle.flume_state.specs.Receivers.{standing_as, standing_of}
+use Rattle.flume_state.specs.Receivers.{status_by, status_of}
 use Rattle.flume_state.proofs.EntryParts.{read_some, read_value}
 use Rattle.flume_state.proofs.EntrySeats.{nobody, seated}
-use Rattle.flume_state.proofs.entries.Entries.standing.Goals as goal
+use Rattle.flume_state.proofs.entries.Entries.status.Goals as goal
 
 pub returns-in_err-place : goal.returns-in_err-place
 returns-in_err-place g c =
     let none = nobody _ _ _ _ c.args.ticket c.self.invariant (sym c.in_err-place.ensures.place) in
-    record { standing = c.from_residual.ensures ∙ sym (ap (option_map standing_of) (ap (entry_of c.args.ticket) (sym c.self.view_is) ∙ none)) }
+    record { status = c.from_residual.ensures ∙ sym (ap (option_map status_of) (ap (entry_of c.args.ticket) (sym c.self.view_is) ∙ none)) }
 
 pub returns-in_err-parked : goal.returns-in_err-parked
 returns-in_err-parked g c =
@@ -20,6 +20,6 @@ returns g c =
     let s = seated _ _ _ _ c.args.ticket _ c.self.invariant (sym c.in_ok-place.ensures.place) in
     let value = read_value _ _ _ s.here c.in_ok-parked.ensures.found in
     record {
-      standing = ap Some c.of.ensures.standing ∙ ap (λ p. Some (standing_as p.kind p.mark)) value
-          ∙ sym (ap (option_map standing_of) (ap (entry_of c.args.ticket) (sym c.self.view_is) ∙ s.entry));
+      status = ap Some c.of.ensures.status ∙ ap (λ p. Some (status_by p.kind p.mark)) value
+          ∙ sym (ap (option_map status_of) (ap (entry_of c.args.ticket) (sym c.self.view_is) ∙ s.entry));
     }

@@ -29,7 +29,7 @@ pub record IsPairLine (line : List ℕ) (pair : Pair) : Type 0 where
   pub line_is : line ≡ step_text ++ codes " -> " ++ pair.1
 
 -- the lines are an opening line, and then one line for each of these pairs
-pub record IsToldScript (lines : List (List ℕ)) (capacity : Option ℕ) (pairs : List Pair)
+pub record IsHistoryText (lines : List (List ℕ)) (capacity : Option ℕ) (pairs : List Pair)
     : Type 0 where
   pub first : List ℕ
   pub rest : List (List ℕ)
@@ -53,9 +53,9 @@ pub record PairsUpTo (lines : List (List ℕ)) (place : ℕ) : Type 0 where
   pub place_is : length before ≡ place
 
 -- the first wrong line has this number, counted from 1; where there is no line, the first is wrong
-abbrev pub IsFirstWrongTold : List (List ℕ) → ℕ → Type 0
-IsFirstWrongTold [] number = number ≡ 1
-IsFirstWrongTold (first ∷ rest) number =
+abbrev pub IsFirstWrongPair : List (List ℕ) → ℕ → Type 0
+IsFirstWrongPair [] number = number ≡ 1
+IsFirstWrongPair (first ∷ rest) number =
     (IsNoOpening first × (number ≡ 1))
     ⊎ ((capacity : Option ℕ) × IsOpeningLine first capacity
     × (place : ℕ) × PairsUpTo rest place × (number ≡ place + 2))
@@ -90,7 +90,7 @@ break_text number said should =
 pub record Runs (A : Type 0) (input text : List ℕ) (status : ℕ) : Type 0 where
   pub capacity : Option ℕ
   pub pairs : List Pair
-  pub reads : IsToldScript (lines input) capacity pairs
+  pub reads : IsHistoryText (lines input) capacity pairs
   pub is_history : IsHistory {A = A} Says (opens capacity 1) pairs
   pub text_is : text ≡ codes "run" ++ 10 ∷ []
   pub status_is : status ≡ 0
@@ -103,7 +103,7 @@ pub record Breaks (A : Type 0) (input text : List ℕ) (status : ℕ) : Type 0 w
   pub step : Step ℕ
   pub said : List ℕ
   pub later : List Pair
-  pub reads : IsToldScript (lines input) capacity (before ++ (step, said) ∷ later)
+  pub reads : IsHistoryText (lines input) capacity (before ++ (step, said) ∷ later)
   pub breaks :
       BreaksAt {A = A} Says (opens capacity 1) (before ++ (step, said) ∷ later) (length before)
   pub should : List ℕ
@@ -113,13 +113,13 @@ pub record Breaks (A : Type 0) (input text : List ℕ) (status : ℕ) : Type 0 w
   pub status_is : status ≡ 1
 
 -- a line is wrong: the text names the first one
-pub record RefusesTold (input text : List ℕ) (status : ℕ) : Type 0 where
+pub record RefusesHistory (input text : List ℕ) (status : ℕ) : Type 0 where
   pub line : ℕ
-  pub wrong : IsFirstWrongTold (lines input) line
+  pub wrong : IsFirstWrongPair (lines input) line
   pub text_is : text ≡ wrong_text line
   pub status_is : status ≡ 2
 
 -- of these bytes this text is printed, with this status; A is the allocator of the lists in replies
 abbrev pub Judges : Type 0 → List ℕ → List ℕ → ℕ → Type 0
 Judges A input text status =
-    Runs A input text status ⊎ (Breaks A input text status ⊎ RefusesTold input text status)
+    Runs A input text status ⊎ (Breaks A input text status ⊎ RefusesHistory input text status)

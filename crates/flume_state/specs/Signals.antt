@@ -3,9 +3,9 @@ use Rattle.std.specs.Prelude.{◌≡◌, ℕ, true, Option, Some, None}
 use Rattle.std.specs.Option.{option_map}
 use Rattle.std.specs.FinMap.{get}
 use Rattle.flume_model.specs.Entries.{entry_of}
-use Rattle.flume_state.specs.Notices.{told}
+use Rattle.flume_state.specs.Notices.{no_longer_due}
 use Rattle.flume_state.specs.Sends.{noticed_send, is_due_send}
-use Rattle.flume_state.specs.Receivers.{Tells}
+use Rattle.flume_state.specs.Receivers.{NamesReceiver}
 use Rattle.flume_state.specs.State.{State}
 
 module _ {S : Type 0} where
@@ -24,6 +24,6 @@ module _ {T S : Type 0} where
   -- a ticket that was due is named: one of a send, or of a parked receiver
   pub data Names (old new : State T S) (ticket : ℕ) : Type 0 where
     Send : is_due_send old.sends ticket ≡ true
-        → new ≡ record old { sends = noticed_send told ticket old.sends } → Names old new ticket
-    Receive : Tells old.entries new.entries ticket
+        → new ≡ record old { sends = noticed_send no_longer_due ticket old.sends } → Names old new ticket
+    Receive : NamesReceiver old.entries new.entries ticket
         → new ≡ record old { entries = new.entries } → Names old new ticket

@@ -1,7 +1,7 @@
 -- A parked receive gets what filled it, or the front where it may.
 use Rattle.std.proofs.Common.{rules}
 use Rattle.flume_calls.proofs.Got.{same_got}
-use Rattle.flume_calls.proofs.calls.receive.AgainReceiveTurn.make.Goals as goal
+use Rattle.flume_calls.proofs.calls.receive.AgainReceiveTurn.apply.Goals as goal
 
 pub returns-in-Got-clause-outcome : goal.returns-in-Got-clause-outcome
 returns-in-Got-clause-outcome g c = rw (← c.call.view_is) (record {

@@ -2,7 +2,7 @@
 -- that no send has isn't of a blocked one.
 use Rattle.std.proofs.Common.{◌≡◌, ◌≢◌, Bool, true, false, if◌then◌else◌, Option, Some, None, rules}
 use Rattle.flume_state.specs.Effects.{Returns}
-use Rattle.flume_calls.proofs.calls.send.AgainSendTurn.make.Goals as goal
+use Rattle.flume_calls.proofs.calls.send.AgainSendTurn.apply.Goals as goal
 
 -- a ticket that isn't live isn't that of a blocked send
 unblocked : (live accepted : Bool) (o : Option Bool) → live ≡ false → o ≡ (if live then Some accepted else None) → o ≢ Some false

@@ -69,7 +69,7 @@ module _ {T S : Type 0} where
       × Each waits due items
 
   -- the elements in their order, the boundaries, and how many wait
-  pub record Sorted (items : List (Placed (Ticketed (Parked T S)))) (due waits : Option ℕ)
+  pub record EntryLayout (items : List (Placed (Ticketed (Parked T S)))) (due waits : Option ℕ)
       (waiting : ℕ) : Type 0 where
     pub quiet : List (Placed (Ticketed (Parked T S)))
     pub dues : List (Placed (Ticketed (Parked T S)))
