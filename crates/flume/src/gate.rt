@@ -14,6 +14,7 @@ use flume_calls::calls::{
 use flume_calls::gates::{RecvGate, SendGate};
 use flume_model::step::Kind;
 use flume_deadline::Deadline;
+use flume_model::step::Kind;
 use std::alloc::Allocator;
 use std::marker::Model;
 use std::sync::Arc;

@@ -11,6 +11,7 @@ use flume_calls::single::{AskCapacity, AskNumber, AskTruth, Single};
 use flume_core::error::{CapacityError, NoMemory, SendError, SendTimeoutError, TrySendError};
 use flume_model::step::Reply;
 use flume_deadline::Deadline;
+use flume_model::step::Reply;
 use std::alloc::{AllocError, Allocator, Global};
 use std::fmt;
 use std::marker::Model;
