@@ -12,7 +12,6 @@ use flume_calls::calls::{
     SendCall, SendNext,
 };
 use flume_calls::gates::{RecvGate, SendGate};
-use flume_model::step::Kind;
 use flume_deadline::Deadline;
 use flume_model::step::Kind;
 use std::alloc::Allocator;

@@ -11,7 +11,6 @@ use flume_calls::calls::FirstReceive;
 use flume_calls::gates::recv_over;
 use flume_calls::single::{AskCapacity, AskNumber, AskTruth, Single};
 use flume_core::error::{CapacityError, NoMemory, RecvError, RecvTimeoutError, TryRecvError};
-use flume_model::step::Reply;
 use flume_deadline::Deadline;
 use flume_model::step::Reply;
 use std::alloc::{AllocError, Allocator, Global};

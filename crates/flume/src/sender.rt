@@ -9,7 +9,6 @@ use flume_calls::calls::FirstSend;
 use flume_calls::gates::send_over;
 use flume_calls::single::{AskCapacity, AskNumber, AskTruth, Single};
 use flume_core::error::{CapacityError, NoMemory, SendError, SendTimeoutError, TrySendError};
-use flume_model::step::Reply;
 use flume_deadline::Deadline;
 use flume_model::step::Reply;
 use std::alloc::{AllocError, Allocator, Global};
