@@ -19,9 +19,9 @@ pub struct Player<'a, R: Waits, A: Allocator + Copy> {
     /// A second receiver, which selections take.
     pub other: Option<Arc<Rx<R, A>>>,
     pub weak: Option<Arc<Weak<R, A>>>,
-    pub lines: &'static str,
+    pub lines: &'a str,
     /// What stands for `CALL`, and how it is known that this call has parked.
-    pub call: (&'static str, &'static str),
+    pub call: (&'a str, &'a str),
     pub later: Instant,
 }
 

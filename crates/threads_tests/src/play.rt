@@ -68,8 +68,8 @@ impl Cast {
 
 // How a script is played: what stands for `CALL`, and at which capacity.
 #[derive(Clone, Copy)]
-struct Version {
-    call: (&'static str, &'static str),
+struct Version<'a> {
+    call: (&'a str, &'a str),
     capacity: Option<usize>,
 }
 
@@ -81,7 +81,7 @@ struct Run<'a, H: Abort, R: Waits, A: Allocator + Copy> {
     alloc: Global,
     ends: Ends<R, A>,
     shared: &'a Shared,
-    call: (&'static str, &'static str),
+    call: (&'a str, &'a str),
     later: Instant,
 }
 
@@ -114,7 +114,7 @@ impl<'a, H: Abort, R: Waits, A: Allocator + Copy> Run<'a, H, R, A> {
     }
 
     // The first thread of those that a line tells of.
-    fn first(&self, cast: Cast, lines: &'static str) -> Player<'a, R, A> {
+    fn first(&self, cast: Cast, lines: &'a str) -> Player<'a, R, A> {
         Player {
             rt: self.rt,
             alloc: self.alloc,
@@ -130,7 +130,7 @@ impl<'a, H: Abort, R: Waits, A: Allocator + Copy> Run<'a, H, R, A> {
     }
 
     // The threads of which a part of a script tells.
-    fn enlist(&self, players: &mut Vec<Player<'a, R, A>>, part: &'static str) {
+    fn enlist(&self, players: &mut Vec<Player<'a, R, A>>, part: &'a str) {
         let (ends, lines) = part.split_once(": ").unwrap_or((part, ""));
         let cast = Cast::read(ends);
         let first = self.first(cast, lines);
@@ -146,7 +146,7 @@ fn players<'a, H: Abort, R: Waits, A: Allocator + Copy>(
     (host, rt): (&'a H, R),
     (alloc, heap): (Global, A),
     (shared, later): (&'a Shared, Instant),
-    (version, parts): (Version, &'static str),
+    (version, parts): (Version<'a>, &'a str),
 ) -> Vec<Player<'a, R, A>> {
     let mut ends = Vec::new(alloc);
     for _ in 0..CHANNELS {
@@ -187,8 +187,8 @@ where
 fn play_version<R: Waits + Threads + Abort + Send + Sync>(
     rt: &R,
     alloc: Global,
-    (title, parts): (&'static str, &'static str),
-    version: Version,
+    (title, parts): (&str, &str),
+    version: Version<'_>,
 ) {
     let shared = Shared::new(alloc);
     let (noted, heap) = (shared.noted(*rt), &shared.heap);
@@ -215,8 +215,8 @@ fn play_version<R: Waits + Threads + Abort + Send + Sync>(
 fn play_at_each<R: Waits + Threads + Abort + Send + Sync>(
     rt: &R,
     alloc: Global,
-    script: (&'static str, &'static str),
-    (capacities, call): (&'static str, (&'static str, &'static str)),
+    script: (&str, &str),
+    (capacities, call): (&str, (&str, &str)),
 ) {
     for word in capacities.split(" ") {
         let capacity = if word == "any" {
@@ -229,11 +229,7 @@ fn play_at_each<R: Waits + Threads + Abort + Send + Sync>(
 }
 
 // Plays a script, as often as it says and with each call that it names.
-fn play_block<R: Waits + Threads + Abort + Send + Sync>(
-    rt: &R,
-    alloc: Global,
-    block: &'static str,
-) {
+fn play_block<R: Waits + Threads + Abort + Send + Sync>(rt: &R, alloc: Global, block: &str) {
     let (title, script) = block.split_once("\n").unwrap_or((block, ""));
     let (opening, parts) = script.split_once("\n- ").unwrap_or((script, ""));
     let (opening, calls) = opening.split_once("\nCALL: ").unwrap_or((opening, ""));
@@ -252,7 +248,7 @@ fn play_block<R: Waits + Threads + Abort + Send + Sync>(
 pub(crate) fn play<R: Waits + Threads + Abort + Send + Sync + 'static>(
     rt: R,
     alloc: Global,
-    scripts: &'static str,
+    scripts: &str,
 ) {
     let watch = watching(rt, alloc);
     for block in scripts.trim_end().split("\n= ").skip(1) {
