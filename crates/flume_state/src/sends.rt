@@ -73,6 +73,7 @@ impl<S: Drop, A: Allocator + Copy> Sends<S, A> {
         ensures absent { OnOk result (get self.old ticket ≡ None) }
         ensures err { OnErr result (self.new ≡ self.old) }
     {
+        self.chain.facts();
         let notice = Notice { signal, due: false };
         let send = LiveSend {
             accepted: false,
@@ -105,6 +106,7 @@ impl<S: Drop, A: Allocator + Copy> Sends<S, A> {
     fn get(&self, ticket: u64) -> Option<&LiveSend<S>>
         ensures value { option_copied result ≡ get self.now ticket }
     {
+        self.chain.facts();
         let place = self.chain.find(ticket)?;
         self.chain.get(place)
     }
@@ -114,6 +116,7 @@ impl<S: Drop, A: Allocator + Copy> Sends<S, A> {
     pub fn set_signal(&mut self, ticket: u64, signal: S)
         ensures replaced { self.new ≡ noticed_send (resignalled (Some signal)) ticket self.old }
     {
+        self.chain.facts();
         let Some(place) = self.chain.find(ticket) else {
             return;
         };
@@ -145,6 +148,7 @@ impl<S: Drop, A: Allocator + Copy> Sends<S, A> {
     fn line_up(&mut self, ticket: u64, accepts: bool)
         ensures due { self.new ≡ changed self.old ticket (due_accepting accepts) }
     {
+        self.chain.facts();
         let Some(place) = self.chain.find(ticket) else {
             return;
         };
@@ -165,6 +169,7 @@ impl<S: Drop, A: Allocator + Copy> Sends<S, A> {
     pub fn spend(&mut self, ticket: u64)
         ensures spent { self.new ≡ remove self.old ticket }
     {
+        self.chain.facts();
         let Some(place) = self.chain.find(ticket) else {
             return;
         };
@@ -199,6 +204,7 @@ impl<S: Drop, A: Allocator + Copy> Sends<S, A> {
         ensures none_due { IfNone result (NoDueSend self.old) }
         ensures unchanged { IfNone result (self.new ≡ self.old) }
     {
+        self.chain.facts();
         let place = self.due?;
         let ticket = self.chain.ticket(place)?;
         let send = self.chain.get_mut(place)?;

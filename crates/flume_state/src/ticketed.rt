@@ -69,6 +69,16 @@ impl<E: Drop, A: Allocator + Copy> TicketChain<E, A> {
         }
     }
 
+    /// What holds of every chain: no two elements have the same ticket, and no two the same place.
+    /// Does nothing.
+    #[inline(always)]
+    pub fn facts(&self)
+        ensures single { (t : ℕ) → ticket_times t self.now.items ≤ 1 }
+        ensures apart { (k : ℕ) → times k (places self.now.items) ≤ 1 }
+    {
+        let _ = self.chain.len();
+    }
+
     /// How many elements stand. It reads a count, whatever the length.
     #[inline(always)]
     pub fn len(&self) -> usize
@@ -95,8 +105,6 @@ impl<E: Drop, A: Allocator + Copy> TicketChain<E, A> {
     #[inline(always)]
     pub fn find(&self, ticket: u64) -> Option<u32>
         ensures place { result ≡ place_of ticket self.now.items }
-        ensures single { (t : ℕ) → ticket_times t self.now.items ≤ 1 }
-        ensures apart { (k : ℕ) → times k (places self.now.items) ≤ 1 }
     {
         self.places.get(ticket)
     }
@@ -106,7 +114,6 @@ impl<E: Drop, A: Allocator + Copy> TicketChain<E, A> {
     pub fn get(&self, place: u32) -> Option<&E>
         ensures found { option_copied result
             ≡ option_map (λ e. e.value) (found self.now.items place) }
-        ensures apart { (k : ℕ) → times k (places self.now.items) ≤ 1 }
     {
         Some(&self.chain.get(place)?.value)
     }
@@ -115,8 +122,6 @@ impl<E: Drop, A: Allocator + Copy> TicketChain<E, A> {
     #[inline(always)]
     pub fn ticket(&self, place: u32) -> Option<u64>
         ensures ticket { result ≡ ticket_in (found self.now.items place) }
-        ensures single { (t : ℕ) → ticket_times t self.now.items ≤ 1 }
-        ensures apart { (k : ℕ) → times k (places self.now.items) ≤ 1 }
     {
         self.chain.get(place)?.ticket.get()
     }
@@ -138,8 +143,6 @@ impl<E: Drop, A: Allocator + Copy> TicketChain<E, A> {
     #[inline(always)]
     pub fn first(&self) -> Option<u32>
         ensures first { result ≡ first_place self.now.items }
-        ensures single { (t : ℕ) → ticket_times t self.now.items ≤ 1 }
-        ensures apart { (k : ℕ) → times k (places self.now.items) ≤ 1 }
     {
         self.chain.first()
     }
@@ -149,8 +152,6 @@ impl<E: Drop, A: Allocator + Copy> TicketChain<E, A> {
     #[inline(always)]
     pub fn next(&self, place: u32) -> Option<u32>
         ensures next { result ≡ place_after self.now.items place }
-        ensures single { (t : ℕ) → ticket_times t self.now.items ≤ 1 }
-        ensures apart { (k : ℕ) → times k (places self.now.items) ≤ 1 }
     {
         self.chain.next(place)
     }
@@ -168,8 +169,6 @@ impl<E: Drop, A: Allocator + Copy> TicketChain<E, A> {
         ensures succeeds { 0 < self.old.room → IsOk result }
         ensures returned { IfErr result (λ back. back ≡ value) }
         ensures unchanged { OnErr result (self.new ≡ self.old) }
-        ensures single { (t : ℕ) → ticket_times t self.old.items ≤ 1 }
-        ensures apart { (k : ℕ) → times k (places self.old.items) ≤ 1 }
     {
         let element = Ticketed {
             ticket: MaybeTicket::none(),
@@ -194,8 +193,6 @@ impl<E: Drop, A: Allocator + Copy> TicketChain<E, A> {
         ensures room { OnOk result (0 < self.old.room → self.new.room + 1 ≡ self.old.room) }
         ensures returned { IfErr result (λ back. back ≡ value) }
         ensures unchanged { OnErr result (self.new ≡ self.old) }
-        ensures single { (t : ℕ) → ticket_times t self.old.items ≤ 1 }
-        ensures apart { (k : ℕ) → times k (places self.old.items) ≤ 1 }
     {
         if self.places.get(ticket).is_some() {
             return Err(value);
@@ -232,8 +229,6 @@ impl<E: Drop, A: Allocator + Copy> TicketChain<E, A> {
         ensures stood { result ≡ true ↔ IsSome (found self.old.items place) }
         ensures room { self.new.room ≡ self.old.room }
         ensures unchanged { result ≡ false → self.new ≡ self.old }
-        ensures single { (t : ℕ) → ticket_times t self.old.items ≤ 1 }
-        ensures apart { (k : ℕ) → times k (places self.old.items) ≤ 1 }
     {
         self.chain.move_back(place)
     }
@@ -246,8 +241,6 @@ impl<E: Drop, A: Allocator + Copy> TicketChain<E, A> {
         ensures released { self.new.items ≡ released place self.old.items }
         ensures room { self.new.room ≡ self.old.room }
         ensures unchanged { IfNone result (self.new ≡ self.old) }
-        ensures single { (t : ℕ) → ticket_times t self.old.items ≤ 1 }
-        ensures apart { (k : ℕ) → times k (places self.old.items) ≤ 1 }
     {
         let element = self.chain.get_mut(place)?;
         let ticket = element.ticket.take()?;
@@ -264,8 +257,6 @@ impl<E: Drop, A: Allocator + Copy> TicketChain<E, A> {
         ensures taken { OnSome result (self.new.items ≡ without self.old.items place) }
         ensures room { OnSome result (self.new.room ≡ self.old.room + 1) }
         ensures unchanged { IfNone result (self.new ≡ self.old) }
-        ensures single { (t : ℕ) → ticket_times t self.old.items ≤ 1 }
-        ensures apart { (k : ℕ) → times k (places self.old.items) ≤ 1 }
     {
         let element = self.chain.remove(place)?;
         if let Some(ticket) = element.ticket.get() {
@@ -282,8 +273,6 @@ impl<E: Drop, A: Allocator + Copy> TicketChain<E, A> {
         ensures taken { self.new.items ≡ behind_first self.old.items }
         ensures room { OnSome result (self.new.room ≡ self.old.room + 1) }
         ensures unchanged { IfNone result (self.new ≡ self.old) }
-        ensures single { (t : ℕ) → ticket_times t self.old.items ≤ 1 }
-        ensures apart { (k : ℕ) → times k (places self.old.items) ≤ 1 }
     {
         let element = self.chain.pop_front()?;
         if let Some(ticket) = element.ticket.get() {

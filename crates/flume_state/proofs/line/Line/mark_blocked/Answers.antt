@@ -16,7 +16,7 @@ loop-next-init g c =
 -- where the walk is, one more is marked
 stepped : (g : Over) (c : goal.After-next-next g)
     → Stepped c.self.inside.chain.items c.in-Some.place c.loop-next.sends (with_all_due c.args.self.now.blocked c.args.sends.now)
-stepped g c = walk_steps c.self.inside.chain.items c.loop-next.next c.in-Some.place c.loop-next.sends _ c.ticket.ensures.apart c.loop-next.invariant c.in-Some.is
+stepped g c = walk_steps c.self.inside.chain.items c.loop-next.next c.in-Some.place c.loop-next.sends _ c.facts.ensures.apart c.loop-next.invariant c.in-Some.is
 
 pub loop-next-smaller : goal.loop-next-smaller
 loop-next-smaller g c =
