@@ -28,7 +28,7 @@ impl<T, A: Allocator> Model for Line<T, A> {
 
     ghost Value = { Messages T };
 
-    ghost use Rattle.flume_state.specs.LineLayout.{line_of, space_of, LineLayout};
+    ghost use Rattle.flume_state.specs.layout.LineLayout.{line_of, space_of, LineLayout};
 
     ghost view = { λ s. line_of s.chain.items (space_of s.chain) };
 

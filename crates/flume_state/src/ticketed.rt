@@ -4,14 +4,14 @@ ghost use Rattle.std.specs.Prelude.{true, false};
 ghost use Rattle.std.specs.Prelude.{IsOk, IsSome, IfOk, IfErr, OnOk, OnErr, IfSome, IfNone, OnSome};
 ghost use Rattle.std.specs.Prelude.{option_copied, ◌↔◌};
 ghost use Rattle.std.specs.Option.{option_map, option_copied_mut};
-ghost use Rattle.flume_chain.specs.Chained.{Placed, found, without, first_place};
+ghost use Rattle.flume_chain.specs.Chained.{Placed, found, without};
 ghost use Rattle.flume_chain.specs.Chained.{place_after, first_element, behind_first};
 ghost use Rattle.flume_chain.specs.Chained.{times, places};
-ghost use Rattle.flume_state.specs.Ticketed.{place_of, ticket_times, put_ahead};
-ghost use Rattle.flume_state.specs.Ticketed.{released, ticket_in};
+ghost use Rattle.flume_state.specs.layout.Ticketed.{place_of, ticket_times, put_ahead};
+ghost use Rattle.flume_state.specs.layout.Ticketed.{without_ticket_at, ticket_in};
 ghost use Rattle.flume_state.specs.declared.ticketed.Ticketed.{Ticketed};
 ghost use Rattle.std.specs.Borrow.{sem};
-ghost use Rattle.flume_state.specs.TicketedLends.{lends_value};
+ghost use Rattle.flume_state.specs.layout.TicketedLends.{lends_value};
 
 use crate::maybe_ticket::MaybeTicket;
 use crate::places::Places;
@@ -39,7 +39,7 @@ pub struct TicketChain<E, A: Allocator> {
 impl<E, A: Allocator> Model for TicketChain<E, A> {
     ghost use Rattle.flume_chain.specs.Chained.{Chained};
     ghost use Rattle.flume_state.specs.declared.ticketed.Ticketed.{Ticketed};
-    ghost use Rattle.flume_state.specs.Ticketed.{Agrees};
+    ghost use Rattle.flume_state.specs.layout.Ticketed.{Agrees};
 
     ghost Value = { Chained (Ticketed E) };
 
@@ -48,6 +48,8 @@ impl<E, A: Allocator> Model for TicketChain<E, A> {
     ghost invariant = { λ s. Agrees s.chain.items s.places };
 }
 
+// `len`, `room`, `allocator`, `next` and `move_back` are the chain's, and `find` is the places': they
+// hand on, since both are private, so that neither changes without the other.
 impl<E: Drop, A: Allocator + Copy> TicketChain<E, A> {
     /// No elements. Takes no memory.
     ///
@@ -56,7 +58,7 @@ impl<E: Drop, A: Allocator + Copy> TicketChain<E, A> {
     /// let _ = chain.insert_ticket(None, 7, 'a'); // Ok(0)
     /// let _ = chain.insert_before(Some(0), 'b'); // Ok(1), ahead of 'a'
     /// chain.find(7);                             // Some(0)
-    /// chain.first();                             // Some(1)
+    /// chain.next(1);                             // Some(0)
     /// ```
     #[inline(always)]
     pub fn new(alloc: A) -> Self
@@ -137,14 +139,6 @@ impl<E: Drop, A: Allocator + Copy> TicketChain<E, A> {
             Some(element) => Some(&mut element.value),
             None => None,
         }
-    }
-
-    /// The place of the first element. `None` where none stands.
-    #[inline(always)]
-    pub fn first(&self) -> Option<u32>
-        ensures first { result ≡ first_place self.now.items }
-    {
-        self.chain.first()
     }
 
     /// The place of the element behind that at a place. `None` where none stands at the place, or
@@ -238,7 +232,7 @@ impl<E: Drop, A: Allocator + Copy> TicketChain<E, A> {
     #[inline(always)]
     pub fn release(&mut self, place: u32) -> Option<u64>
         ensures ticket { result ≡ ticket_in (found self.old.items place) }
-        ensures released { self.new.items ≡ released place self.old.items }
+        ensures released { self.new.items ≡ without_ticket_at place self.old.items }
         ensures room { self.new.room ≡ self.old.room }
         ensures unchanged { IfNone result (self.new ≡ self.old) }
     {

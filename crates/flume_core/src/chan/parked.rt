@@ -58,10 +58,10 @@ impl<T: Drop, S: Drop, A: Allocator + Copy> Chan<T, S, A> {
             (again ticket (noticed_receiver (waits_on signal) ticket self.old.entries)) self.old }
         ensures unchanged { ChangesNothing (Step.Poll ticket) result → self.new ≡ self.old }
     {
-        let Some(receiver_status) = self.entries.status(ticket) else {
+        let Some(status) = self.entries.status(ticket) else {
             return Reply::NoTicket;
         };
-        match receiver_status {
+        match status {
             ReceiverStatus::Filled => return self.collect(ticket),
             ReceiverStatus::BlockWaiting => {
                 self.wait_on(ticket, signal);
@@ -117,10 +117,10 @@ impl<T: Drop, S: Drop, A: Allocator + Copy> Chan<T, S, A> {
             × ((with_front self.old).queue ≡ [])) }
         ensures unchanged { ChangesNothing (Step.Withdraw ticket) result → self.new ≡ self.old }
     {
-        let Some(receiver_status) = self.entries.status(ticket) else {
+        let Some(status) = self.entries.status(ticket) else {
             return Reply::NoTicket;
         };
-        match receiver_status {
+        match status {
             ReceiverStatus::Filled => return self.collect(ticket),
             ReceiverStatus::Waiting => return self.pass_on(ticket, false),
             ReceiverStatus::Woken => return self.pass_on(ticket, true),

@@ -1,5 +1,5 @@
 use Rattle.std.proofs.Common.{None, Some, ◌≡◌, refl, sym, ap, subst, ◌∙◌}
-use Rattle.flume_state.specs.LineLayout.{line_of, space_of}
+use Rattle.flume_state.specs.layout.LineLayout.{line_of, space_of}
 use Rattle.flume_state.specs.Messages.{Admits}
 use Rattle.flume_state.proofs.LineSpace.{space_released}
 use Rattle.flume_state.proofs.LineSteps.{admitted}

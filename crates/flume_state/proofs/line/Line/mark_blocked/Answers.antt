@@ -1,7 +1,7 @@
 -- The walk goes from one blocked message to the next, and marks the send of each.
 use Rattle.std.proofs.Common.{◌≡◌, sym, ap, ◌∙◌, arith}
 use Rattle.flume_state.specs.Effects.{with_all_due}
-use Rattle.flume_state.specs.Ticketed.{ticket_in}
+use Rattle.flume_state.specs.layout.Ticketed.{ticket_in}
 use Rattle.flume_chain.specs.Chained.{found}
 use Rattle.flume_state.proofs.LineMarks.{Stepped, left_from, marked_at, walk_begins, walk_steps, walk_ends}
 use Rattle.flume_state.proofs.line.Line.mark_blocked.Given.{Over}

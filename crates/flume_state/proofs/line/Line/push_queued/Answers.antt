@@ -1,5 +1,5 @@
 use Rattle.std.proofs.Common.{◌≡◌, false, true, ap, length, ◌∙◌}
-use Rattle.flume_state.specs.LineLayout.{space_of}
+use Rattle.flume_state.specs.layout.LineLayout.{space_of}
 use Rattle.flume_state.proofs.LineSpace.{grows, has_room, length-put}
 use Rattle.flume_state.proofs.LineSteps.{queues}
 use Rattle.flume_state.proofs.line.Line.push_queued.Goals as goal

@@ -1,5 +1,5 @@
 use Rattle.std.proofs.Common.{◌≡◌, sym, ap, subst, ◌∙◌}
-use Rattle.flume_state.specs.LineLayout.{line_of, space_of}
+use Rattle.flume_state.specs.layout.LineLayout.{line_of, space_of}
 use Rattle.flume_state.specs.Messages.{TakesBack}
 use Rattle.flume_state.proofs.LineSpace.{space_without}
 use Rattle.flume_state.proofs.Withdrawals.{some_holds, absent, withdraws}

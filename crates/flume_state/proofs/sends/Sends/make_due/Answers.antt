@@ -1,8 +1,8 @@
 use Rattle.std.proofs.Common.{refl, sym, ◌∙◌}
-use Rattle.flume_state.specs.SendLayout.{due_accepting}
+use Rattle.flume_state.specs.layout.SendLayout.{due_accepting}
 use Rattle.flume_state.proofs.ByTicket.{found_somewhere, stands}
 use Rattle.flume_state.proofs.SendSteps.{none_changed, written_kept, written_view, moved_kept, moved_view}
-use Rattle.flume_state.proofs.sends.Sends.line_up.Goals as goal
+use Rattle.flume_state.proofs.sends.Sends.make_due.Goals as goal
 
 pub returns-in_default : goal.returns-in_default
 returns-in_default g c = record {
