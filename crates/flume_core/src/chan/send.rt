@@ -3,7 +3,7 @@ ghost use Rattle.std.specs.Prelude.{◌≡◌, ◌≢◌, ℕ, ◌+◌, ◌<◌,
 ghost use Rattle.std.specs.Prelude.{length, Option, Some, None, true, false};
 ghost use Rattle.std.specs.FinMap.{get, insert, remove};
 ghost use Rattle.flume_model.specs.Limits.{IsOpen, IsClosed, IsAtCapacity, most};
-ghost use Rattle.flume_state.specs.Notices.{resignalled};
+ghost use Rattle.flume_state.specs.Notices.{with_signal};
 ghost use Rattle.flume_state.specs.Sends.{blocked, noticed_send};
 ghost use Rattle.flume_model.specs.Entries.{some_wait};
 ghost use Rattle.flume_state.specs.Effects.{Joins, Returns};
@@ -148,11 +148,11 @@ impl<T: Drop, S: Drop, A: Allocator + Copy> Chan<T, S, A> {
             ↔ (accepted_at self.old ticket ≡ Some false)
             × IsOpen self.old.senders self.old.receivers }
         ensures replaced { result ≡ Reply.Waiting → self.new ≡ record self.old {
-          sends = noticed_send (resignalled signal) ticket self.old.sends;
+          sends = noticed_send (with_signal signal) ticket self.old.sends;
         } }
         ensures unchanged { IsRefusal result → self.new ≡ self.old }
     {
-        match self.status(ticket) {
+        match self.sends.accepted(ticket) {
             None => Reply::NoTicket,
             Some(true) => self.learn(ticket),
             Some(false) if !self.is_open() => self.take_back(ticket),
@@ -181,18 +181,11 @@ impl<T: Drop, S: Drop, A: Allocator + Copy> Chan<T, S, A> {
             → Returns self.old self.new ticket message closed }
         ensures unchanged { IsRefusal result → self.new ≡ self.old }
     {
-        match self.status(ticket) {
+        match self.sends.accepted(ticket) {
             None => Reply::NoTicket,
             Some(true) => self.learn(ticket),
             Some(false) => self.take_back(ticket),
         }
-    }
-
-    // Whether the live send with this ticket was accepted.
-    fn status(&self, ticket: u64) -> Option<bool>
-        ensures status { result ≡ accepted_at self.now ticket }
-    {
-        self.sends.accepted(ticket)
     }
 
     // Tells a sender that its message was taken in.
@@ -227,7 +220,7 @@ impl<T: Drop, S: Drop, A: Allocator + Copy> Chan<T, S, A> {
 
     fn replace_signal(&mut self, ticket: u64, signal: Option<S>)
         ensures replaced { self.new ≡ record self.old {
-          sends = noticed_send (resignalled signal) ticket self.old.sends;
+          sends = noticed_send (with_signal signal) ticket self.old.sends;
         } }
     {
         if let Some(signal) = signal {

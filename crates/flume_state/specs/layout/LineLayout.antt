@@ -1,4 +1,4 @@
--- How a line lays out its messages. No clause of its methods cites this module.
+-- For this crate alone: how a line lays out its messages in its chain.
 use Rattle.std.specs.Prelude.{◌≡◌, ◌+◌, ℕ, List, [], ◌∷◌, ◌++◌, Option, Some, None, length}
 use Rattle.flume_chain.specs.Chained.{Chained, Placed, first_place}
 use Rattle.flume_state.specs.Messages.{Messages, Blocked}

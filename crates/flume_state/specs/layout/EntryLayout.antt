@@ -1,7 +1,8 @@
--- How the parked receivers stand in their chain: first those that neither wait nor are due, then
--- those that are due, then those that wait.
+-- For this crate alone: how the parked receivers lie in their chain, first those that neither wait
+-- nor are due, then those that are due, then those that wait.
 use Rattle.std.specs.Prelude.{◌≡◌, ℕ, ◌≤◌, ◌==◌, Bool, true, false, ⊤, if◌then◌else◌}
 use Rattle.std.specs.Prelude.{List, [], ◌∷◌, ◌++◌, Option, Some, None, length}
+use Rattle.std.specs.Option.{unwrap_or}
 use Rattle.flume_chain.specs.Chained.{Placed, times, places, first_place}
 use Rattle.flume_model.specs.Entries.{is_waiting, waiting_count, marked}
 use Rattle.flume_model.specs.declared.entry.Entry.{Entry}
@@ -12,15 +13,10 @@ use Rattle.flume_state.specs.declared.notice.Notice.{Notice}
 use Rattle.flume_state.specs.declared.ticketed.Ticketed.{Ticketed}
 use Rattle.flume_state.specs.Receivers.{Entries, waits_on}
 
--- the number of a ticket that is there
-abbrev pub ticket_or : Option ℕ → ℕ
-ticket_or None = 0
-ticket_or (Some t) = t
-
--- a boundary, off the element at a place, which has this one behind it
-abbrev pub off : Option ℕ → ℕ → Option ℕ → Option ℕ
-off None k next = None
-off (Some b) k next = if b == k then next else Some b
+-- a boundary once the element at a place, which has this one behind it, has left
+abbrev pub boundary_without : Option ℕ → ℕ → Option ℕ → Option ℕ
+boundary_without None k next = None
+boundary_without (Some b) k next = if b == k then next else Some b
 
 module _ {T N : Type 0} where
   -- the first entry that waits
@@ -29,26 +25,22 @@ module _ {T N : Type 0} where
   first_waiting (e ∷ entries) = if is_waiting e.mark then Some e else first_waiting entries
 
   -- the entries with another mark of the first that waits, which is told of it
-  abbrev pub first_marked : (N → N) → Mark T → List (Entry T N) → List (Entry T N)
-  first_marked tell mark [] = []
-  first_marked tell mark (e ∷ entries) =
+  abbrev pub with_first_marked : (N → N) → Mark T → List (Entry T N) → List (Entry T N)
+  with_first_marked tell mark [] = []
+  with_first_marked tell mark (e ∷ entries) =
       if is_waiting e.mark then marked tell mark e ∷ entries
-      else e ∷ first_marked tell mark entries
+      else e ∷ with_first_marked tell mark entries
 
 module _ {T S : Type 0} where
   -- what becomes of one with this mark that asks again: a filled one stays as it is
-  abbrev pub asked_as : Mark T → Option S → Parked T S → Parked T S
-  asked_as (Filled message) signal p = p
-  asked_as _ signal p = record p { mark = Waiting; notice = waits_on signal p.notice }
-
-  -- what becomes of one that asks again
-  abbrev pub asked_again : Option S → Parked T S → Parked T S
-  asked_again signal p = asked_as p.mark signal p
+  abbrev pub after_asking : Mark T → Option S → Parked T S → Parked T S
+  after_asking (Filled message) signal p = p
+  after_asking _ signal p = record p { mark = Waiting; notice = waits_on signal p.notice }
 
   -- an element of the chain as an entry
   abbrev pub entry_in : Placed (Ticketed (Parked T S)) → Entry T (Notice S)
   entry_in x = record {
-    ticket = ticket_or x.element.ticket;
+    ticket = unwrap_or x.element.ticket 0;
     kind = x.element.value.kind;
     mark = x.element.value.mark;
     notice = x.element.value.notice;
@@ -63,7 +55,7 @@ module _ {T S : Type 0} where
   abbrev pub Each : Bool → Bool → List (Placed (Ticketed (Parked T S))) → Type 0
   Each waits due [] = ⊤
   Each waits due (x ∷ items) =
-      (x.element.ticket ≡ Some (ticket_or x.element.ticket))
+      (x.element.ticket ≡ Some (unwrap_or x.element.ticket 0))
       × (is_waiting x.element.value.mark ≡ waits)
       × (x.element.value.notice.due ≡ due)
       × Each waits due items

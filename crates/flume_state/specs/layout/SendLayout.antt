@@ -1,5 +1,4 @@
--- How the live sends lie: in one chain, those that aren't due first. No clause of their methods
--- cites this module.
+-- For this crate alone: how the live sends lie in their chain, those that aren't due first.
 use Rattle.std.specs.Prelude.{◌≡◌, ℕ, Bool, true, false, ◌||◌, List, [], ◌∷◌, ◌++◌}
 use Rattle.std.specs.Prelude.{Option, Some, None, IsSome, ⊤}
 use Rattle.std.specs.Ordering.{nat_cmp}

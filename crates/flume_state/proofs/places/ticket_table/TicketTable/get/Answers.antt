@@ -1,6 +1,6 @@
 use Rattle.std.proofs.Common.{sym}
 use Rattle.flume_state.proofs.TableLemmas.{nothing_found}
-use Rattle.flume_state.proofs.places.table.PlaceTable.get.Goals as goal
+use Rattle.flume_state.proofs.places.ticket_table.TicketTable.get.Goals as goal
 
 pub returns-in-None : goal.returns-in-None
 returns-in-None g c = record {

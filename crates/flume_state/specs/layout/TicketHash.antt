@@ -1,4 +1,4 @@
--- How a table of tickets hashes them. No contract of a table depends on it.
+-- For this crate alone: how a table of tickets hashes them. No contract of a table depends on it.
 use Rattle.std.specs.Prelude.{ℕ, ◌*◌, ◌/◌, ◌%◌, ◌^◌, List, [], ◌∷◌, length, slice_index}
 use Rattle.std.specs.Prelude.{nat_lt, if◌then◌else◌, bit_xor}
 use Rattle.std.specs.Int.{w64, from_le_bytes}
@@ -17,6 +17,6 @@ ticket_of bytes = from_le_bytes w64 (
     ∷ slice_index bytes 4 ∷ slice_index bytes 5 ∷ slice_index bytes 6 ∷ slice_index bytes 7 ∷ [])
 
 -- the hasher after these bytes, of which a ticket has eight
-abbrev pub written : TicketHasher → List ℕ → TicketHasher
-written hasher bytes =
+abbrev pub after_write : TicketHasher → List ℕ → TicketHasher
+after_write hasher bytes =
     if nat_lt (length bytes) 8 then hasher else record { hash = hash_of (ticket_of bytes) }

@@ -1,12 +1,11 @@
--- What the contracts of a chain with tickets cite: its elements in order, of which some have a
--- ticket.
-use Rattle.std.specs.Prelude.{◌≡◌, ℕ, ◌+◌, ◌≤◌, ◌==◌, Bool, false, if◌then◌else◌}
+-- For this crate alone: the elements of a chain in order, of which some have a ticket.
+use Rattle.std.specs.Prelude.{◌≡◌, ℕ, ◌+◌, ◌≤◌, ◌==◌, if◌then◌else◌}
 use Rattle.std.specs.Prelude.{List, [], ◌∷◌, ◌++◌, Option, Some, None}
 use Rattle.std.specs.FinMap.{get}
 use Rattle.flume_model.specs.Log.{is_ticket}
 use Rattle.flume_chain.specs.Chained.{Placed, put_before, times, places}
 use Rattle.flume_state.specs.declared.ticketed.Ticketed.{Ticketed}
-use Rattle.flume_state.specs.Places.{PlaceMap}
+use Rattle.flume_state.specs.layout.Places.{PlaceMap}
 
 module _ {E : Type 0} where
   -- the ticket of an element that may be there
@@ -34,18 +33,18 @@ module _ {E : Type 0} where
   put_ahead items (Some k) x = put_before items k x
 
   -- the elements with another value at a place
-  abbrev pub revalued : ℕ → List (Placed (Ticketed E)) → E → List (Placed (Ticketed E))
-  revalued k [] v = []
-  revalued k (x ∷ items) v =
+  abbrev pub with_value_at : ℕ → List (Placed (Ticketed E)) → E → List (Placed (Ticketed E))
+  with_value_at k [] v = []
+  with_value_at k (x ∷ items) v =
       (if k == x.place then record x { element = record x.element { value = v } } else x)
-      ∷ revalued k items v
+      ∷ with_value_at k items v
 
   -- the elements where that at a place has lost its ticket
-  abbrev pub released : ℕ → List (Placed (Ticketed E)) → List (Placed (Ticketed E))
-  released k [] = []
-  released k (x ∷ items) =
+  abbrev pub without_ticket_at : ℕ → List (Placed (Ticketed E)) → List (Placed (Ticketed E))
+  without_ticket_at k [] = []
+  without_ticket_at k (x ∷ items) =
       (if k == x.place then record x { element = record x.element { ticket = None } } else x)
-      ∷ released k items
+      ∷ without_ticket_at k items
 
   -- each ticket is of one element at most, and so is each place, and the map has the tickets'
   -- places
