@@ -328,8 +328,8 @@ impl Told {
         Ok(kept)
     }
 
-    /// Each reply can be; the j-th hand-out is the j-th offer that was kept; and unless both ends
-    /// are gone, none is left, and each that filled a receiver was collected.
+    /// Each reply can be; the j-th hand-out is the j-th offer that was kept; and unless both sides
+    /// have disconnected, none is left, and each that filled a receiver was collected.
     pub fn is_right(&self, alloc: Global) -> Result<bool, AllocError> {
         let kept = self.kept(alloc)?;
         if self.faults > 0 || !self.is_over() && self.hand_outs.len() != kept.len() {

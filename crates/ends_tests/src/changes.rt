@@ -3,7 +3,8 @@ use flume::{Receiver, Waits};
 use std::alloc::Allocator;
 use std::thread;
 
-/// Sets the capacity to 0, 3, 1 and 8 in turn, until all senders are gone. How often it did.
+/// Sets the capacity to 0, 3, 1 and 8 in turn, until all senders have been dropped. How often it
+/// did.
 pub fn change_capacity<T: Drop, R: Waits, A: Allocator + Copy>(
     rt: &R,
     rx: &Receiver<T, R, A>,

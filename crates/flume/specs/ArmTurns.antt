@@ -83,8 +83,8 @@ module _ {T : Type 0} where
   IsArmSend (SendNext.Done (Err (SendTimeoutError.Timeout back))) = ⊥
   IsArmSend _ = Unit {0}
 
-  -- a step of a receive arm: it never wants a signal, is never too late, and never ends for want of
-  -- memory once it is parked
+  -- a step of a receive arm: it never wants a signal, is never too late, and never ends because
+  -- memory ran out once it is parked
   abbrev pub IsArmReceive : RecvNext T → Type 0
   IsArmReceive RecvNext.NeedSignal = ⊥
   IsArmReceive (RecvNext.Done (Err RecvTimeoutError.Timeout)) = ⊥

@@ -12,7 +12,7 @@ use Rattle.flume_core.specs.declared.error.NoMemory.{NoMemory}
 pub record Receiving : Type 0 where
   -- the number of its channel
   pub channel : ℕ
-  -- whether the last `next` ended for want of memory
+  -- whether the last `next` ended because memory ran out
   pub fault : Bool
   -- how often `next` may still be called; no run uses that up
   pub left : ℕ
@@ -25,11 +25,11 @@ receiving_from channel = record { channel = channel; fault = false; left = 2 ^ 6
 pub record GoesOn {T : Type 0} (old : Receiving) (item : Option T) (new : Receiving) : Type 0 where
   pub channel : new.channel ≡ old.channel
   pub left : old.left ≡ new.left + 1
-  -- it may have ended for want of memory only where it gave nothing
+  -- it may have ended because memory ran out only where it gave nothing
   pub fault : new.fault ≡ true → item ≡ None
 
 module _ {T : Type 0} where
-  -- whether a receive was refused for want of memory
+  -- whether a receive was refused because memory ran out
   abbrev pub is_refused : Result T RecvError → Bool
   is_refused (Err recv_error.NoMemory) = true
   is_refused _ = false

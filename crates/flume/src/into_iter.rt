@@ -42,8 +42,8 @@ impl<T, R: Waits, A: Allocator + Copy> Model for IntoIter<T, R, A> {
 }
 
 impl<T: Drop, R: Waits, A: Allocator + Copy> IntoIter<T, R, A> {
-    /// Whether the last `next` ended for want of memory, and not since all senders were gone. More
-    /// calls of `next` may follow.
+    /// Whether the last `next` ended because memory ran out, and not since all senders had been
+    /// dropped. More calls of `next` may follow.
     ///
     /// ```
     /// let (tx, rx) = flume::on(rt).unbounded::<u64>()?;

@@ -11,8 +11,8 @@ use std::fmt;
 use std::marker::Model;
 
 /// The messages of a receiver, one after the other; it waits for each. `None`: none is there and
-/// all senders are gone, or, where `fault` says so, there was no memory for what a wait needs.
-/// After a `None` there may be more.
+/// all senders have been dropped, or, where `fault` says so, there was no memory for what a wait
+/// needs. After a `None` there may be more.
 ///
 /// ```
 /// let (tx, rx) = flume::on(rt).unbounded()?;
@@ -53,9 +53,9 @@ impl<'a, T: Drop, R: Waits, A: Allocator + Copy> Iter<'a, T, R, A> {
         }
     }
 
-    /// Whether the last `next` ended for want of memory, and not since all senders were gone. The
-    /// receiver can be used on after it. An adapter owns what it adapts and hides this: lend the
-    /// iterator to it by `by_ref`, as in `messages.by_ref().take(10)`.
+    /// Whether the last `next` ended because memory ran out, and not since all senders had been
+    /// dropped. The receiver can be used on after it. An adapter owns what it adapts and hides
+    /// this: lend the iterator to it by `by_ref`, as in `messages.by_ref().take(10)`.
     ///
     /// ```
     /// let (tx, rx) = flume::on(rt).unbounded::<u64>()?;
@@ -143,8 +143,8 @@ impl<'a, T: Drop, R: Waits, A: Allocator + Copy> TryIter<'a, T, R, A> {
         }
     }
 
-    /// Whether the last `next` ended for want of memory: never, since it wants none. It is there
-    /// since the other iterators have it.
+    /// Whether the last `next` ended because memory ran out: never, since it needs none. It is
+    /// there since the other iterators have it.
     pub fn fault(&self) -> bool
         ensures never { result ≡ false }
     {

@@ -10,7 +10,7 @@ use std::alloc::Allocator;
 use std::sync::Wait;
 
 /// How often an iterator's `next` may still be called, so that a loop over it is proved to end, and
-/// whether the last one ended for want of memory.
+/// whether the last one ended because memory ran out.
 #[derive(Drop)]
 pub(crate) struct Progress {
     left: u64,

@@ -41,7 +41,7 @@ impl<T: Drop, R: Waits, A: Allocator + Copy> Receiver<T, R, A> {
     }
 
     /// Takes the next message, where one is there. Doesn't wait for a sender. `Empty`: none is
-    /// there. `Disconnected`: none is, and all senders are gone. Never `NoMemory`.
+    /// there. `Disconnected`: none is, and all senders have been dropped. Never `NoMemory`.
     ///
     /// ```
     /// let (tx, rx) = flume::on(rt).unbounded()?;
@@ -58,7 +58,7 @@ impl<T: Drop, R: Waits, A: Allocator + Copy> Receiver<T, R, A> {
     }
 
     /// Takes the next message, and waits while there is none. `Disconnected`: none is there, and
-    /// all senders are gone. `NoMemory`: there was no room for what a call waits on.
+    /// all senders have been dropped. `NoMemory`: there was no room for what a call waits on.
     ///
     /// ```
     /// let (tx, rx) = flume::on(rt).unbounded()?;
@@ -187,10 +187,11 @@ impl<T: Drop, R: Waits, A: Allocator + Copy> Receiver<T, R, A> {
     /// Sets how many messages the channel holds from now on. Raised, it lets blocked sends in, as
     /// far as there is room, and their calls go on. Lowered, it moves nothing: what is queued is
     /// still received, and sends wait until fewer messages are queued than the channel holds. No
-    /// receiver is woken, and no memory is wanted. At 0 a send waits for a receiver.
+    /// receiver is woken, and no memory is needed. At 0 a send waits for a receiver.
     ///
     /// `Unbounded`: the channel holds any number of messages, and that can't be changed.
-    /// `Disconnected`: all receivers, or all senders, are gone. Both leave the channel as it was.
+    /// `Disconnected`: all receivers, or all senders, have been dropped. Both leave the channel as
+    /// it was.
     ///
     /// ```
     /// let (tx, rx) = flume::on(rt).bounded(1)?;
@@ -213,7 +214,7 @@ impl<T: Drop, R: Waits, A: Allocator + Copy> Receiver<T, R, A> {
         self.shared.call(AskNumber::ReceiverCount)
     }
 
-    /// Whether all receivers, or all senders, are gone.
+    /// Whether all receivers, or all senders, have been dropped.
     pub fn is_disconnected(&self) -> bool {
         self.shared.call(AskTruth::IsDisconnected)
     }

@@ -73,8 +73,9 @@ impl<'a, V, A: Allocator + Copy> Selector<'a, V, (), A> {
 
 impl<'a, V, L: Arms<V, A> + Drop, A: Allocator + Copy> Selector<'a, V, L, A> {
     /// With one more arm, which sends the message. Its mapper gets `Ok`: the message was taken in;
-    /// or `Disconnected` with the message: all receivers are gone. Where another arm completes
-    /// first the mapper isn't called, and the message is dropped unless it was taken in by then.
+    /// or `Disconnected` with the message: all receivers have been dropped. Where another arm
+    /// completes first the mapper isn't called, and the message is dropped unless it was taken in
+    /// by then.
     pub fn send<T: Drop, F, R: Waits>(
         self,
         sender: &'a Sender<T, R, A>,
@@ -91,8 +92,8 @@ impl<'a, V, L: Arms<V, A> + Drop, A: Allocator + Copy> Selector<'a, V, L, A> {
     }
 
     /// With one more arm, which receives a message. Its mapper gets `Ok` with the message; or
-    /// `Disconnected`: none is there, and all senders are gone. Where another arm completes first
-    /// the mapper isn't called, and no message was taken.
+    /// `Disconnected`: none is there, and all senders have been dropped. Where another arm
+    /// completes first the mapper isn't called, and no message was taken.
     pub fn recv<T: Drop, F, R: Waits>(
         self,
         receiver: &'a Receiver<T, R, A>,

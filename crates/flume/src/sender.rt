@@ -20,9 +20,9 @@ use std::time::{Duration, Instant};
 /// Sends messages into a channel. Its clones send into the same one. As the last of them goes the
 /// channel closes: what is queued is still received.
 ///
-/// Once all senders and all receivers are gone, the messages that are left are dropped, while the
-/// channel is locked. A message that holds an end of its own channel keeps it from that. One whose
-/// `drop` upgrades a `WeakSender` of its own channel would wait for itself.
+/// Once all senders and all receivers have been dropped, the messages that are left are dropped,
+/// while the channel is locked. A message that holds an end of its own channel keeps it from that.
+/// One whose `drop` upgrades a `WeakSender` of its own channel would wait for itself.
 pub struct Sender<T, R: Waits, A: Allocator + Copy = Global> {
     shared: Arc<Shared<T, R, A>, A>,
 }
@@ -41,8 +41,8 @@ impl<T: Drop, R: Waits, A: Allocator + Copy> Sender<T, R, A> {
         Sender { shared }
     }
 
-    /// Sends a message, or gives it back where the channel is full or closed, or where memory was
-    /// wanted and there was none. Doesn't wait for a receiver.
+    /// Sends a message, or gives it back where the channel is full or closed, or where memory ran
+    /// out. Doesn't wait for a receiver.
     ///
     /// ```
     /// let (tx, rx) = flume::on(rt).bounded(1)?;
@@ -61,9 +61,9 @@ impl<T: Drop, R: Waits, A: Allocator + Copy> Sender<T, R, A> {
         tried_send(self.shared.call(FirstSend { message }))
     }
 
-    /// Sends a message, and waits while the channel is full. `Disconnected`: all receivers are
-    /// gone, and the message wasn't taken in. `NoMemory`: there was no room for it, or for what a
-    /// call waits on. Both give the message back.
+    /// Sends a message, and waits while the channel is full. `Disconnected`: all receivers have
+    /// been dropped, and the message wasn't taken in. `NoMemory`: there was no room for it, or for
+    /// what a call waits on. Both give the message back.
     ///
     /// ```
     /// let (tx, rx) = flume::on(rt).unbounded()?;
@@ -144,10 +144,11 @@ impl<T: Drop, R: Waits, A: Allocator + Copy> Sender<T, R, A> {
     /// Sets how many messages the channel holds from now on. Raised, it lets blocked sends in, as
     /// far as there is room, and their calls go on. Lowered, it moves nothing: what is queued is
     /// still received, and sends wait until fewer messages are queued than the channel holds. No
-    /// receiver is woken, and no memory is wanted. At 0 a send waits for a receiver.
+    /// receiver is woken, and no memory is needed. At 0 a send waits for a receiver.
     ///
     /// `Unbounded`: the channel holds any number of messages, and that can't be changed.
-    /// `Disconnected`: all receivers, or all senders, are gone. Both leave the channel as it was.
+    /// `Disconnected`: all receivers, or all senders, have been dropped. Both leave the channel as
+    /// it was.
     ///
     /// ```
     /// let (tx, _rx) = flume::on(rt).bounded(1)?;
@@ -170,7 +171,7 @@ impl<T: Drop, R: Waits, A: Allocator + Copy> Sender<T, R, A> {
         self.shared.call(AskNumber::ReceiverCount)
     }
 
-    /// Whether all receivers, or all senders, are gone.
+    /// Whether all receivers, or all senders, have been dropped.
     pub fn is_disconnected(&self) -> bool {
         self.shared.call(AskTruth::IsDisconnected)
     }

@@ -67,7 +67,7 @@ impl Backoff {
     }
 }
 
-// How often a call tries for a lock that somebody has, before it sleeps for it.
+// How often a call tries for a lock that another thread has, before it sleeps for it.
 const TRIES: u32 = 7;
 
 // How long it pauses before the first of these tries; before each next one twice as long.
@@ -167,8 +167,8 @@ impl<T: Drop, R: Waits, A: Allocator + Copy> Shared<T, R, A> {
         }
     }
 
-    // The channel, locked, where somebody else has the lock. They are let be for longer and longer,
-    // since each try takes the lock's memory from them; then the call sleeps for it.
+    // The channel, locked, where another thread has the lock. They are let be for longer and
+    // longer, since each try takes the lock's memory from them; then the call sleeps for it.
     #[cold]
     #[inline(never)]
     fn wait_for_lock(&self) -> MutexGuard<'_, Locked<T, Signal<A>, A>> {

@@ -33,8 +33,8 @@ impl<T: Drop, R: Waits, A: Allocator + Copy> WeakSender<T, R, A> {
         WeakSender { shared }
     }
 
-    /// A sender, while one lives, even where all receivers are gone; `None` once the last is gone.
-    /// `NoMemory`: there are as many as can be counted.
+    /// A sender, while one lives, even where all receivers have been dropped; `None` once the last
+    /// has been dropped. `NoMemory`: there are as many as can be counted.
     ///
     /// ```
     /// let (tx, rx) = flume::on(rt).unbounded()?;

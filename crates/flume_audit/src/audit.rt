@@ -121,7 +121,7 @@ impl<T: Copy, L: Ledger, R: Wait, W: Weigh<T, A>, A: Allocator + Copy> Audit<T, 
         }
     }
 
-    // The book, locked, where somebody else has the lock.
+    // The book, locked, where another thread has the lock.
     #[inline(never)]
     fn wait_for_lock(&self) -> MutexGuard<'_, Book<T, L, W, A>> {
         self.book.lock(&self.rt)

@@ -17,7 +17,8 @@ use Rattle.flume_calls.specs.SendOutcomes.{FirstSendOutcome, ParkSendOutcome, Ag
 
 module _ {T : Type 0} where
   -- By what its turn led to: the send then, and the poll's answer. An answer of none says that the
-  -- send waits on. A message that comes back for want of a signal comes back for want of memory.
+  -- send waits on. A message that comes back because there is no signal comes back because memory
+  -- ran out.
   abbrev pub settles_send : SendNext T → PolledSend T
       → Option (Result (Unit {0}) (SendError T)) → Type 0
   settles_send (Done (Ok sent)) after answer = (after ≡ Finished) × (answer ≡ Some (Ok tt))

@@ -13,7 +13,7 @@ module _ {T : Type 0} where
   got_or_no_memory (Err error) = Err NoMemory
 
 module _ {G T : Type 0} (agains : G → ℕ → Bool → G → RecvNext T → Type 0) where
-  -- no turn of the parked receive wants memory that there isn't
+  -- no turn of the parked receive needs memory that there isn't
   abbrev pub IsNeverRefused : Type 0
   IsNeverRefused = (old new : G) (ticket same : ℕ) (late : Bool)
       → ¬ (agains old ticket late new (Refused same))

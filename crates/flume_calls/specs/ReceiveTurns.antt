@@ -13,7 +13,7 @@ use Rattle.flume_calls.specs.declared.calls.receive.RecvNext.TheVariants.{Done, 
 use Rattle.flume_calls.specs.declared.calls.receive.RecvNext.TheVariants.{Refused}
 
 module _ {T : Type 0} where
-  -- the first turn never parks, is never too late and wants no memory
+  -- the first turn never parks, is never too late and needs no memory
   abbrev pub IsFirst : RecvNext T → Type 0
   IsFirst (Done (Err Timeout)) = ⊥
   IsFirst (Done (Err NoMemory)) = ⊥
@@ -29,7 +29,7 @@ module _ {T : Type 0} where
   IsParking _ = Unit {0}
 
   -- a turn of the receive parked under this ticket, before its deadline: it ends or stays parked,
-  -- never needs a signal, is never too late, and doesn't end for want of memory
+  -- never needs a signal, is never too late, and doesn't end because memory ran out
   abbrev pub IsLater : ℕ → RecvNext T → Type 0
   IsLater ticket (Done (Err Timeout)) = ⊥
   IsLater ticket (Done (Err NoMemory)) = ⊥
@@ -38,7 +38,7 @@ module _ {T : Type 0} where
   IsLater ticket (Refused same) = same ≡ ticket
   IsLater ticket _ = Unit {0}
 
-  -- the turn of a parked receive at its deadline ends it, and wants no memory
+  -- the turn of a parked receive at its deadline ends it, and needs no memory
   abbrev pub IsEnd : RecvNext T → Type 0
   IsEnd (Done (Err NoMemory)) = ⊥
   IsEnd (Done result) = Unit {0}
@@ -49,7 +49,7 @@ module _ {T : Type 0} where
   IsAgain ticket false next = IsLater ticket next
   IsAgain ticket true next = IsEnd next
 
-  -- it isn't that memory was wanted, and there was none
+  -- it isn't that memory ran out
   abbrev pub IsntRefused : RecvNext T → Type 0
   IsntRefused (Refused ticket) = ⊥
   IsntRefused _ = Unit {0}

@@ -29,14 +29,14 @@ module _ {T : Type 0} where
   IsParking message other = IsFirst message other
 
   -- a turn of the send parked under this ticket, before its deadline: it ends or waits on, is never
-  -- too late and wants no memory
+  -- too late and needs no memory
   abbrev pub IsLater : ℕ → SendNext T → Type 0
   IsLater ticket (Done (Ok sent)) = Unit {0}
   IsLater ticket (Done (Err (Disconnected back))) = Unit {0}
   IsLater ticket (Park same) = same ≡ ticket
   IsLater ticket _ = ⊥
 
-  -- the turn of a parked send at its deadline ends it, and wants no memory
+  -- the turn of a parked send at its deadline ends it, and needs no memory
   abbrev pub IsEnd : SendNext T → Type 0
   IsEnd (Done (Ok sent)) = Unit {0}
   IsEnd (Done (Err (Disconnected back))) = Unit {0}

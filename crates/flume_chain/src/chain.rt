@@ -71,7 +71,7 @@ impl<E: Drop, A: Allocator> Chain<E, A> {
         self.len == 0
     }
 
-    /// How many more elements may stand before more memory is wanted.
+    /// How many more elements may stand before more memory is needed.
     #[inline(always)]
     pub fn room(&self) -> usize
         ensures room { result ≡ self.now.room }
@@ -114,8 +114,8 @@ impl<E: Drop, A: Allocator> Chain<E, A> {
         }
     }
 
-    // The element at a place where one stands, for writing. By itself, so that what it lends is said
-    // of the list of elements, where `Links::element_mut` says it of nodes.
+    // The element at a place where one stands, for writing. By itself, so that what it lends is
+    // said of the list of elements, where `Links::element_mut` says it of nodes.
     #[inline(always)]
     fn element_mut(&mut self, place: u32) -> &mut E
         requires stands { IsSome (found self.old.items place) }

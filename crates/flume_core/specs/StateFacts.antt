@@ -55,7 +55,7 @@ module _ {T S : Type 0} where
   AcceptedBeforeBlocked s =
       (t : ℕ) → accepted_at s t ≡ Some true → All (λ b. t < b.ticket) s.blocked
 
-  -- once all senders and all receivers are gone, no message and no ticket is left
+  -- once all senders and all receivers have been dropped, no message and no ticket is left
   abbrev pub EmptyOnceOver : State T S → Type 0
   EmptyOnceOver s =
       s.senders + s.receivers ≡ 0

@@ -9,7 +9,7 @@ use Rattle.flume_state.specs.State.{State, message_count}
 use Rattle.flume_core.specs.Waiting.{FindsNothing, FindsNoRoom}
 
 module _ {T S : Type 0} where
-  -- A channel in this state may answer the step with want of memory: an offer that is taken in or
+  -- A channel in this state may answer the step with `NoMemory`: an offer that is taken in or
   -- blocks, a receiver that parks, a receive that lets a blocked message into the queue, a drain of
   -- some message. `Chan` itself makes no use of the last but one: its receives take no memory.
   abbrev pub MayWant : State T S → Step T → Type 0

@@ -16,7 +16,7 @@ use std::alloc::Allocator;
 use std::collections::VecDeque;
 
 /// Does the steps one after the other and answers one reply a step, in order. Room for the replies
-/// is made first: refused for want of memory, all steps come back and nothing was done. What
+/// is made first: refused because memory ran out, all steps come back and nothing was done. What
 /// `Chan::step` says of one step holds of each: by the clause `transitions`, which also says who is
 /// due after it. Two calls, one after the other, are one of all the steps (`two_runs_are_one`).
 ///

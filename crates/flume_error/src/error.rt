@@ -1,7 +1,7 @@
 //! The errors of the channel.
 //!
 //! A send that fails gives its message back, in the error. `NoMemory`, a type and a case of each
-//! error, says that memory was wanted and there was none.
+//! error, says that memory ran out.
 ghost use Rattle.std.specs.Prelude.{◌≡◌, Some};
 ghost use Rattle.std.specs.Fmt.{styled_text};
 ghost use Rattle.flume_error.specs.Texts.{no_memory_text, select_text};

@@ -69,7 +69,7 @@ abbrev pub joined : List ℕ → Option (List ℕ) → List ℕ
 joined own None = own
 joined own (Some other) = own ++ codes " or " ++ other
 
--- the text shows what is lawful there: first the text of the reply that is no want of memory, and
+-- the text shows what is lawful there: first the text of the reply that isn't `NoMemory`, and
 -- behind it another one, where one is lawful; these are the texts of all replies that are lawful
 pub record Shows (A : Type 0) (c : Channel ℕ) (step : Step ℕ) (should : List ℕ) : Type 0 where
   pub own : Reply ℕ A

@@ -6,7 +6,7 @@ use Rattle.flume_model.specs.Log.{Log}
 use Rattle.flume_audit.specs.Weights.{SameReply}
 
 module _ {T A : Type 0} where
-  -- memory was wanted
+  -- memory ran out
   abbrev pub IsWant : Reply T A → Type 0
   IsWant (NoMemory back) = Unit {0}
   IsWant _ = ⊥
@@ -17,7 +17,7 @@ module _ {T A : Type 0} where
   SameLog (p ∷ past) (q ∷ other) = (p.0 ≡ q.0) × SameReply p.1 q.1 × SameLog past other
   SameLog _ _ = ⊥
 
-  -- the logs have the same steps, of which the same ones wanted memory
+  -- the logs have the same steps, of which the same ones ran out of memory
   abbrev pub SameSteps : Log T A → Log T A → Type 0
   SameSteps [] [] = Unit {0}
   SameSteps (p ∷ past) (q ∷ other) =

@@ -28,10 +28,10 @@ pub enum Checked {
 /// of the history with the reply beside it; the oldest step stands first. Messages are compared by
 /// their `Eq`, and lists of drained messages by their messages. `Run`: it may. `Breaks`: so many
 /// steps were answered lawfully, and no channel answers the next one so after them. A reply
-/// `NoMemory` is lawful where any channel might have wanted memory, so also where this one never
-/// does; a step answered so changed nothing. `NoMemory`: the check itself wanted memory; it keeps
-/// what the channel would keep, and takes none for a history that is wrong at once. Linear in the
-/// history, but for finding tickets.
+/// `NoMemory` is lawful where any channel might have run out of memory, so also where this one
+/// never does; a step answered so changed nothing. `NoMemory`: the check itself ran out of memory;
+/// it keeps what the channel would keep, and takes none for a history that is wrong at once. Linear
+/// in the history, but for finding tickets.
 ///
 /// ```
 /// let history = [
@@ -62,9 +62,9 @@ pub fn check_history<T: Copy + Eq + Drop, A: Allocator + Copy>(
     Checked::Run
 }
 
-// Makes the step, unless it is told that memory was wanted for it. Whether a channel may answer it
-// as is told; none where this one wanted memory. Where `NoMemory` is told, `chan` makes no step: it
-// had the memory, so only its state says whether a channel might have wanted some.
+// Makes the step, unless it is told that memory ran out for it. Whether a channel may answer it as
+// is told; none where this one ran out of memory. Where `NoMemory` is told, `chan` makes no step:
+// it had the memory, so only its state says whether a channel might have wanted some.
 fn follows<T: Copy + Eq + Drop, A: Allocator + Copy>(
     chan: &mut Chan<T, (), A>,
     step: &Step<T>,
@@ -90,7 +90,7 @@ fn follows<T: Copy + Eq + Drop, A: Allocator + Copy>(
     }
 }
 
-// The message that the step hands in, which comes back where memory was wanted.
+// The message that the step hands in, which comes back where memory ran out.
 pub(crate) fn handed_in<T: Copy>(step: &Step<T>) -> Option<T>
     ensures message { result ≡ handed_in step.now }
 {

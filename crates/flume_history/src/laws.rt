@@ -17,8 +17,8 @@ ghost use Rattle.flume_history.specs.Wants.{handed_in};
 use flume_model::step::Reply;
 use std::alloc::Allocator;
 
-/// After each run, a step has at most one lawful reply beside want of memory: two that tell of no
-/// want are the same.
+/// After each run, a step has at most one lawful reply beside `NoMemory`: two that tell of no want
+/// are the same.
 pub fn replies_are_determined<T, A: Allocator>()
     ensures same { (opening : Opening) (log : Log T A) (step : Step T) (reply other : Reply T A)
         → IsRun opening log
@@ -26,7 +26,7 @@ pub fn replies_are_determined<T, A: Allocator>()
         → (IsWant reply → ⊥) → (IsWant other → ⊥) → SameReply reply other }
 {}
 
-/// Two runs from one opening, of the same steps, of which the same ones wanted memory, have the
+/// Two runs from one opening, of the same steps, of which the same ones ran out of memory, have the
 /// same replies. So whoever knows what was done knows what was answered.
 pub fn runs_are_determined<T, A: Allocator>()
     ensures same { (opening : Opening) (log other : Log T A)

@@ -28,7 +28,7 @@ use std::alloc::Allocator;
 /// wrong line, with status 2. Else, where the lines are a history, the text is `run`, with status
 /// 0. Else the text names the first line whose reply isn't lawful after those before it, what was
 /// said there, and what is lawful there, with status 1: the channel's own reply, and behind ` or `
-/// want of memory, where a channel may answer so too.
+/// `NoMemory`, where a channel may answer so too.
 ///
 /// What was said is compared with the texts of replies, so a text that no reply has is a reply that
 /// isn't lawful. `NoMemory`: the pairs, the channel or a text found no room. Linear in the length
@@ -81,7 +81,7 @@ fn judge<A: Allocator + Copy>(
     Ok(Script { text, status: 0 })
 }
 
-// Makes the step, unless what was said is that memory was wanted for it, where a channel may answer
+// Makes the step, unless what was said is that memory ran out for it, where a channel may answer
 // so. None where what was said is lawful, and else what is. What was said is compared as text and
 // not read, so one that no channel gives anywhere is a wrong answer and no wrong line.
 fn should_be<A: Allocator + Copy>(

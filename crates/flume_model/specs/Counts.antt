@@ -27,6 +27,6 @@ module _ {T A : Type 0} where
   receivers [] = 1
   receivers (p ∷ past) = receivers_after (receivers past) (change past p.0 p.1)
 
-  -- both ends are gone
+  -- both sides have disconnected
   abbrev pub is_over : Log T A → Bool
   is_over log = senders log + receivers log == 0

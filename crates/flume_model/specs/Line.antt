@@ -56,7 +56,7 @@ module _ {T : Type 0} where
   spends _ t = false
 
 module _ {T A : Type 0} where
-  -- the kept offers that weren't handed out, in order; none once both ends are gone
+  -- the kept offers that weren't handed out, in order; none once both sides have disconnected
   abbrev pub line : Log T A → List (Offer T)
   line log = if is_over log then [] else drop (hand_outs log) (kept log)
 
@@ -91,7 +91,8 @@ module _ {T A : Type 0} where
   next_ticket opening [] = opening.first
   next_ticket opening (p ∷ past) = next_ticket opening past + issued (change past p.0 p.1)
 
-  -- whether the send ticket is live: issued and not spent; none is once both ends are gone
+  -- whether the send ticket is live: issued and not spent; none is once both sides have
+  -- disconnected
   abbrev pub is_live : Log T A → ℕ → Bool
   is_live [] t = false
   is_live (p ∷ past) t =

@@ -41,11 +41,11 @@ module _ {T : Type 0} where
   entries_after queue closes entries _ = entries
 
 module _ {T A : Type 0} where
-  -- all senders or all receivers are gone
+  -- all senders or all receivers, have been dropped
   abbrev pub is_closed_after : Log T A → Bool
   is_closed_after log = is_closed (senders log) (receivers log)
 
-  -- the parked receivers after a log; none once both ends are gone
+  -- the parked receivers after a log; none once both sides have disconnected
   abbrev pub entries : Opening → Log T A → List (LogEntry T)
   entries opening [] = []
   entries opening (p ∷ past) =

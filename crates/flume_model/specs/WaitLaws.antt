@@ -87,7 +87,7 @@ module _ {T A : Type 0} where
       (t : ℕ) (e : LogEntry T) → entry_of t (entries opening log) ≡ Some e
       → was_filled log t ≡ is_filled e.mark
 
-  -- once both ends are gone, nothing is left
+  -- once both sides have disconnected, nothing is left
   abbrev pub NothingOnceOver : Opening → Log T A → Type 0
   NothingOnceOver opening log =
       is_over log ≡ true

@@ -96,7 +96,7 @@ pub enum Reply<T, A: Allocator = Global> {
     Ended,
     /// The receiver is parked under this ticket.
     Parked(u64),
-    /// The parked receiver is gone, with no message; `closed` says whether the channel is closed.
+    /// The parked receiver has left, with no message; `closed` says whether the channel is closed.
     /// The wake that it passed on filled the receiver with ticket `filled`, if it filled one.
     Gone { closed: bool, filled: Option<u64> },
     /// All messages that were queued, in order.

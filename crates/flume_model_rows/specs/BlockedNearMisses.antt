@@ -62,7 +62,7 @@ no_ticket_while_live = (Send 1, Pending 1) ∷ (PollSend 1, NoTicket) ∷ []
 abbrev pub waiting_without_ticket : Row
 waiting_without_ticket = (Send 1, Pending 1) ∷ (PollSend 2, Waiting) ∷ []
 
--- a ticket is live once both ends are gone
+-- a ticket is live once both sides have disconnected
 abbrev pub ticket_outlives_both : Row
 ticket_outlives_both =
     (Send 1, Pending 1) ∷ (DropReceiver, Done) ∷ (DropSender, Done)

@@ -47,10 +47,10 @@ two_filled =
     (Recv Block, Parked 1) ∷ (Recv Block, Parked 2) ∷ (Send 7, Sent (Some 1))
     ∷ (Send 8, Sent (Some 2)) ∷ (Poll 2, Got 8) ∷ []
 
--- both ends are gone after a receiver has collected its message
+-- both sides have disconnected after a receiver has collected its message
 abbrev pub collects_before_the_end : Row
 collects_before_the_end = collects ++ (DropSender, Done) ∷ (DropReceiver, Done) ∷ []
 
--- both ends are gone while a receiver holds its message, which goes with them
+-- both sides have disconnected while a receiver holds its message, which goes with them
 abbrev pub holds_until_the_end : Row
 holds_until_the_end = holds ++ (DropSender, Done) ∷ (DropReceiver, Done) ∷ []

@@ -59,7 +59,7 @@ done_at_zero = (DropReceiver, Done) ∷ (DropReceiver, Done) ∷ []
 abbrev pub no_end_at_one : Row
 no_end_at_one = (DropSender, NoEnd) ∷ []
 
--- a message is left once both ends are gone
+-- a message is left once both sides have disconnected
 abbrev pub left_when_over : Row
 left_when_over =
     (TrySend 1, Sent None) ∷ (DropReceiver, Done) ∷ (DropSender, Done) ∷ (TryRecv, Got 1) ∷ []
@@ -68,6 +68,6 @@ left_when_over =
 abbrev pub one_off : Row
 one_off = (TrySend 1, Sent None) ∷ (Len, Number 2) ∷ []
 
--- a receive is refused for want of memory while no sender is blocked
+-- a receive is refused because memory ran out while no sender is blocked
 abbrev pub refused_receive : Row
 refused_receive = (TrySend 1, Sent None) ∷ (TryRecv, NoMemory None) ∷ []

@@ -31,7 +31,7 @@ drain_lets_none_in list =
 abbrev pub drained_another : Numbers → Row
 drained_another list = (TrySend 1, Sent None) ∷ (TrySend 2, Sent None) ∷ (Drain, Drained list) ∷ []
 
--- a drain is refused for want of memory where nothing is queued
+-- a drain is refused because memory ran out where nothing is queued
 abbrev pub refused_drain : Row
 refused_drain = (Drain, NoMemory None) ∷ []
 
@@ -129,7 +129,7 @@ ticket_of_other_side = (Send 7, Pending 1) ∷ (Poll 1, Waiting) ∷ []
 abbrev pub parked_unknown : Row
 parked_unknown = (Recv Arm, Parked 1) ∷ (Poll 1, NoTicket) ∷ []
 
--- a receiver is parked once both ends are gone
+-- a receiver is parked once both sides have disconnected
 abbrev pub parked_when_over : Row
 parked_when_over =
     (Recv Plain, Parked 1) ∷ (DropSender, Done) ∷ (DropReceiver, Done) ∷ (Poll 1, Ended) ∷ []

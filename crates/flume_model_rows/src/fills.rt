@@ -17,8 +17,8 @@ pub fn fill_rows_are_runs()
     ensures holds_until_the_end { Runs None holds_until_the_end }
 {}
 
-/// After such rows the definition calls a fill of one message only: of the one that was handed
-/// out. Only where both ends are gone before it was collected does it say nothing.
+/// After such rows the definition calls a fill of one message only: of the one that was handed out.
+/// Only where both sides have disconnected before it was collected does it say nothing.
 pub fn fills_are_of_what_was_handed_out()
     ensures holds { IsFillOfOnly holds 1 7 }
     ensures collects { IsFillOfOnly collects 1 7 }

@@ -93,8 +93,8 @@ module _ {T S : Type 0} where
   abbrev pub with_peak : Entries T S → State T S → State T S
   with_peak entries s = record s { entries = entries; peak = max s.peak (waiting_count entries) }
 
-  -- what an end that left leaves: nothing once both are gone; and where the channel was open and is
-  -- closed now, each waiting receiver is woken, and each blocked send is due
+  -- what an end that left leaves: nothing once both have disconnected; and where the channel was
+  -- open and is closed now, each waiting receiver is woken, and each blocked send is due
   abbrev pub after_end_dropped : Bool → State T S → State T S
   after_end_dropped was_open s =
       if s.senders + s.receivers == 0 then with_nothing_left s

@@ -8,7 +8,7 @@ pub record Blocked (T : Type 0) : Type 0 where
   pub message : T
 
 -- what a contract sees of a line: the queued messages, and behind them the blocked ones; and how
--- many messages may stand before more memory is wanted, those that stand included
+-- many messages may stand before more memory is needed, those that stand included
 pub record Messages (T : Type 0) : Type 0 where
   pub queued : List T
   pub blocked : List (Blocked T)

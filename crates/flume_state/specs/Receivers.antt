@@ -22,7 +22,7 @@ use Rattle.flume_state.specs.declared.entries.ReceiverStatus.TheVariants.{Woken 
 abbrev pub Entries : Type 0 → Type 0 → Type 0
 Entries T S = List (Entry T (Notice S))
 
--- the queue after a wake round: its front is gone where the round filled a receiver
+-- the queue after a wake round: its front is taken where the round filled a receiver
 abbrev pub after_fill : {T : Type 0} → Option ℕ → List T → List T
 after_fill None queue = queue
 after_fill (Some ticket) [] = []

@@ -18,7 +18,7 @@ pub record State (T S : Type 0) : Type 0 where
   -- the queued messages, the front first, and the blocked ones behind them
   pub queue : List T
   pub blocked : List (Blocked T)
-  -- how many messages may stand before memory is wanted for one more, those that stand included
+  -- how many messages may stand before memory is needed for one more, those that stand included
   pub space : ℕ
   -- the live send tickets, the parked receivers, and the next ticket
   pub sends : SendMap S

@@ -88,7 +88,7 @@ impl<T: Drop, A: Allocator + Copy> Line<T, A> {
         self.blocked_len
     }
 
-    /// How many more messages may stand before more memory is wanted for one.
+    /// How many more messages may stand before more memory is needed for one.
     #[inline(always)]
     pub fn room(&self) -> usize
         ensures room { result + count self.now ≡ self.now.space }

@@ -131,7 +131,8 @@ impl<S: Drop, A: Allocator + Copy> Sends<S, A> {
 
     /// The message of a live ticket was taken into the queue: the ticket is accepted, and due.
     /// Nothing changes where the ticket isn't live. Takes no memory.
-    // It and `mark_due` hand on to `make_due`, so that each call says which of its two cases it means.
+    // It and `mark_due` hand on to `make_due`, so that each call says which of its two cases it
+    // means.
     #[inline(never)]
     pub fn accept(&mut self, ticket: u64)
         ensures accepted { self.new ≡ changed self.old ticket accepted_now }

@@ -48,8 +48,8 @@ impl<E, A: Allocator> Model for TicketChain<E, A> {
     ghost invariant = { λ s. Agrees s.chain.items s.places };
 }
 
-// `len`, `room`, `allocator`, `next` and `move_back` are the chain's, and `find` is the places': they
-// hand on, since both are private, so that neither changes without the other.
+// `len`, `room`, `allocator`, `next` and `move_back` are the chain's, and `find` is the places':
+// they hand on, since both are private, so that neither changes without the other.
 impl<E: Drop, A: Allocator + Copy> TicketChain<E, A> {
     /// No elements. Takes no memory.
     ///
@@ -89,7 +89,7 @@ impl<E: Drop, A: Allocator + Copy> TicketChain<E, A> {
         self.chain.len()
     }
 
-    /// How many more elements without a ticket may stand before more memory is wanted.
+    /// How many more elements without a ticket may stand before more memory is needed.
     #[inline(always)]
     pub fn room(&self) -> usize
         ensures room { result ≡ self.now.room }

@@ -1,4 +1,4 @@
-//! A reply in place of another: one of its kind that differs from it, or want of memory.
+//! A reply in place of another: one of its kind that differs from it, or `NoMemory`.
 use crate::fixtures::had;
 use crate::slow::handed_in;
 use flume_model::step::{Reply, Step};

@@ -70,8 +70,8 @@ struct Labelled {
     label: u64,
 }
 
-// What the check answers of a message that is sent, but first refused for want of memory and told
-// as the second one then, and received, and told as the third one.
+// What the check answers of a message that is sent, but first refused because memory ran out and
+// told as the second one then, and received, and told as the third one.
 fn told_so(rt: &impl Abort, alloc: Global, messages: [Labelled; 3]) -> Checked {
     let [sent, refused, received] = messages;
     let mut history = Vec::new(alloc);

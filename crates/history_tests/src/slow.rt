@@ -1,6 +1,6 @@
-//! A slow judge of histories, written from the definitions on plain lists. It keeps what they say of
-//! a channel after a log, and answers each step as they say: a history is a run while what is told
-//! is that answer, or that memory was wanted where it may be.
+//! A slow judge of histories, written from the definitions on plain lists. It keeps what they say
+//! of a channel after a log, and answers each step as they say: a history is a run while what is
+//! told is that answer, or that memory ran out where it may be.
 use crate::fixtures::{Pair, had};
 use flume_history::check::Checked;
 use flume_model::step::{Kind, Reply, Step};
@@ -132,7 +132,7 @@ impl Slow {
         self.parked.len()
     }
 
-    // Makes the step: the one lawful reply to it beside want of memory.
+    // Makes the step: the one lawful reply to it beside `NoMemory`.
     fn answer(&mut self, rt: &impl Abort, alloc: Global, step: &Step<u64>) -> Reply<u64> {
         match step {
             Step::TrySend(message) => self.offer(rt, *message, false),

@@ -1,5 +1,5 @@
 //! Each growth of a list of steps, and of a script, refused in turn. A list is refused as a whole,
-//! or the one step of it that wants memory is.
+//! or the one step of it that needs memory is.
 use crate::fixtures::{Heap, had, holds, text_is};
 use ends_tests::counting::Counting;
 use flume_core::chan::Chan;
@@ -15,7 +15,7 @@ use std::str;
 // More growths than a list or a script has.
 const MOST: u64 = 1000;
 
-// A script of which one step wants memory; what it answers with memory, and what if that step is
+// A script of which one step needs memory; what it answers with memory, and what if that step is
 // refused.
 #[derive(Clone, Copy)]
 struct Row(&'static str, &'static str, &'static str);

@@ -228,7 +228,7 @@ fn drain<R: Waits, A: Allocator + Copy>(rt: &R, rx: &Receiver<u64, R, A>, tally:
     }
 }
 
-// Receives until all senders are gone, and counts each message.
+// Receives until all senders have been dropped, and counts each message.
 fn receive_all<R: Runs, A: Allocator + Copy>(rt: R, rx: Receiver<u64, R, A>, tally: &Tally<'_>) {
     let Ok(task) = MockTask::new(&rt) else {
         return;

@@ -17,7 +17,8 @@ const ALL: u64 = 1000;
 // How many loops receive them.
 const LOOPS: usize = 20;
 
-// Receives until all senders are gone. Its output is what came, or none where there was no memory.
+// Receives until all senders have been dropped. Its output is what came, or none where there was no
+// memory.
 #[derive(Drop)]
 struct UntilClosed<'a, R: Waits> {
     numbers: Numbers<'a, R>,

@@ -26,7 +26,7 @@ impl<'a, R: Waits> Numbers<'a, R> {
 }
 
 impl<R: Waits> Numbers<'_, R> {
-    /// The next number, or none once all senders are gone.
+    /// The next number, or none once all senders have been dropped.
     pub(crate) fn poll_number(&mut self, cx: &mut Context<'_>) -> Poll<Option<u64>>
         ensures armed { OnPending result (IsArmed cx.new) }
         ensures kept { Keeps cx.old cx.new }

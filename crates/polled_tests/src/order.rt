@@ -16,7 +16,8 @@ use std::test::Fail;
 // How many numbers one side sends to the other.
 const ALL: u64 = 10_000;
 
-// Receives until all senders are gone. Its output says how many numbers came, each in its order.
+// Receives until all senders have been dropped. Its output says how many numbers came, each in its
+// order.
 #[derive(Drop)]
 struct InOrder<'a, R: Waits> {
     numbers: Numbers<'a, R>,

@@ -82,7 +82,7 @@ impl<R: Waits> Work for SendUpTo<R> {
     }
 }
 
-/// Sets one capacity after another, until all senders are gone. How often it did.
+/// Sets one capacity after another, until all senders have been dropped. How often it did.
 #[derive(Drop)]
 pub(crate) struct ChangeCapacity<R: Waits> {
     pub(crate) rt: R,

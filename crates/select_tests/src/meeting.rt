@@ -145,7 +145,7 @@ fn two_selectors_that_meet_lose_and_double_no_message(rt: HostRuntime) {
     watch.end(&rt);
 }
 
-// Sets one capacity after another, until all senders are gone. How often it did.
+// Sets one capacity after another, until all senders have been dropped. How often it did.
 #[derive(Drop)]
 struct ChangeCapacity<R: Waits> {
     rt: R,

@@ -230,7 +230,7 @@ fn sum<R: Waits, A: Allocator + Copy>(rx: &Rx<R, A>, count: u64) -> u64 {
     sum
 }
 
-// Sets one capacity after another, until all senders are gone.
+// Sets one capacity after another, until all senders have been dropped.
 fn set_one_after_another<R: Waits, A: Allocator + Copy>(rt: &R, rx: &Rx<R, A>) {
     let _ = change_capacity(rt, rx);
 }

@@ -17,8 +17,8 @@ use std::alloc::{Allocator, Global};
 use std::fmt;
 
 /// The next message, as a future: `Receiver::recv_async` and `Receiver::into_recv_async`. Ready
-/// with `Ok`: the message. With `Disconnected`: none is there, and all senders are gone. With
-/// `NoMemory`: none is there, and there was no memory to wait; polled again it tries again.
+/// with `Ok`: the message. With `Disconnected`: none is there, and all senders have been dropped.
+/// With `NoMemory`: none is there, and there was no memory to wait; polled again it tries again.
 ///
 /// It can be polled after it was ready, and then asks for one message more. Dropped while it waits
 /// it takes nothing with it: a message that it was woken for is left to another receiver.
@@ -86,7 +86,7 @@ impl<'a, T: Drop, R: Waits, A: Allocator + Copy> RecvFut<'a, T, R, A> {
         &self.receiver
     }
 
-    /// Whether all senders, or all receivers, are gone.
+    /// Whether all senders, or all receivers, have been dropped.
     pub fn is_disconnected(&self) -> bool {
         self.receiver().is_disconnected()
     }

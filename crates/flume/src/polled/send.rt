@@ -17,7 +17,7 @@ use std::alloc::{Allocator, Global};
 use std::fmt;
 
 /// A send, as a future: `Sender::send_async` and `Sender::into_send_async`. Ready with `Ok`: the
-/// message was taken in. With `Disconnected`: all receivers are gone, and it wasn't. With
+/// message was taken in. With `Disconnected`: all receivers have been dropped, and it wasn't. With
 /// `NoMemory`: there was no room for it, or no memory to wait. Both errors give the message back.
 ///
 /// After it was ready it answers `Ok`, and does nothing. Dropped while it waits it takes its
@@ -100,7 +100,7 @@ impl<'a, T: Drop, R: Waits, A: Allocator + Copy> SendFut<'a, T, R, A> {
         self.send = PolledSend::Unsent(message);
     }
 
-    /// Whether all receivers, or all senders, are gone.
+    /// Whether all receivers, or all senders, have been dropped.
     pub fn is_disconnected(&self) -> bool {
         self.sender().is_disconnected()
     }

@@ -70,7 +70,7 @@ impl<'a, T: Drop, R: Waits, A: Allocator + Copy> SendSink<'a, T, R, A> {
         self.kept.sender()
     }
 
-    /// Whether all receivers, or all senders, are gone.
+    /// Whether all receivers, or all senders, have been dropped.
     pub fn is_disconnected(&self) -> bool {
         self.kept.is_disconnected()
     }

@@ -19,8 +19,8 @@ use std::alloc::{AllocError, Allocator, Global};
 use std::fmt;
 
 /// The messages of a receiver, one after the other, as a stream: `Receiver::stream` and
-/// `Receiver::into_stream`. `None`: none is there and all senders are gone, or, where `fault` says
-/// so, there was no memory to wait. After a `None` there may be more.
+/// `Receiver::into_stream`. `None`: none is there and all senders have been dropped, or, where
+/// `fault` says so, there was no memory to wait. After a `None` there may be more.
 #[derive(Drop)]
 pub struct RecvStream<'a, T, R: Waits, A: Allocator + Copy = Global> {
     next: RecvFut<'a, T, R, A>,
@@ -74,8 +74,8 @@ impl<'a, T: Drop, R: Waits, A: Allocator + Copy> RecvStream<'a, T, R, A> {
         }
     }
 
-    /// Whether the last poll ended the stream for want of memory, and not since all senders were
-    /// gone. The stream can be polled on after it.
+    /// Whether the last poll ended the stream because memory ran out, and not since all senders had
+    /// been dropped. The stream can be polled on after it.
     pub fn fault(&self) -> bool
         ensures fault { result ≡ self.now.fault }
     {
@@ -100,7 +100,7 @@ impl<'a, T: Drop, R: Waits, A: Allocator + Copy> RecvStream<'a, T, R, A> {
         }
     }
 
-    /// Whether all senders, or all receivers, are gone.
+    /// Whether all senders, or all receivers, have been dropped.
     pub fn is_disconnected(&self) -> bool {
         self.next.is_disconnected()
     }

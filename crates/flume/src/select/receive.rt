@@ -27,7 +27,7 @@ enum ReceiveState<T> {
     Parked(RecvCall),
     // Completed, with the message; `None`: none is there, and the channel is closed.
     Completed(Option<T>),
-    // Withdrawn, or refused for want of memory.
+    // Withdrawn, or refused because memory ran out.
     Over,
 }
 

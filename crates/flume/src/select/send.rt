@@ -26,7 +26,7 @@ enum SendState<T> {
     Parked(SendCall),
     // Completed: the message was taken in, or comes back since the channel is closed.
     Completed(Result<(), T>),
-    // Withdrawn, or refused for want of memory.
+    // Withdrawn, or refused because memory ran out.
     Over,
 }
 

@@ -55,7 +55,7 @@ impl RecvCall {
     /// The first turn: asks for the message at the front, and doesn't park. `Done(Ok)`: the
     /// message. `NeedSignal`: there is none, and the channel is open. `Done(Err(Disconnected))`:
     /// there is none, and the channel is closed. The last two leave the channel as it was. Never
-    /// `NoMemory`: no memory is wanted. The step is `Chan::try_recv`.
+    /// `NoMemory`: no memory is needed. The step is `Chan::try_recv`.
     ///
     /// ```
     /// let mut chan: Chan<u64, u32> = Chan::new(alloc, None);
@@ -101,7 +101,7 @@ impl RecvCall {
     /// the one that the call left. `Done(Err(Disconnected))`: no message for it, and the channel is
     /// closed, or the ticket is spent. `Done(Err(Timeout))`: late, no message for it, and the
     /// channel is open. A wake that it had is passed on by either error where late. After all but
-    /// `Park` the ticket is spent. Never `Refused` and never `NoMemory`: no memory is wanted. The
+    /// `Park` the ticket is spent. Never `Refused` and never `NoMemory`: no memory is needed. The
     /// step is `Chan::poll`, or where late `Chan::withdraw`.
     ///
     /// ```

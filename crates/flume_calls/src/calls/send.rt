@@ -100,7 +100,7 @@ impl SendCall {
     /// signal given here replaces the one that the call left. `Done(Err(Disconnected))`: still
     /// blocked, and the channel is closed. `Done(Err(Timeout))`: still blocked in an open channel,
     /// and late. Both errors hand back the message that was blocked, and the ticket is spent. Never
-    /// `NoMemory`: no memory is wanted. The step is `Chan::poll_send`, or where late
+    /// `NoMemory`: no memory is needed. The step is `Chan::poll_send`, or where late
     /// `Chan::withdraw_send`.
     ///
     /// ```

@@ -60,7 +60,7 @@ pub trait RecvGate<T> {
 
 /// A receive that waits. It parks where its first turn doesn't end it, and then asks and waits in
 /// turn until it ends. It ends as its last turn says; where there was no memory for what it parks
-/// on it ends with no memory. Where a turn of the parked call wants memory and there is none, the
+/// on it ends with no memory. Where a turn of the parked call needs memory and there is none, the
 /// call withdraws, and ends with the message if one came, and else with no memory; through a gate
 /// where none does, it ends so only before it is parked.
 ///
@@ -138,7 +138,7 @@ fn parked_receive<T: Drop, G: RecvGate<T>, R: Wait>(
     unreachable!()
 }
 
-// A parked receive that was refused for want of memory withdraws.
+// A parked receive that was refused because memory ran out withdraws.
 #[inline(always)]
 fn withdrawn<T: Drop, G: RecvGate<T>>(gate: &mut G, call: RecvCall) -> Result<T, RecvTimeoutError>
     ensures { (answer : Result T RecvTimeoutError)

@@ -65,8 +65,8 @@ impl<T: Drop, S: Drop, A: Allocator + Copy> Chan<T, S, A> {
 
     /// One sender leaves. `NoEnd`: there is none left, and the channel is as it was. Where it was
     /// the last one, every waiting receiver is woken, and every blocked send is to be told. Once
-    /// both ends are gone, the messages left are dropped and every ticket is spent. Takes no
-    /// memory.
+    /// both sides have disconnected, the messages left are dropped and every ticket is spent. Takes
+    /// no memory.
     pub fn drop_sender(&mut self) -> Reply<T, A>
         ensures step { Extends self.old Step.DropSender result self.new }
         ensures dues { IsReachable A self.old
@@ -112,8 +112,8 @@ impl<T: Drop, S: Drop, A: Allocator + Copy> Chan<T, S, A> {
         Reply::Done
     }
 
-    // What an end that left leaves behind: nothing once both ends are gone; and where it closed the
-    // channel, all that wait are woken, and all blocked sends are to be told.
+    // What an end that left leaves behind: nothing once both sides have disconnected; and where it
+    // closed the channel, all that wait are woken, and all blocked sends are to be told.
     fn settle(&mut self, was_open: bool)
         ensures settled { self.new ≡ after_end_dropped was_open self.old }
     {

@@ -1,4 +1,4 @@
-//! Whether a step may be answered with want of memory, by the rule for all channels.
+//! Whether a step may be answered with `NoMemory`, by the rule for all channels.
 ghost use Rattle.std.specs.Prelude.{◌≡◌, true, IsTrue, ◌↔◌};
 ghost use Rattle.flume_state.specs.Receivers.{receiver_status, only_leaves};
 ghost use Rattle.flume_core.specs.Wanting.{MayWant};
@@ -11,7 +11,7 @@ use std::alloc::Allocator;
 impl<T: Drop, S: Drop, A: Allocator + Copy> Chan<T, S, A> {
     /// Whether a channel that stands as this one may answer the step with `NoMemory`. True for an
     /// offer that is taken in or blocks, a receiver that parks, a drain of some message, and where
-    /// a message is blocked, for a receive too: a channel may want memory to let that one into the
+    /// a message is blocked, for a receive too: a channel may need memory to let that one into the
     /// queue, though a `Chan` never does. It changes nothing, is no step, and takes no memory.
     ///
     /// ```

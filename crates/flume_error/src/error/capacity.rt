@@ -11,7 +11,7 @@ use std::fmt;
 pub enum CapacityError {
     /// The channel is unbounded, closed or not: it stays so.
     Unbounded,
-    /// The channel is bounded, and all its senders or all its receivers are gone.
+    /// The channel is bounded, and all its senders or all its receivers have been dropped.
     Disconnected,
 }
 

@@ -61,8 +61,8 @@ pub fn receivers_are_filled_just_where_told<T, A: Allocator>()
     ensures law { (opening : Opening) (log : Log T A) → IsRun opening log → ToldFilled opening log }
 {}
 
-/// Of each run, once all senders and all receivers are gone, no message, no parked receiver and no
-/// live send is left.
+/// Of each run, once all senders and all receivers have been dropped, no message, no parked
+/// receiver and no live send is left.
 pub fn nothing_is_left_once_over<T, A: Allocator>()
     ensures law { (opening : Opening) (log : Log T A)
         → IsRun opening log → NothingOnceOver opening log }
