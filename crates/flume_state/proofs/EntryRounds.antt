@@ -1,14 +1,12 @@
 -- A wake round over the list of parked receivers, as steps: each wakes the first that waits.
-use Rattle.std.proofs.Common.{◌≡◌, ℕ, ◌+◌, ◌<◌, Bool, true, false, if◌then◌else◌, List, [], ◌∷◌}
-use Rattle.std.proofs.Common.{Option, Some, None, option_map, refl, sym, ap, ◌∙◌, arith, inl, inr}
+use Rattle.std.proofs.Common.{◌≡◌, ℕ, ◌+◌, ◌<◌, Bool, true, false, if◌then◌else◌, List, [], ◌∷◌, Option, Some, None, option_map, refl, sym, ap, ◌∙◌, arith, inl, inr}
 use Rattle.std.proofs.lemmas.Bool.{cases_Bool}
 use Rattle.flume_model.specs.declared.entry.Entry.{Entry}
 use Rattle.flume_model.specs.declared.entry.Mark.{Mark}
 use Rattle.flume_model.specs.declared.entry.Mark.TheVariants.{Woken}
 use Rattle.flume_model.specs.declared.step.Kind.{Kind}
 use Rattle.flume_model.specs.declared.step.Kind.TheVariants.{Stream}
-use Rattle.flume_model.specs.Entries.{is_waiting, waiting_count, marked, met, filled_at}
-use Rattle.flume_model.specs.Entries.{round, round_fills, all_woken}
+use Rattle.flume_model.specs.Entries.{is_waiting, waiting_count, marked, met, filled_at, round, round_fills, all_woken}
 use Rattle.flume_state.specs.layout.EntryLayout.{first_waiting, with_first_marked}
 
 -- where a sum is 0, so is what is added, and the bit that adds 1 is false

@@ -13,8 +13,7 @@ use Rattle.flume_state.specs.Sends.{SendMap, send_due_in, is_due_send}
 use Rattle.flume_state.specs.layout.SendLayout.{Element, by_ticket, EachDueIs, SendLayout}
 use Rattle.flume_state.specs.layout.Ticketed.{ticket_times, with_value_at, ticket_in}
 use Rattle.flume_model.specs.Log.{is_ticket}
-use Rattle.flume_state.proofs.ByTicket.{under, value_none}
-use Rattle.flume_state.proofs.ByTicket.{Stands, stands_value, stands_written}
+use Rattle.flume_state.proofs.ByTicket.{under, value_none, Stands, stands_value, stands_written}
 use Rattle.flume_state.proofs.SendLines.{times_both, tickets_both, lined_append}
 
 module _ {S : Type 0} where

@@ -8,8 +8,7 @@ use Rattle.flume_state.specs.declared.ticketed.Ticketed.{Ticketed}
 use Rattle.flume_state.specs.layout.Ticketed.{put_ahead, without_ticket_at, ticket_in}
 use Rattle.flume_state.specs.Messages.{Blocked, Messages, Admits}
 use Rattle.flume_state.specs.layout.LineLayout.{blocked_ahead, queued_of, blocked_of, line_of, LineLayout}
-use Rattle.flume_state.proofs.PlacedLemmas.{Apart, ahead_none, found_here, without_here, after_here, put_ahead_between, unticketed, released_here}
-use Rattle.flume_state.proofs.PlacedLemmas.{headed, first_left}
+use Rattle.flume_state.proofs.PlacedLemmas.{Apart, ahead_none, found_here, without_here, after_here, put_ahead_between, unticketed, released_here, headed, first_left}
 use Rattle.flume_state.proofs.LineLemmas.{queued_append, blocked_append, none_queued_append, unqueued, unblocked, laid, counts}
 
 -- elements laid out so, which are this line

@@ -3,8 +3,7 @@ use Rattle.std.specs.Prelude.{⊤, OnOk, OnErr, Result, Ok, Err}
 use Rattle.std.proofs.Common.{◌≡◌, ◌≢◌, ℕ, Option, Some, None, refl, sym, ◌∙◌}
 use Rattle.std.specs.FinMap.{get, insert, remove}
 use Rattle.flume_state.specs.layout.Places.{PlaceMap, with_lone, IsApart}
-use Rattle.flume_state.proofs.MapLaws.{get-insert_same, get-insert_other, get-remove_other, remove-insert}
-use Rattle.flume_state.proofs.MapLaws.{lone_again, lone_insert, lone_remove}
+use Rattle.flume_state.proofs.MapLaws.{get-insert_same, get-insert_other, get-remove_other, remove-insert, lone_again, lone_insert, lone_remove}
 
 -- the ticket isn't that of the lone one
 abbrev pub IsAway : Option (ℕ × ℕ) → ℕ → Type 0

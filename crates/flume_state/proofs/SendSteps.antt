@@ -15,9 +15,8 @@ use Rattle.flume_state.specs.layout.SendLayout.{Element, by_ticket, EachDueIs, S
 use Rattle.flume_state.specs.layout.Ticketed.{place_of, ticket_times, put_ahead, with_value_at}
 use Rattle.flume_model.specs.Log.{is_ticket}
 use Rattle.flume_state.proofs.SendsLaws.{changed_none, remove_absent}
-use Rattle.flume_state.proofs.ByTicket.{under, value_of, get_by_ticket, value_ahead, value_nowhere, found_somewhere}
-use Rattle.flume_state.proofs.ByTicket.{by_ticket_insert, by_ticket_changed, by_ticket_moved, by_ticket_removed}
-use Rattle.flume_state.proofs.ByTicket.{Stands, stands, stands_value, stands_found, stands_without, stands_written, stands_again}
+use Rattle.flume_state.proofs.ByTicket.{under, value_of, get_by_ticket, value_ahead, value_nowhere, found_somewhere, by_ticket_insert, by_ticket_changed}
+use Rattle.flume_state.proofs.ByTicket.{by_ticket_moved, by_ticket_removed, Stands, stands, stands_value, stands_found, stands_without, stands_written, stands_again}
 use Rattle.flume_state.proofs.SendLines.{times_both, written_lined, moved_lined, lined_without, put_is, put_lined}
 
 module _ {S : Type 0} where

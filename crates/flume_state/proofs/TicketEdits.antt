@@ -1,6 +1,5 @@
 -- A chain with tickets where an element is taken out, moved or changed: its map goes with it.
-use Rattle.std.proofs.Common.{◌≡◌, ℕ, ◌≤◌, List, [], ◌∷◌, ◌++◌, Option, Some, None, cond}
-use Rattle.std.proofs.Common.{refl, sym, ap, ap₂, subst, ◌∙◌, arith, eq-eqb}
+use Rattle.std.proofs.Common.{◌≡◌, ℕ, ◌≤◌, List, [], ◌∷◌, ◌++◌, Option, Some, None, cond, refl, sym, ap, ap₂, subst, ◌∙◌, arith, eq-eqb}
 use Rattle.std.specs.FinMap.{remove}
 use Rattle.flume_chain.specs.Chained.{Placed, times, places, found, without, first_element, behind_first, put_at, moved_back}
 use Rattle.flume_chain.proofs.Rings.{times-append}

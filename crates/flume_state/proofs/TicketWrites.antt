@@ -1,6 +1,5 @@
 -- What a write through a `&mut` to an element of a chain with tickets comes to.
-use Rattle.std.proofs.Common.{◌≡◌, ℕ, ◌≤◌, ◌==◌, List, [], ◌∷◌, Option, Some, None, IfNone, cond}
-use Rattle.std.proofs.Common.{refl, sym, ap, ap₂, ◌∙◌, arith, inl, inr}
+use Rattle.std.proofs.Common.{◌≡◌, ℕ, ◌≤◌, ◌==◌, List, [], ◌∷◌, Option, Some, None, IfNone, cond, refl, sym, ap, ap₂, ◌∙◌, arith, inl, inr}
 use Rattle.std.proofs.lemmas.Bool.{cases_Bool, eqb-true}
 use Rattle.flume_chain.specs.Chained.{Placed, once, times, places, found, put_at}
 use Rattle.flume_chain.proofs.Rings.{once_none, once_back, once_same}

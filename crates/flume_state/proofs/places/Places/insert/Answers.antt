@@ -1,12 +1,10 @@
 use Rattle.std.proofs.Common.{◌≡◌, ap, ◌∙◌}
 use Rattle.std.specs.FinMap.{get, insert, get-empty}
 use Rattle.std.specs.Ordering.{nat_cmp}
-use Rattle.flume_state.proofs.PlaceLemmas.{IsAway, away_none, away_some, insert_apart, insert_ok, insert_absent}
-use Rattle.flume_state.proofs.PlaceLemmas.{here_absent, here_insert, none_view}
+use Rattle.flume_state.proofs.PlaceLemmas.{IsAway, away_none, away_some, insert_apart, insert_ok, insert_absent, here_absent, here_insert, none_view}
 use Rattle.flume_state.proofs.places.Places.insert.Given.{Over}
 use Rattle.flume_state.proofs.places.Places.insert.Goals as goal
-use Rattle.flume_state.proofs.places.Places.insert.Goals.{in_default-via-in-None+else-is_empty, in_default-via-in-Some+else-lone-ticket}
-use Rattle.flume_state.proofs.places.Places.insert.Goals.{in-None, in-Some}
+use Rattle.flume_state.proofs.places.Places.insert.Goals.{in_default-via-in-None+else-is_empty, in_default-via-in-Some+else-lone-ticket, in-None, in-Some}
 
 -- the last arm finds what was there, and the ticket isn't that of the lone one
 last_arm : (g : Over) (c : goal.After-insert g) → (c.in_default.self-inside ≡ c.self.inside) × IsAway c.self.inside.lone c.args.ticket
