@@ -8,8 +8,9 @@ use flume_audit::audit::Audit;
 use flume_audit::closed::Closed;
 use flume_audit::seat::Seat;
 use flume_history::check::{Checked, check_history};
-use flume_model::step::{Reply, Step};
-use std::alloc::Global;
+use flume_model::step::{Kind, Reply, Step};
+use flume_script::writing::write_reply;
+use std::alloc::{AllocGlobal, Global};
 use std::marker::Brand;
 use std::process::Abort;
 use std::sync::ledger::{Blank, Ledger};
@@ -23,6 +24,39 @@ const CAPACITIES: &[Option<usize>] = &[Some(0), Some(1), Some(3), None];
 // The seeds from which the steps are drawn.
 const SEEDS: &[u64] = &[20_261_129, 20_261_131, 20_261_133, 20_261_135];
 
+// How many drawn steps each of two threads makes.
+const DRAWN: usize = 400;
+
+// Steps ask for one of so many tickets.
+const NEAR: u64 = 8;
+
+// More tickets than two threads are issued.
+const TICKETS: usize = 2 * DRAWN;
+
+// How many steps follow those of the threads.
+const LAST: usize = 2 * TICKETS + 11;
+
+// What the replies to drawn steps begin with, and how often each comes at the least, of all.
+const LEAST: &[(&str, u64)] = &[
+    ("sent", 100),
+    ("sent filled ", 100),
+    ("gone filled ", 16),
+    ("gone", 20),
+    ("drained ", 5),
+    ("pending ", 100),
+    ("accepted", 20),
+    ("waiting", 100),
+    ("returned ", 20),
+    ("returned 6 closed", 12),
+    ("full ", 20),
+    ("closed ", 16),
+    ("empty", 20),
+    ("ended", 12),
+    ("noticket", 100),
+    ("done", 100),
+    ("unbounded", 20),
+];
+
 // The seats that threads hand back, in the order in which they end.
 type Handed<L> = Mutex<Vec<Seat<u64, L>>>;
 
@@ -35,13 +69,33 @@ struct Plan {
     seed: u64,
 }
 
-// The step of this number. Of drawn ones each fourth sets a capacity from 0 to 4.
+// The step of this number. Of drawn ones each eighth sets a capacity from 0 to 4, three withdraw, and
+// none counts an end.
 fn step_of(plan: Plan, draws: &mut Draws, number: usize) -> Step<u64> {
-    match (plan.seed, number % 4) {
-        (0, 0 | 2) => Step::TrySend(number as u64),
+    let last = draws.issued;
+    match (plan.seed, number % 8) {
+        (0, number) if number % 2 == 0 => Step::TrySend(number as u64),
         (0, _) => Step::TryRecv,
-        (_, 3) => Step::SetCapacity(number / 4 % 5),
-        _ => draws.step(),
+        (_, 3) => Step::SetCapacity(number / 8 % 5),
+        (_, 1 | 5) => Step::Withdraw(last.saturating_sub(number as u64 / 8 % NEAR)),
+        (_, 7) => Step::WithdrawSend(last.saturating_sub(number as u64 / 8 % NEAR)),
+        _ => match draws.step() {
+            Step::Recv(_) if plan.seed % 4 == 3 => Step::Send(number as u64),
+            step => near(step, last),
+        },
+    }
+}
+
+// The same step, of one of the last tickets, and one that counts no end.
+fn near(step: Step<u64>, last: u64) -> Step<u64> {
+    match step {
+        Step::Poll(ticket) => Step::Poll(last.saturating_sub(ticket % NEAR)),
+        Step::Withdraw(ticket) => Step::Withdraw(last.saturating_sub(ticket % NEAR)),
+        Step::PollSend(ticket) => Step::PollSend(last.saturating_sub(ticket % NEAR)),
+        Step::WithdrawSend(ticket) => Step::WithdrawSend(last.saturating_sub(ticket % NEAR)),
+        Step::CloneSender | Step::DropSender => Step::Drain,
+        Step::CloneReceiver | Step::DropReceiver => Step::TryRecv,
+        step => step,
     }
 }
 
@@ -94,30 +148,94 @@ where
     })
 }
 
+// The step of this number after the threads, where the last ticket is this. All that waits leaves;
+// then a woken receiver passes its wake on, and a blocked message comes back from a closed channel.
+fn last_step_of(number: usize, last: u64) -> Step<u64> {
+    if number < TICKETS {
+        return Step::Withdraw(number as u64);
+    }
+    let number = number.saturating_sub(TICKETS);
+    if number < TICKETS {
+        return Step::WithdrawSend(number as u64);
+    }
+    match number.saturating_sub(TICKETS) {
+        0 => Step::Drain,
+        1 => Step::SetCapacity(0),
+        2 => Step::Recv(Kind::Plain),
+        3 => Step::Recv(Kind::Block),
+        4 => Step::TrySend(5),
+        5 => Step::Withdraw(last.saturating_sub(1)),
+        6 => Step::Send(6),
+        7 => Step::DropReceiver,
+        8 => Step::PollSend(last),
+        9 => Step::TrySend(7),
+        _ => Step::TryRecv,
+    }
+}
+
+// Makes the last steps with the first seat. Whether none was refused.
+fn ask_at_last<L: Ledger, R: Wait + Copy>(
+    audit: &Audit<u64, L, R>,
+    seats: &mut Vec<Seat<u64, L>>,
+) -> bool {
+    let Some(seat) = seats.first_mut() else {
+        return false;
+    };
+    let mut last = 0;
+    for number in 0..LAST {
+        match audit.step(seat, last_step_of(number, last)) {
+            Ok(Reply::Pending(ticket) | Reply::Parked(ticket)) => last = ticket,
+            Ok(_) => {}
+            Err(_) => return false,
+        }
+    }
+    true
+}
+
 // So many threads carry the plan out on a new channel. The audit settles, each step is
-// written, and the history is a run.
-fn are_audited<L, R>(rt: R, alloc: Global, blank: Blank, threads: usize, plan: Plan)
+// written, and the history is a run. Its replies are added to the text.
+fn are_audited<L, R>(rt: R, blank: Blank, threads: usize, plan: Plan, text: &mut String)
 where
     L: Ledger + Send + Sync,
-    R: Wait + Threads + Abort + Copy + Send + Sync,
+    R: Wait + Threads + Abort + AllocGlobal + Copy + Send + Sync,
     requires name { blank.name ≡ L.name }
     requires parts { blank.parts ≡ L.parts }
     requires one_each { blank.parts ≡ threads }
     requires some { 0 < threads }
 {
+    let alloc = rt.alloc();
     let audit = Audit::<u64, L, R>::new(rt, alloc, blank, plan.capacity, threads);
     let (audit, seats) = had(&rt, audit);
     let handed = Mutex::new(Vec::new(alloc));
     let is_done = all_work(rt, &audit, seats, plan, &handed);
     holds(&rt, ("an audit", "a thread can't be started"), is_done);
-    let (closed, book) = audit.close(handed.into_inner());
+    let mut handed = handed.into_inner();
+    let last = if plan.seed == 0 { 0 } else { LAST };
+    let is_asked = last == 0 || ask_at_last(&audit, &mut handed);
+    holds(&rt, ("an audit", "a step is refused"), is_asked);
+    let (closed, book) = audit.close(handed);
     let is_settled = matches!(closed, Closed::Settled);
     holds(&rt, ("an audit", "it doesn't settle"), is_settled);
-    let is_whole = book.history().len() == threads.saturating_mul(plan.steps);
+    let entries = threads.saturating_mul(plan.steps).saturating_add(last);
+    let is_whole = book.history().len() == entries;
     holds(&rt, ("an audit", "steps are missing"), is_whole);
     let checked = check_history(alloc, book.opening(), book.history());
     let is_run = matches!(checked, Checked::Run);
     holds(&rt, ("an audit", "its history is no run"), is_run);
+    for (_, reply) in book.history() {
+        had(&rt, write_reply(text, reply));
+    }
+}
+
+// How many lines of the text begin so.
+fn count(text: &str, start: &str) -> u64 {
+    let mut count = 0u64;
+    for line in text.lines() {
+        if line.starts_with(start) {
+            count = count.saturating_add(1);
+        }
+    }
+    count
 }
 
 #[test]
@@ -128,20 +246,26 @@ fn four_threads_make_eight_thousand_entries_and_settle(rt: HostRuntime) {
         steps,
         seed,
     };
-    are_audited::<Brand, _>(rt, rt.alloc(), Blank::new(4), 4, plan);
+    let mut text = String::new(rt.alloc());
+    are_audited::<Brand, _>(rt, Blank::new(4), 4, plan, &mut text);
 }
 
 #[test]
 fn drawn_steps_of_two_threads_are_a_run(rt: HostRuntime) {
+    let mut text = String::new(rt.alloc());
     for &capacity in CAPACITIES {
         for &seed in SEEDS {
-            let steps = 200;
+            let steps = DRAWN;
             let plan = Plan {
                 capacity,
                 steps,
                 seed,
             };
-            are_audited::<Brand, _>(rt, rt.alloc(), Blank::new(2), 2, plan);
+            are_audited::<Brand, _>(rt, Blank::new(2), 2, plan, &mut text);
         }
+    }
+    for &(start, least) in LEAST {
+        let count = count(text.as_str(), start);
+        assert!(rt; count >= least, "{start}: {count} replies");
     }
 }

@@ -233,9 +233,10 @@ fn has(chain: &Tested, stood: &Stood) -> bool {
         && chain.get(stood.place).copied() == Some(stood.value)
 }
 
-// Whether the chain has what the queue has, in its order.
+// Whether the chain has what the queue has, in its order. Where as many stand, and each leads to the
+// next, that at which the walk begins is the first.
 fn stands_alike(chain: &Tested, plain: &Plain) -> bool {
-    let mut next = chain.first();
+    let mut next = plain.front().map(|stood| stood.place);
     for stood in plain {
         if next != Some(stood.place) || !has(chain, stood) {
             return false;

@@ -22,6 +22,10 @@ pub(crate) enum Wrong {
     GivesTwice,
     /// The first two of a drained list have changed places.
     ChangesOrder,
+    /// A send that was told that it is accepted is told so once more.
+    AcceptsTwice,
+    /// A receiver's ticket, or one that nobody has, is accepted as a send's.
+    AcceptsOthers,
 }
 
 /// A channel, and what is wrong with its replies.
@@ -35,6 +39,8 @@ pub(crate) struct Altered {
     collected: Option<(u64, u64)>,
     // The message that was received last without a ticket.
     received: Option<u64>,
+    // The ticket that was accepted last.
+    accepted: Option<u64>,
     /// How many replies were altered.
     pub(crate) altered: u64,
 }
@@ -47,6 +53,7 @@ impl Altered {
             filled: None,
             collected: None,
             received: None,
+            accepted: None,
             altered: 0,
         }
     }
@@ -96,6 +103,7 @@ impl Altered {
             Reply::Sent { filled } => self.sent(*filled),
             Reply::Got(message) => self.got(step, *message),
             Reply::NoTicket => self.asked_again(step),
+            Reply::Accepted => self.accepted(step),
             Reply::Empty => self.found_nothing(step),
             _ => None,
         }
@@ -141,9 +149,33 @@ impl Altered {
         self.wrong == Wrong::LosesFills
     }
 
+    fn accepted(&mut self, step: &Step<u64>) -> Option<Reply<u64>> {
+        if let Step::PollSend(ticket) | Step::WithdrawSend(ticket) = step {
+            self.accepted = Some(*ticket);
+        }
+        None
+    }
+
+    // A ticket that isn't one of a send is asked about as one.
+    fn asked_as_send(&self, ticket: u64) -> Option<Reply<u64>> {
+        let is_altered = match self.wrong {
+            Wrong::AcceptsTwice => self.accepted == Some(ticket),
+            Wrong::AcceptsOthers => self.accepted != Some(ticket),
+            _ => false,
+        };
+        if is_altered {
+            Some(Reply::Accepted)
+        } else {
+            None
+        }
+    }
+
     fn asked_again(&mut self, step: &Step<u64>) -> Option<Reply<u64>> {
         let ticket = match step {
             Step::Poll(ticket) | Step::Withdraw(ticket) => *ticket,
+            Step::PollSend(ticket) | Step::WithdrawSend(ticket) => {
+                return self.asked_as_send(*ticket);
+            }
             _ => return None,
         };
         match self.collected {

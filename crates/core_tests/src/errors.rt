@@ -33,6 +33,16 @@ fn each_error_without_a_message_has_its_debug_text(rt: HostRuntime) {
     shows(r, a, &errors, "[Timeout, NoMemory]");
     let errors = [CapacityError::Unbounded, CapacityError::Disconnected];
     shows(r, a, &errors, "[Unbounded, Disconnected]");
+    is(
+        r,
+        CapacityError::Unbounded == CapacityError::Unbounded,
+        true,
+    );
+    is(
+        r,
+        CapacityError::Unbounded == CapacityError::Disconnected,
+        false,
+    );
     shows(r, a, &[NoMemory], "[NoMemory]");
 }
 

@@ -7,6 +7,12 @@ struct Offer {
     message: u64,
     ticket: Option<u64>,
     returned: bool,
+    // Whether its sender was told what became of it, and asks no more.
+    is_spent: bool,
+    // Whether its sender was named as due; and whether that was since the channel was closed, so
+    // that it is named once more if it is accepted.
+    is_named: bool,
+    was_blocked_at_closing: bool,
 }
 
 // A message that was handed out. The one that filled a parked receiver is known once it was got.
@@ -28,6 +34,8 @@ enum Stands {
 struct Ticket {
     number: u64,
     stands: Stands,
+    // Whether it was named as due since it began to wait.
+    is_named: bool,
 }
 
 /// What the replies of one script told, and how many of them can't be.
@@ -100,6 +108,9 @@ impl Told {
             message,
             ticket,
             returned,
+            is_spent: false,
+            is_named: false,
+            was_blocked_at_closing: false,
         })?;
         self.fill(filled)
     }
@@ -112,25 +123,69 @@ impl Told {
         }
     }
 
-    // A blocked send was asked about, or withdrawn.
+    // A blocked send was asked about, or withdrawn. Each answer but that it waits is its last, and
+    // a message that comes back is its own.
     fn asked(&mut self, ticket: u64, reply: &Reply<u64>) {
-        match reply {
-            Reply::Returned { message, .. } => self.returned(ticket, *message),
-            Reply::Accepted | Reply::Waiting | Reply::NoTicket => {}
-            _ => self.fault(),
+        let is_over = self.is_over();
+        let mut is_right = matches!(reply, Reply::NoTicket);
+        for offer in &mut self.offers {
+            if offer.ticket == Some(ticket) && !offer.is_spent && !is_over {
+                offer.is_spent = !matches!(reply, Reply::Waiting);
+                offer.returned = matches!(reply, Reply::Returned { .. });
+                is_right = match reply {
+                    Reply::Returned { message, .. } => offer.message == *message,
+                    Reply::Accepted => true,
+                    Reply::Waiting => true,
+                    _ => false,
+                };
+            }
+        }
+        if !is_right {
+            self.fault();
         }
     }
 
-    // The blocked message with this ticket comes back, and did not come back before.
-    fn returned(&mut self, ticket: u64, message: u64) {
-        let mut found = false;
+    /// The last step made this ticket due. It was issued to a call that waits, and wasn't named
+    /// since that began to wait, but for a send that was blocked at the closing.
+    pub fn named(&mut self, ticket: u64) {
+        let is_closed = self.senders == 0 || self.receivers == 0;
+        let mut is_right = false;
         for offer in &mut self.offers {
-            if offer.ticket == Some(ticket) && offer.message == message && !offer.returned {
-                offer.returned = true;
-                found = true;
+            if offer.ticket == Some(ticket) && !offer.is_spent {
+                is_right = !offer.is_named || offer.was_blocked_at_closing;
+                offer.was_blocked_at_closing = !offer.is_named && is_closed;
+                offer.is_named = true;
             }
         }
-        if !found {
+        for entry in &mut self.tickets {
+            if entry.number == ticket && entry.stands != Stands::Spent {
+                is_right = !entry.is_named;
+                entry.is_named = true;
+            }
+        }
+        if !is_right || self.is_over() {
+            self.fault();
+        }
+    }
+
+    /// All that the last step made due were named: each receiver that is filled, and in a closed
+    /// channel each call that waits.
+    pub fn all_named(&mut self) {
+        let is_closed = self.senders == 0 || self.receivers == 0;
+        let mut is_right = true;
+        for offer in &self.offers {
+            let waits = offer.ticket.is_some() && !offer.is_spent;
+            is_right = is_right && (offer.is_named || !waits || !is_closed);
+        }
+        for entry in &self.tickets {
+            let is_due = match entry.stands {
+                Stands::Parked => is_closed,
+                Stands::Filled => true,
+                Stands::Spent => false,
+            };
+            is_right = is_right && (entry.is_named || !is_due);
+        }
+        if !is_right && !self.is_over() {
             self.fault();
         }
     }
@@ -142,7 +197,12 @@ impl Told {
             Reply::Parked(ticket) => {
                 self.issue(*ticket);
                 let (number, stands) = (*ticket, Stands::Parked);
-                self.tickets.push(Ticket { number, stands })?;
+                let is_named = false;
+                self.tickets.push(Ticket {
+                    number,
+                    stands,
+                    is_named,
+                })?;
             }
             Reply::Empty | Reply::Ended => {}
             _ => self.fault(),
@@ -150,13 +210,15 @@ impl Told {
         Ok(())
     }
 
-    // The ticket stands so from now on. How it stood before, if it was issued to a receiver.
+    // The ticket stands so from now on. One that waits again can be named again. How it stood
+    // before, if it was issued to a receiver.
     fn replace(&mut self, number: u64, stands: Stands) -> Stands {
         let mut before = Stands::Spent;
         for ticket in &mut self.tickets {
             if ticket.number == number {
                 before = ticket.stands;
                 ticket.stands = stands;
+                ticket.is_named = ticket.is_named && stands != Stands::Parked;
             }
         }
         before

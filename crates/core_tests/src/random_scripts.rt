@@ -121,6 +121,8 @@ const FAULTS: &[(Wrong, u64)] = &[
     (Wrong::FillsTwice, 20),
     (Wrong::GivesTwice, 50),
     (Wrong::ChangesOrder, 20),
+    (Wrong::AcceptsTwice, 5),
+    (Wrong::AcceptsOthers, 50),
 ];
 
 #[test]

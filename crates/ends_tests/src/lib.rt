@@ -10,8 +10,6 @@ pub mod counting;
 #[cfg(test)]
 mod fixtures;
 #[cfg(test)]
-mod parked;
-#[cfg(test)]
 mod parkers;
 #[cfg(test)]
 mod types;

@@ -4,7 +4,7 @@ use Rattle.std.specs.Prelude.{◌++◌, ◌∷◌, [], length}
 use Rattle.std.specs.FinMap.{get, insert, remove}
 use Rattle.flume_model.specs.Limits.{IsOpen, IsClosed, IsAtCapacity}
 use Rattle.flume_model.specs.Entries.{some_wait}
-use Rattle.flume_state.specs.Notices.{resignalled}
+use Rattle.flume_state.specs.Notices.{with_signal}
 use Rattle.flume_state.specs.Sends.{blocked, noticed_send}
 use Rattle.flume_state.specs.State.{State, accepted_at}
 use Rattle.flume_state.specs.Effects.{Joins, Returns}
@@ -47,7 +47,7 @@ module _ {T S : Type 0} where
     pub waits : (next ≡ Park call) ↔ (late ≡ false)
         × (accepted_at old call ≡ Some false) × IsOpen old.senders old.receivers
     pub replaced : next ≡ Park call
-        → new ≡ record old { sends = noticed_send (resignalled signal) call old.sends }
+        → new ≡ record old { sends = noticed_send (with_signal signal) call old.sends }
     pub accepted : accepted_at old call ≡ Some true → (next ≡ Done (Ok tt))
         × (new ≡ record old { sends = remove old.sends call })
     pub no_ticket : get old.sends call ≡ None → (next ≡ Done (Ok tt)) × (new ≡ old)

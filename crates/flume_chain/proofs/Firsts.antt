@@ -2,8 +2,8 @@
 use Rattle.std.proofs.Common.{◌≡◌, ◌≢◌, Option, ℕ, ◌==◌, List, [], ◌∷◌, ◌++◌, Some, None, map, length, refl, sym, ap, ap₂, subst, ◌∙◌, arith, length-append, if◌then◌else◌, eq-eqb}
 use Rattle.std.specs.Vec.{vec_len}
 use Rattle.flume_chain.specs.declared.chain.links.Links.{Links}
-use Rattle.flume_chain.specs.Links.{end, with, next_at, previous_at, element_at, Linked, Stands}
-use Rattle.flume_chain.specs.Chained.{once, Placed, Chained, Table, Holds, Kept, places, found, listed, moved_back, walk, table_of, chain_of}
+use Rattle.flume_chain.specs.Links.{end, with, next_at, previous_at, element_at, Linked, HasNode}
+use Rattle.flume_chain.specs.Chained.{once, Placed, Chained, Table, Holds, IsChain, places, found, listed, moved_back, walk, table_of, chain_of}
 use Rattle.flume_chain.proofs.Rings.{once_same, with_same}
 use Rattle.flume_chain.proofs.Tables.{item, Split, with_again}
 use Rattle.flume_chain.proofs.Steps.{linked_table, emptied, bypassed, filled, last_below, takes, puts_last}
@@ -111,7 +111,7 @@ module _ {E : Type 0} where
       }
 
 -- links of which the place of an element was linked out, and then linked behind all others
-module _ {E Z : Type 0} (old mid : Links E Z) (n c : ℕ) (e : E) (k : Kept old n) (is : Some e ≡ element_at old c)
+module _ {E Z : Type 0} (old mid : Links E Z) (n c : ℕ) (e : E) (k : IsChain old n) (is : Some e ≡ element_at old c)
     (out : Linked old mid
     (with (next_at old) (previous_at old c) (next_at old c))
     (with (previous_at old) (next_at old c) (previous_at old c))
@@ -126,7 +126,7 @@ module _ {E Z : Type 0} (old mid : Links E Z) (n c : ℕ) (e : E) (k : Kept old 
       (subst (λ (l : List (Placed E)). Holds (table_of old) l k.frees) split.is k.holds)
 
   -- the last place is the end or below the size
-  pub last_stands : Stands mid mid.last
+  pub last_stands : HasNode mid mid.last
   last_stands ne =
       let below = last_below (bypassed (emptied (table_of old) c) c) (split.before ++ split.after) (c ∷ k.frees) left in
       let same = out.previouses end in
@@ -142,7 +142,7 @@ module _ {E Z : Type 0} (old mid : Links E Z) (n c : ℕ) (e : E) (k : Kept old 
       (element_at mid) mid.free
 
   -- the links are of the elements with that one behind all others
-  pub moved_kept : (new : Links E Z) → LinkedLast new → Kept new n
+  pub moved_kept : (new : Links E Z) → LinkedLast new → IsChain new n
   moved_kept new last =
       let one : table_of mid ≡ unlinked (table_of old) c = linked_table old mid _ _ _ _ out in
       let two : table_of new ≡ appended (table_of mid) c = linked_table mid new _ _ _ _ last in

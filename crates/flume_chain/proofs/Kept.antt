@@ -6,7 +6,7 @@ use Rattle.std.proofs.lemmas.List.{map-append, get_or_past}
 use Rattle.flume_chain.specs.declared.chain.links.Node.{Node}
 use Rattle.flume_chain.specs.declared.chain.links.Links.{Links}
 use Rattle.flume_chain.specs.Links.{end, no_node, with, next_at, previous_at, element_at, Linked, Same}
-use Rattle.flume_chain.specs.Chained.{once, times, Placed, Chained, Table, Holds, Kept, places, without, put_before, walk, table_of, chain_of, first_place, behind_first, place_after}
+use Rattle.flume_chain.specs.Chained.{once, times, Placed, Chained, Table, Holds, IsChain, places, without, put_before, walk, table_of, chain_of, first_place, behind_first, place_after}
 use Rattle.flume_chain.proofs.Rings.{Ring, times-append, once_same}
 use Rattle.flume_chain.proofs.Splices.{around}
 use Rattle.flume_chain.proofs.Tables.{item, walk_is, Split, found_some, without_at, without_first, put_before_at, after_at, heads, ring_of}
@@ -101,7 +101,7 @@ module _ {E Z : Type 0} where
   same_table old new h = linked_table old new (next_at old) (previous_at old) (element_at old) old.free h
 
   -- the same links are of as many elements
-  pub same_kept : (old new : Links E Z) (n : ℕ) → Same old new → Kept old n → Kept new n
+  pub same_kept : (old new : Links E Z) (n : ℕ) → Same old new → IsChain old n → IsChain new n
   same_kept old new n h k = record {
     items = k.items;
     frees = k.frees;
@@ -123,7 +123,7 @@ module _ {E Z : Type 0} where
   walked s n items frees h e = ap (λ m. walk (table_of s) s.first m) e ∙ walk_is (table_of s) items frees h
 
   -- the elements that are kept are those of the chain
-  pub kept_items : (s : Links E Z) (n : ℕ) (v : Chained E) (k : Kept s n) → chain_of s n ≡ v → k.items ≡ v.items
+  pub kept_items : (s : Links E Z) (n : ℕ) (v : Chained E) (k : IsChain s n) → chain_of s n ≡ v → k.items ≡ v.items
   kept_items s n v k is = sym (walked s n k.items k.frees k.holds k.count) ∙ ap (λ (x : Chained E). x.items) is
 
   -- how many more elements may stand where no place is free
@@ -182,11 +182,11 @@ module _ {E Z : Type 0} where
       ap (λ (l : List (Placed E)). without l c) r.is ∙ without_at r.before r.after c e (omega arith) (omega arith)
 
   -- the first place of the links is that of the first element
-  pub first_kept : (s : Links E Z) (n : ℕ) (k : Kept s n) → n ≢ 0 → Some s.first ≡ first_place k.items
+  pub first_kept : (s : Links E Z) (n : ℕ) (k : IsChain s n) → n ≢ 0 → Some s.first ≡ first_place k.items
   first_kept s n k ne = first_of (next_at s) k.items (λ e. ne (k.count ∙ ap length e)) k.holds.forward
 
   -- links with no nodes are of no elements
-  pub new_kept : (s : Links E Z) → vec_len s.nodes ≡ 0 → s.first ≡ end → s.last ≡ end → s.free ≡ end → Kept s 0
+  pub new_kept : (s : Links E Z) → vec_len s.nodes ≡ 0 → s.first ≡ end → s.last ≡ end → s.free ≡ end → IsChain s 0
   new_kept s size first last free = record {
     items = [];
     frees = [];
@@ -229,7 +229,7 @@ module _ {E Z : Type 0} where
   ]
 
   -- without the first place of the links those behind the first element are left
-  pub first_behind : (s : Links E Z) (n : ℕ) (k : Kept s n) → n ≢ 0 → without k.items s.first ≡ behind_first k.items
+  pub first_behind : (s : Links E Z) (n : ℕ) (k : IsChain s n) → n ≢ 0 → without k.items s.first ≡ behind_first k.items
   first_behind s n k ne =
       let ring = ring_of (table_of s) k.items k.frees k.holds in
       without_first k.items s.first (λ x. let a = ring.apart x in omega arith) (first_kept s n k ne)

@@ -5,7 +5,7 @@ use Rattle.std.proofs.lemmas.List.{map-append}
 use Rattle.std.specs.Prelude.{Result, Ok, Err, OnErr}
 use Rattle.std.specs.Vec.{vec_len}
 use Rattle.flume_chain.specs.declared.chain.links.Links.{Links}
-use Rattle.flume_chain.specs.Links.{end, with, next_at, previous_at, element_at, Stands, Put, Full}
+use Rattle.flume_chain.specs.Links.{end, with, next_at, previous_at, element_at, HasNode, Put, Full}
 use Rattle.flume_chain.specs.Chained.{once, times, Placed, Holds, places, found, table_of, room_of}
 use Rattle.flume_chain.proofs.Rings.{times-append, once_same, with_same, with_other}
 use Rattle.flume_chain.proofs.Tables.{item, Split, found_none}
@@ -42,7 +42,7 @@ module _ {E Z : Type 0} where
     pub fresh : found (xs ++ ys) place ≡ None
 
   -- the free place is below the size, or the end
-  pub free_stands : (s : Links E Z) (items : List (Placed E)) (frees : List ℕ) → Holds (table_of s) items frees → Stands s s.free
+  pub free_stands : (s : Links E Z) (items : List (Placed E)) (frees : List ℕ) → Holds (table_of s) items frees → HasNode s s.free
   free_stands s items frees h ne =
       let r = first_free (table_of s) items frees h ne in
       free_below (table_of s) items s.free r.rest (subst (λ (l : List ℕ). Holds (table_of s) items l) r.is h)

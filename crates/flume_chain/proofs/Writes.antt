@@ -6,7 +6,7 @@ use Rattle.std.specs.Vec.{vec_len}
 use Rattle.flume_chain.specs.declared.chain.links.Node.{Node}
 use Rattle.flume_chain.specs.declared.chain.links.Links.{Links}
 use Rattle.flume_chain.specs.Links.{end, no_node, with, node_at, with_element, next_at, previous_at, element_at, Linked}
-use Rattle.flume_chain.specs.Chained.{times, Placed, Chained, Table, Holds, Kept, places, found, put_at, table_of, chain_of}
+use Rattle.flume_chain.specs.Chained.{times, Placed, Chained, Table, Holds, IsChain, places, found, put_at, table_of, chain_of}
 use Rattle.flume_chain.proofs.Steps.{linked_table}
 use Rattle.flume_chain.proofs.Kept.{kept_items, walked}
 
@@ -128,9 +128,9 @@ module _ {E Z : Type 0} where
   }
 
 -- links with an element written where one stood
-module _ {E Z : Type 0} (s : Links E Z) (n c : ℕ) (w e : E) (k : Kept s n) (is : element_at s c ≡ Some e) where
+module _ {E Z : Type 0} (s : Links E Z) (n c : ℕ) (w e : E) (k : IsChain s n) (is : element_at s c ≡ Some e) where
   -- they are of the elements with the other one
-  pub written_kept : Kept (with_element s c w) n
+  pub written_kept : IsChain (with_element s c w) n
   written_kept =
       let below = node_below s c (subst IsSome (sym is) refl) in
       record {

@@ -1,4 +1,5 @@
--- What the contracts of a chain cite: its elements in order, each with the place that names it.
+-- For every contract of a chain: its elements in order, each with the place that names it; and when
+-- links are those of a chain, which no contract names.
 use Rattle.std.specs.Prelude.{◌≡◌, ℕ, zero, suc, ◌+◌, ◌-◌, ◌<◌, ◌≤◌, ◌==◌, min, List, [], ◌∷◌, ◌++◌}
 use Rattle.std.specs.Prelude.{Option, Some, None, if◌then◌else◌, map, length}
 use Rattle.std.specs.Vec.{vec_len, vec_capacity}
@@ -136,7 +137,7 @@ module _ {E Z : Type 0} where
   chain_of s n = record { items = walk (table_of s) s.first n; room = room_of s n }
 
   -- these links are of n elements and of the free places
-  pub record Kept (s : Links E Z) (n : ℕ) : Type 0 where
+  pub record IsChain (s : Links E Z) (n : ℕ) : Type 0 where
     pub items : List (Placed E)
     pub frees : List ℕ
     pub holds : Holds (table_of s) items frees

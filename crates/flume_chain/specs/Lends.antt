@@ -1,4 +1,4 @@
--- What a chain ends as, once a `&mut` to one of its elements has ended.
+-- For every contract of a chain: what it ends as, once a `&mut` to one of its elements has ended.
 use Rattle.std.specs.Prelude.{ℕ, Option}
 use Rattle.std.specs.Borrow.{Lends, LendsIf, Fml, RattleType, MutBor}
 use Rattle.std.specs.declared.alloc.Allocator.{Ghosts}

@@ -1,4 +1,4 @@
--- What the contracts of a chain's links cite: what stands at a place, by look-ups.
+-- For this crate alone: what the contracts of a chain's links say, by look-ups at each place.
 use Rattle.std.specs.Prelude.{◌≡◌, ◌≢◌, ℕ, suc, ◌<◌, ◌≤◌, ◌==◌, Option, Some, None, if◌then◌else◌}
 use Rattle.std.specs.Prelude.{slice_index_or}
 use Rattle.std.specs.Vec.{vec_len, vec_capacity, with_item}
@@ -40,8 +40,8 @@ module _ {E Z : Type 0} where
       record s { nodes = with_item s.nodes k (record (node_at s k) { element = Some e }) }
 
   -- a node has this place, or it is `end`
-  abbrev pub Stands : Links E Z → ℕ → Type 0
-  Stands s k = k ≢ end → k < vec_len s.nodes
+  abbrev pub HasNode : Links E Z → ℕ → Type 0
+  HasNode s k = k ≢ end → k < vec_len s.nodes
 
   -- new has the size and the capacity of old, and at each place what these say
   pub record Linked (old new : Links E Z) (next previous : ℕ → ℕ) (element : ℕ → Option E)

@@ -23,13 +23,13 @@ pub struct Chain<E, A: Allocator> {
 }
 
 impl<E, A: Allocator> Model for Chain<E, A> {
-    ghost use Rattle.flume_chain.specs.Chained.{Chained, chain_of, Kept};
+    ghost use Rattle.flume_chain.specs.Chained.{Chained, chain_of, IsChain};
 
     ghost Value = { Chained E };
 
     ghost view = { λ c. chain_of c.links c.len };
 
-    ghost invariant = { λ c. Kept c.links c.len };
+    ghost invariant = { λ c. IsChain c.links c.len };
 }
 
 impl<E: Drop, A: Allocator> Chain<E, A> {
@@ -91,6 +91,7 @@ impl<E: Drop, A: Allocator> Chain<E, A> {
     }
 
     /// The element at a place, which no other has. `None` where none stands there.
+    // What the links have there is said of the list of elements here, and of no node.
     #[inline(always)]
     pub fn get(&self, place: u32) -> Option<&E>
         ensures found { option_copied result ≡ found self.now.items place }
@@ -113,7 +114,8 @@ impl<E: Drop, A: Allocator> Chain<E, A> {
         }
     }
 
-    // The element at a place where one stands, for writing.
+    // The element at a place where one stands, for writing. By itself, so that what it lends is said
+    // of the list of elements, where `Links::element_mut` says it of nodes.
     #[inline(always)]
     fn element_mut(&mut self, place: u32) -> &mut E
         requires stands { IsSome (found self.old.items place) }

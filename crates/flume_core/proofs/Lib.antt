@@ -19,5 +19,6 @@ mod AsTries
 mod Closing
 mod AskedMarks
 mod Asked
-mod Lists
+mod Headline
+mod Transitions
 pub mod dues

@@ -19,7 +19,7 @@ use Rattle.flume_state.specs.Notices.{due_now}
 use Rattle.flume_state.specs.State.{State, offers_of}
 use Rattle.flume_core.specs.Represents.{Represents}
 use Rattle.flume_state.specs.Effects.{after_wake_round}
-use Rattle.flume_state.specs.Receivers.{unfilled}
+use Rattle.flume_state.specs.Receivers.{after_fill}
 use Rattle.flume_model.proofs.order.Kept.{keeps_line}
 use Rattle.flume_model.proofs.order.Parts.{at_most}
 use Rattle.flume_model.proofs.order.LineSteps.{line_queues, line_blocks, line_withdraws, line_stays}
@@ -32,7 +32,7 @@ use Rattle.flume_core.proofs.Stands.{peak_kept, stands_as, stands_open, fits_as,
 use Rattle.flume_core.proofs.Stands.{still_live}
 
 -- what is left of a queue after a wake round
-pub unfilled_is : {X : Type 0} (filled : Option ℕ) (xs : List X) → unfilled filled xs ≡ drop (how_many filled) xs
+pub unfilled_is : {X : Type 0} (filled : Option ℕ) (xs : List X) → after_fill filled xs ≡ drop (how_many filled) xs
 unfilled_is None xs = refl
 unfilled_is (Some t) [] = refl
 unfilled_is (Some t) (x ∷ xs) = refl
@@ -65,8 +65,8 @@ module _ {T A S : Type 0} where
       let n = how_many filled in
       let few : n ≤ length (h.queued ++ x ∷ []) =
       let long = length_push h.queued x in let one = at_most filled in omega arith in
-      let left : unfilled (round_for_fills (old.queue ++ m ∷ []) old.entries) (old.queue ++ m ∷ []) ≡ drop n (old.queue ++ m ∷ []) =
-      ap (λ f. unfilled f (old.queue ++ m ∷ [])) (sym fills) ∙ unfilled_is filled (old.queue ++ m ∷ []) in
+      let left : after_fill (round_for_fills (old.queue ++ m ∷ []) old.entries) (old.queue ++ m ∷ []) ≡ drop n (old.queue ++ m ∷ []) =
+      ap (λ f. after_fill f (old.queue ++ m ∷ [])) (sym fills) ∙ unfilled_is filled (old.queue ++ m ∷ []) in
       stands_as o (p ∷ past) new _ is (stands_open o past p (Queues m filled) old _ h reply e still_open record {
         capacity_is = refl;
         greatest_is = greatest_kept h;

@@ -16,11 +16,11 @@ use Rattle.flume_model.specs.Entries.{entry_of, without, again, after_leave, lea
 use Rattle.flume_model.specs.Entries.{waiting_count}
 use Rattle.flume_model.specs.Parked.{LogEntry, entries}
 use Rattle.flume_state.specs.Notices.{due_now}
-use Rattle.flume_state.specs.Receivers.{begins, noticed_receiver}
+use Rattle.flume_state.specs.Receivers.{new_receiver, noticed_receiver}
 use Rattle.flume_state.specs.State.{State, offers_of, bare}
 use Rattle.flume_core.specs.Represents.{Represents}
 use Rattle.flume_state.specs.Effects.{without_receiver, after_withdrawal, with_peak}
-use Rattle.flume_state.specs.Receivers.{unfilled}
+use Rattle.flume_state.specs.Receivers.{after_fill}
 use Rattle.flume_model.proofs.order.LineSteps.{line_leaves}
 use Rattle.flume_model.proofs.waits.WaitingOpen.{nothing_once_over}
 use Rattle.flume_model.proofs.WaitingCounts.{fewer_without, fewer_after_leave}
@@ -49,13 +49,13 @@ module _ {T N : Type 0} where
 module _ {T S : Type 0} where
   -- what a receiver that leaves with no message leaves
   departed_is : (t : ℕ) (s : State T S) → after_withdrawal t s ≡ record s {
-    queue = unfilled (leave_fills t s.queue s.entries) s.queue;
+    queue = after_fill (leave_fills t s.queue s.entries) s.queue;
     entries = after_leave due_now t s.queue s.entries;
   }
   departed_is t s = by_case (passes_on (entry_of t s.entries)) refl
     where
       by_case : (b : Bool) → passes_on (entry_of t s.entries) ≡ b → after_withdrawal t s ≡ record s {
-        queue = unfilled (leave_fills t s.queue s.entries) s.queue;
+        queue = after_fill (leave_fills t s.queue s.entries) s.queue;
         entries = after_leave due_now t s.queue s.entries;
       }
       by_case true passes = rw passes refl
@@ -68,7 +68,7 @@ module _ {T S : Type 0} where
       by_case : (b : Bool) → passes_on (entry_of t s.entries) ≡ b → after_withdrawal t s ≡ without_receiver t s
       by_case true passes =
           rw passes (ap (λ q. record (without_receiver t s) {
-            queue = unfilled (round_for_fills q (without t s.entries)) q;
+            queue = after_fill (round_for_fills q (without t s.entries)) q;
             entries = round_for due_now q (without t s.entries);
           }) none
           ∙ sym (ap (λ q. record (without_receiver t s) { queue = q }) none))
@@ -91,14 +91,14 @@ module _ {T A S : Type 0} where
   pub parks : (o : Opening) (past : Log T A) (p : Step T × Reply T A) (old new : State T S) (kind : Kind) (signal : S)
       → Represents o past old
       → IsReply (channel o past) p.0 p.1 → change past p.0 p.1 ≡ Parks old.next kind
-      → new ≡ with_peak (old.entries ++ begins old.next kind signal ∷ []) (record old { next = old.next + 1 })
+      → new ≡ with_peak (old.entries ++ new_receiver old.next kind signal ∷ []) (record old { next = old.next + 1 })
       → Represents o (p ∷ past) new
   parks o past p old new kind signal h reply e is =
       let fit = fits_as o past p (Parks old.next kind) h.run reply e in
-      let es = old.entries ++ begins old.next kind signal ∷ [] in
+      let es = old.entries ++ new_receiver old.next kind signal ∷ [] in
       keeps_standing o past p (Parks old.next kind) old new old.sends es (max old.peak (waiting_count es)) (old.next + 1) h reply e refl
       (over_same past p (Parks old.next kind) e refl ∙ open_not_over past (let is_open = fit.1 in omega arith)) is (λ t. refl)
-      (map_push bare old.entries (begins old.next kind signal)) refl refl
+      (map_push bare old.entries (new_receiver old.next kind signal)) refl refl
 
   -- a receiver waits on, or again behind all others
   pub asks : (o : Opening) (past : Log T A) (p : Step T × Reply T A) (old new : State T S) (t : ℕ) (f : Notice S → Notice S)
@@ -136,8 +136,8 @@ module _ {T A S : Type 0} where
       let long = queued_length h in
       let within : how_many (leave_fills t old.queue old.entries) ≤ length old.queue = leave_within t old.queue old.entries in
       let same : n ≡ how_many (leave_fills t old.queue old.entries) = ap how_many fills in omega arith in
-      let rest : unfilled (leave_fills t old.queue old.entries) old.queue ≡ drop n old.queue =
-      ap (λ f. unfilled f old.queue) (sym fills) ∙ unfilled_is filled old.queue in
+      let rest : after_fill (leave_fills t old.queue old.entries) old.queue ≡ drop n old.queue =
+      ap (λ f. after_fill f old.queue) (sym fills) ∙ unfilled_is filled old.queue in
       stands_as o (p ∷ past) new _ (is ∙ departed_is t old) (stands_open o past p (Leaves t filled) old _ h reply e still_open record {
         capacity_is = refl;
         greatest_is = greatest_kept h;

@@ -2,5 +2,6 @@ pub mod Represents
 pub mod PossibleReply
 pub mod Waiting
 pub mod Wanting
+pub mod Transitions
 pub mod StateFacts
 pub mod Headline

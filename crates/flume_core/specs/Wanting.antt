@@ -1,11 +1,11 @@
 -- Where memory may be wanted for a step: what a state says of it.
-use Rattle.std.specs.Prelude.{◌≡◌, ◌<◌, ◌⊎◌, true, length}
+use Rattle.std.specs.Prelude.{◌≡◌, ◌≢◌, ◌<◌, ◌≤◌, ◌⊎◌, true, [], length}
 use Rattle.flume_model.specs.declared.step.Step.{Step}
 use Rattle.flume_model.specs.declared.step.Step.TheVariants.{TrySend, Send, TryRecv, Recv}
 use Rattle.flume_model.specs.declared.step.Step.TheVariants.{Poll, Drain}
 use Rattle.flume_model.specs.Limits.{IsOpen, most}
 use Rattle.flume_state.specs.Receivers.{receiver_status, only_leaves}
-use Rattle.flume_state.specs.State.{State}
+use Rattle.flume_state.specs.State.{State, message_count}
 use Rattle.flume_core.specs.Waiting.{FindsNothing, FindsNoRoom}
 
 module _ {T S : Type 0} where
@@ -21,3 +21,13 @@ module _ {T S : Type 0} where
       (only_leaves (receiver_status ticket s.entries) ≡ true) × (0 < length s.blocked)
   MayWant s Drain = 0 < length s.queue
   MayWant s _ = ⊥
+
+  -- Only so may memory be refused to a step of `Chan` itself: to an offer where no room is left for
+  -- its message, to a send that blocks, to a receiver that parks, and to a drain of some message.
+  -- No other step is ever refused so.
+  abbrev pub MayNeedMemory : State T S → Step T → Type 0
+  MayNeedMemory s (TrySend message) = s.space ≤ message_count s
+  MayNeedMemory s (Send message) = FindsNoRoom s ⊎ (s.space ≤ message_count s)
+  MayNeedMemory s (Recv kind) = FindsNothing s × (s.next < most)
+  MayNeedMemory s Drain = s.queue ≢ []
+  MayNeedMemory s _ = ⊥

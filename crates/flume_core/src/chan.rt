@@ -1,11 +1,12 @@
 //! The state of a channel, and the steps that change it.
-ghost use Rattle.std.specs.Prelude.{◌≡◌, ◌≤◌, [], length, IsTrue, ◌↔◌};
+ghost use Rattle.std.specs.Prelude.{◌≡◌, ◌≤◌, [], length, IsTrue, ◌↔◌, Option};
 ghost use Rattle.flume_model.specs.Log.{opens};
 ghost use Rattle.flume_model.specs.Limits.{IsOpen, HasRoom};
 ghost use Rattle.flume_state.specs.State.{State, new_state};
 ghost use Rattle.flume_core.specs.Represents.{Represents, Extends, ChangesNothing, IsReachable};
 ghost use Rattle.flume_state.specs.Due.{BecomesDue};
 ghost use Rattle.flume_core.specs.PossibleReply.{PossibleReply};
+ghost use Rattle.flume_core.specs.Wanting.{MayNeedMemory};
 
 mod capacity;
 mod ends;
@@ -25,7 +26,8 @@ use std::marker::Model;
 
 /// A channel without its lock: many senders and many receivers of messages of type `T`, as one
 /// value whose owner makes each step. `S` is the signal that a blocked send or a parked receiver
-/// leaves.
+/// leaves. It holds at most 4,294,967,295 messages, as many live tickets of sends, and as many
+/// parked receivers: past that a step answers `NoMemory` though no allocation was refused.
 #[derive(Drop)]
 pub struct Chan<T, S, A: Allocator = Global> {
     capacity: Option<usize>,
@@ -137,6 +139,8 @@ impl<T: Drop, A: Allocator + Copy> Chan<T, (), A> {
         ensures dues { IsReachable A self.old → BecomesDue self.old step result self.new }
         ensures comes { PossibleReply step result }
         ensures space { self.old.space ≤ self.new.space }
+        ensures refused { (back : Option T) → result ≡ Reply.NoMemory back
+            → MayNeedMemory self.old step }
         ensures unchanged { ChangesNothing step result → self.new ≡ self.old }
     {
         match step {

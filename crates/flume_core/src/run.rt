@@ -1,10 +1,14 @@
 //! Lists of steps.
-ghost use Rattle.std.specs.Prelude.{◌≡◌, vec_len, IfOk, IfErr, OnErr};
+ghost use Rattle.std.specs.Prelude.{◌≡◌, ◌≤◌, ◌++◌, List, vec_len, IfOk, IfErr, OnErr};
 ghost use Rattle.flume_model.specs.Log.{Log, Opening};
 ghost use Rattle.flume_model.specs.Offers.{after};
+ghost use Rattle.flume_model.specs.declared.step.Reply.{Reply};
+ghost use Rattle.flume_model.specs.declared.step.Step.{Step};
+ghost use Rattle.flume_state.specs.State.{State};
 ghost use Rattle.flume_core.specs.Represents.{Represents};
 ghost use Rattle.flume_model.specs.Beginnings.{HoldsThroughout};
 ghost use Rattle.flume_core.specs.Headline.{Headline, HeadlineThroughout};
+ghost use Rattle.flume_core.specs.Transitions.{AreTransitions};
 
 use crate::chan::Chan;
 use flume_model::step::{Reply, Step};
@@ -12,7 +16,9 @@ use std::alloc::Allocator;
 use std::collections::VecDeque;
 
 /// Does the steps one after the other and answers one reply a step, in order. Room for the replies
-/// is made first: refused for want of memory, all steps come back and nothing was done.
+/// is made first: refused for want of memory, all steps come back and nothing was done. What
+/// `Chan::step` says of one step holds of each: by the clause `transitions`, which also says who is
+/// due after it. Two calls, one after the other, are one of all the steps (`two_runs_are_one`).
 ///
 /// ```
 /// let mut chan: Chan<u64, ()> = Chan::new(alloc, None);
@@ -36,6 +42,9 @@ pub fn run<T: Drop, A: Allocator + Copy>(
     ensures headline_throughout { IfOk result (λ replies. (opening : Opening) (log : Log T A)
         → Represents opening log chan.old
         → HeadlineThroughout (Unit {0}) opening (after log steps.items replies.items)) }
+    ensures transitions { IfOk result (λ replies.
+        AreTransitions chan.old steps.items replies.items chan.new) }
+    ensures space { chan.old.space ≤ chan.new.space }
     ensures one_each { IfOk result (λ replies. vec_len replies ≡ vec_len steps) }
     ensures returned { IfErr result (λ back. back.items ≡ steps.items) }
     ensures unchanged { OnErr result (chan.new ≡ chan.old) }
@@ -66,4 +75,13 @@ pub fn headline_of_steps<T, S, A: Allocator>(chan: &Chan<T, S, A>)
         → Represents opening log chan.now → HoldsThroughout opening log }
     ensures headline_throughout { (opening : Opening) (log : Log T A)
         → Represents opening log chan.now → HeadlineThroughout S opening log }
+{}
+
+/// Two runs, one after the other, are one run of the steps of both, with the replies of both. Does
+/// nothing.
+pub fn two_runs_are_one<T, S, A: Allocator>()
+    ensures joined { (old mid new : State T S) (steps later : List (Step T))
+        (replies answers : List (Reply T A))
+        → AreTransitions old steps replies mid → AreTransitions mid later answers new
+        → AreTransitions old (steps ++ later) (replies ++ answers) new }
 {}

@@ -17,3 +17,4 @@ pub mod Producers
 pub mod AllBlock
 pub mod Beginnings
 pub mod Resized
+pub mod EqualSteps

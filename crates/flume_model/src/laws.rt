@@ -1,5 +1,5 @@
 //! Laws of the definitions. These functions do nothing: each contract is a law.
-ghost use Rattle.std.specs.Prelude.{◌∷◌};
+ghost use Rattle.std.specs.Prelude.{◌≡◌, ◌∷◌};
 ghost use Rattle.flume_model.specs.Log.{Log, Opening};
 ghost use Rattle.flume_model.specs.Parked.{entries};
 ghost use Rattle.flume_model.specs.Replies.{IsRun};
@@ -8,11 +8,13 @@ ghost use Rattle.flume_model.specs.declared.step.Reply.{Reply};
 ghost use Rattle.flume_model.specs.Laws.{InOrder, TicketsRise, HandedOutStay, LiveAreKept};
 ghost use Rattle.flume_model.specs.Laws.{AcceptedBelowBlocked, BlockedAtCapacity};
 ghost use Rattle.flume_model.specs.Beginnings.{HoldsThroughout};
+ghost use Rattle.flume_model.specs.EqualSteps.{equal_steps};
 
 pub mod capacity;
 pub mod users;
 pub mod waits;
 
+use crate::step::Step;
 use std::alloc::Allocator;
 
 /// Of each run, the messages handed out are the kept offers, in order: those that replies show, and
@@ -54,4 +56,10 @@ pub fn accepted_tickets_are_below_blocked_ones<T, A: Allocator>()
 pub fn senders_block_only_at_capacity<T, A: Allocator>()
     ensures law { (opening : Opening) (log : Log T A)
         → IsRun opening log → BlockedAtCapacity opening log }
+{}
+
+/// Steps are equal where their cases are the same and what they hold is equal.
+pub fn steps_are_equal_by_case<T: PartialEq>()
+    ensures same { (step other : Step T)
+        → ⟦<Step<T> as PartialEq>⟧.eq step other ≡ equal_steps T.eq step other }
 {}

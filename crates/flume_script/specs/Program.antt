@@ -5,6 +5,8 @@ use Rattle.flume_model.specs.declared.step.Step.{Step}
 use Rattle.flume_model.specs.declared.step.Reply.{Reply}
 use Rattle.flume_model.specs.Offers.{after}
 use Rattle.flume_model.specs.Replies.{IsRun}
+use Rattle.flume_state.specs.State.{State, new_state}
+use Rattle.flume_core.specs.Transitions.{AreTransitions}
 use Rattle.flume_script.specs.Script.{IsScript, IsFirstWrong, wrong_text}
 use Rattle.flume_script.specs.ReplyTexts.{reply_texts}
 
@@ -16,6 +18,10 @@ pub record Answers (A : Type 0) (input text : List ℕ) (status : ℕ) : Type 0 
   pub reads : IsScript (lines input) capacity steps
   pub one_each : length replies ≡ length steps
   pub run : IsRun (record { capacity = capacity; first = 1 }) (after [] steps replies)
+  -- each of them is one that a `Chan` gives, and refused for memory only where one needs it
+  pub last : State ℕ (Unit {0})
+  pub transitions :
+      AreTransitions (new_state (record { capacity = capacity; first = 1 })) steps replies last
   pub text_is : text ≡ reply_texts replies
   pub status_is : status ≡ 0
 

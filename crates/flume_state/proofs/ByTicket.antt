@@ -11,9 +11,9 @@ use Rattle.flume_chain.proofs.Rings.{once_same, once_none, once_back, with_same,
 use Rattle.flume_chain.proofs.Tables.{item, found_put, without_at}
 use Rattle.flume_state.specs.declared.ticketed.Ticketed.{Ticketed}
 use Rattle.flume_state.specs.Sends.{changed}
-use Rattle.flume_state.specs.Ticketed.{place_of, ticket_times, revalued}
+use Rattle.flume_state.specs.layout.Ticketed.{place_of, ticket_times, with_value_at}
 use Rattle.flume_model.specs.Log.{is_ticket}
-use Rattle.flume_state.specs.SendLayout.{put_under, by_ticket}
+use Rattle.flume_state.specs.layout.SendLayout.{put_under, by_ticket}
 use Rattle.flume_state.proofs.SendsLaws.{same_by, get-insert_same, get-insert_other, changed-insert, remove-insert}
 
 -- two numbers are the same either way round
@@ -261,7 +261,7 @@ module _ {X : Type 0} where
   stands_without t p v items s =
       ap (λ l. without l p) s.is ∙ without_at s.before s.after p (under t v) s.ahead s.behind
 
-  revalued_none : (p : ℕ) (w : X) (xs : List (Placed (Ticketed X))) → times p (places xs) ≡ 0 → revalued p xs w ≡ xs
+  revalued_none : (p : ℕ) (w : X) (xs : List (Placed (Ticketed X))) → times p (places xs) ≡ 0 → with_value_at p xs w ≡ xs
   revalued_none p w [] none = refl
   revalued_none p w (x ∷ xs) none =
       ap₂ (λ (y : Placed (Ticketed X)) (ys : List (Placed (Ticketed X))). y ∷ ys)
@@ -269,7 +269,7 @@ module _ {X : Type 0} where
       (revalued_none p w xs (omega arith))
 
   revalued_at : (t p : ℕ) (v w : X) (xs ys : List (Placed (Ticketed X))) → times p (places xs) ≡ 0 → times p (places ys) ≡ 0
-      → revalued p (xs ++ item p (under t v) ∷ ys) w ≡ xs ++ item p (under t w) ∷ ys
+      → with_value_at p (xs ++ item p (under t v) ∷ ys) w ≡ xs ++ item p (under t w) ∷ ys
   revalued_at t p v w [] ys none later =
       ap₂ (λ (y : Placed (Ticketed X)) (ys : List (Placed (Ticketed X))). y ∷ ys)
       (ap (λ b. if b then item p (under t w) else item p (under t v)) (eq-eqb p p refl)) (revalued_none p w ys later)
@@ -280,12 +280,12 @@ module _ {X : Type 0} where
 
   -- its value is replaced
   pub stands_written : (t p : ℕ) (v w : X) (items : List (Placed (Ticketed X))) (s : Stands t p v items)
-      → revalued p items w ≡ s.before ++ item p (under t w) ∷ s.after
+      → with_value_at p items w ≡ s.before ++ item p (under t w) ∷ s.after
   stands_written t p v w items s =
-      ap (λ l. revalued p l w) s.is ∙ revalued_at t p v w s.before s.after s.ahead s.behind
+      ap (λ l. with_value_at p l w) s.is ∙ revalued_at t p v w s.before s.after s.ahead s.behind
 
   -- then it stands as before, with that value
-  abbrev pub stands_again : (t p : ℕ) (v w : X) (items : List (Placed (Ticketed X))) → Stands t p v items → Stands t p w (revalued p items w)
+  abbrev pub stands_again : (t p : ℕ) (v w : X) (items : List (Placed (Ticketed X))) → Stands t p v items → Stands t p w (with_value_at p items w)
   stands_again t p v w items s = record {
     before = s.before;
     after = s.after;

@@ -9,9 +9,9 @@ use Rattle.flume_model.specs.Entries.{is_waiting, is_woken, waiting_count, again
 use Rattle.flume_model.specs.declared.entry.Entry.{Entry}
 use Rattle.flume_model.specs.declared.entry.Mark.{Mark}
 use Rattle.flume_model.specs.declared.entry.Mark.TheVariants.{Waiting, Woken, Filled}
-use Rattle.flume_state.specs.EntryLayout.{Each, EntryLayout, asked_as, entries_in, entry_in, off}
+use Rattle.flume_state.specs.layout.EntryLayout.{Each, EntryLayout, after_asking, entries_in, entry_in, boundary_without}
 use Rattle.flume_state.specs.Receivers.{Entries, noticed_receiver, waits_on}
-use Rattle.flume_state.specs.Ticketed.{revalued}
+use Rattle.flume_state.specs.layout.Ticketed.{with_value_at}
 use Rattle.flume_state.specs.declared.entries.Parked.{Parked}
 use Rattle.flume_state.specs.declared.notice.Notice.{Notice}
 use Rattle.flume_state.specs.declared.ticketed.Ticketed.{Ticketed}
@@ -42,7 +42,7 @@ module _ {T S : Type 0} where
 
   -- the part of those that wait, where one of them has a value with which it waits
   each-revalued : (xs : Items T S) (k : ℕ) (v : Parked T S) → Each true false xs → is_waiting v.mark ≡ true → v.notice.due ≡ false
-      → Each true false (revalued k xs v)
+      → Each true false (with_value_at k xs v)
   each-revalued [] k v all waits quiet = all
   each-revalued (x ∷ xs) k v all waits quiet = elim (cases_Bool (k == x.place)) [
     | inl t ↦ rw t (all.0, waits, quiet, each-revalued xs k v all.3 waits quiet)
@@ -50,7 +50,7 @@ module _ {T S : Type 0} where
   ]
 
   -- the first place is the same after an element has another value
-  first-revalued : (xs ys : Items T S) (k : ℕ) (v : Parked T S) → first_place (xs ++ ys) ≡ first_place (xs ++ revalued k ys v)
+  first-revalued : (xs ys : Items T S) (k : ℕ) (v : Parked T S) → first_place (xs ++ ys) ≡ first_place (xs ++ with_value_at k ys v)
   first-revalued (x ∷ xs) ys k v = refl
   first-revalued [] [] k v = refl
   first-revalued [] (y ∷ ys) k v = elim (cases_Bool (k == y.place)) [
@@ -61,7 +61,7 @@ module _ {T S : Type 0} where
   -- one that waits has a value with which it waits on
   sorted_stays : (items : Items T S) (due waits : Option ℕ) (n t k : ℕ) (v : Parked T S) → EntryLayout items due waits n
       → (q : Seated items t k) → is_waiting q.element.value.mark ≡ true → is_waiting v.mark ≡ true → v.notice.due ≡ false
-      → EntryLayout (revalued k items v) due waits n
+      → EntryLayout (with_value_at k items v) due waits n
   sorted_stays items due waits n t k v s q did does quiet =
       let x = item k q.element in
       let y = item k (with_value q.element v) in
@@ -75,10 +75,10 @@ module _ {T S : Type 0} where
       record {
         quiet = s.quiet;
         dues = s.dues;
-        last = revalued k s.last v;
-        is = ap (λ l. revalued k l v) s.is ∙ revalued-append k s.quiet (s.dues ++ s.last) v
+        last = with_value_at k s.last v;
+        is = ap (λ l. with_value_at k l v) s.is ∙ revalued-append k s.quiet (s.dues ++ s.last) v
             ∙ ap₂ (λ a b. a ++ b) (revalued_none k s.quiet v p.0)
-            (revalued-append k s.dues s.last v ∙ ap (λ l. l ++ revalued k s.last v) (revalued_none k s.dues v r.0));
+            (revalued-append k s.dues s.last v ∙ ap (λ l. l ++ with_value_at k s.last v) (revalued_none k s.dues v r.0));
         are_quiet = s.are_quiet;
         are_due = s.are_due;
         wait = each-revalued s.last k v s.wait does quiet;
@@ -90,17 +90,17 @@ module _ {T S : Type 0} where
       }
 
   -- the value that an element has changes nothing
-  revalued_same : (items : Items T S) (t k : ℕ) (q : Seated items t k) → revalued k items q.element.value ≡ items
+  revalued_same : (items : Items T S) (t k : ℕ) (q : Seated items t k) → with_value_at k items q.element.value ≡ items
   revalued_same items t k q =
-      ap (λ l. revalued k l q.element.value) q.is
+      ap (λ l. with_value_at k l q.element.value) q.is
       ∙ revalued_at k q.before q.after q.element q.element.value q.clear q.behind ∙ sym q.is
 
   -- one that wasn't woken asks again: the parts stand as before
   pub asks_sorted : (items : Items T S) (due waits : Option ℕ) (n t k : ℕ) (signal : Option S) (m : Mark T) → EntryLayout items due waits n
       → (q : Seated items t k) → q.element.value.mark ≡ m → is_woken m ≡ false
-      → EntryLayout (revalued k items (asked_as m signal q.element.value)) due waits n
+      → EntryLayout (with_value_at k items (after_asking m signal q.element.value)) due waits n
   asks_sorted items due waits n t k signal Waiting s q is asleep =
-      sorted_stays items due waits n t k (asked_as Waiting signal q.element.value) s q (ap is_waiting is) refl refl
+      sorted_stays items due waits n t k (after_asking Waiting signal q.element.value) s q (ap is_waiting is) refl refl
   asks_sorted items due waits n t k signal Woken s q is asleep = absurd (let none : ⊥ = cc in none)
   asks_sorted items due waits n t k signal (Filled message) s q is asleep = rw (revalued_same items t k q) s
 
@@ -132,9 +132,9 @@ module _ {T S : Type 0} where
   -- one that waits has its notice changed in its place
   pub asks_entries : (items : Items T S) (t k : ℕ) (signal : Option S) (m : Mark T) (old : Entries T S) (q : Seated items t k)
       → entries_in items ≡ old → q.element.value.mark ≡ m → is_woken m ≡ false → held_by (entry_of t old) ≡ None
-      → entries_in (revalued k items (asked_as m signal q.element.value)) ≡ again t (noticed_receiver (waits_on signal) t old)
+      → entries_in (with_value_at k items (after_asking m signal q.element.value)) ≡ again t (noticed_receiver (waits_on signal) t old)
   asks_entries items t k signal Waiting old q view is asleep none =
-      let v = asked_as Waiting signal q.element.value in
+      let v = after_asking Waiting signal q.element.value in
       let y = entry_in (item k (with_value q.element v)) in
       let stays : again_as t (Some (noticed signal q)) (entries_in q.before ++ noticed signal q ∷ entries_in q.after)
       ≡ entries_in q.before ++ y ∷ entries_in q.after = rw is refl in
@@ -148,7 +148,7 @@ module _ {T S : Type 0} where
   -- a filled one stays as it is
   pub asks_filled : (items : Items T S) (t k : ℕ) (signal : Option S) (m : Mark T) (old : Entries T S) (q : Seated items t k)
       → entries_in items ≡ old → q.element.value.mark ≡ m
-      → OnSome (held_by (entry_of t old)) (entries_in (revalued k items (asked_as m signal q.element.value)) ≡ old)
+      → OnSome (held_by (entry_of t old)) (entries_in (with_value_at k items (after_asking m signal q.element.value)) ≡ old)
   asks_filled items t k signal Waiting old q view is = rw (holds items t k Waiting old q view is) tt
   asks_filled items t k signal Woken old q view is = rw (holds items t k Woken old q view is) tt
   asks_filled items t k signal (Filled message) old q view is =
@@ -167,12 +167,12 @@ module _ {T S : Type 0} where
 
   -- one with another value in its place, and what moving it back leaves: it stands behind all others
   pub moved : (items new : Items T S) (t k : ℕ) (v : Parked T S) (done : Bool) (q : Seated items t k)
-      → (done ≡ true ↔ IsSome (found (revalued k items v) k))
-      → (done ≡ true → (e : Ticketed (Parked T S)) → found (revalued k items v) k ≡ Some e → new ≡ behind_all (revalued k items v) k e)
+      → (done ≡ true ↔ IsSome (found (with_value_at k items v) k))
+      → (done ≡ true → (e : Ticketed (Parked T S)) → found (with_value_at k items v) k ≡ Some e → new ≡ behind_all (with_value_at k items v) k e)
       → new ≡ behind_all items k (with_value q.element v)
   moved items new t k v done q stood moves =
-      let here : found (revalued k items v) k ≡ Some (with_value q.element v) =
-      ap (λ l. found (revalued k l v) k) q.is
+      let here : found (with_value_at k items v) k ≡ Some (with_value q.element v) =
+      ap (λ l. found (with_value_at k l v) k) q.is
       ∙ ap (λ l. found l k) (revalued_at k q.before q.after q.element v q.clear q.behind)
       ∙ seat_found q.before q.after k (with_value q.element v) q.clear in
       moves (stood.1 (rw here refl)) (with_value q.element v) here
@@ -190,30 +190,30 @@ module _ {T S : Type 0} where
   -- a woken one waits behind all others
   pub again_sorted : (items : Items T S) (due waits next : Option ℕ) (n t k : ℕ) (signal : Option S) (m : Mark T)
       → EntryLayout items due waits n → (q : Seated items t k) → q.element.value.mark ≡ m → is_woken m ≡ true → next ≡ place_after items k
-      → EntryLayout (behind_all items k (with_value q.element (asked_as m signal q.element.value)))
-      (option_or (off due k next) (Some k)) (option_or (off waits k next) (Some k)) (n + 1)
+      → EntryLayout (behind_all items k (with_value q.element (after_asking m signal q.element.value)))
+      (option_or (boundary_without due k next) (Some k)) (option_or (boundary_without waits k next) (Some k)) (n + 1)
   again_sorted items due waits next n t k signal Waiting s q is woken after = absurd (let none : ⊥ = cc in none)
   again_sorted items due waits next n t k signal (Filled message) s q is woken after = absurd (let none : ⊥ = cc in none)
   again_sorted items due waits next n t k signal Woken s q is woken after =
-      let e = with_value q.element (asked_as Woken signal q.element.value) in
+      let e = with_value q.element (after_asking Woken signal q.element.value) in
       let left = sorted_without items due waits next n n k q.element s q.here after (rw is (omega arith)) in
-      sorted_push (without items k) (off due k next) (off waits k next) n k e left (found_none (without items k) k (gone k items))
+      sorted_push (without items k) (boundary_without due k next) (boundary_without waits k next) n k e left (found_none (without items k) k (gone k items))
       (q.ticket ∙ ap Some (sym q.number), refl, refl) (omega (arith, s.fits, length-behind items t k e q))
 
   -- and so it does among the entries
   pub again_entries : (items : Items T S) (t k : ℕ) (signal : Option S) (m : Mark T) (old : Entries T S) (q : Seated items t k)
       → entries_in items ≡ old → q.element.value.mark ≡ m → is_woken m ≡ true
-      → entries_in (behind_all items k (with_value q.element (asked_as m signal q.element.value)))
+      → entries_in (behind_all items k (with_value q.element (after_asking m signal q.element.value)))
       ≡ again t (noticed_receiver (waits_on signal) t old)
   again_entries items t k signal Waiting old q view is woken = absurd (let none : ⊥ = cc in none)
   again_entries items t k signal (Filled message) old q view is woken = absurd (let none : ⊥ = cc in none)
   again_entries items t k signal Woken old q view is woken =
       let x = noticed signal q in
-      let y = entry_in (item k (with_value q.element (asked_as Woken signal q.element.value))) in
+      let y = entry_in (item k (with_value q.element (after_asking Woken signal q.element.value))) in
       let all = entries_in q.before ++ x ∷ entries_in q.after in
       let left : entries_in (without items k) ≡ entries_in q.before ++ entries_in q.after =
       ap (λ l. entries_in (without l k)) q.is ∙ ap entries_in (without_at q.before q.after k q.element q.clear q.behind)
       ∙ entries-append q.before q.after in
-      entries-append (without items k) (item k (with_value q.element (asked_as Woken signal q.element.value)) ∷ [])
+      entries-append (without items k) (item k (with_value q.element (after_asking Woken signal q.element.value)) ∷ [])
       ∙ ap (λ l. l ++ y ∷ []) (left ∙ sym (without_entry t (entries_in q.before) (entries_in q.after) x q.ahead q.number))
       ∙ sym (asks_at items t k signal old q view ∙ ap (λ b. if b then without_ticket t all ++ y ∷ [] else all) (ap is_woken is))

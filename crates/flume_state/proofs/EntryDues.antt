@@ -5,8 +5,8 @@ use Rattle.flume_chain.proofs.Tables.{item, after_at}
 use Rattle.flume_model.specs.Entries.{is_waiting, waiting_count}
 use Rattle.flume_model.specs.declared.entry.Mark.{Mark}
 use Rattle.flume_state.specs.Notices.{due_now}
-use Rattle.flume_state.specs.EntryLayout.{Each, EntryLayout, entries_in, entry_in, first_marked, first_waiting}
-use Rattle.flume_state.specs.Ticketed.{revalued}
+use Rattle.flume_state.specs.layout.EntryLayout.{Each, EntryLayout, entries_in, entry_in, with_first_marked, first_waiting}
+use Rattle.flume_state.specs.layout.Ticketed.{with_value_at}
 use Rattle.flume_state.specs.Receivers.{Entries}
 use Rattle.flume_state.specs.declared.entries.Parked.{Parked}
 use Rattle.flume_state.specs.declared.notice.Notice.{Notice}
@@ -19,9 +19,9 @@ module _ {T S : Type 0} where
   -- the entries where the element at a place has another value
   pub revalued_entries : (items before after : Items T S) (k : ℕ) (e : Ticketed (Parked T S)) (v : Parked T S)
       → items ≡ before ++ item k e ∷ after → times k (places before) ≡ 0 → times k (places after) ≡ 0
-      → entries_in (revalued k items v) ≡ entries_in before ++ entry_in (item k (with_value e v)) ∷ entries_in after
+      → entries_in (with_value_at k items v) ≡ entries_in before ++ entry_in (item k (with_value e v)) ∷ entries_in after
   revalued_entries items before after k e v is clear behind =
-      ap (λ l. entries_in (revalued k l v)) is ∙ ap entries_in (revalued_at k before after e v clear behind)
+      ap (λ l. entries_in (with_value_at k l v)) is ∙ ap entries_in (revalued_at k before after e v clear behind)
       ∙ entries-append before (item k (with_value e v) ∷ after)
 
   -- where the first ones don't wait, another is the first that waits
@@ -32,7 +32,7 @@ module _ {T S : Type 0} where
 
   -- and that is marked
   marked_skip : (d : Bool) (tell : Notice S → Notice S) (m : Mark T) (xs : Items T S) (es : Entries T S) → Each false d xs
-      → first_marked tell m (entries_in xs ++ es) ≡ entries_in xs ++ first_marked tell m es
+      → with_first_marked tell m (entries_in xs ++ es) ≡ entries_in xs ++ with_first_marked tell m es
   marked_skip d tell m [] es all = refl
   marked_skip d tell m (x ∷ xs) es all = rw all.1 (ap (λ l. entry_in x ∷ l) (marked_skip d tell m xs es all.3))
 
@@ -51,8 +51,8 @@ module _ {T S : Type 0} where
 
   -- and is marked there
   mark_of_last : (tell : Notice S → Notice S) (m : Mark T) (items : Items T S) (due waits : Option ℕ) (n : ℕ) (s : EntryLayout items due waits n)
-      → first_marked tell m (entries_in items) ≡ entries_in s.quiet ++ (entries_in s.dues ++ first_marked tell m (entries_in s.last))
-  mark_of_last tell m items due waits n s = ap (first_marked tell m) (three items due waits n s)
+      → with_first_marked tell m (entries_in items) ≡ entries_in s.quiet ++ (entries_in s.dues ++ with_first_marked tell m (entries_in s.last))
+  mark_of_last tell m items due waits n s = ap (with_first_marked tell m) (three items due waits n s)
       ∙ marked_skip false tell m s.quiet (entries_in s.dues ++ entries_in s.last) s.are_quiet
       ∙ ap (λ l. entries_in s.quiet ++ l) (marked_skip true tell m s.dues (entries_in s.last) s.are_due)
 
@@ -70,9 +70,9 @@ module _ {T S : Type 0} where
       first_of_last items due waits n s ∙ ap (λ l. first_waiting (entries_in l)) (none_last items due waits n s none)
 
   pub nobody_marked : (tell : Notice S → Notice S) (m : Mark T) (items : Items T S) (due waits : Option ℕ) (n : ℕ) → EntryLayout items due waits n
-      → waits ≡ None → entries_in items ≡ first_marked tell m (entries_in items)
+      → waits ≡ None → entries_in items ≡ with_first_marked tell m (entries_in items)
   nobody_marked tell m items due waits n s none =
-      let same : first_marked tell m (entries_in s.last) ≡ entries_in s.last = rw (none_last items due waits n s none) refl in
+      let same : with_first_marked tell m (entries_in s.last) ≡ entries_in s.last = rw (none_last items due waits n s none) refl in
       three items due waits n s ∙ sym (mark_of_last tell m items due waits n s ∙ ap (λ l. entries_in s.quiet ++ (entries_in s.dues ++ l)) same)
 
   -- the first that waits, at its place alone
@@ -120,13 +120,13 @@ module _ {T S : Type 0} where
   -- the first that waits is due from now on, and the boundary is behind it
   pub sorted_woken : (items : Items T S) (due waits : Option ℕ) (n : ℕ) (k : ℕ) (m : Mark T) (s : EntryLayout items due waits n)
       (w : FirstWaiting items due waits n k s) → is_waiting m ≡ false
-      → EntryLayout (revalued k items (woken_value m w.element.value)) due (place_after items k) (n - 1)
+      → EntryLayout (with_value_at k items (woken_value m w.element.value)) due (place_after items k) (n - 1)
   sorted_woken items due waits n k m s w awake =
       let v = woken_value m w.element.value in
       let x = item k w.element in
       let y = item k (with_value w.element v) in
-      let now : revalued k items v ≡ (s.quiet ++ s.dues) ++ y ∷ w.after =
-      ap (λ l. revalued k l v) w.is ∙ revalued_at k (s.quiet ++ s.dues) w.after w.element v w.clear w.behind in
+      let now : with_value_at k items v ≡ (s.quiet ++ s.dues) ++ y ∷ w.after =
+      ap (λ l. with_value_at k l v) w.is ∙ revalued_at k (s.quiet ++ s.dues) w.after w.element v w.clear w.behind in
       let joined : s.dues ++ y ∷ w.after ≡ (s.dues ++ y ∷ []) ++ w.after = sym (append_assoc s.dues (y ∷ []) w.after) in
       let one : weight (entry_in x) ≡ 1 = rw w.class.1 refl in
       let zero_weight : weight (entry_in y) ≡ 0 = rw awake refl in
@@ -151,11 +151,11 @@ module _ {T S : Type 0} where
   -- and is marked among the entries
   pub woken_entries : (items : Items T S) (due waits : Option ℕ) (n : ℕ) (k : ℕ) (m : Mark T) (s : EntryLayout items due waits n)
       (w : FirstWaiting items due waits n k s)
-      → entries_in (revalued k items (woken_value m w.element.value)) ≡ first_marked due_now m (entries_in items)
+      → entries_in (with_value_at k items (woken_value m w.element.value)) ≡ with_first_marked due_now m (entries_in items)
   woken_entries items due waits n k m s w =
       let v = woken_value m w.element.value in
-      let here : first_marked due_now m (entries_in s.last) ≡ entry_in (item k (with_value w.element v)) ∷ entries_in w.after =
-      ap (λ l. first_marked due_now m (entries_in l)) w.last ∙ rw w.class.1 refl in
+      let here : with_first_marked due_now m (entries_in s.last) ≡ entry_in (item k (with_value w.element v)) ∷ entries_in w.after =
+      ap (λ l. with_first_marked due_now m (entries_in l)) w.last ∙ rw w.class.1 refl in
       revalued_entries items (s.quiet ++ s.dues) w.after k w.element v w.is w.clear w.behind
       ∙ ap (λ l. l ++ entry_in (item k (with_value w.element v)) ∷ entries_in w.after) (entries-append s.quiet s.dues)
       ∙ append_assoc (entries_in s.quiet) (entries_in s.dues) (entry_in (item k (with_value w.element v)) ∷ entries_in w.after)

@@ -6,8 +6,8 @@ use Rattle.std.specs.Option.{option_or}
 use Rattle.flume_chain.specs.Chained.{once, times, Placed, places, found, without, first_place, place_after}
 use Rattle.flume_chain.proofs.Rings.{times-append, once_same, once_none, once_back, with_same}
 use Rattle.flume_chain.proofs.Tables.{item, found_put, found_some, without_none, after_at}
-use Rattle.flume_state.specs.EntryLayout.{off}
-use Rattle.flume_state.specs.Ticketed.{revalued}
+use Rattle.flume_state.specs.layout.EntryLayout.{boundary_without}
+use Rattle.flume_state.specs.layout.Ticketed.{with_value_at}
 use Rattle.flume_state.specs.declared.ticketed.Ticketed.{Ticketed}
 
 module _ {E : Type 0} where
@@ -108,7 +108,7 @@ module _ {E : Type 0} where
 
   -- the boundary of a part moves off the element at a place as the part is left without it
   pub off_first : (xs ys : List (Placed E)) (k : ℕ) → Apart (xs ++ ys)
-      → first_place (without ys k) ≡ off (first_place ys) k (place_after (xs ++ ys) k)
+      → first_place (without ys k) ≡ boundary_without (first_place ys) k (place_after (xs ++ ys) k)
   off_first xs [] k apart = refl
   off_first xs (y ∷ ys) k apart = elim (cases_Bool (y.place == k)) [
     | inl t ↦ (
@@ -151,12 +151,12 @@ module _ {E : Type 0} where
   revalue k v x = if k == x.place then record x { element = with_value x.element v } else x
 
   -- two lists with another value at a place
-  pub revalued-append : (k : ℕ) (xs ys : List (Placed (Ticketed E))) (v : E) → revalued k (xs ++ ys) v ≡ revalued k xs v ++ revalued k ys v
+  pub revalued-append : (k : ℕ) (xs ys : List (Placed (Ticketed E))) (v : E) → with_value_at k (xs ++ ys) v ≡ with_value_at k xs v ++ with_value_at k ys v
   revalued-append k [] ys v = refl
   revalued-append k (x ∷ xs) ys v = ap (λ l. revalue k v x ∷ l) (revalued-append k xs ys v)
 
   -- another value at a place where no element stands changes nothing
-  pub revalued_none : (k : ℕ) (xs : List (Placed (Ticketed E))) (v : E) → times k (places xs) ≡ 0 → revalued k xs v ≡ xs
+  pub revalued_none : (k : ℕ) (xs : List (Placed (Ticketed E))) (v : E) → times k (places xs) ≡ 0 → with_value_at k xs v ≡ xs
   revalued_none k [] v h = refl
   revalued_none k (x ∷ xs) v h =
       let other = once_none k x.place (once_back x.place k (omega arith)) in
@@ -164,14 +164,14 @@ module _ {E : Type 0} where
 
   -- another value changes the element at its place alone
   pub revalued_at : (k : ℕ) (xs ys : List (Placed (Ticketed E))) (e : Ticketed E) (v : E) → times k (places xs) ≡ 0
-      → times k (places ys) ≡ 0 → revalued k (xs ++ item k e ∷ ys) v ≡ xs ++ item k (with_value e v) ∷ ys
+      → times k (places ys) ≡ 0 → with_value_at k (xs ++ item k e ∷ ys) v ≡ xs ++ item k (with_value e v) ∷ ys
   revalued_at k [] ys e v h g = rw (eq-eqb k k refl) (ap (λ l. item k (with_value e v) ∷ l) (revalued_none k ys v g))
   revalued_at k (x ∷ xs) ys e v h g =
       let other = once_none k x.place (once_back x.place k (omega arith)) in
       rw other (ap (λ l. x ∷ l) (revalued_at k xs ys e v (omega arith) g))
 
   -- another value leaves each element in its place
-  pub places-revalued : (k : ℕ) (xs : List (Placed (Ticketed E))) (v : E) → places (revalued k xs v) ≡ places xs
+  pub places-revalued : (k : ℕ) (xs : List (Placed (Ticketed E))) (v : E) → places (with_value_at k xs v) ≡ places xs
   places-revalued k [] v = refl
   places-revalued k (x ∷ xs) v = elim (cases_Bool (k == x.place)) [
     | inl t ↦ rw t (ap (λ l. x.place ∷ l) (places-revalued k xs v))
@@ -179,12 +179,12 @@ module _ {E : Type 0} where
   ]
 
   -- there are as many elements after one has another value
-  pub length-revalued : (k : ℕ) (xs : List (Placed (Ticketed E))) (v : E) → length (revalued k xs v) ≡ length xs
+  pub length-revalued : (k : ℕ) (xs : List (Placed (Ticketed E))) (v : E) → length (with_value_at k xs v) ≡ length xs
   length-revalued k [] v = refl
   length-revalued k (x ∷ xs) v = ap suc (length-revalued k xs v)
 
   -- what has another value leaves those that it leaves
-  pub without_revalued : (k : ℕ) (xs : List (Placed (Ticketed E))) (v : E) → without (revalued k xs v) k ≡ without xs k
+  pub without_revalued : (k : ℕ) (xs : List (Placed (Ticketed E))) (v : E) → without (with_value_at k xs v) k ≡ without xs k
   without_revalued k [] v = refl
   without_revalued k (x ∷ xs) v = elim (cases_Bool (x.place == k)) [
     | inl t ↦ (

@@ -9,7 +9,7 @@ use Rattle.flume_model.specs.declared.step.Kind.{Kind}
 use Rattle.flume_model.specs.declared.step.Kind.TheVariants.{Stream}
 use Rattle.flume_model.specs.Entries.{is_waiting, waiting_count, marked, met, filled_at}
 use Rattle.flume_model.specs.Entries.{round, round_fills, all_woken}
-use Rattle.flume_state.specs.EntryLayout.{first_waiting, first_marked}
+use Rattle.flume_state.specs.layout.EntryLayout.{first_waiting, with_first_marked}
 
 -- where a sum is 0, so is what is added, and the bit that adds 1 is false
 sum_zero : (b : Bool) (n : ℕ) → (if b then 1 else 0) + n ≡ 0 → (b ≡ false) × (n ≡ 0)
@@ -37,7 +37,7 @@ module _ {T N : Type 0} where
 
   -- behind a stream the round goes on
   pub round_on : (tell : N → N) (front : T) (es : List (Entry T N)) (t : ℕ) → named (first_waiting es) ≡ Some (t, Stream)
-      → round tell front (first_marked tell Woken es) ≡ round tell front es
+      → round tell front (with_first_marked tell Woken es) ≡ round tell front es
   round_on tell front [] t is = absurd (let none : ⊥ = cc in none)
   round_on tell front (x ∷ es) t is = elim (cases_Bool (is_waiting x.mark)) [
     | inl w ↦ rw w (rw (front_named x (first_waiting es) _ w is).1 refl)
@@ -46,7 +46,7 @@ module _ {T N : Type 0} where
 
   -- behind a stream the round fills whom it would fill
   pub fills_on : (tell : N → N) (es : List (Entry T N)) (t : ℕ) → named (first_waiting es) ≡ Some (t, Stream)
-      → round_fills (first_marked tell Woken es) ≡ round_fills es
+      → round_fills (with_first_marked tell Woken es) ≡ round_fills es
   fills_on tell [] t is = absurd (let none : ⊥ = cc in none)
   fills_on tell (x ∷ es) t is = elim (cases_Bool (is_waiting x.mark)) [
     | inl w ↦ rw w (rw (front_named x (first_waiting es) _ w is).1 refl)
@@ -57,7 +57,7 @@ module _ {T N : Type 0} where
   pub round_ends : (tell : N → N) (front : T) (mark : Mark T) (es : List (Entry T N)) (t : ℕ) (k : Kind)
       → named (first_waiting es) ≡ Some (t, k)
       → ((e : Entry T N) (as_are goes_on : List (Entry T N)) → met tell k front e as_are goes_on ≡ marked tell mark e ∷ as_are)
-      → first_marked tell mark es ≡ round tell front es
+      → with_first_marked tell mark es ≡ round tell front es
   round_ends tell front mark [] t k is ends = absurd (let none : ⊥ = cc in none)
   round_ends tell front mark (x ∷ es) t k is ends = elim (cases_Bool (is_waiting x.mark)) [
     | inl w ↦
@@ -89,7 +89,7 @@ module _ {T N : Type 0} where
 
   -- one fewer waits once the first is woken
   pub fewer_wait : (tell : N → N) (es : List (Entry T N)) (p : ℕ × Kind) → named (first_waiting es) ≡ Some p
-      → waiting_count (first_marked tell Woken es) < waiting_count es
+      → waiting_count (with_first_marked tell Woken es) < waiting_count es
   fewer_wait tell [] p is = absurd (let none : ⊥ = cc in none)
   fewer_wait tell (x ∷ es) p is = elim (cases_Bool (is_waiting x.mark)) [
     | inl w ↦ rw w (omega (arith))
@@ -98,9 +98,9 @@ module _ {T N : Type 0} where
 
   -- one fewer waits once the first is woken, where some wait
   pub fewer_of : (tell : N → N) (es : List (Entry T N)) → 0 < waiting_count es
-      → waiting_count (first_marked tell Woken es) < waiting_count es
+      → waiting_count (with_first_marked tell Woken es) < waiting_count es
   fewer_of tell es some = elim (named (first_waiting es)) as
-      (λ o. named (first_waiting es) ≡ o → waiting_count (first_marked tell Woken es) < waiting_count es) [
+      (λ o. named (first_waiting es) ≡ o → waiting_count (with_first_marked tell Woken es) < waiting_count es) [
         | None ↦ λ is. absurd (omega (arith, none_wait es is, some))
         | Some p ↦ λ is. fewer_wait tell es p is
       ] refl
@@ -119,7 +119,7 @@ module _ {T N : Type 0} where
       let both = sum_zero (is_waiting x.mark) (waiting_count es) zero in rw both.0 (fills_idle es both.1)
 
   -- once the first is woken, to wake all leaves the same
-  pub all_on : (tell : N → N) (es : List (Entry T N)) → all_woken tell (first_marked tell Woken es) ≡ all_woken tell es
+  pub all_on : (tell : N → N) (es : List (Entry T N)) → all_woken tell (with_first_marked tell Woken es) ≡ all_woken tell es
   all_on tell [] = refl
   all_on tell (x ∷ es) = elim (cases_Bool (is_waiting x.mark)) [
     | inl w ↦ rw w refl

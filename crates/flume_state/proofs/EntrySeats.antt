@@ -1,5 +1,6 @@
 -- The parked receiver that a ticket finds, in the chain and among the entries.
 use Rattle.std.proofs.Common.{◌≡◌, ℕ, ◌==◌, Bool, List, [], ◌∷◌, ◌++◌, Option, Some, None, refl, sym, ap, ◌∙◌, inl, inr, true, false, if◌then◌else◌, eq-eqb, subst}
+use Rattle.std.specs.Option.{unwrap_or}
 use Rattle.std.proofs.lemmas.Bool.{cases_Bool, eqb-true}
 use Rattle.std.specs.Prelude.{⊤}
 use Rattle.flume_chain.specs.Chained.{times, places, found, without}
@@ -7,8 +8,8 @@ use Rattle.flume_chain.proofs.Tables.{item, without_at}
 use Rattle.flume_model.specs.Entries.{entry_of, without as without_ticket}
 use Rattle.flume_model.specs.declared.entry.Entry.{Entry}
 use Rattle.flume_model.proofs.EntryLists.{none_parts}
-use Rattle.flume_state.specs.EntryLayout.{Each, EntryLayout, entries_in, entry_in, ticket_or}
-use Rattle.flume_state.specs.Ticketed.{place_of}
+use Rattle.flume_state.specs.layout.EntryLayout.{Each, EntryLayout, entries_in, entry_in}
+use Rattle.flume_state.specs.layout.Ticketed.{place_of}
 use Rattle.flume_model.specs.Log.{is_ticket}
 use Rattle.flume_state.specs.Receivers.{Entries, noticed_receiver}
 use Rattle.flume_state.specs.declared.entries.Parked.{Parked}
@@ -18,7 +19,7 @@ use Rattle.flume_state.proofs.EntryParts.{Apart, alone, seat_found}
 use Rattle.flume_state.proofs.EntrySorted.{Items, entries-append}
 
 -- a ticket that is there is another's or not as its number is
-ticket_same : (t : ℕ) (o : Option ℕ) → o ≡ Some (ticket_or o) → (ticket_or o == t) ≡ is_ticket t o
+ticket_same : (t : ℕ) (o : Option ℕ) → o ≡ Some (unwrap_or o 0) → (unwrap_or o 0 == t) ≡ is_ticket t o
 ticket_same t None h = absurd (let none : ⊥ = cc in none)
 ticket_same t (Some u) h = refl
 
@@ -65,7 +66,7 @@ module _ {T S : Type 0} where
   -- each element has a ticket
   abbrev Held : Items T S → Type 0
   Held [] = ⊤
-  Held (x ∷ items) = (x.element.ticket ≡ Some (ticket_or x.element.ticket)) × Held items
+  Held (x ∷ items) = (x.element.ticket ≡ Some (unwrap_or x.element.ticket 0)) × Held items
 
   held-each : (w d : Bool) (xs : Items T S) → Each w d xs → Held xs
   held-each w d [] all = all
@@ -136,7 +137,7 @@ module _ {T S : Type 0} where
     pub after : Items T S
     pub is : items ≡ before ++ item k element ∷ after
     pub ticket : element.ticket ≡ Some t
-    pub number : ticket_or element.ticket ≡ t
+    pub number : unwrap_or element.ticket 0 ≡ t
     pub ahead : entry_of t (entries_in before) ≡ None
     pub clear : times k (places before) ≡ 0
     pub behind : times k (places after) ≡ 0
@@ -150,7 +151,7 @@ module _ {T S : Type 0} where
   seated items due waits n t k s h =
       let o = owner items t k (held-sorted items due waits n s) h in
       let a = alone o.before o.after k o.element (subst Apart o.is s.apart) in
-      let number : ticket_or o.element.ticket ≡ t = ap ticket_or o.ticket in
+      let number : unwrap_or o.element.ticket 0 ≡ t = ap (λ o. unwrap_or o 0) o.ticket in
       let all = ap entries_in o.is ∙ entries-append o.before (item k o.element ∷ o.after) in
       record {
         before = o.before;

@@ -1,12 +1,12 @@
 -- The three parts of the parked receivers' chain, and their boundaries, under each step.
 use Rattle.std.proofs.Common.{◌≡◌, ℕ, suc, ◌+◌, ◌≤◌, ◌==◌, ◌⊎◌, Bool, List, [], ◌∷◌, ◌++◌, Option, Some, None, length, refl, sym, ap, ap₂, ◌∙◌, inl, inr, arith, true, false, cond, if◌then◌else◌, append_assoc, subst}
 use Rattle.std.proofs.lemmas.Bool.{cases_Bool}
-use Rattle.std.specs.Option.{option_or}
+use Rattle.std.specs.Option.{unwrap_or, option_or}
 use Rattle.flume_chain.specs.Chained.{times, Placed, places, found, without, first_place, place_after}
 use Rattle.flume_chain.proofs.Rings.{once_more}
 use Rattle.flume_chain.proofs.Tables.{item, without_at}
 use Rattle.flume_model.specs.Entries.{is_waiting, waiting_count}
-use Rattle.flume_state.specs.EntryLayout.{Each, EntryLayout, entries_in, entry_in, off, ticket_or}
+use Rattle.flume_state.specs.layout.EntryLayout.{Each, EntryLayout, entries_in, entry_in, boundary_without}
 use Rattle.flume_state.specs.declared.entries.Parked.{Parked}
 use Rattle.flume_state.specs.declared.ticketed.Ticketed.{Ticketed}
 use Rattle.flume_state.proofs.EntryListLemmas.{count-append, count-le, weight}
@@ -19,7 +19,7 @@ Items T S = List (Placed (Ticketed (Parked T S)))
 module _ {T S : Type 0} where
   -- an element is of the part where these say whether it waits, and whether it is due
   abbrev pub Is : Bool → Bool → Ticketed (Parked T S) → Type 0
-  Is waits due e = (e.ticket ≡ Some (ticket_or e.ticket)) × (is_waiting e.value.mark ≡ waits) × (e.value.notice.due ≡ due)
+  Is waits due e = (e.ticket ≡ Some (unwrap_or e.ticket 0)) × (is_waiting e.value.mark ≡ waits) × (e.value.notice.due ≡ due)
 
   -- the entries of two lists joined
   pub entries-append : (xs ys : Items T S) → entries_in (xs ++ ys) ≡ entries_in xs ++ entries_in ys
@@ -82,7 +82,7 @@ module _ {T S : Type 0} where
   -- the others, where the one at a place leaves
   pub sorted_without : (items : Items T S) (due waits next : Option ℕ) (n m : ℕ) (k : ℕ) (e : Ticketed (Parked T S)) → EntryLayout items due waits n
       → found items k ≡ Some e → next ≡ place_after items k → m + cond (is_waiting e.value.mark) 1 0 ≡ n
-      → EntryLayout (without items k) (off due k next) (off waits k next) m
+      → EntryLayout (without items k) (boundary_without due k next) (boundary_without waits k next) m
   sorted_without items due waits next n m k e s here after less =
       let inner = without-append s.dues s.last k in
       let last_is : items ≡ (s.quiet ++ s.dues) ++ s.last = s.is ∙ sym (append_assoc s.quiet s.dues s.last) in
@@ -96,9 +96,9 @@ module _ {T S : Type 0} where
         are_quiet = each-without false false s.quiet k s.are_quiet;
         are_due = each-without false true s.dues k s.are_due;
         wait = each-without true false s.last k s.wait;
-        first_due = ap₂ (λ o x. off o k x) s.first_due next_due
+        first_due = ap₂ (λ o x. boundary_without o k x) s.first_due next_due
             ∙ sym (off_first s.quiet (s.dues ++ s.last) k (subst Apart s.is s.apart)) ∙ ap first_place inner;
-        first_waits = ap₂ (λ o x. off o k x) s.first_waits next_waits
+        first_waits = ap₂ (λ o x. boundary_without o k x) s.first_waits next_waits
             ∙ sym (off_first (s.quiet ++ s.dues) s.last k (subst Apart last_is s.apart));
         count = omega (arith, s.count, less, waits-without items k e s.apart here);
         apart = λ j. let no_more = times-without j k items in let most = s.apart j in omega arith;

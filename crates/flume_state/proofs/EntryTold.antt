@@ -1,7 +1,7 @@
 -- The first that is due, and what becomes of it once it is named.
 use Rattle.std.proofs.Common.{◌≡◌, ◌≢◌, ℕ, Bool, [], ◌∷◌, ◌++◌, Option, Some, None, refl, sym, ap, ◌∙◌, arith, true, false, not, nat_eq, inl, inr, eq-eqb, subst, append_assoc}
 use Rattle.std.proofs.lemmas.Bool.{cases_Bool, eqb-true}
-use Rattle.std.specs.Option.{option_eq}
+use Rattle.std.specs.Option.{unwrap_or, option_eq}
 use Rattle.std.proofs.lemmas.List.Elements.{All-append, All-cons, All-nil}
 use Rattle.flume_chain.specs.Chained.{times, places, found, first_place, place_after}
 use Rattle.flume_chain.proofs.Rings.{once_same}
@@ -9,8 +9,8 @@ use Rattle.flume_chain.proofs.Tables.{item, after_at}
 use Rattle.flume_model.specs.Entries.{waiting_count}
 use Rattle.flume_model.specs.declared.entry.Entry.{Entry}
 use Rattle.flume_state.specs.Notices.{no_longer_due}
-use Rattle.flume_state.specs.EntryLayout.{Each, EntryLayout, entries_in, entry_in, ticket_or}
-use Rattle.flume_state.specs.Ticketed.{revalued}
+use Rattle.flume_state.specs.layout.EntryLayout.{Each, EntryLayout, entries_in, entry_in}
+use Rattle.flume_state.specs.layout.Ticketed.{with_value_at}
 use Rattle.flume_state.specs.Receivers.{Entries, NoDueReceiver, NamesReceiver}
 use Rattle.flume_state.specs.declared.entries.Parked.{Parked}
 use Rattle.flume_state.specs.declared.notice.Notice.{Notice}
@@ -116,13 +116,13 @@ module _ {T S : Type 0} where
 
   -- the first that was due is due no more, and the boundary is behind it
   pub sorted_told : (items : Items T S) (due waits : Option ℕ) (n : ℕ) (k : ℕ) (s : EntryLayout items due waits n) (d : Dues items due waits n k s)
-      → EntryLayout (revalued k items (told_value d.element.value)) (place_after items k) waits n
+      → EntryLayout (with_value_at k items (told_value d.element.value)) (place_after items k) waits n
   sorted_told items due waits n k s d =
       let v = told_value d.element.value in
       let x = item k d.element in
       let y = item k (with_value d.element v) in
-      let now : revalued k items v ≡ s.quiet ++ y ∷ (d.others ++ s.last) =
-      ap (λ l. revalued k l v) d.is ∙ revalued_at k s.quiet (d.others ++ s.last) d.element v d.clear d.behind in
+      let now : with_value_at k items v ≡ s.quiet ++ y ∷ (d.others ++ s.last) =
+      ap (λ l. with_value_at k l v) d.is ∙ revalued_at k s.quiet (d.others ++ s.last) d.element v d.clear d.behind in
       let before = ap (λ l. waiting_count (entries_in l)) d.is ∙ waits-append s.quiet (x ∷ (d.others ++ s.last)) in
       let later = ap (λ l. waiting_count (entries_in l)) now ∙ waits-append s.quiet (y ∷ (d.others ++ s.last)) in
       record {
@@ -143,13 +143,13 @@ module _ {T S : Type 0} where
   -- and it was told
   pub tells : (items : Items T S) (due waits : Option ℕ) (n : ℕ) (k t : ℕ) (es : Entries T S) (s : EntryLayout items due waits n)
       (d : Dues items due waits n k s) → entries_in items ≡ es → d.element.ticket ≡ Some t
-      → NamesReceiver es (entries_in (revalued k items (told_value d.element.value))) t
+      → NamesReceiver es (entries_in (with_value_at k items (told_value d.element.value))) t
   tells items due waits n k t es s d view ticket = record {
     before = entries_in s.quiet;
     entry = entry_in (item k d.element);
     later = entries_in (d.others ++ s.last);
     found = sym view ∙ ap entries_in d.is ∙ entries-append s.quiet (item k d.element ∷ (d.others ++ s.last));
-    is_it = ap ticket_or ticket;
+    is_it = ap (λ o. unwrap_or o 0) ticket;
     was_due = d.class.2;
     told = revalued_entries items s.quiet (d.others ++ s.last) k d.element (told_value d.element.value) d.is d.clear d.behind;
   }

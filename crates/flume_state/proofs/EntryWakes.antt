@@ -6,8 +6,8 @@ use Rattle.flume_model.specs.declared.step.Kind.{Kind}
 use Rattle.flume_model.specs.declared.step.Kind.TheVariants.{Block, Plain, Stream, Arm}
 use Rattle.flume_model.specs.Entries.{waiting_count, round, round_fills, round_for, round_for_fills}
 use Rattle.flume_state.specs.Messages.{Messages}
-use Rattle.flume_state.specs.EntryLayout.{first_waiting, first_marked}
-use Rattle.flume_state.specs.Receivers.{unfilled}
+use Rattle.flume_state.specs.layout.EntryLayout.{first_waiting, with_first_marked}
+use Rattle.flume_state.specs.Receivers.{after_fill}
 use Rattle.flume_state.proofs.EntryRounds.{named, round_on, fills_on, round_ends, fills_end, none_wait, round_idle, fills_idle}
 
 module _ {X : Type 0} where
@@ -32,7 +32,7 @@ module _ {T N : Type 0} where
       (line_now : Messages T) : Type 0 where
     pub fills : filled ≡ round_for_fills line.queued initial
     pub woken : now ≡ round_for tell line.queued initial
-    pub queue : line_now ≡ record line { queued = unfilled (round_for_fills line.queued initial) line.queued }
+    pub queue : line_now ≡ record line { queued = after_fill (round_for_fills line.queued initial) line.queued }
 
   -- the line stays, and has this front; a round from now on leaves what all of it leaves, and fills whom all of it fills
   pub record Wakes (tell : N → N) (initial now : List (Entry T N)) (line line_now : Messages T) : Type 0 where
@@ -71,7 +71,7 @@ module _ {T N : Type 0} where
 
   -- the loop goes on behind a stream
   pub wakes_stream : (tell : N → N) (initial old new : List (Entry T N)) (line line_now : Messages T) (t : ℕ) → Wakes tell initial old line line_now
-      → named (first_waiting old) ≡ Some (t, Stream) → new ≡ first_marked tell Woken old → Wakes tell initial new line line_now
+      → named (first_waiting old) ≡ Some (t, Stream) → new ≡ with_first_marked tell Woken old → Wakes tell initial new line line_now
   wakes_stream tell initial old new line line_now t w next woken = record {
     front = w.front;
     rest = w.rest;
@@ -102,7 +102,7 @@ module _ {T N : Type 0} where
   -- the loop ends at one of the plain kind, and at an arm of a selector
   pub woke_plain : (tell : N → N) (initial old new : List (Entry T N)) (line line_now : Messages T) (t : ℕ) (k : Kind)
       → Wakes tell initial old line line_now → named (first_waiting old) ≡ Some (t, k) → (k ≡ Plain) ⊎ (k ≡ Arm)
-      → new ≡ first_marked tell Woken old → Woke tell initial line None new line_now
+      → new ≡ with_first_marked tell Woken old → Woke tell initial line None new line_now
   woke_plain tell initial old new line line_now t k w next (inl is) woken =
       woke_none tell initial old new line line_now w (woken ∙ round_ends tell w.front Woken old t k next (λ e a o. rw is refl))
       (fills_end old t k None next (λ o. rw is refl))
@@ -113,7 +113,7 @@ module _ {T N : Type 0} where
   -- the loop ends at one that blocks, which is filled with the front of the queue
   pub woke_block : (tell : N → N) (initial old new : List (Entry T N)) (line line_now line_new : Messages T) (t : ℕ) (taken : T)
       → Wakes tell initial old line line_now → named (first_waiting old) ≡ Some (t, Block)
-      → line_now ≡ record line_new { queued = taken ∷ line_new.queued } → new ≡ first_marked tell (Filled taken) old
+      → line_now ≡ record line_new { queued = taken ∷ line_new.queued } → new ≡ with_first_marked tell (Filled taken) old
       → Woke tell initial line (Some t) new line_new
   woke_block tell initial old new line line_now line_new t taken w next takes woken =
       let was = sym takes ∙ w.stays in
@@ -124,7 +124,7 @@ module _ {T N : Type 0} where
       let ends = round_ends tell w.front (Filled w.front) old t Block next (λ e a o. refl) in
       record {
         fills = rw w.queue fills;
-        woken = rw w.queue (woken ∙ ap (λ m. first_marked tell (Filled m) old) first ∙ ends ∙ w.leaves);
+        woken = rw w.queue (woken ∙ ap (λ m. with_first_marked tell (Filled m) old) first ∙ ends ∙ w.leaves);
         queue = rw w.queue (rw (← fills) (line_left line line_new w.rest others (ap (λ (l : Messages T). l.blocked) was) (ap (λ (l : Messages T). l.space) was)));
       }
 

@@ -10,8 +10,8 @@ use Rattle.flume_chain.proofs.Tables.{item, found_put, after_at}
 use Rattle.flume_state.specs.declared.sends.LiveSend.{LiveSend}
 use Rattle.flume_state.specs.declared.ticketed.Ticketed.{Ticketed}
 use Rattle.flume_state.specs.Sends.{SendMap, send_due_in, is_due_send}
-use Rattle.flume_state.specs.SendLayout.{Element, by_ticket, EachDueIs, SendLayout}
-use Rattle.flume_state.specs.Ticketed.{ticket_times, revalued, ticket_in}
+use Rattle.flume_state.specs.layout.SendLayout.{Element, by_ticket, EachDueIs, SendLayout}
+use Rattle.flume_state.specs.layout.Ticketed.{ticket_times, with_value_at, ticket_in}
 use Rattle.flume_model.specs.Log.{is_ticket}
 use Rattle.flume_state.proofs.ByTicket.{under, value_none}
 use Rattle.flume_state.proofs.ByTicket.{Stands, stands_value, stands_written}
@@ -71,7 +71,7 @@ module _ {S : Type 0} where
 
   -- it is told: the next is the first that is due
   pub told_kept : (items : List (Element S)) (t p : ℕ) (v w : LiveSend S) → FirstDue items t p v → w.notice.due ≡ false
-      → SendLayout (revalued p items w) (place_after (revalued p items w) p)
+      → SendLayout (with_value_at p items w) (place_after (with_value_at p items w) p)
   told_kept items t p v w f e =
       let s = f.stands in
       let is = stands_written t p v w items s in

@@ -5,7 +5,7 @@ use Rattle.std.proofs.lemmas.List.{append-nil}
 use Rattle.flume_chain.specs.Chained.{Placed}
 use Rattle.flume_state.specs.declared.ticketed.Ticketed.{Ticketed}
 use Rattle.flume_state.specs.Messages.{Blocked, Messages}
-use Rattle.flume_state.specs.LineLayout.{queued_ahead, blocked_ahead, queued_of, blocked_of, line_of, LineLayout}
+use Rattle.flume_state.specs.layout.LineLayout.{queued_ahead, blocked_ahead, queued_of, blocked_of, line_of, LineLayout}
 
 module _ {T : Type 0} where
   -- where none is queued, the first isn't, and it has a ticket

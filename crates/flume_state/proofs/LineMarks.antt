@@ -4,12 +4,12 @@ use Rattle.std.proofs.lemmas.List.{append_assoc}
 use Rattle.flume_chain.specs.Chained.{Placed, times, places, first_place, found, place_after}
 use Rattle.flume_chain.proofs.Rings.{once_none, once_back}
 use Rattle.flume_state.specs.declared.ticketed.Ticketed.{Ticketed}
-use Rattle.flume_state.specs.Ticketed.{ticket_in}
+use Rattle.flume_state.specs.layout.Ticketed.{ticket_in}
 use Rattle.flume_state.specs.Messages.{Messages}
 use Rattle.flume_state.specs.Notices.{due_now}
 use Rattle.flume_state.specs.Sends.{SendMap, noticed_send}
 use Rattle.flume_state.specs.Effects.{with_all_due}
-use Rattle.flume_state.specs.LineLayout.{blocked_of, line_of, LineLayout}
+use Rattle.flume_state.specs.layout.LineLayout.{blocked_of, line_of, LineLayout}
 use Rattle.flume_state.proofs.PlacedLemmas.{Apart, ahead_none, found_here, after_here, headed}
 use Rattle.flume_state.proofs.LineLemmas.{laid}
 

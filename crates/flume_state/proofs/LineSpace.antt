@@ -5,9 +5,9 @@ use Rattle.std.specs.Option.{option_map}
 use Rattle.flume_chain.specs.Chained.{Chained, Placed, found, without, behind_first, first_element, times, places}
 use Rattle.flume_chain.proofs.ChainLaws.{length-put_before, length-without}
 use Rattle.flume_state.specs.declared.ticketed.Ticketed.{Ticketed}
-use Rattle.flume_state.specs.Ticketed.{put_ahead, released}
+use Rattle.flume_state.specs.layout.Ticketed.{put_ahead, without_ticket_at}
 use Rattle.flume_state.specs.Messages.{Messages, count}
-use Rattle.flume_state.specs.LineLayout.{line_of, space_of, LineLayout}
+use Rattle.flume_state.specs.layout.LineLayout.{line_of, space_of, LineLayout}
 use Rattle.flume_state.proofs.LineLemmas.{counts}
 
 module _ {T : Type 0} where
@@ -17,7 +17,7 @@ module _ {T : Type 0} where
   length-put items (Some k) x = length-put_before items k x
 
   -- as many stand, where one loses its ticket
-  pub length-released : (k : ℕ) (items : List (Placed (Ticketed T))) → length (released k items) ≡ length items
+  pub length-released : (k : ℕ) (items : List (Placed (Ticketed T))) → length (without_ticket_at k items) ≡ length items
   length-released k [] = refl
   length-released k (x ∷ items) = ap suc (length-released k items)
 
@@ -82,7 +82,7 @@ module _ {T : Type 0} where
       behind (x ∷ xs) e is = refl
 
   -- one that loses its ticket leaves the space
-  pub space_released : (old new : Chained (Ticketed T)) (place : ℕ) → new.items ≡ released place old.items → new.room ≡ old.room
+  pub space_released : (old new : Chained (Ticketed T)) (place : ℕ) → new.items ≡ without_ticket_at place old.items → new.room ≡ old.room
       → space_of old ≡ space_of new
   space_released old new place left room =
       let same = ap length left ∙ length-released place old.items in

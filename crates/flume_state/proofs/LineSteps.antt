@@ -5,9 +5,9 @@ use Rattle.std.specs.Option.{option_or, option_map}
 use Rattle.std.proofs.lemmas.List.{append_assoc}
 use Rattle.flume_chain.specs.Chained.{Placed, first_place, found, without, behind_first, first_element, place_after}
 use Rattle.flume_state.specs.declared.ticketed.Ticketed.{Ticketed}
-use Rattle.flume_state.specs.Ticketed.{put_ahead, released, ticket_in}
+use Rattle.flume_state.specs.layout.Ticketed.{put_ahead, without_ticket_at, ticket_in}
 use Rattle.flume_state.specs.Messages.{Blocked, Messages, Admits}
-use Rattle.flume_state.specs.LineLayout.{blocked_ahead, queued_of, blocked_of, line_of, LineLayout}
+use Rattle.flume_state.specs.layout.LineLayout.{blocked_ahead, queued_of, blocked_of, line_of, LineLayout}
 use Rattle.flume_state.proofs.PlacedLemmas.{Apart, ahead_none, found_here, without_here, after_here, put_ahead_between, unticketed, released_here}
 use Rattle.flume_state.proofs.PlacedLemmas.{headed, first_left}
 use Rattle.flume_state.proofs.LineLemmas.{queued_append, blocked_append, none_queued_append, unqueued, unblocked, laid, counts}
@@ -206,7 +206,7 @@ module _ {T : Type 0} where
     pub admits : Admits line (line_of new line.space) ticket
 
   pub admitted : (items new : List (Placed (Ticketed T))) (first next : Option ℕ) (count space place : ℕ) (line : Messages T)
-      → LineLayout items first count → line_of items space ≡ line → Apart items → first ≡ Some place → new ≡ released place items
+      → LineLayout items first count → line_of items space ≡ line → Apart items → first ≡ Some place → new ≡ without_ticket_at place items
       → next ≡ place_after new place → Admitted items new next (count - 1) place line
   admitted items new first next count space place line w view apart some is behind =
       let h = headed w.back place (sym some ∙ w.boundary) in
@@ -214,7 +214,7 @@ module _ {T : Type 0} where
       let among : items ≡ w.front ++ h.head ∷ h.tail = w.is ∙ ap (λ (l : List (Placed (Ticketed T))). w.front ++ l) h.is in
       let one = subst Apart among apart in
       let y = unticketed h.head in
-      let joined : new ≡ w.front ++ y ∷ h.tail = is ∙ ap₂ released (sym h.here) among ∙ released_here w.front h.tail h.head one in
+      let joined : new ≡ w.front ++ y ∷ h.tail = is ∙ ap₂ without_ticket_at (sym h.here) among ∙ released_here w.front h.tail h.head one in
       let made : LineLayout new next (count - 1) = record {
         front = w.front ++ y ∷ [];
         back = h.tail;

@@ -7,15 +7,15 @@ pub use Rattle.flume_state.proofs.SendsLaws.{same, same_by, get-insert_same, get
 pub use Rattle.flume_state.proofs.SendsLaws.{remove-insert}
 
 module _ {X : Type 0} where
-  -- what is near is replaced
-  pub near_again : (m : FinMap nat_cmp X) (k : ℕ) (v w : X) → insert m k w ≡ insert (insert m k v) k w
-  near_again m k v w =
+  -- what is there is replaced
+  pub lone_again : (m : FinMap nat_cmp X) (k : ℕ) (v w : X) → insert m k w ≡ insert (insert m k v) k w
+  lone_again m k v w =
       same_by _ _ k (get-insert_same m k w ∙ sym (get-insert_same (insert m k v) k w))
       (λ q ne. get-insert_other m k w q ne ∙ sym (get-insert_other (insert m k v) k w q ne ∙ get-insert_other m k v q ne))
 
-  -- another is inserted behind the one that is near
-  pub near_insert : (m : FinMap nat_cmp X) (k q : ℕ) (v w : X) → k ≢ q → insert (insert m q w) k v ≡ insert (insert m k v) q w
-  near_insert m k q v w ne =
+  -- insertions at two keys pass each other
+  pub lone_insert : (m : FinMap nat_cmp X) (k q : ℕ) (v w : X) → k ≢ q → insert (insert m q w) k v ≡ insert (insert m k v) q w
+  lone_insert m k q v w ne =
       same_by _ _ k
       (get-insert_same (insert m q w) k v ∙ sym (get-insert_other (insert m k v) q w k ne ∙ get-insert_same m k v))
       (λ p other. get-insert_other (insert m q w) k v p other ∙ passes p other)
@@ -26,9 +26,9 @@ module _ {X : Type 0} where
           ∙ ap (cond (eq_by_cmp nat_cmp p q) (Some w)) (sym (get-insert_other m k v p other))
           ∙ sym (get-insert nat_cmp_total (insert m k v) q w p)
 
-  -- another is removed behind the one that is near
-  pub near_remove : (m : FinMap nat_cmp X) (k q : ℕ) (v : X) → k ≢ q → insert (remove m q) k v ≡ remove (insert m k v) q
-  near_remove m k q v ne =
+  -- an insertion and a removal at two keys pass each other
+  pub lone_remove : (m : FinMap nat_cmp X) (k q : ℕ) (v : X) → k ≢ q → insert (remove m q) k v ≡ remove (insert m k v) q
+  lone_remove m k q v ne =
       same_by _ _ q
       (get-insert_other (remove m q) k v q (λ is. ne (sym is)) ∙ get-remove_same m q ∙ sym (get-remove_same (insert m k v) q))
       (λ p other.

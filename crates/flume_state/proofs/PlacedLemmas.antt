@@ -6,7 +6,7 @@ use Rattle.flume_chain.specs.Chained.{once, times, Placed, places, found, withou
 use Rattle.flume_chain.proofs.Rings.{times-append, once_same, once_none, once_back, with_same}
 use Rattle.flume_chain.proofs.Tables.{without_at, put_before_at, after_at, found_put}
 use Rattle.flume_state.specs.declared.ticketed.Ticketed.{Ticketed}
-use Rattle.flume_state.specs.Ticketed.{place_of, put_ahead, released}
+use Rattle.flume_state.specs.layout.Ticketed.{place_of, put_ahead, without_ticket_at}
 use Rattle.flume_model.specs.Log.{is_ticket}
 
 -- the ticket that is there is the one that is looked for
@@ -63,24 +63,24 @@ module _ {E : Type 0} where
   unticketed x = record x { element = record x.element { ticket = None } }
 
   -- where none stands at the place, no ticket is lost
-  released_none : (xs : List (Placed (Ticketed E))) (k : ℕ) → times k (places xs) ≡ 0 → released k xs ≡ xs
+  released_none : (xs : List (Placed (Ticketed E))) (k : ℕ) → times k (places xs) ≡ 0 → without_ticket_at k xs ≡ xs
   released_none [] k none = refl
   released_none (x ∷ xs) k none =
-      ap (λ b. (if b then unticketed x else x) ∷ released k xs) (once_none k x.place (once_back x.place k (omega arith)))
+      ap (λ b. (if b then unticketed x else x) ∷ without_ticket_at k xs) (once_none k x.place (once_back x.place k (omega arith)))
       ∙ ap (λ (l : List (Placed (Ticketed E))). x ∷ l) (released_none xs k (omega arith))
 
   -- one among others loses its ticket
   released_at : (xs ys : List (Placed (Ticketed E))) (x : Placed (Ticketed E))
-      → times x.place (places xs) ≡ 0 → times x.place (places ys) ≡ 0 → released x.place (xs ++ x ∷ ys) ≡ xs ++ unticketed x ∷ ys
+      → times x.place (places xs) ≡ 0 → times x.place (places ys) ≡ 0 → without_ticket_at x.place (xs ++ x ∷ ys) ≡ xs ++ unticketed x ∷ ys
   released_at [] ys x ahead behind =
-      ap (λ b. (if b then unticketed x else x) ∷ released x.place ys) (eq-eqb x.place x.place refl)
+      ap (λ b. (if b then unticketed x else x) ∷ without_ticket_at x.place ys) (eq-eqb x.place x.place refl)
       ∙ ap (λ (l : List (Placed (Ticketed E))). unticketed x ∷ l) (released_none ys x.place behind)
   released_at (y ∷ xs) ys x ahead behind =
-      ap (λ b. (if b then unticketed y else y) ∷ released x.place (xs ++ x ∷ ys)) (once_none x.place y.place (once_back y.place x.place (omega arith)))
+      ap (λ b. (if b then unticketed y else y) ∷ without_ticket_at x.place (xs ++ x ∷ ys)) (once_none x.place y.place (once_back y.place x.place (omega arith)))
       ∙ ap (λ (l : List (Placed (Ticketed E))). y ∷ l) (released_at xs ys x (omega arith) behind)
 
   pub released_here : (xs ys : List (Placed (Ticketed E))) (x : Placed (Ticketed E)) → Apart (xs ++ x ∷ ys)
-      → released x.place (xs ++ x ∷ ys) ≡ xs ++ unticketed x ∷ ys
+      → without_ticket_at x.place (xs ++ x ∷ ys) ≡ xs ++ unticketed x ∷ ys
   released_here xs ys x apart = released_at xs ys x (ahead_none xs ys x apart) (behind_none xs ys x apart)
 
   -- the first element with a ticket, at its place, among others

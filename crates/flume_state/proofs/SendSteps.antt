@@ -11,8 +11,8 @@ use Rattle.flume_chain.proofs.Tables.{item, after_at, without_none}
 use Rattle.flume_state.specs.declared.sends.LiveSend.{LiveSend}
 use Rattle.flume_state.specs.declared.ticketed.Ticketed.{Ticketed}
 use Rattle.flume_state.specs.Sends.{SendMap, changed, send_due_in, NoDueSend}
-use Rattle.flume_state.specs.SendLayout.{Element, by_ticket, EachDueIs, SendLayout}
-use Rattle.flume_state.specs.Ticketed.{place_of, ticket_times, put_ahead, revalued}
+use Rattle.flume_state.specs.layout.SendLayout.{Element, by_ticket, EachDueIs, SendLayout}
+use Rattle.flume_state.specs.layout.Ticketed.{place_of, ticket_times, put_ahead, with_value_at}
 use Rattle.flume_model.specs.Log.{is_ticket}
 use Rattle.flume_state.proofs.SendsLaws.{changed_none, remove_absent}
 use Rattle.flume_state.proofs.ByTicket.{under, value_of, get_by_ticket, value_ahead, value_nowhere, found_somewhere}
@@ -42,7 +42,7 @@ module _ {S : Type 0} where
 
   -- a send that is written is a changed one
   pub written_view : (items : List (Element S)) (m : SendMap S) (t p : ℕ) (v : LiveSend S) (f : LiveSend S → LiveSend S) → by_ticket items ≡ m
-      → Stands t p v items → by_ticket (revalued p items (f v)) ≡ changed m t f
+      → Stands t p v items → by_ticket (with_value_at p items (f v)) ≡ changed m t f
   written_view items m t p v f view s =
       ap by_ticket (stands_written t p v (f v) items s)
       ∙ by_ticket_changed t p v f s.before s.after s.none_ahead
@@ -50,27 +50,27 @@ module _ {S : Type 0} where
 
   -- a send that is written is due where it was
   pub written_kept : (items : List (Element S)) (d : Option ℕ) (t p : ℕ) (v w : LiveSend S) → w.notice.due ≡ v.notice.due → Stands t p v items
-      → SendLayout items d → SendLayout (revalued p items w) d
+      → SendLayout items d → SendLayout (with_value_at p items w) d
   written_kept items d t p v w same s l =
       subst (λ (xs : List (Element S)). SendLayout xs d) (sym (stands_written t p v w items s))
       (written_lined s.before s.after p t v w d same (subst (λ (xs : List (Element S)). SendLayout xs d) s.is l))
 
   -- a send that is written and goes behind all others
   moved_is : (items new : List (Element S)) (t p : ℕ) (v w : LiveSend S) (r : Bool) (s : Stands t p v items)
-      → (r ≡ true ↔ IsSome (found (revalued p items w) p))
-      → (r ≡ true → (e : Ticketed (LiveSend S)) → found (revalued p items w) p ≡ Some e → new ≡ without (revalued p items w) p ++ item p e ∷ [])
+      → (r ≡ true ↔ IsSome (found (with_value_at p items w) p))
+      → (r ≡ true → (e : Ticketed (LiveSend S)) → found (with_value_at p items w) p ≡ Some e → new ≡ without (with_value_at p items w) p ++ item p e ∷ [])
       → new ≡ (s.before ++ s.after) ++ item p (under t w) ∷ []
   moved_is items new t p v w r s stood moved =
       let again = stands_again t p v w items s in
-      let at = stands_found t p w (revalued p items w) again in
+      let at = stands_found t p w (with_value_at p items w) again in
       moved (stood.1 (ap is_some at)) (under t w) at
-      ∙ ap (λ (xs : List (Element S)). xs ++ item p (under t w) ∷ []) (stands_without t p w (revalued p items w) again)
+      ∙ ap (λ (xs : List (Element S)). xs ++ item p (under t w) ∷ []) (stands_without t p w (with_value_at p items w) again)
 
   -- it is a changed one
   pub moved_view : (items new : List (Element S)) (m : SendMap S) (t p : ℕ) (v : LiveSend S) (f : LiveSend S → LiveSend S) (r : Bool)
       → by_ticket items ≡ m → Stands t p v items
-      → (r ≡ true ↔ IsSome (found (revalued p items (f v)) p))
-      → (r ≡ true → (e : Ticketed (LiveSend S)) → found (revalued p items (f v)) p ≡ Some e → new ≡ without (revalued p items (f v)) p ++ item p e ∷ [])
+      → (r ≡ true ↔ IsSome (found (with_value_at p items (f v)) p))
+      → (r ≡ true → (e : Ticketed (LiveSend S)) → found (with_value_at p items (f v)) p ≡ Some e → new ≡ without (with_value_at p items (f v)) p ++ item p e ∷ [])
       → by_ticket new ≡ changed m t f
   moved_view items new m t p v f r view s stood moved =
       ap by_ticket (moved_is items new t p v (f v) r s stood moved)
@@ -80,8 +80,8 @@ module _ {S : Type 0} where
   -- and is the last that became due
   pub moved_kept : (items new : List (Element S)) (d : Option ℕ) (t p : ℕ) (v w : LiveSend S) (r : Bool) → v.notice.due ≡ false → w.notice.due ≡ true
       → Stands t p v items
-      → (r ≡ true ↔ IsSome (found (revalued p items w) p))
-      → (r ≡ true → (e : Ticketed (LiveSend S)) → found (revalued p items w) p ≡ Some e → new ≡ without (revalued p items w) p ++ item p e ∷ [])
+      → (r ≡ true ↔ IsSome (found (with_value_at p items w) p))
+      → (r ≡ true → (e : Ticketed (LiveSend S)) → found (with_value_at p items w) p ≡ Some e → new ≡ without (with_value_at p items w) p ++ item p e ∷ [])
       → SendLayout items d → SendLayout new (option_or d (Some p))
   moved_kept items new d t p v w r was is s stood moved l =
       subst (λ (xs : List (Element S)). SendLayout xs (option_or d (Some p))) (sym (moved_is items new t p v w r s stood moved))

@@ -3,9 +3,9 @@ use Rattle.std.proofs.Common.{◌≡◌, ◌≢◌, ℕ, true, false, cond, Opti
 use Rattle.std.proofs.lemmas.Bool.{cases_eq, eq-eqb, ne_eqb}
 use Rattle.std.specs.Cmp.{nat_cmp_total, unsigned_tied}
 use Rattle.std.specs.FinMap.{FinMap, get, insert, remove, get-insert, get-remove, same_map, nat_cmp-IsAntisymmetric}
-use Rattle.std.specs.Option.{option_map}
+use Rattle.std.specs.Option.{option_map, option_map_or}
 use Rattle.std.specs.Ordering.{nat_cmp, eq_by_cmp}
-use Rattle.flume_state.specs.Sends.{changed, put_changed}
+use Rattle.flume_state.specs.Sends.{changed}
 
 -- a ticket ties with itself
 tied : (k : ℕ) → eq_by_cmp nat_cmp k k ≡ true
@@ -44,12 +44,12 @@ module _ {X : Type 0} where
   -- `changed`, where there is a value
   pub changed_some : (m : FinMap nat_cmp X) (k : ℕ) (f : X → X) (x : X) → get m k ≡ Some x → changed m k f ≡ insert m k (f x)
   unfolding changed
-  changed_some m k f x e = ap (put_changed m k f) e
+  changed_some m k f x e = ap (λ o. option_map_or (λ x. insert m k (f x)) o m) e
 
   -- `changed`, where there is none
   pub changed_none : (m : FinMap nat_cmp X) (k : ℕ) (f : X → X) → get m k ≡ None → changed m k f ≡ m
   unfolding changed
-  changed_none m k f e = ap (put_changed m k f) e
+  changed_none m k f e = ap (λ o. option_map_or (λ x. insert m k (f x)) o m) e
 
   -- what was changed is found changed
   pub get-changed_same : (m : FinMap nat_cmp X) (k : ℕ) (f : X → X) → get (changed m k f) k ≡ option_map f (get m k)

@@ -7,8 +7,8 @@ use Rattle.flume_chain.proofs.Rings.{times-append}
 use Rattle.flume_chain.proofs.Tables.{item, found_none}
 use Rattle.flume_chain.proofs.ChainLaws.{places-append, put_at-append, put_at_missing, moved_back_missing, moved_back_some}
 use Rattle.flume_state.specs.declared.ticketed.Ticketed.{Ticketed}
-use Rattle.flume_state.specs.Places.{PlaceMap}
-use Rattle.flume_state.specs.Ticketed.{Agrees}
+use Rattle.flume_state.specs.layout.Places.{PlaceMap}
+use Rattle.flume_state.specs.layout.Ticketed.{Agrees}
 use Rattle.flume_state.proofs.SendsLaws.{get-remove_same}
 use Rattle.flume_state.proofs.TicketMaps.{insert-remove}
 use Rattle.flume_state.proofs.TicketLemmas.{Amid, plain_out, plain_in, ticketed_out, ticketed_in, own, is_its, times_none, put_amid, first_amid, without_amid, without_fresh}

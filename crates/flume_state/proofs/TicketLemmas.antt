@@ -9,8 +9,8 @@ use Rattle.flume_chain.specs.Chained.{Placed, once, times, places, found, withou
 use Rattle.flume_chain.proofs.Rings.{times-append, once_same, once_more}
 use Rattle.flume_chain.proofs.Tables.{item, found_some, without_at}
 use Rattle.flume_state.specs.declared.ticketed.Ticketed.{Ticketed}
-use Rattle.flume_state.specs.Places.{PlaceMap}
-use Rattle.flume_state.specs.Ticketed.{place_of, ticket_times, put_ahead, Agrees}
+use Rattle.flume_state.specs.layout.Places.{PlaceMap}
+use Rattle.flume_state.specs.layout.Ticketed.{place_of, ticket_times, put_ahead, Agrees}
 use Rattle.flume_model.specs.Log.{is_ticket}
 use Rattle.flume_state.proofs.SendsLaws.{get-insert_same, get-insert_other, get-remove_same, get-remove_other}
 

@@ -3,7 +3,7 @@ use Rattle.std.proofs.Common.{◌≡◌, ℕ, Option, Some, None, refl, sym, ap,
 use Rattle.std.specs.Prelude.{false, is_some, is_err, Ok, Err, OnOk, OnErr}
 use Rattle.std.specs.declared.result.Result.{Result}
 use Rattle.std.specs.FinMap.{get, insert, remove}
-use Rattle.flume_state.specs.Places.{PlaceMap}
+use Rattle.flume_state.specs.layout.Places.{PlaceMap}
 use Rattle.flume_state.proofs.SendsLaws.{same_by, get-insert_same, get-insert_other, get-remove_other}
 
 -- a ticket put in twice has its last place

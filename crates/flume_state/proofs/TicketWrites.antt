@@ -7,7 +7,7 @@ use Rattle.flume_chain.proofs.Rings.{once_none, once_back, once_same}
 use Rattle.flume_chain.proofs.Tables.{item, found_none}
 use Rattle.flume_chain.proofs.ChainLaws.{none_placed, put_at_missing}
 use Rattle.flume_state.specs.declared.ticketed.Ticketed.{Ticketed}
-use Rattle.flume_state.specs.Ticketed.{revalued, released}
+use Rattle.flume_state.specs.layout.Ticketed.{with_value_at, without_ticket_at}
 
 -- what holds anyway holds at `None`
 pub at_none : {X P : Type 0} (r : Option X) → P → IfNone r P
@@ -20,11 +20,11 @@ module _ {E : Type 0} where
   edited f k [] = []
   edited f k (x ∷ items) = cond (k == x.place) (item x.place (f x.element)) x ∷ edited f k items
 
-  revalued_is : (k : ℕ) (items : List (Placed (Ticketed E))) (v : E) → revalued k items v ≡ edited (λ e. record e { value = v }) k items
+  revalued_is : (k : ℕ) (items : List (Placed (Ticketed E))) (v : E) → with_value_at k items v ≡ edited (λ e. record e { value = v }) k items
   revalued_is k [] v = refl
   revalued_is k (x ∷ items) v = ap (λ l. cond (k == x.place) (item x.place (record x.element { value = v })) x ∷ l) (revalued_is k items v)
 
-  released_is : (k : ℕ) (items : List (Placed (Ticketed E))) → released k items ≡ edited (λ e. record e { ticket = None }) k items
+  released_is : (k : ℕ) (items : List (Placed (Ticketed E))) → without_ticket_at k items ≡ edited (λ e. record e { ticket = None }) k items
   released_is k [] = refl
   released_is k (x ∷ items) = ap (λ l. cond (k == x.place) (item x.place (record x.element { ticket = None })) x ∷ l) (released_is k items)
 
@@ -57,16 +57,16 @@ module _ {E : Type 0} where
 
   -- to write a value to the one element at a place is to give that place the value
   pub put_revalued : (k : ℕ) (items : List (Placed (Ticketed E))) (e : Ticketed E) (v : E) → times k (places items) ≤ 1
-      → found items k ≡ Some e → put_at items k (record e { value = v }) ≡ revalued k items v
+      → found items k ≡ Some e → put_at items k (record e { value = v }) ≡ with_value_at k items v
   put_revalued k items e v most is = put_edited (λ y. record y { value = v }) k items e most is ∙ sym (revalued_is k items v)
 
   -- to take the ticket of the one element at a place is to release the place
   pub put_released : (k : ℕ) (items : List (Placed (Ticketed E))) (e : Ticketed E) → times k (places items) ≤ 1
-      → found items k ≡ Some e → put_at items k (record e { ticket = None }) ≡ released k items
+      → found items k ≡ Some e → put_at items k (record e { ticket = None }) ≡ without_ticket_at k items
   put_released k items e most is = put_edited (λ y. record y { ticket = None }) k items e most is ∙ sym (released_is k items)
 
   -- where no element is found, to release the place changes nothing
-  pub released_missing : (k : ℕ) (items : List (Placed (Ticketed E))) → None ≡ found items k → items ≡ released k items
+  pub released_missing : (k : ℕ) (items : List (Placed (Ticketed E))) → None ≡ found items k → items ≡ without_ticket_at k items
   released_missing k items none = sym (released_is k items ∙ edited_missing _ k items (none_placed items k (sym none)))
 
   same_element : (k : ℕ) (items : List (Placed (Ticketed E))) → edited (λ e. e) k items ≡ items

@@ -5,10 +5,10 @@ use Rattle.std.proofs.lemmas.Bool.{cases_Bool, eqb-false}
 use Rattle.std.proofs.lemmas.List.Elements.{All-nil, All-cons}
 use Rattle.flume_chain.specs.Chained.{Placed}
 use Rattle.flume_state.specs.declared.ticketed.Ticketed.{Ticketed}
-use Rattle.flume_state.specs.Ticketed.{place_of}
+use Rattle.flume_state.specs.layout.Ticketed.{place_of}
 use Rattle.flume_model.specs.Log.{is_ticket}
 use Rattle.flume_state.specs.Messages.{Blocked, Messages, TakesBack}
-use Rattle.flume_state.specs.LineLayout.{blocked_ahead, blocked_of, line_of, LineLayout}
+use Rattle.flume_state.specs.layout.LineLayout.{blocked_ahead, blocked_of, line_of, LineLayout}
 use Rattle.flume_state.proofs.PlacedLemmas.{Apart, Holder, holder_of}
 use Rattle.flume_state.proofs.LineLemmas.{unblocked}
 use Rattle.flume_state.proofs.LineSteps.{stands, value_at, leaves, FirstWithout, TakenOut}

@@ -1,4 +1,5 @@
--- Who is due after a step. It speaks of the states before and after, the step and its reply alone.
+-- For every contract: who is due after a step. It speaks of the states before and after, the step
+-- and its reply alone.
 use Rattle.std.specs.Prelude.{◌≡◌, ◌==◌, ℕ, Bool, false, not, ◌&&◌, ◌||◌, Option, Some, None}
 use Rattle.std.specs.Option.{is_some}
 use Rattle.std.specs.FinMap.{get}

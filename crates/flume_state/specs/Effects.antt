@@ -1,4 +1,4 @@
--- What some steps leave, as functions of the state before them.
+-- For every contract: what some steps leave, as functions of the state before them.
 use Rattle.std.specs.Prelude.{◌≡◌, ◌==◌, ℕ, ◌+◌, Bool, not, ◌&&◌, if◌then◌else◌, List, [], ◌∷◌}
 use Rattle.std.specs.Prelude.{◌++◌}
 use Rattle.std.specs.Prelude.{length, max, ◌<◌, Option, Some}
@@ -11,7 +11,7 @@ use Rattle.flume_state.specs.Notices.{due_now}
 use Rattle.flume_state.specs.Sends.{SendMap, changed, accepted_now, noticed_send}
 use Rattle.flume_model.specs.Entries.{all_woken, entry_of, without, round_for, round_for_fills}
 use Rattle.flume_model.specs.Entries.{passes_on, leave_fills, waiting_count}
-use Rattle.flume_state.specs.Receivers.{Entries, begins, unfilled}
+use Rattle.flume_state.specs.Receivers.{Entries, new_receiver, after_fill}
 use Rattle.flume_state.specs.State.{State, with_nothing_left}
 
 module _ {T S : Type 0} where
@@ -70,7 +70,7 @@ module _ {T S : Type 0} where
   -- the state after a wake round
   abbrev pub after_wake_round : State T S → State T S
   after_wake_round s = record s {
-    queue = unfilled (round_for_fills s.queue s.entries) s.queue;
+    queue = after_fill (round_for_fills s.queue s.entries) s.queue;
     entries = round_for due_now s.queue s.entries;
   }
 
@@ -109,7 +109,7 @@ module _ {T S : Type 0} where
     pub is_open : IsOpen old.senders old.receivers
     pub below_most : old.next < most
     pub next_is : ticket ≡ old.next
-    pub parked : new ≡ with_peak (old.entries ++ begins ticket kind signal ∷ [])
+    pub parked : new ≡ with_peak (old.entries ++ new_receiver ticket kind signal ∷ [])
         (record old { next = old.next + 1 })
 
   -- a parked receiver leaves with no message, and its wake fills this one, if it fills one

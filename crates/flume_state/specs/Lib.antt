@@ -1,15 +1,9 @@
-pub mod TicketHash
-pub mod Places
-pub mod Ticketed
-pub mod TicketedLends
 pub mod Messages
-pub mod LineLayout
 pub mod Notices
 pub mod Sends
-pub mod SendLayout
 pub mod Receivers
-pub mod EntryLayout
 pub mod State
 pub mod Effects
 pub mod Signals
 pub mod Due
+pub mod layout

@@ -1,4 +1,4 @@
--- What a contract sees of a line of messages.
+-- For every contract: what it sees of a line of messages.
 use Rattle.std.specs.Prelude.{◌≡◌, ◌≢◌, ◌+◌, ℕ, List, [], ◌∷◌, ◌++◌, length}
 use Rattle.std.specs.List.{All}
 

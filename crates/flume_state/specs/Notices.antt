@@ -1,14 +1,14 @@
--- What becomes of the notice that a blocked send or a parked receiver left: its signal, and
--- whether it is due. What is said of both has two names, with `send` in the one and `receiver` in
--- the other: `NoDueSend` and `NoDueReceiver`, `send_due_in` and `receiver_due_in`, `noticed_send`
--- and `noticed_receiver`.
+-- For every contract: what becomes of the notice that a blocked send or a parked receiver left, its
+-- signal and whether it is due. What is said of both has two names, with `send` in the one and
+-- `receiver` in the other: `NoDueSend` and `NoDueReceiver`, `send_due_in` and `receiver_due_in`,
+-- `noticed_send` and `noticed_receiver`.
 use Rattle.std.specs.Prelude.{true, false, Option, Some, None}
 use Rattle.flume_state.specs.declared.notice.Notice.{Notice}
 
 module _ {S : Type 0} where
   -- a new one, with this signal: it isn't due
-  abbrev pub fresh : S → Notice S
-  fresh signal = record { signal = signal; due = false }
+  abbrev pub new_notice : S → Notice S
+  new_notice signal = record { signal = signal; due = false }
 
   -- one that becomes due
   abbrev pub due_now : Notice S → Notice S
@@ -19,6 +19,6 @@ module _ {S : Type 0} where
   no_longer_due n = record n { due = false }
 
   -- one with another signal, where one is given
-  abbrev pub resignalled : Option S → Notice S → Notice S
-  resignalled None n = n
-  resignalled (Some signal) n = record n { signal = signal }
+  abbrev pub with_signal : Option S → Notice S → Notice S
+  with_signal None n = n
+  with_signal (Some signal) n = record n { signal = signal }

@@ -1,5 +1,5 @@
--- What the contracts of the parked receivers cite: how they stand, their notices, and who is due.
-use Rattle.std.specs.Prelude.{◌≡◌, ◌==◌, ◌+◌, ℕ, Bool, true, false, if◌then◌else◌}
+-- For every contract: how the parked receivers stand, their notices, and who of them is due.
+use Rattle.std.specs.Prelude.{◌≡◌, ◌==◌, ℕ, Bool, true, false, if◌then◌else◌}
 use Rattle.std.specs.Prelude.{List, [], ◌∷◌, ◌++◌}
 use Rattle.std.specs.Prelude.{Option, Some, None}
 use Rattle.std.specs.List.{All}
@@ -11,7 +11,7 @@ use Rattle.flume_model.specs.declared.entry.Entry.{Entry}
 use Rattle.flume_model.specs.declared.entry.Mark.{Mark}
 use Rattle.flume_model.specs.declared.entry.Mark.TheVariants.{Waiting, Woken, Filled}
 use Rattle.flume_state.specs.declared.notice.Notice.{Notice}
-use Rattle.flume_state.specs.Notices.{fresh, no_longer_due, resignalled}
+use Rattle.flume_state.specs.Notices.{new_notice, no_longer_due, with_signal}
 use Rattle.flume_state.specs.declared.entries.ReceiverStatus.{ReceiverStatus}
 use Rattle.flume_state.specs.declared.entries.ReceiverStatus.TheVariants.{Filled as IsFilled}
 use Rattle.flume_state.specs.declared.entries.ReceiverStatus.TheVariants.{BlockWaiting, BlockWoken}
@@ -23,10 +23,10 @@ abbrev pub Entries : Type 0 → Type 0 → Type 0
 Entries T S = List (Entry T (Notice S))
 
 -- the queue after a wake round: its front is gone where the round filled a receiver
-abbrev pub unfilled : {T : Type 0} → Option ℕ → List T → List T
-unfilled None queue = queue
-unfilled (Some ticket) [] = []
-unfilled (Some ticket) (front ∷ queue) = queue
+abbrev pub after_fill : {T : Type 0} → Option ℕ → List T → List T
+after_fill None queue = queue
+after_fill (Some ticket) [] = []
+after_fill (Some ticket) (front ∷ queue) = queue
 
 -- it asks by looking at the line
 abbrev pub looks : Option ReceiverStatus → Bool
@@ -50,7 +50,7 @@ only_leaves _ = false
 module _ {S : Type 0} where
   -- the notice of one that waits on, with another signal where one is given
   abbrev pub waits_on : Option S → Notice S → Notice S
-  waits_on given n = no_longer_due (resignalled given n)
+  waits_on given n = no_longer_due (with_signal given n)
 
 module _ {T : Type 0} where
   -- what decides how a parked receiver is answered
@@ -63,12 +63,12 @@ module _ {T : Type 0} where
 
 module _ {T S : Type 0} where
   -- a receiver that has just parked, with this signal
-  abbrev pub begins : ℕ → Kind → S → Entry T (Notice S)
-  begins ticket kind signal = record {
+  abbrev pub new_receiver : ℕ → Kind → S → Entry T (Notice S)
+  new_receiver ticket kind signal = record {
     ticket = ticket;
     kind = kind;
     mark = Waiting;
-    notice = fresh signal;
+    notice = new_notice signal;
   }
 
   -- the entries with the notice of a ticket changed
@@ -89,11 +89,6 @@ module _ {T S : Type 0} where
   -- no parked receiver is due
   abbrev pub NoDueReceiver : Entries T S → Type 0
   NoDueReceiver entries = All (λ e. e.notice.due ≡ false) entries
-
-  -- how many parked receivers are due
-  abbrev pub due_count : Entries T S → ℕ
-  due_count [] = 0
-  due_count (e ∷ entries) = (if e.notice.due then 1 else 0) + due_count entries
 
   -- one that was due, under this ticket, is due no more
   pub record NamesReceiver (old new : Entries T S) (ticket : ℕ) : Type 0 where

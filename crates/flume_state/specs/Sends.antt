@@ -1,11 +1,12 @@
--- What the contracts of the live send tickets cite: a finite map from ticket to live send.
+-- For every contract: the live sends, as a finite map from their tickets.
 use Rattle.std.specs.Prelude.{◌≡◌, ℕ, Bool, true, false, Option, Some, None, refl}
 use Rattle.std.specs.Coded.{Coded, code_by, coded×, coded_bool, coded_ℕ}
+use Rattle.std.specs.Option.{option_map_or}
 use Rattle.std.specs.Ordering.{nat_cmp}
 use Rattle.std.specs.FinMap.{FinMap, get, insert, code}
 use Rattle.flume_state.specs.declared.notice.Notice.{Notice}
 use Rattle.flume_state.specs.declared.sends.LiveSend.{LiveSend}
-use Rattle.flume_state.specs.Notices.{fresh, due_now}
+use Rattle.flume_state.specs.Notices.{new_notice, due_now}
 
 -- the live sends, by ticket
 abbrev pub SendMap : Type 0 → Type 0
@@ -24,7 +25,7 @@ send_map_code c = code coded_ℕ (live_send_code c)
 
 -- a send that has just blocked
 abbrev pub blocked : {S : Type 0} → S → LiveSend S
-blocked signal = record { accepted = false; notice = fresh signal }
+blocked signal = record { accepted = false; notice = new_notice signal }
 
 -- a send whose message was accepted, which is due
 abbrev pub accepted_now : {S : Type 0} → LiveSend S → LiveSend S
@@ -34,14 +35,9 @@ accepted_now s = record { accepted = true; notice = due_now s.notice }
 abbrev pub with_notice : {S : Type 0} → (Notice S → Notice S) → LiveSend S → LiveSend S
 with_notice f s = record s { notice = f s.notice }
 
--- the map with f of a value that stood at k, and as it was where none stood there
-abbrev pub put_changed : {X : Type 0} → FinMap nat_cmp X → ℕ → (X → X) → Option X → FinMap nat_cmp X
-put_changed m k f None = m
-put_changed m k f (Some x) = insert m k (f x)
-
 -- the map with f of its value at k, and as it was where it has none there
 unfoldable pub changed : {X : Type 0} → FinMap nat_cmp X → ℕ → (X → X) → FinMap nat_cmp X
-changed m k f = put_changed m k f (get m k)
+changed m k f = option_map_or (λ x. insert m k (f x)) (get m k) m
 
 -- the live sends with the notice of a ticket changed
 abbrev pub noticed_send : {S : Type 0} → (Notice S → Notice S) → ℕ → SendMap S → SendMap S

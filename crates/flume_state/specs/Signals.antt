@@ -1,4 +1,4 @@
--- Which ticket is named as due, and the signal of a ticket.
+-- For every contract: which ticket is named as due, and the signal of a ticket.
 use Rattle.std.specs.Prelude.{◌≡◌, ℕ, true, Option, Some, None}
 use Rattle.std.specs.Option.{option_map}
 use Rattle.std.specs.FinMap.{get}

@@ -1,4 +1,4 @@
--- What a contract sees of a `Chan`: its state.
+-- For every contract: what it sees of a `Chan`, its state.
 use Rattle.std.specs.Prelude.{ℕ, ◌+◌, Bool, List, [], map, length, Option, Some}
 use Rattle.std.specs.Option.{option_map}
 use Rattle.std.specs.FinMap.{empty, get}

@@ -5,9 +5,9 @@ ghost use Rattle.std.specs.Option.{option_map, option_copied};
 ghost use Rattle.flume_model.specs.Entries.{is_woken, some_wait, waiting_count};
 ghost use Rattle.flume_model.specs.Entries.{entry_of, held_by, held_in};
 ghost use Rattle.flume_model.specs.Entries.{without, again};
-ghost use Rattle.flume_state.specs.Receivers.{begins, waits_on, noticed_receiver};
+ghost use Rattle.flume_state.specs.Receivers.{new_receiver, waits_on, noticed_receiver};
 ghost use Rattle.flume_state.specs.Receivers.{status_by, status_of};
-ghost use Rattle.flume_state.specs.EntryLayout.{asked_again, off};
+ghost use Rattle.flume_state.specs.layout.EntryLayout.{after_asking, boundary_without};
 
 mod wakes;
 
@@ -88,7 +88,7 @@ impl<T: Drop, S: Drop> Parked<T, S> {
     // It asks again, and waits on: it isn't due, and has another signal where one is given. A
     // filled one stays as it is. Whether it was woken.
     fn ask_again(&mut self, signal: Option<S>) -> bool
-        ensures asked { self.new ≡ asked_again signal self.old }
+        ensures asked { self.new ≡ after_asking self.old.mark signal self.old }
         ensures woken { result ≡ is_woken self.old.mark }
     {
         let woken = match self.mark {
@@ -107,8 +107,8 @@ impl<T: Drop, S: Drop> Parked<T, S> {
 
 // A boundary, off the element at a place, which has this one behind it.
 #[inline(always)]
-fn moved_off(boundary: Option<u32>, place: u32, next: Option<u32>) -> Option<u32>
-    ensures off { result ≡ off boundary place next }
+fn boundary_without(boundary: Option<u32>, place: u32, next: Option<u32>) -> Option<u32>
+    ensures boundary { result ≡ boundary_without boundary place next }
 {
     if boundary == Some(place) {
         next
@@ -119,7 +119,7 @@ fn moved_off(boundary: Option<u32>, place: u32, next: Option<u32>) -> Option<u32
 
 impl<T, S, A: Allocator> Model for Entries<T, S, A> {
     ghost use Rattle.flume_state.specs.Receivers.{Entries as EntryList};
-    ghost use Rattle.flume_state.specs.EntryLayout.{entries_in, EntryLayout};
+    ghost use Rattle.flume_state.specs.layout.EntryLayout.{entries_in, EntryLayout};
 
     ghost Value = { EntryList T S };
 
@@ -170,7 +170,7 @@ impl<T: Drop, S: Drop, A: Allocator + Copy> Entries<T, S, A> {
     /// what happens to it later is made here. With no memory left, under a ticket under which one
     /// is parked, or under the greatest number, which is no ticket, nothing changes.
     pub fn park(&mut self, ticket: u64, kind: Kind, signal: S) -> Result<(), AllocError>
-        ensures parked { OnOk result (self.new ≡ self.old ++ begins ticket kind signal ∷ []) }
+        ensures parked { OnOk result (self.new ≡ self.old ++ new_receiver ticket kind signal ∷ []) }
         ensures unchanged { OnErr result (self.new ≡ self.old) }
     {
         let notice = Notice { signal, due: false };
@@ -216,8 +216,8 @@ impl<T: Drop, S: Drop, A: Allocator + Copy> Entries<T, S, A> {
         let place = self.chain.find(ticket)?;
         let next = self.chain.next(place);
         let Parked { mark, .. } = self.chain.remove(place)?;
-        self.due = moved_off(self.due, place, next);
-        self.waits = moved_off(self.waits, place, next);
+        self.due = boundary_without(self.due, place, next);
+        self.waits = boundary_without(self.waits, place, next);
         if let Mark::Waiting = mark {
             self.waiting -= 1;
         }
@@ -243,8 +243,8 @@ impl<T: Drop, S: Drop, A: Allocator + Copy> Entries<T, S, A> {
             return;
         }
         self.chain.move_back(place);
-        self.due = moved_off(self.due, place, next).or(Some(place));
-        self.waits = moved_off(self.waits, place, next).or(Some(place));
+        self.due = boundary_without(self.due, place, next).or(Some(place));
+        self.waits = boundary_without(self.waits, place, next).or(Some(place));
         self.waiting += 1;
     }
 

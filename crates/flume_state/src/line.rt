@@ -29,7 +29,7 @@ impl<T, A: Allocator> Model for Line<T, A> {
 
     ghost Value = { Messages T };
 
-    ghost use Rattle.flume_state.specs.LineLayout.{line_of, space_of, LineLayout};
+    ghost use Rattle.flume_state.specs.layout.LineLayout.{line_of, space_of, LineLayout};
 
     ghost view = { λ s. line_of s.chain.items (space_of s.chain) };
 
@@ -110,6 +110,7 @@ impl<T: Drop, A: Allocator + Copy> Line<T, A> {
         ensures returned { IfErr result (λ back. back ≡ message) }
         ensures unchanged { OnErr result (self.new ≡ self.old) }
     {
+        self.chain.facts();
         self.chain.insert_before(self.blocked, message)?;
         Ok(())
     }
@@ -141,6 +142,7 @@ impl<T: Drop, A: Allocator + Copy> Line<T, A> {
         ensures none_blocked { IfNone result (self.old.blocked ≡ []) }
         ensures unchanged { IfNone result (self.new ≡ self.old) }
     {
+        self.chain.facts();
         let place = self.blocked?;
         let ticket = self.chain.release(place)?;
         self.blocked = self.chain.next(place);
@@ -182,6 +184,7 @@ impl<T: Drop, A: Allocator + Copy> Line<T, A> {
     pub fn mark_blocked<S: Drop>(&self, sends: &mut Sends<S, A>)
         ensures marked { sends.new ≡ with_all_due self.now.blocked sends.old }
     {
+        self.chain.facts();
         let mut next = self.blocked;
         while let Some(place) = next {
             if let Some(ticket) = self.chain.ticket(place) {
@@ -199,6 +202,7 @@ impl<T: Drop, A: Allocator + Copy> Line<T, A> {
         ensures absent { IfNone result (All (λ b. b.ticket ≢ ticket) self.old.blocked) }
         ensures unchanged { IfNone result (self.new ≡ self.old) }
     {
+        self.chain.facts();
         let place = self.chain.find(ticket)?;
         self.blocked = first_without(&self.chain, self.blocked, place);
         self.blocked_len -= 1;

@@ -2,42 +2,35 @@
 ghost use Rattle.std.specs.Prelude.{◌≡◌, None, OnOk, OnErr};
 ghost use Rattle.std.specs.FinMap.{empty, get, insert, remove};
 
-mod hashed;
-mod table;
 mod ticket_hash;
+mod ticket_table;
 
 use std::alloc::{AllocError, Allocator};
 use std::marker::Model;
-use table::PlaceTable;
-
-// A place that is found without the table.
-#[derive(Drop)]
-struct NearPlace {
-    ticket: u64,
-    place: u32,
-}
+use ticket_table::TicketTable;
 
 /// The place of each of some tickets.
 #[derive(Drop)]
 pub struct Places<A: Allocator> {
-    // That of a ticket that was alone when it came: so one that comes by itself needs no table.
-    near: Option<NearPlace>,
+    // A ticket that was alone when it came, and its place: so one that comes by itself needs no
+    // table.
+    lone: Option<(u64, u32)>,
     // The others.
-    table: PlaceTable<A>,
+    table: TicketTable<A>,
 }
 
 impl<A: Allocator> Model for Places<A> {
     ghost use Rattle.std.specs.Coded.{coded_ℕ};
     ghost use Rattle.std.specs.FinMap.{code};
-    ghost use Rattle.flume_state.specs.Places.{PlaceMap, with_near, IsApart};
+    ghost use Rattle.flume_state.specs.layout.Places.{PlaceMap, with_lone, IsApart};
 
     ghost Value = { PlaceMap };
 
     ghost coded = { code coded_ℕ coded_ℕ };
 
-    ghost view = { λ s. with_near s.near s.table };
+    ghost view = { λ s. with_lone s.lone s.table };
 
-    ghost invariant = { λ s. IsApart s.near s.table };
+    ghost invariant = { λ s. IsApart s.lone s.table };
 }
 
 impl<A: Allocator + Copy> Places<A> {
@@ -57,8 +50,8 @@ impl<A: Allocator + Copy> Places<A> {
         ensures empty { result ≡ empty }
     {
         Places {
-            near: None,
-            table: PlaceTable::new(alloc),
+            lone: None,
+            table: TicketTable::new(alloc),
         }
     }
 
@@ -67,8 +60,8 @@ impl<A: Allocator + Copy> Places<A> {
     pub fn get(&self, ticket: u64) -> Option<u32>
         ensures place { result ≡ get self.now ticket }
     {
-        match &self.near {
-            Some(near) if near.ticket == ticket => Some(near.place),
+        match &self.lone {
+            Some(lone) if lone.0 == ticket => Some(lone.1),
             _ => self.table.get(ticket),
         }
     }
@@ -81,12 +74,12 @@ impl<A: Allocator + Copy> Places<A> {
         ensures unchanged { OnErr result (self.new ≡ self.old) }
         ensures absent { OnErr result (get self.old ticket ≡ None) }
     {
-        match &self.near {
+        match &self.lone {
             None if self.table.is_empty() => {}
-            Some(near) if near.ticket == ticket => {}
+            Some(lone) if lone.0 == ticket => {}
             _ => return self.table.insert(ticket, place),
         }
-        self.near = Some(NearPlace { ticket, place });
+        self.lone = Some((ticket, place));
         Ok(())
     }
 
@@ -95,8 +88,8 @@ impl<A: Allocator + Copy> Places<A> {
     pub fn remove(&mut self, ticket: u64)
         ensures removed { self.new ≡ remove self.old ticket }
     {
-        match &self.near {
-            Some(near) if near.ticket == ticket => self.near = None,
+        match &self.lone {
+            Some(lone) if lone.0 == ticket => self.lone = None,
             _ => self.table.remove(ticket),
         }
     }
@@ -105,7 +98,7 @@ impl<A: Allocator + Copy> Places<A> {
     pub fn clear(&mut self)
         ensures empty { self.new ≡ empty }
     {
-        self.near = None;
+        self.lone = None;
         self.table.clear();
     }
 }

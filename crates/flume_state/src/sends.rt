@@ -2,9 +2,9 @@
 ghost use Rattle.std.specs.Prelude.{◌≡◌, ◌==◌, true, false, None, OnOk, OnErr, IfSome, IfNone};
 ghost use Rattle.std.specs.Option.{option_map, option_copied};
 ghost use Rattle.std.specs.FinMap.{empty, get, insert, remove};
-ghost use Rattle.flume_state.specs.Notices.{due_now, no_longer_due, resignalled};
+ghost use Rattle.flume_state.specs.Notices.{due_now, no_longer_due, with_signal};
 ghost use Rattle.flume_state.specs.Sends.{blocked, accepted_now, changed, noticed_send};
-ghost use Rattle.flume_state.specs.SendLayout.{due_accepting};
+ghost use Rattle.flume_state.specs.layout.SendLayout.{due_accepting};
 ghost use Rattle.flume_state.specs.Sends.{is_due_send, NoDueSend};
 
 use crate::notice::Notice;
@@ -25,7 +25,9 @@ pub struct LiveSend<S> {
 #[derive(Drop)]
 pub struct Sends<S, A: Allocator> {
     // First those that aren't due, then those that are, in the order in which they became due: so
-    // `next_due` reads one place, whatever the length.
+    // `next_due` reads one place, whatever the length. The first ones stand in the order in which
+    // they blocked or were named, but nothing reads that order: they are found by their tickets.
+    // The order of blocked messages is the line's alone.
     chain: TicketChain<LiveSend<S>, A>,
     // The place of the first that is due.
     due: Option<u32>,
@@ -33,7 +35,7 @@ pub struct Sends<S, A: Allocator> {
 
 impl<S, A: Allocator> Model for Sends<S, A> {
     ghost use Rattle.flume_state.specs.Sends.{SendMap, send_map_code};
-    ghost use Rattle.flume_state.specs.SendLayout.{by_ticket, SendLayout};
+    ghost use Rattle.flume_state.specs.layout.SendLayout.{by_ticket, SendLayout};
 
     ghost Value = { SendMap S };
 
@@ -74,6 +76,7 @@ impl<S: Drop, A: Allocator + Copy> Sends<S, A> {
         ensures absent { OnOk result (get self.old ticket ≡ None) }
         ensures err { OnErr result (self.new ≡ self.old) }
     {
+        self.chain.facts();
         let notice = Notice { signal, due: false };
         let send = LiveSend {
             accepted: false,
@@ -106,6 +109,7 @@ impl<S: Drop, A: Allocator + Copy> Sends<S, A> {
     fn get(&self, ticket: u64) -> Option<&LiveSend<S>>
         ensures value { option_copied result ≡ get self.now ticket }
     {
+        self.chain.facts();
         let place = self.chain.find(ticket)?;
         self.chain.get(place)
     }
@@ -113,8 +117,9 @@ impl<S: Drop, A: Allocator + Copy> Sends<S, A> {
     /// Replaces the signal of a live ticket. Nothing changes where the ticket isn't live. Takes no
     /// memory.
     pub fn set_signal(&mut self, ticket: u64, signal: S)
-        ensures replaced { self.new ≡ noticed_send (resignalled (Some signal)) ticket self.old }
+        ensures replaced { self.new ≡ noticed_send (with_signal (Some signal)) ticket self.old }
     {
+        self.chain.facts();
         let Some(place) = self.chain.find(ticket) else {
             return;
         };
@@ -126,11 +131,12 @@ impl<S: Drop, A: Allocator + Copy> Sends<S, A> {
 
     /// The message of a live ticket was taken into the queue: the ticket is accepted, and due.
     /// Nothing changes where the ticket isn't live. Takes no memory.
+    // It and `mark_due` hand on to `make_due`, so that each call says which of its two cases it means.
     #[inline(never)]
     pub fn accept(&mut self, ticket: u64)
         ensures accepted { self.new ≡ changed self.old ticket accepted_now }
     {
-        self.line_up(ticket, true);
+        self.make_due(ticket, true);
     }
 
     /// Makes a live ticket due, and leaves it accepted or not as it was. Nothing changes where the
@@ -138,14 +144,15 @@ impl<S: Drop, A: Allocator + Copy> Sends<S, A> {
     pub fn mark_due(&mut self, ticket: u64)
         ensures marked { self.new ≡ noticed_send due_now ticket self.old }
     {
-        self.line_up(ticket, false);
+        self.make_due(ticket, false);
     }
 
     // Makes a live ticket due, and accepted where `accepts`. One that wasn't due goes behind all
     // others.
-    fn line_up(&mut self, ticket: u64, accepts: bool)
+    fn make_due(&mut self, ticket: u64, accepts: bool)
         ensures due { self.new ≡ changed self.old ticket (due_accepting accepts) }
     {
+        self.chain.facts();
         let Some(place) = self.chain.find(ticket) else {
             return;
         };
@@ -166,6 +173,7 @@ impl<S: Drop, A: Allocator + Copy> Sends<S, A> {
     pub fn spend(&mut self, ticket: u64)
         ensures spent { self.new ≡ remove self.old ticket }
     {
+        self.chain.facts();
         let Some(place) = self.chain.find(ticket) else {
             return;
         };
@@ -200,6 +208,7 @@ impl<S: Drop, A: Allocator + Copy> Sends<S, A> {
         ensures none_due { IfNone result (NoDueSend self.old) }
         ensures unchanged { IfNone result (self.new ≡ self.old) }
     {
+        self.chain.facts();
         let place = self.due?;
         let ticket = self.chain.ticket(place)?;
         let send = self.chain.get_mut(place)?;

@@ -4,14 +4,14 @@ ghost use Rattle.std.specs.Prelude.{true, false};
 ghost use Rattle.std.specs.Prelude.{IsOk, IsSome, IfOk, IfErr, OnOk, OnErr, IfSome, IfNone, OnSome};
 ghost use Rattle.std.specs.Prelude.{option_copied, ◌↔◌};
 ghost use Rattle.std.specs.Option.{option_map, option_copied_mut};
-ghost use Rattle.flume_chain.specs.Chained.{Placed, found, without, first_place};
+ghost use Rattle.flume_chain.specs.Chained.{Placed, found, without};
 ghost use Rattle.flume_chain.specs.Chained.{place_after, first_element, behind_first};
 ghost use Rattle.flume_chain.specs.Chained.{times, places};
-ghost use Rattle.flume_state.specs.Ticketed.{place_of, ticket_times, put_ahead};
-ghost use Rattle.flume_state.specs.Ticketed.{released, ticket_in};
+ghost use Rattle.flume_state.specs.layout.Ticketed.{place_of, ticket_times, put_ahead};
+ghost use Rattle.flume_state.specs.layout.Ticketed.{without_ticket_at, ticket_in};
 ghost use Rattle.flume_state.specs.declared.ticketed.Ticketed.{Ticketed};
 ghost use Rattle.std.specs.Borrow.{sem};
-ghost use Rattle.flume_state.specs.TicketedLends.{lends_value};
+ghost use Rattle.flume_state.specs.layout.TicketedLends.{lends_value};
 
 use crate::maybe_ticket::MaybeTicket;
 use crate::places::Places;
@@ -39,7 +39,7 @@ pub struct TicketChain<E, A: Allocator> {
 impl<E, A: Allocator> Model for TicketChain<E, A> {
     ghost use Rattle.flume_chain.specs.Chained.{Chained};
     ghost use Rattle.flume_state.specs.declared.ticketed.Ticketed.{Ticketed};
-    ghost use Rattle.flume_state.specs.Ticketed.{Agrees};
+    ghost use Rattle.flume_state.specs.layout.Ticketed.{Agrees};
 
     ghost Value = { Chained (Ticketed E) };
 
@@ -48,6 +48,8 @@ impl<E, A: Allocator> Model for TicketChain<E, A> {
     ghost invariant = { λ s. Agrees s.chain.items s.places };
 }
 
+// `len`, `room`, `allocator`, `next` and `move_back` are the chain's, and `find` is the places': they
+// hand on, since both are private, so that neither changes without the other.
 impl<E: Drop, A: Allocator + Copy> TicketChain<E, A> {
     /// No elements. Takes no memory.
     ///
@@ -56,7 +58,7 @@ impl<E: Drop, A: Allocator + Copy> TicketChain<E, A> {
     /// let _ = chain.insert_ticket(None, 7, 'a'); // Ok(0)
     /// let _ = chain.insert_before(Some(0), 'b'); // Ok(1), ahead of 'a'
     /// chain.find(7);                             // Some(0)
-    /// chain.first();                             // Some(1)
+    /// chain.next(1);                             // Some(0)
     /// ```
     #[inline(always)]
     pub fn new(alloc: A) -> Self
@@ -67,6 +69,16 @@ impl<E: Drop, A: Allocator + Copy> TicketChain<E, A> {
             chain: Chain::new(alloc),
             places: Places::new(alloc),
         }
+    }
+
+    /// What holds of every chain: no two elements have the same ticket, and no two the same place.
+    /// Does nothing.
+    #[inline(always)]
+    pub fn facts(&self)
+        ensures single { (t : ℕ) → ticket_times t self.now.items ≤ 1 }
+        ensures apart { (k : ℕ) → times k (places self.now.items) ≤ 1 }
+    {
+        let _ = self.chain.len();
     }
 
     /// How many elements stand. It reads a count, whatever the length.
@@ -95,8 +107,6 @@ impl<E: Drop, A: Allocator + Copy> TicketChain<E, A> {
     #[inline(always)]
     pub fn find(&self, ticket: u64) -> Option<u32>
         ensures place { result ≡ place_of ticket self.now.items }
-        ensures single { (t : ℕ) → ticket_times t self.now.items ≤ 1 }
-        ensures apart { (k : ℕ) → times k (places self.now.items) ≤ 1 }
     {
         self.places.get(ticket)
     }
@@ -106,7 +116,6 @@ impl<E: Drop, A: Allocator + Copy> TicketChain<E, A> {
     pub fn get(&self, place: u32) -> Option<&E>
         ensures found { option_copied result
             ≡ option_map (λ e. e.value) (found self.now.items place) }
-        ensures apart { (k : ℕ) → times k (places self.now.items) ≤ 1 }
     {
         Some(&self.chain.get(place)?.value)
     }
@@ -115,8 +124,6 @@ impl<E: Drop, A: Allocator + Copy> TicketChain<E, A> {
     #[inline(always)]
     pub fn ticket(&self, place: u32) -> Option<u64>
         ensures ticket { result ≡ ticket_in (found self.now.items place) }
-        ensures single { (t : ℕ) → ticket_times t self.now.items ≤ 1 }
-        ensures apart { (k : ℕ) → times k (places self.now.items) ≤ 1 }
     {
         self.chain.get(place)?.ticket.get()
     }
@@ -134,23 +141,11 @@ impl<E: Drop, A: Allocator + Copy> TicketChain<E, A> {
         }
     }
 
-    /// The place of the first element. `None` where none stands.
-    #[inline(always)]
-    pub fn first(&self) -> Option<u32>
-        ensures first { result ≡ first_place self.now.items }
-        ensures single { (t : ℕ) → ticket_times t self.now.items ≤ 1 }
-        ensures apart { (k : ℕ) → times k (places self.now.items) ≤ 1 }
-    {
-        self.chain.first()
-    }
-
     /// The place of the element behind that at a place. `None` where none stands at the place, or
     /// none behind it.
     #[inline(always)]
     pub fn next(&self, place: u32) -> Option<u32>
         ensures next { result ≡ place_after self.now.items place }
-        ensures single { (t : ℕ) → ticket_times t self.now.items ≤ 1 }
-        ensures apart { (k : ℕ) → times k (places self.now.items) ≤ 1 }
     {
         self.chain.next(place)
     }
@@ -168,8 +163,6 @@ impl<E: Drop, A: Allocator + Copy> TicketChain<E, A> {
         ensures succeeds { 0 < self.old.room → IsOk result }
         ensures returned { IfErr result (λ back. back ≡ value) }
         ensures unchanged { OnErr result (self.new ≡ self.old) }
-        ensures single { (t : ℕ) → ticket_times t self.old.items ≤ 1 }
-        ensures apart { (k : ℕ) → times k (places self.old.items) ≤ 1 }
     {
         let element = Ticketed {
             ticket: MaybeTicket::none(),
@@ -194,8 +187,6 @@ impl<E: Drop, A: Allocator + Copy> TicketChain<E, A> {
         ensures room { OnOk result (0 < self.old.room → self.new.room + 1 ≡ self.old.room) }
         ensures returned { IfErr result (λ back. back ≡ value) }
         ensures unchanged { OnErr result (self.new ≡ self.old) }
-        ensures single { (t : ℕ) → ticket_times t self.old.items ≤ 1 }
-        ensures apart { (k : ℕ) → times k (places self.old.items) ≤ 1 }
     {
         if self.places.get(ticket).is_some() {
             return Err(value);
@@ -232,8 +223,6 @@ impl<E: Drop, A: Allocator + Copy> TicketChain<E, A> {
         ensures stood { result ≡ true ↔ IsSome (found self.old.items place) }
         ensures room { self.new.room ≡ self.old.room }
         ensures unchanged { result ≡ false → self.new ≡ self.old }
-        ensures single { (t : ℕ) → ticket_times t self.old.items ≤ 1 }
-        ensures apart { (k : ℕ) → times k (places self.old.items) ≤ 1 }
     {
         self.chain.move_back(place)
     }
@@ -243,11 +232,9 @@ impl<E: Drop, A: Allocator + Copy> TicketChain<E, A> {
     #[inline(always)]
     pub fn release(&mut self, place: u32) -> Option<u64>
         ensures ticket { result ≡ ticket_in (found self.old.items place) }
-        ensures released { self.new.items ≡ released place self.old.items }
+        ensures released { self.new.items ≡ without_ticket_at place self.old.items }
         ensures room { self.new.room ≡ self.old.room }
         ensures unchanged { IfNone result (self.new ≡ self.old) }
-        ensures single { (t : ℕ) → ticket_times t self.old.items ≤ 1 }
-        ensures apart { (k : ℕ) → times k (places self.old.items) ≤ 1 }
     {
         let element = self.chain.get_mut(place)?;
         let ticket = element.ticket.take()?;
@@ -264,8 +251,6 @@ impl<E: Drop, A: Allocator + Copy> TicketChain<E, A> {
         ensures taken { OnSome result (self.new.items ≡ without self.old.items place) }
         ensures room { OnSome result (self.new.room ≡ self.old.room + 1) }
         ensures unchanged { IfNone result (self.new ≡ self.old) }
-        ensures single { (t : ℕ) → ticket_times t self.old.items ≤ 1 }
-        ensures apart { (k : ℕ) → times k (places self.old.items) ≤ 1 }
     {
         let element = self.chain.remove(place)?;
         if let Some(ticket) = element.ticket.get() {
@@ -282,8 +267,6 @@ impl<E: Drop, A: Allocator + Copy> TicketChain<E, A> {
         ensures taken { self.new.items ≡ behind_first self.old.items }
         ensures room { OnSome result (self.new.room ≡ self.old.room + 1) }
         ensures unchanged { IfNone result (self.new ≡ self.old) }
-        ensures single { (t : ℕ) → ticket_times t self.old.items ≤ 1 }
-        ensures apart { (k : ℕ) → times k (places self.old.items) ≤ 1 }
     {
         let element = self.chain.pop_front()?;
         if let Some(ticket) = element.ticket.get() {

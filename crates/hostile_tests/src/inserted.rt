@@ -1,5 +1,6 @@
 //! The ends go at each place of a script, in both orders. A slow list that is kept from the replies
-//! alone says that the messages come in order, and each once.
+//! alone says that the messages come in order, and each once, what senders are told, and who is due
+//! as a receiver is filled and as the channel is closed.
 use crate::fixtures::{had, holds, text_is};
 use core_tests::judge::Told;
 use flume_core::chan::Chan;
@@ -92,6 +93,9 @@ poll 5 -> got 5
 // More messages than a script has.
 const TAKES: usize = 8;
 
+// More tickets than a script issues.
+const MOST: usize = 16;
+
 // Where the ends go: each before the step of this number, the sender first where both go before
 // the same step, or the receiver. Behind the last step an end goes last, and one step further it
 // stays.
@@ -100,6 +104,8 @@ struct Places {
     sender: usize,
     receiver: usize,
     is_sender_first: bool,
+    // Whether at the end each ticket is asked before it is withdrawn.
+    asks: bool,
 }
 
 // A script: what its channel holds, its steps, and what they answer, each on a line.
@@ -138,11 +144,18 @@ fn script_of(rt: &impl Abort, alloc: Global, text: &str) -> Script {
 }
 
 impl Made {
-    // Makes a step.
+    // Makes a step. Then those that it made due are named.
     fn make(&mut self, rt: &impl Abort, step: Step<u64>) {
         let reply = self.chan.step(step);
         had(rt, self.told.add(&step, &reply));
         had(rt, write_reply(&mut self.text, &reply));
+        for _ in 0..MOST {
+            match self.chan.next_due() {
+                Some(ticket) => self.told.named(ticket),
+                None => break,
+            }
+        }
+        self.told.all_named();
     }
 
     // Drops the ends that go before the step of this number.
@@ -158,14 +171,16 @@ impl Made {
         }
     }
 
-    // Asks and withdraws every ticket that was issued, 0 and the next one from both sides; then
-    // receives all that is left.
-    fn make_rest(&mut self, rt: &impl Abort) {
+    // Asks every ticket that was issued, 0 and the next one from both sides, or doesn't, and
+    // withdraws it from both; then receives all that is left.
+    fn make_rest(&mut self, rt: &impl Abort, asks: bool) {
         self.make(rt, Step::SenderCount);
         self.make(rt, Step::ReceiverCount);
         for ticket in 0..self.told.issued.saturating_add(2) {
-            self.make(rt, Step::Poll(ticket));
-            self.make(rt, Step::PollSend(ticket));
+            if asks {
+                self.make(rt, Step::Poll(ticket));
+                self.make(rt, Step::PollSend(ticket));
+            }
             self.make(rt, Step::Withdraw(ticket));
             self.make(rt, Step::WithdrawSend(ticket));
         }
@@ -194,7 +209,7 @@ fn judged(rt: &impl Abort, alloc: Global, script: &Script, places: Places) -> (b
     }
     made.drop_ends(rt, places, script.steps.len());
     let text = had(rt, made.text.clone());
-    made.make_rest(rt);
+    made.make_rest(rt, places.asks);
     (had(rt, made.told.is_right(alloc)), text)
 }
 
@@ -202,16 +217,17 @@ fn judged(rt: &impl Abort, alloc: Global, script: &Script, places: Places) -> (b
 // go at one place, in either order.
 fn are_right_with(rt: &impl Abort, alloc: Global, title: &str, script: &Script, sender: usize) {
     let places = script.steps.len().saturating_add(2);
-    for number in 0..places.saturating_mul(2) {
+    for number in 0..places.saturating_mul(4) {
         let places = Places {
             sender,
-            receiver: number / 2,
+            receiver: number / 4,
             is_sender_first: number % 2 == 0,
+            asks: number % 4 < 2,
         };
         let (is_right, _) = judged(rt, alloc, script, places);
         assert!(rt;
             is_right,
-            "{title}: wrong where the ends go at {sender} and {number} / 2"
+            "{title}: wrong where the ends go at {sender} and {number} / 4"
         );
     }
 }
@@ -225,6 +241,7 @@ fn script_is_right(rt: &impl Abort, alloc: Global, block: &str) {
         sender: places,
         receiver: places,
         is_sender_first: true,
+        asks: true,
     };
     let (is_right, text) = judged(rt, alloc, &script, stay);
     holds(rt, (title, "not right where the ends stay"), is_right);

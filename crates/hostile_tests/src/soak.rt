@@ -1,6 +1,6 @@
 //! Eight threads on one channel whose allocator refuses one growth in a hundred: senders and
 //! receivers that try, block, wait a short time, poll and leave, with ends that are cloned,
-//! upgraded and dropped and a capacity that changes all along.
+//! upgraded and dropped, at each of several capacities, and while it changes all along.
 use crate::fixtures::Heap;
 use ends_tests::counting::Counting;
 use ends_tests::watch::{Watch, Watched, begin_watch};
@@ -80,48 +80,72 @@ fn send_until_taken<R: Waits, A: Allocator + Copy>(
     unreachable!()
 }
 
+// What a sender was told of a message.
+#[derive(Clone, Copy, PartialEq, Drop)]
+enum Sent {
+    // Nothing: its send was left as it waited.
+    Unknown,
+    Taken,
+    CameBack,
+}
+
 // Polls a send once, and leaves it as it is.
 fn send_and_leave<R: Waits, A: Allocator + Copy>(
     task: &MockTask,
     tx: &Sender<u64, R, A>,
     message: u64,
-) {
+) -> Sent {
     let mut send = tx.send_async(message);
-    let _ = task.poll(&mut send);
+    match task.poll(&mut send) {
+        Poll::Ready(Ok(())) => Sent::Taken,
+        Poll::Ready(Err(_)) => Sent::CameBack,
+        Poll::Pending => Sent::Unknown,
+    }
 }
 
-// The sender, or in its place a clone, or another by way of a weak sender.
+// The sender, or in its place a clone, or another by way of a weak sender. Where the capacity
+// changes it is set as well.
 fn renewed<R: Waits, A: Allocator + Copy>(
     tx: Sender<u64, R, A>,
     number: u64,
+    changes: bool,
 ) -> Option<Sender<u64, R, A>> {
     if number % RENEWAL != 0 {
         return Some(tx);
     }
-    let _ = tx.set_capacity((number / RENEWAL % 5) as usize);
+    if changes && tx.set_capacity((number / RENEWAL % 5) as usize).is_err() {
+        return None;
+    }
     if number % (2 * RENEWAL) == 0 {
         return tx.clone().ok();
     }
     tx.downgrade().ok()?.upgrade().ok()?
 }
 
-// Sends all messages of one thread. Whether each that came back was the very one.
-fn send_all<R: Runs, A: Allocator + Copy>(rt: R, mut tx: Sender<u64, R, A>, first: u64) -> bool {
+// Sends all messages of one thread, and notes what it is told of each. One that it can't send, or
+// that came back as another, stays unknown, and then it stops.
+fn send_all<R: Runs, A: Allocator + Copy>(
+    rt: R,
+    mut tx: Sender<u64, R, A>,
+    (first, changes): (u64, bool),
+    tally: &Tally<'_>,
+) {
     let Ok(task) = MockTask::new(&rt) else {
-        return false;
+        return;
     };
     for number in 0..EACH {
-        let Some(other) = renewed(tx, number) else {
-            return false;
+        let Some(other) = renewed(tx, number, changes) else {
+            return;
         };
         tx = other;
         let message = first.saturating_add(number.saturating_mul(2));
         if !send_until_taken(&rt, &tx, message) {
-            return false;
+            return;
         }
-        send_and_leave(&task, &tx, message.saturating_add(1));
+        note(&rt, tally, message, Sent::Taken);
+        let other = message.saturating_add(1);
+        note(&rt, tally, other, send_and_leave(&task, &tx, other));
     }
-    true
 }
 
 // What a receive came to.
@@ -171,11 +195,19 @@ fn receive_once<R: Waits, A: Allocator + Copy>(
     }
 }
 
-// How often each message came, and who is told that one did.
+// How often each message came, what was told of it to who sent it, and who is told that one came.
 #[derive(Drop)]
 struct Tally<'w> {
     counts: Mutex<Vec<u32>>,
+    sent: Mutex<Vec<Sent>>,
     watched: &'w Watched,
+}
+
+// Notes what a sender was told of a message.
+fn note<R: Waits>(rt: &R, tally: &Tally<'_>, message: u64, told: Sent) {
+    if let Some(sent) = tally.sent.lock(rt).get_mut(message as usize) {
+        *sent = told;
+    }
 }
 
 // Counts a message.
@@ -219,6 +251,7 @@ fn receive_all<R: Runs, A: Allocator + Copy>(rt: R, rx: Receiver<u64, R, A>, tal
 fn all_run<R: Runs, A: Allocator + Copy + Send + Sync>(
     rt: R,
     (tx, rx): (Sender<u64, R, A>, Receiver<u64, R, A>),
+    changes: bool,
     tally: &Tally<'_>,
 ) -> bool {
     thread::scope(thread::scope_env(), &rt, move |scope| {
@@ -227,7 +260,7 @@ fn all_run<R: Runs, A: Allocator + Copy + Send + Sync>(
             let (Ok(own), Ok(other)) = (own, other) else {
                 return false;
             };
-            let sends = move || send_all(rt, own, first);
+            let sends = move || send_all(rt, own, (first, changes), tally);
             let receives = move || receive_all(rt, other, tally);
             if scope.spawn(sends).is_err() || scope.spawn(receives).is_err() {
                 return false;
@@ -237,10 +270,17 @@ fn all_run<R: Runs, A: Allocator + Copy + Send + Sync>(
     })
 }
 
-// Whether each message that was taken for certain came once, and each other one at most once.
-fn are_right(counts: &[u32]) -> bool {
+// Whether each message that was taken came once, each that came back never, and each other one at
+// most once; and each of an even number was taken.
+fn are_right(counts: &[u32], sent: &[Sent]) -> bool {
+    let mut sent = sent.iter();
     for (at, &count) in counts.iter().enumerate() {
-        if count > 1 || at % 2 == 0 && count == 0 {
+        let is_right = match sent.next() {
+            Some(Sent::Taken) => count == 1,
+            Some(Sent::CameBack) => count == 0 && at % 2 == 1,
+            _ => count <= 1 && at % 2 == 1,
+        };
+        if !is_right {
             return false;
         }
     }
@@ -265,18 +305,35 @@ fn holds(rt: &impl Abort, fault: &str, is_so: bool) {
     assert!(rt; is_so, "{fault}");
 }
 
-// All run at this capacity, and some message comes all along. Growths were refused, and no block is
-// left.
-fn soak<R: Runs>(rt: R, alloc: Global, watched: &Watched, capacity: Option<usize>) {
+// All run at this capacity, or at one that begins so and changes, and some message comes all along.
+// Growths were refused, messages came back from sends that were left, and no block is left.
+fn soak<R: Runs>(
+    rt: R,
+    alloc: Global,
+    watched: &Watched,
+    (capacity, changes): (Option<usize>, bool),
+) {
     let heap = Counting::new(alloc);
     let counts = vec![in alloc; 0u32; ALL].expect(&rt, "there is memory");
-    let counts = Mutex::new(counts);
-    let tally = Tally { counts, watched };
+    let sent = vec![in alloc; Sent::Unknown; ALL].expect(&rt, "there is memory");
+    let (counts, sent) = (Mutex::new(counts), Mutex::new(sent));
+    let tally = Tally {
+        counts,
+        sent,
+        watched,
+    };
     let ends = opened(rt, &heap, capacity);
     heap.refuse_one_in(100);
-    holds(&rt, "not all threads ran", all_run(rt, ends, &tally));
-    let are_right = are_right(&tally.counts.into_inner());
-    holds(&rt, "a message is lost, or came twice", are_right);
+    let is_run = all_run(rt, ends, changes, &tally);
+    holds(&rt, "not all threads ran", is_run);
+    let Tally { counts, sent, .. } = tally;
+    let (counts, sent) = (counts.into_inner(), sent.into_inner());
+    let are_right = are_right(&counts, &sent);
+    holds(
+        &rt,
+        "a message is lost, or came against its answer",
+        are_right,
+    );
     holds(&rt, "no growth was refused", heap.refusals() > 0);
     holds(&rt, "blocks are left", heap.live() == 0);
 }
@@ -293,7 +350,8 @@ fn watching<R: Runs>(rt: R, alloc: Global) -> Watch {
 fn no_message_is_lost_where_one_growth_in_a_hundred_is_refused(rt: HostRuntime) {
     let watch = watching(rt, rt.alloc());
     for capacity in [None, Some(0), Some(1), Some(7), Some(64)] {
-        soak(rt, rt.alloc(), watch.watched(), capacity);
+        soak(rt, rt.alloc(), watch.watched(), (capacity, false));
     }
+    soak(rt, rt.alloc(), watch.watched(), (Some(3), true));
     watch.end(&rt);
 }

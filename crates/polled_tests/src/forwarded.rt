@@ -1,5 +1,5 @@
 //! A stream that is forwarded through a sink arrives whole and in its order.
-use crate::fixtures::is;
+use crate::fixtures::{had, is, opened, ran};
 use crate::works::{Runs, Stuck};
 use ends_tests::watch::begin_watch;
 use ends_tests::works::{Work, started};
@@ -76,17 +76,22 @@ fn passes_all<R: Runs>(rt: R, alloc: Global, capacity: usize) -> Result<(), Fail
 }
 
 #[test]
-fn a_stream_goes_through_a_sink_of_a_channel_of_capacity_100(rt: HostRuntime) -> Result<(), Fail> {
+fn a_stream_goes_through_a_sink(rt: HostRuntime) -> Result<(), Fail> {
     let watch = begin_watch(rt, rt.alloc(), Stuck(rt))?;
-    let ended = passes_all(rt, rt.alloc(), 100);
+    for capacity in [100, 1] {
+        passes_all(rt, rt.alloc(), capacity)?;
+    }
     watch.end(&rt);
-    ended
+    Ok(())
 }
 
 #[test]
-fn a_stream_goes_through_a_sink_of_a_channel_of_capacity_1(rt: HostRuntime) -> Result<(), Fail> {
-    let watch = begin_watch(rt, rt.alloc(), Stuck(rt))?;
-    let ended = passes_all(rt, rt.alloc(), 1);
-    watch.end(&rt);
-    ended
+fn a_stream_that_owns_its_receiver_is_collected_until_the_sender_is_gone(rt: HostRuntime) {
+    let (tx, rx) = opened::<u64, _>(rt, rt.alloc(), None);
+    for message in 1..=3 {
+        is(&rt, tx.send(message), Ok(()));
+    }
+    drop(tx);
+    let received = had(&rt, ran(&rt, rx.into_stream().collect(rt.alloc())));
+    is(&rt, received.as_slice(), &[1, 2, 3]);
 }

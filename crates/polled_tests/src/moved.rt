@@ -1,6 +1,7 @@
 //! Futures, sinks and streams that threads take with them, owned or borrowed.
 use crate::fixtures::is;
-use crate::works::Runs;
+use crate::works::{Runs, Stuck};
+use ends_tests::watch::begin_watch;
 use ends_tests::works::{Work, started};
 use flume::error::{RecvError, SendError};
 use flume::polled::{RecvFut, RecvStream, SendFut, SendSink};
@@ -83,6 +84,7 @@ impl<R: Runs> Work for Takes<R> {
 
 #[test]
 fn each_goes_with_its_thread(rt: HostRuntime) -> Result<(), Fail> {
+    let watch = begin_watch(rt, rt.alloc(), Stuck(rt))?;
     let (tx, rx) = unbounded::<u64, _, _>(rt, rt.alloc(), 1)?;
     let send = tx.clone()?.into_send_async(1);
     let sending = started(&rt, Sends { rt, send })?;
@@ -101,6 +103,7 @@ fn each_goes_with_its_thread(rt: HostRuntime) -> Result<(), Fail> {
     let stream = rx.into_stream();
     let taking = started(&rt, Takes { rt, stream })?;
     is(&rt, taking.join(&rt), Some(2));
+    watch.end(&rt);
     Ok(())
 }
 
@@ -124,8 +127,10 @@ fn passes_by_reference<R: Runs>(
 
 #[test]
 fn two_threads_poll_futures_that_borrow_their_ends(rt: HostRuntime) -> Result<(), Fail> {
+    let watch = begin_watch(rt, rt.alloc(), Stuck(rt))?;
     let (tx, rx) = unbounded::<u64, _, _>(rt, rt.alloc(), 1)?;
     let passed = passes_by_reference(rt, &tx, &rx);
     is(&rt, passed, Some((Ok(()), Ok(7))));
+    watch.end(&rt);
     Ok(())
 }

@@ -1,24 +1,18 @@
-//! What several tests use: what a selection gave, answers compared in one place for each type,
-//! channels, threads and times. What can't be had fails the test here: a `?` in a test costs the
-//! prover a second, and an abort none.
+//! What several tests use: answers compared in one place for each type, channels, threads and times.
+//! What can't be had fails the test here: a `?` in a test costs the prover a second, and an abort
+//! none.
+use ends_tests::watch::{Watch, begin_watch};
 use ends_tests::works::Work;
-use flume::error::{RecvError, SelectError, SendError, TryRecvError, TrySendError};
+use flume::error::{SelectError, TrySendError};
 use flume::{Receiver, Sender, Waits, bounded, unbounded};
-use std::alloc::Allocator;
+use std::alloc::{Allocator, Global};
 use std::fmt::Debug;
 use std::process::Abort;
 use std::thread;
 use std::thread::{JoinHandle, Threads};
-use std::time::{Clock, Duration, Instant};
-
-/// What a selection gave: which of its arms won, and what that arm answered.
-#[derive(Debug, PartialEq, Eq, Drop)]
-pub(crate) enum Won {
-    First(Result<u64, RecvError>),
-    Second(Result<u64, RecvError>),
-    Third(Result<u64, RecvError>),
-    Sent(Result<(), SendError<u64>>),
-}
+use std::time::{Clock, Instant};
+use threads_player::calls::long;
+use threads_player::selections::Won;
 
 /// The selection answered so.
 pub(crate) fn selected(
@@ -29,29 +23,11 @@ pub(crate) fn selected(
     assert_eq!(rt; answer, wanted);
 }
 
-/// The tried receive answered so.
-pub(crate) fn tried(
-    rt: &impl Abort,
-    answer: Result<u64, TryRecvError>,
-    wanted: Result<u64, TryRecvError>,
-) {
-    assert_eq!(rt; answer, wanted);
-}
-
 /// The tried send answered so.
 pub(crate) fn offered(
     rt: &impl Abort,
     answer: Result<(), TrySendError<u64>>,
     wanted: Result<(), TrySendError<u64>>,
-) {
-    assert_eq!(rt; answer, wanted);
-}
-
-/// The receive answered so.
-pub(crate) fn received(
-    rt: &impl Abort,
-    answer: Result<u64, RecvError>,
-    wanted: Result<u64, RecvError>,
 ) {
     assert_eq!(rt; answer, wanted);
 }
@@ -97,19 +73,31 @@ where
     thread::spawn(rt, move || work.work()).expect(rt, "a thread can be started")
 }
 
-/// So long that no test waits for its end.
-pub(crate) fn long() -> Duration {
-    Duration::from_secs(3600)
-}
-
-/// The present, by a clock that can be read.
-pub(crate) fn present<R: Clock + Abort>(rt: &R) -> Instant {
-    Instant::now(rt).expect(rt, "the clock can be read")
-}
-
-/// The end of that time.
+/// So late that no test waits for it.
 pub(crate) fn later<R: Clock + Abort>(rt: &R) -> Instant {
-    present(rt)
-        .checked_add(long())
-        .expect(rt, "an hour has a sum")
+    let now = Instant::now(rt).expect(rt, "the clock can be read");
+    now.checked_add(long()).expect(rt, "an hour has a sum")
+}
+
+// Fails a test in which nothing moves any more.
+#[derive(Drop)]
+struct Stuck<R: Waits + Abort>(R);
+
+impl<R: Waits + Abort> Work for Stuck<R> {
+    type Answer = ();
+
+    fn work(self) {
+        panic!(self.0; "a wake is lost: nothing moved for too long")
+    }
+}
+
+/// The thread that watches over a test.
+pub(crate) fn watching<R: Waits + Threads + Abort + Send + Sync + 'static>(
+    rt: R,
+    alloc: Global,
+) -> Watch {
+    match begin_watch(rt, alloc, Stuck(rt)) {
+        Ok(watch) => watch,
+        Err(_) => panic!(rt; "a test can be watched"),
+    }
 }

@@ -1,9 +1,10 @@
-//! Tests of selectors: beside threads and clocks, by two allocators, and by mappers that do more than
-//! answer. What one thread sees of them is text, which `end_scripts` plays.
+//! Tests of selectors: against each other in two threads, by clocks of the tests' own, over channels
+//! of two types, and by mappers that do more than answer. What threads do beside a selector is text,
+//! in `threads_tests`; so is what one thread sees, which `end_scripts` plays.
 #![tactic(auto)]
 
 #[cfg(test)]
-mod arms;
+mod clocks;
 #[cfg(test)]
 mod fixtures;
 #[cfg(test)]
@@ -11,16 +12,4 @@ mod mappers;
 #[cfg(test)]
 mod meeting;
 #[cfg(test)]
-mod memory;
-#[cfg(test)]
-mod selections;
-#[cfg(test)]
-mod standing;
-#[cfg(test)]
-mod threads;
-#[cfg(test)]
-mod unreadable;
-#[cfg(test)]
-mod wakes;
-#[cfg(test)]
-mod works;
+mod types;

@@ -1,11 +1,12 @@
 //! When a winner's mapper is called, and the debug text of a selector.
-use crate::arms::{How, recv_or_recv};
-use crate::fixtures::{Won, had, holds, is, offered, opened};
+use crate::fixtures::{had, holds, is, offered, opened};
 use flume::error::{RecvError, TrySendError};
 use flume::{Receiver, Selector, Sender, Waits};
 use std::alloc::Global;
 use std::fmt::Debug;
 use std::process::Abort;
+use threads_player::arms::{How, last_recv};
+use threads_player::selections::Won;
 
 // What a mapper found in the channels: an offer to the arm that lost, and how many messages were
 // queued where its own came from.
@@ -17,8 +18,8 @@ fn look_around<R: Waits>(
     rx: &Receiver<u64, R>,
 ) -> Option<Found> {
     let look = |answer| Some((answer, lost.0.try_send(7), rx.len()));
-    let none = Selector::new();
-    recv_or_recv(none, lost.1, |_| None, rx, look, How::Endless).unwrap_or(None)
+    let first = Selector::new().recv(lost.1, |_| None);
+    last_recv(first, rx, look, How::Endless).unwrap_or(None)
 }
 
 #[test]

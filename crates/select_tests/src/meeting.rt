@@ -1,6 +1,5 @@
 //! Two selectors against each other, in two threads.
-use crate::fixtures::{Ends, Won, begun, had, holds, is, opened};
-use crate::selections::{receive_or_send, send_or_receive};
+use crate::fixtures::{Ends, begun, had, holds, is, opened, watching};
 use ends_tests::changes::{change_capacity, wait_for_change};
 use ends_tests::works::Work;
 use flume::error::SelectError;
@@ -8,6 +7,8 @@ use flume::{Receiver, Sender, Waits};
 use std::alloc::{AllocError, Global};
 use std::process::Abort;
 use std::thread::Threads;
+use threads_player::arms::How;
+use threads_player::selections::{Won, receive_or_send, send_or_receive};
 
 // How many selections each makes, where the other does as well.
 const ROUNDS: u64 = 10_000;
@@ -19,9 +20,9 @@ fn select<R: Waits>(
     round: u64,
 ) -> Result<Won, SelectError> {
     if round % 2 == 0 {
-        send_or_receive(tx, round, rx)
+        send_or_receive(tx, round, rx, How::Endless)
     } else {
-        receive_or_send(rx, tx, round)
+        receive_or_send(rx, tx, round, How::Endless)
     }
 }
 
@@ -139,7 +140,9 @@ where
 fn two_selectors_that_meet_lose_and_double_no_message(rt: HostRuntime) {
     let first = opened(rt, rt.alloc(), Some(0));
     let second = opened(rt, rt.alloc(), Some(0));
+    let watch = watching(rt, rt.alloc());
     meet(rt, rt.alloc(), first, second);
+    watch.end(&rt);
 }
 
 // Sets one capacity after another, until all senders are gone. How often it did.
@@ -163,8 +166,10 @@ fn two_selectors_lose_and_double_no_message_while_a_thread_changes_a_capacity(rt
     let first = opened(rt, rt.alloc(), Some(4));
     let second = opened(rt, rt.alloc(), Some(0));
     let rx = had(&rt, first.1.clone());
+    let watch = watching(rt, rt.alloc());
     let changing = begun(&rt, ChangeCapacity { rt, rx });
     wait_for_change(&rt, &first.1, 4);
     meet(rt, rt.alloc(), first, second);
     holds(&rt, changing.join(&rt) > 0);
+    watch.end(&rt);
 }

@@ -1,16 +1,16 @@
 //! What several tests use: answers compared in one place, channels of any capacity, threads, and
 //! a long time. What can't be had fails the test here: a `?` in a test costs the prover a second,
 //! and an abort none.
-use crate::works::Stuck;
 use ends_tests::watch::{Watch, begin_watch};
 use ends_tests::works::Work;
 use flume::{Receiver, Sender, Waits, bounded, unbounded};
-use std::alloc::Global;
+use std::alloc::{Allocator, Global};
 use std::fmt::Debug;
 use std::process::Abort;
 use std::thread;
 use std::thread::{JoinHandle, Threads};
-use std::time::{Clock, Duration, Instant};
+use std::time::{Clock, Instant};
+use threads_player::calls::long;
 
 /// The answer is the wanted one.
 pub(crate) fn is<T: Debug + PartialEq + Drop>(rt: &impl Abort, answer: T, wanted: T) {
@@ -23,14 +23,14 @@ pub(crate) fn had<T, E: Debug + Drop>(rt: &impl Abort, answer: Result<T, E>) -> 
 }
 
 /// The ends of a new channel of this capacity: `None` is unbounded.
-pub(crate) fn opened<T: Drop, R: Waits + Abort>(
-    rt: R,
-    alloc: Global,
+pub(crate) fn opened<T: Drop, R: Waits, A: Allocator + Copy>(
+    host: &impl Abort,
+    (rt, alloc): (R, A),
     capacity: Option<usize>,
-) -> (Sender<T, R>, Receiver<T, R>) {
+) -> (Sender<T, R, A>, Receiver<T, R, A>) {
     match capacity {
-        Some(capacity) => had(&rt, bounded(rt, alloc, 1, capacity)),
-        None => had(&rt, unbounded(rt, alloc, 1)),
+        Some(capacity) => had(host, bounded(rt, alloc, 1, capacity)),
+        None => had(host, unbounded(rt, alloc, 1)),
     }
 }
 
@@ -45,6 +45,18 @@ where
     thread::spawn(rt, move || work.work()).expect(rt, "a thread can be started")
 }
 
+// Fails a test in which nothing moves any more.
+#[derive(Drop)]
+struct Stuck<R: Waits + Abort>(R);
+
+impl<R: Waits + Abort> Work for Stuck<R> {
+    type Answer = ();
+
+    fn work(self) {
+        panic!(self.0; "a wake is lost: nothing moved for too long")
+    }
+}
+
 /// The thread that watches over a test.
 pub(crate) fn watching<R: Waits + Threads + Abort + Send + Sync + 'static>(
     rt: R,
@@ -56,23 +68,8 @@ pub(crate) fn watching<R: Waits + Threads + Abort + Send + Sync + 'static>(
     }
 }
 
-/// So long that no test waits for its end.
-pub(crate) fn long() -> Duration {
-    Duration::from_secs(3600)
-}
-
-/// The end of that time.
+/// So late that no test waits for it.
 pub(crate) fn later<R: Clock + Abort>(rt: &R) -> Instant {
     let now = Instant::now(rt).expect(rt, "the clock can be read");
     now.checked_add(long()).expect(rt, "an hour has a sum")
-}
-
-/// A drop that runs against a call comes after a number of yields below this one.
-pub(crate) const MOST_YIELDS: u32 = 32;
-
-/// Lets other threads run, so often.
-pub(crate) fn yield_often(times: u32) {
-    for _ in 0..times {
-        thread::yield_now();
-    }
 }

@@ -1,31 +1,34 @@
-//! Scripts for threads, played: each has a line `= title`, a line with the capacities of its
-//! channels, and for each thread a line `- ` with its ends and then a line for each call.
-use crate::calls::{Rx, Tx};
-use crate::counted::Shared;
-use crate::fixtures::{MOST_YIELDS, begun, had, later, opened, watching};
-use crate::player::Player;
-use flume::{Waits, WeakSender};
-use std::alloc::{AllocError, Global};
+//! Scripts for threads, played. Each has a line `= title`, and one with the capacities of its
+//! channels. A line `CALL:` names calls that it is played with, each with how it is known that this
+//! call has parked: by so many readings of the clock, or so many requests for memory. A line `- ` is a
+//! thread, or so many that share their ends: which ends, and what it does.
+use crate::fixtures::{had, later, opened, watching};
+use flume::Waits;
+use std::alloc::{Allocator, Global};
 use std::fmt::Debug;
 use std::process::Abort;
 use std::sync::Arc;
-use std::thread::{JoinHandle, Threads};
+use std::thread;
+use std::thread::Threads;
 use std::time::Instant;
+use threads_player::calls::{Rx, Tx, Weak};
+use threads_player::player::Player;
+use threads_player::shared::Shared;
 
 // How many channels a script has.
 const CHANNELS: usize = 9;
 
 // The ends of the channels.
-type Ends<R> = Vec<(Tx<R>, Rx<R>)>;
+type Ends<R: Waits, A: Allocator + Copy> = Vec<(Tx<R, A>, Rx<R, A>)>;
 
-// What the threads have of whom one line `- ` tells: of which channels the ends are, how many such
-// threads there are, and whether they share their ends.
+// What the threads have of whom one line `- ` tells: of which channels the ends are, and how many
+// such threads there are.
 #[derive(Clone, Copy, Drop)]
 struct Cast {
     threads: u64,
-    shares: bool,
     tx: Option<usize>,
     rx: Option<usize>,
+    other: Option<usize>,
     weak: Option<usize>,
 }
 
@@ -37,22 +40,23 @@ fn channel(word: &str, end: &str) -> Option<usize> {
 impl Cast {
     // Reads a further word.
     fn with(self, word: &str) -> Cast {
+        let rx = channel(word, "rx");
         Cast {
             threads: word.parse::<u64>().unwrap_or(self.threads),
-            shares: self.shares || word == "sharing",
             tx: channel(word, "tx").or(self.tx),
-            rx: channel(word, "rx").or(self.rx),
+            rx: self.rx.or(rx),
+            other: self.rx.and(rx),
             weak: channel(word, "weak").or(self.weak),
         }
     }
 
-    // Reads a line.
+    // Reads a line. A second receiver is its last word.
     fn read(line: &str) -> Cast {
         let mut cast = Cast {
             threads: 1,
-            shares: false,
             tx: None,
             rx: None,
+            other: None,
             weak: None,
         };
         for word in line.split(" ") {
@@ -62,128 +66,100 @@ impl Cast {
     }
 }
 
-// New channels of this capacity.
-fn open_all<R: Waits + Abort>(rt: R, alloc: Global, capacity: Option<usize>) -> Ends<R> {
-    let mut ends = Vec::new(alloc);
-    for _ in 0..CHANNELS {
-        had(&rt, ends.push(opened(rt, alloc, capacity)));
-    }
-    ends
-}
-
-// The end of one more thread, of those that have this one: the same, or a clone of it.
-fn next_end<E: Clone + Drop>(
-    rt: &impl Abort,
-    alloc: Global,
-    end: &Option<Arc<E>>,
-    shares: bool,
-) -> Option<Arc<E>> {
-    let end = end.as_ref()?;
-    Some(if shares {
-        had(rt, end.clone())
-    } else {
-        had(rt, Arc::new(alloc, had(rt, (**end).clone())))
-    })
+// How a script is played: what stands for `CALL`, and at which capacity.
+#[derive(Clone, Copy)]
+struct Version<'a> {
+    call: (&'a str, &'a str),
+    capacity: Option<usize>,
 }
 
 // What the threads of one run have in common.
 #[derive(Drop)]
-struct Run<R: Waits> {
+struct Run<'a, H: Abort, R: Waits, A: Allocator + Copy> {
+    host: &'a H,
     rt: R,
     alloc: Global,
-    ends: Ends<R>,
-    shared: Arc<Shared>,
-    yields: u32,
+    ends: Ends<R, A>,
+    shared: &'a Shared,
+    call: (&'a str, &'a str),
     later: Instant,
 }
 
-impl<R: Waits + Abort> Run<R> {
+impl<'a, H: Abort, R: Waits, A: Allocator + Copy> Run<'a, H, R, A> {
     // The ends of this channel.
-    fn ends(&self, channel: usize) -> &(Tx<R>, Rx<R>) {
+    fn ends(&self, channel: usize) -> &(Tx<R, A>, Rx<R, A>) {
         self.ends
             .get(channel)
-            .expect(&self.rt, "there is this channel")
+            .expect(self.host, "there is this channel")
     }
 
     // An end, in memory that threads may share.
     fn kept<E: Drop>(&self, end: Result<E, impl Debug + Drop>) -> Option<Arc<E>> {
-        Some(had(&self.rt, Arc::new(self.alloc, had(&self.rt, end))))
+        Some(had(self.host, Arc::new(self.alloc, had(self.host, end))))
     }
 
     // A sender of this channel.
-    fn sender(&self, channel: Option<usize>) -> Option<Arc<Tx<R>>> {
+    fn sender(&self, channel: Option<usize>) -> Option<Arc<Tx<R, A>>> {
         self.kept(self.ends(channel?).0.clone())
     }
 
     // A receiver of this channel.
-    fn receiver(&self, channel: Option<usize>) -> Option<Arc<Rx<R>>> {
+    fn receiver(&self, channel: Option<usize>) -> Option<Arc<Rx<R, A>>> {
         self.kept(self.ends(channel?).1.clone())
     }
 
     // A weak sender of this channel.
-    fn weak(&self, channel: Option<usize>) -> Option<Arc<WeakSender<u64, R>>> {
+    fn weak(&self, channel: Option<usize>) -> Option<Arc<Weak<R, A>>> {
         self.kept(self.ends(channel?).0.downgrade())
     }
 
     // The first thread of those that a line tells of.
-    fn first(&self, cast: Cast, lines: &'static str) -> Player<R> {
+    fn first(&self, cast: Cast, lines: &'a str) -> Player<'a, R, A> {
         Player {
             rt: self.rt,
             alloc: self.alloc,
-            shared: had(&self.rt, self.shared.clone()),
+            shared: self.shared,
             tx: self.sender(cast.tx),
             rx: self.receiver(cast.rx),
+            other: self.receiver(cast.other),
             weak: self.weak(cast.weak),
             lines,
-            yields: self.yields,
-            later: self.later,
-        }
-    }
-
-    // One more of them.
-    fn next(&self, last: &Player<R>, shares: bool) -> Player<R> {
-        let (rt, alloc) = (&self.rt, self.alloc);
-        Player {
-            rt: self.rt,
-            alloc,
-            shared: had(rt, self.shared.clone()),
-            tx: next_end(rt, alloc, &last.tx, shares),
-            rx: next_end(rt, alloc, &last.rx, shares),
-            weak: next_end(rt, alloc, &last.weak, shares),
-            lines: last.lines,
-            yields: self.yields,
+            call: self.call,
             later: self.later,
         }
     }
 
     // The threads of which a part of a script tells.
-    fn enlist(&self, players: &mut Vec<Player<R>>, part: &'static str) {
-        let (line, lines) = part.split_once("\n").unwrap_or((part, ""));
-        let cast = Cast::read(line);
-        let mut last = self.first(cast, lines);
+    fn enlist(&self, players: &mut Vec<Player<'a, R, A>>, part: &'a str) {
+        let (ends, lines) = part.split_once(": ").unwrap_or((part, ""));
+        let cast = Cast::read(ends);
+        let first = self.first(cast, lines);
         for _ in 1..cast.threads {
-            let next = self.next(&last, cast.shares);
-            had(&self.rt, players.push(last));
-            last = next;
+            had(self.host, players.push(had(self.host, first.share())));
         }
-        had(&self.rt, players.push(last));
+        had(self.host, players.push(first));
     }
 }
 
 // The threads of a script, none of which has begun. They alone have ends of its channels.
-fn players<R: Waits + Abort>(
-    rt: R,
-    alloc: Global,
-    (capacity, yields): (Option<usize>, u32),
-    parts: &'static str,
-) -> Vec<Player<R>> {
+fn players<'a, H: Abort, R: Waits, A: Allocator + Copy>(
+    (host, rt): (&'a H, R),
+    (alloc, heap): (Global, A),
+    (shared, later): (&'a Shared, Instant),
+    (version, parts): (Version<'a>, &'a str),
+) -> Vec<Player<'a, R, A>> {
+    let mut ends = Vec::new(alloc);
+    for _ in 0..CHANNELS {
+        had(host, ends.push(opened(host, (rt, heap), version.capacity)));
+    }
     let run = Run {
+        host,
         rt,
         alloc,
-        ends: open_all(rt, alloc, capacity),
-        shared: had(&rt, Arc::new(alloc, Shared::new())),
-        yields,
-        later: later(&rt),
+        ends,
+        shared,
+        call: version.call,
+        later,
     };
     let mut players = Vec::new(alloc);
     for part in parts.split("\n- ") {
@@ -192,65 +168,79 @@ fn players<R: Waits + Abort>(
     players
 }
 
-// What a thread answers as it ends: what is wrong with its first line that is.
-type Ended = Result<Option<String>, AllocError>;
-
-// Begins the threads.
-fn begin_all<R: Waits + Threads + Abort + Send + Sync + 'static>(
-    rt: R,
-    alloc: Global,
-    players: Vec<Player<R>>,
-) -> Vec<JoinHandle<Ended>> {
-    let mut threads = Vec::new(alloc);
-    for player in players {
-        had(&rt, threads.push(begun(&rt, player)));
-    }
-    threads
+// The threads do what their lines say, each in a thread of its own.
+fn play_all<H, R, A>(rt: &H, players: Vec<Player<'_, R, A>>)
+where
+    H: Waits + Threads + Sync + Abort,
+    R: Waits + Send + Sync,
+    A: Allocator + Copy + Send + Sync,
+{
+    thread::scope(thread::scope_env(), rt, move |scope| {
+        for player in players {
+            let played = scope.spawn(move || player.play());
+            played.expect(rt, "a thread can be started");
+        }
+    })
 }
 
-// Joins the threads, in each of which all lines are answered as they say.
-fn join_all<R: Threads + Abort>(rt: &R, title: &str, threads: Vec<JoinHandle<Ended>>) {
-    for thread in threads {
-        let wrong = had(rt, thread.join(rt));
-        assert!(rt;
-            wrong.is_none(),
-            "{title}: {}",
-            wrong.as_deref().unwrap_or("")
-        );
-    }
+// Plays a script's threads. All lines are answered as they say, and no block of memory is left.
+fn play_version<R: Waits + Threads + Abort + Send + Sync>(
+    rt: &R,
+    alloc: Global,
+    (title, parts): (&str, &str),
+    version: Version<'_>,
+) {
+    let shared = Shared::new(alloc);
+    let (noted, heap) = (shared.noted(*rt), &shared.heap);
+    let common = (&shared, later(rt));
+    let players = players((rt, noted), (alloc, heap), common, (version, parts));
+    // From now on what is asked for is counted, and nothing is refused.
+    heap.refuse_between(1, 0);
+    play_all(rt, players);
+    let wrong = shared.wrong.lock(rt);
+    assert!(rt;
+        wrong.is_none(),
+        "{title}, {}: {}",
+        version.call.0,
+        wrong.as_deref().unwrap_or("")
+    );
+    assert!(rt;
+        heap.live() == 0,
+        "{title}, {}: blocks are left",
+        version.call.0
+    );
 }
 
-// Plays a script's threads at each capacity that the line names.
-fn play_at_each<R: Waits + Threads + Abort + Send + Sync + 'static>(
-    rt: R,
+// Plays a script at each capacity that these words name.
+fn play_at_each<R: Waits + Threads + Abort + Send + Sync>(
+    rt: &R,
     alloc: Global,
-    (title, capacities, parts): (&'static str, &'static str, &'static str),
-    yields: u32,
+    script: (&str, &str),
+    (capacities, call): (&str, (&str, &str)),
 ) {
     for word in capacities.split(" ") {
         let capacity = if word == "any" {
             None
         } else {
-            Some(had(&rt, word.parse::<usize>()))
+            Some(had(rt, word.parse::<usize>()))
         };
-        let players = players(rt, alloc, (capacity, yields), parts);
-        join_all(&rt, title, begin_all(rt, alloc, players));
+        play_version(rt, alloc, script, Version { call, capacity });
     }
 }
 
-// Plays a script, as often as it says.
-fn play_block<R: Waits + Threads + Abort + Send + Sync + 'static>(
-    rt: R,
-    alloc: Global,
-    block: &'static str,
-) {
+// Plays a script, as often as it says and with each call that it names.
+fn play_block<R: Waits + Threads + Abort + Send + Sync>(rt: &R, alloc: Global, block: &str) {
     let (title, script) = block.split_once("\n").unwrap_or((block, ""));
     let (opening, parts) = script.split_once("\n- ").unwrap_or((script, ""));
+    let (opening, calls) = opening.split_once("\nCALL: ").unwrap_or((opening, ""));
     let (times, capacities) = opening.split_once(" times at ").unwrap_or(("1", opening));
-    let times = had(&rt, times.parse::<u32>());
+    let times = had(rt, times.parse::<u32>());
     let capacities = capacities.strip_prefix("at ").unwrap_or(capacities);
-    for round in 0..times {
-        play_at_each(rt, alloc, (title, capacities, parts), round % MOST_YIELDS);
+    for call in calls.split(", ") {
+        let call = call.split_once(" ").unwrap_or((call, ""));
+        for _ in 0..times {
+            play_at_each(rt, alloc, (title, parts), (capacities, call));
+        }
     }
 }
 
@@ -258,11 +248,11 @@ fn play_block<R: Waits + Threads + Abort + Send + Sync + 'static>(
 pub(crate) fn play<R: Waits + Threads + Abort + Send + Sync + 'static>(
     rt: R,
     alloc: Global,
-    scripts: &'static str,
+    scripts: &str,
 ) {
     let watch = watching(rt, alloc);
     for block in scripts.trim_end().split("\n= ").skip(1) {
-        play_block(rt, alloc, block);
+        play_block(&rt, alloc, block);
         watch.watched().say_moved();
     }
     watch.end(&rt);

@@ -4,7 +4,7 @@ ghost use Rattle.std.specs.Prelude.{IfOk, IfErr, OnErr, IfSome, IfNone, OnSome};
 ghost use Rattle.std.specs.Borrow.{Lends, sem};
 ghost use Rattle.std.specs.Vec.{vec_len, vec_capacity};
 ghost use Rattle.flume_chain.specs.Links.{end, with, next_at, previous_at, element_at};
-ghost use Rattle.flume_chain.specs.Links.{Stands, Linked, Same, Put, Full, with_element};
+ghost use Rattle.flume_chain.specs.Links.{HasNode, Linked, Same, Put, Full, with_element};
 
 use std::alloc::Allocator;
 
@@ -169,7 +169,7 @@ impl<E: Drop, A: Allocator> Links<E, A> {
     // Writes what is the place after a place.
     #[inline(always)]
     fn set_next(&mut self, place: u32, next: u32)
-        requires stands { Stands self.old place }
+        requires stands { HasNode self.old place }
         requires fits { vec_len self.old.nodes ≤ end }
         ensures written { Linked self.old self.new (with (next_at self.old) place next)
             (previous_at self.old) (element_at self.old) self.old.free }
@@ -184,7 +184,7 @@ impl<E: Drop, A: Allocator> Links<E, A> {
     // Writes what is the place before a place.
     #[inline(always)]
     fn set_previous(&mut self, place: u32, previous: u32)
-        requires stands { Stands self.old place }
+        requires stands { HasNode self.old place }
         requires fits { vec_len self.old.nodes ≤ end }
         ensures written { Linked self.old self.new (next_at self.old)
             (with (previous_at self.old) place previous) (element_at self.old) self.old.free }
@@ -201,7 +201,7 @@ impl<E: Drop, A: Allocator> Links<E, A> {
     // would be `END`, the element comes back, and nothing changes.
     #[inline(always)]
     fn put(&mut self, element: E, previous: u32, next: u32) -> Result<u32, E>
-        requires free { Stands self.old self.old.free }
+        requires free { HasNode self.old self.old.free }
         requires fits { vec_len self.old.nodes ≤ end }
         ensures put { IfOk result (λ place. Put self.old self.new place
             (with (next_at self.old) place next) (with (previous_at self.old) place previous)
@@ -241,10 +241,10 @@ impl<E: Drop, A: Allocator> Links<E, A> {
     /// element comes back, and nothing changes.
     #[inline(always)]
     pub fn link_before(&mut self, next: u32, element: E) -> Result<u32, E>
-        requires free { Stands self.old self.old.free }
+        requires free { HasNode self.old self.old.free }
         requires fits { vec_len self.old.nodes ≤ end }
-        requires next { Stands self.old next }
-        requires previous { Stands self.old (previous_at self.old next) }
+        requires next { HasNode self.old next }
+        requires previous { HasNode self.old (previous_at self.old next) }
         ensures put { IfOk result (λ place. Put self.old self.new place
             (with (with (next_at self.old) place next) (previous_at self.old next) place)
             (with (with (previous_at self.old) place (previous_at self.old next)) next place)
@@ -264,8 +264,8 @@ impl<E: Drop, A: Allocator> Links<E, A> {
     #[inline(always)]
     pub fn unlink(&mut self, place: u32)
         requires fits { vec_len self.old.nodes ≤ end }
-        requires next { Stands self.old (next_at self.old place) }
-        requires previous { Stands self.old (previous_at self.old place) }
+        requires next { HasNode self.old (next_at self.old place) }
+        requires previous { HasNode self.old (previous_at self.old place) }
         ensures unlinked { Linked self.old self.new
             (with (next_at self.old) (previous_at self.old place) (next_at self.old place))
             (with (previous_at self.old) (next_at self.old place) (previous_at self.old place))
@@ -282,8 +282,8 @@ impl<E: Drop, A: Allocator> Links<E, A> {
     pub fn bypass(&mut self, place: u32)
         requires place { place < vec_len self.old.nodes }
         requires fits { vec_len self.old.nodes ≤ end }
-        requires next { Stands self.old (next_at self.old place) }
-        requires previous { Stands self.old (previous_at self.old place) }
+        requires next { HasNode self.old (next_at self.old place) }
+        requires previous { HasNode self.old (previous_at self.old place) }
         ensures linked { Linked self.old self.new
             (with (with (next_at self.old) (previous_at self.old place) (next_at self.old place))
             place self.old.free)
@@ -300,7 +300,7 @@ impl<E: Drop, A: Allocator> Links<E, A> {
     pub fn link_last(&mut self, place: u32)
         requires place { place < vec_len self.old.nodes }
         requires fits { vec_len self.old.nodes ≤ end }
-        requires last { Stands self.old self.old.last }
+        requires last { HasNode self.old self.old.last }
         ensures linked { Linked self.old self.new
             (with (with (next_at self.old) place end) self.old.last place)
             (with (with (previous_at self.old) place self.old.last) end place)
@@ -317,9 +317,9 @@ impl<E: Drop, A: Allocator> Links<E, A> {
     /// the node. `None` where no place is the first, and then nothing changes.
     #[inline(always)]
     pub fn take_first(&mut self) -> Option<E>
-        requires first { Stands self.old self.old.first }
+        requires first { HasNode self.old self.old.first }
         requires fits { vec_len self.old.nodes ≤ end }
-        requires next { self.old.first ≢ end → Stands self.old (next_at self.old self.old.first) }
+        requires next { self.old.first ≢ end → HasNode self.old (next_at self.old self.old.first) }
         requires element { self.old.first ≢ end → IsSome (element_at self.old self.old.first) }
         ensures none { IfNone result (self.old.first ≡ end) }
         ensures some { OnSome result (self.old.first ≢ end) }

@@ -14,9 +14,9 @@ use Rattle.flume_model.specs.Limits.{is_closed}
 use Rattle.flume_model.specs.Line.{greater}
 use Rattle.flume_model.specs.Entries.{again, entry_of, passes_on, without}
 use Rattle.flume_state.specs.Messages.{Blocked}
-use Rattle.flume_state.specs.Notices.{due_now, resignalled}
+use Rattle.flume_state.specs.Notices.{due_now, with_signal}
 use Rattle.flume_state.specs.Sends.{blocked, noticed_send, with_notice}
-use Rattle.flume_state.specs.Receivers.{Entries, begins, noticed_receiver, waits_on}
+use Rattle.flume_state.specs.Receivers.{Entries, new_receiver, noticed_receiver, waits_on}
 use Rattle.flume_state.specs.State.{State}
 use Rattle.flume_state.specs.Effects.{Returns, after_end_dropped, after_withdrawal, after_wake_round, after_take, without_receiver, with_peak, after_admissions, with_capacity}
 use Rattle.flume_state.specs.Due.{BecomesDue, SendDue, ReceiverDue, blocked_in, closed_between, receiver_due_in, waits_by}
@@ -60,7 +60,7 @@ module _ {T S A : Type 0} where
 
   -- a send has another signal
   pub signalled : (old new : State T S) (step : Step T) (reply : Reply T A) (t : ℕ) (given : Option S) → NoneWaits step reply
-      → new ≡ record old { sends = noticed_send (resignalled given) t old.sends } → BecomesDue old step reply new
+      → new ≡ record old { sends = noticed_send (with_signal given) t old.sends } → BecomesDue old step reply new
   signalled old new step reply t given idle is =
       by_sides old _ new step reply is refl refl idle (signalled_sends old.sends t given) (λ u. receiver_kept (entry_of u old.entries))
 
@@ -152,7 +152,7 @@ module _ {T S A : Type 0} where
   -- a receiver parks
   pub parked : (old new : State T S) (step : Step T) (reply : Reply T A) (kind : Kind) (signal : S) → NoneWaits step reply
       → IsReachable A old
-      → new ≡ with_peak (old.entries ++ begins old.next kind signal ∷ []) (record old { next = old.next + 1 })
+      → new ≡ with_peak (old.entries ++ new_receiver old.next kind signal ∷ []) (record old { next = old.next + 1 })
       → BecomesDue old step reply new
   parked old new step reply kind signal idle led is =
       by_sides old _ new step reply is refl refl idle (λ t. send_kept (get old.sends t))

@@ -8,9 +8,9 @@ use Rattle.std.specs.FinMap.{get, insert, remove}
 use Rattle.flume_model.specs.declared.step.Kind.{Kind}
 use Rattle.flume_model.specs.Entries.{entry_of, round_for, without}
 use Rattle.flume_model.proofs.EntryLists.{entry_last, none_same, tickets_round}
-use Rattle.flume_state.specs.Notices.{due_now, resignalled}
+use Rattle.flume_state.specs.Notices.{due_now, with_signal}
 use Rattle.flume_state.specs.Sends.{SendMap, blocked, noticed_send, with_notice}
-use Rattle.flume_state.specs.Receivers.{Entries, begins}
+use Rattle.flume_state.specs.Receivers.{Entries, new_receiver}
 use Rattle.flume_state.specs.Due.{SendDue, ReceiverDue}
 use Rattle.flume_state.proofs.SendsLaws.{get-insert_same, get-insert_other, get-remove_same, get-remove_other}
 use Rattle.flume_state.proofs.SendsLaws.{get-changed_same, get-changed_other}
@@ -39,12 +39,12 @@ module _ {S : Type 0} where
       (cases_eq t k)
 
   -- one with another signal
-  pub signalled_sends : (m : SendMap S) (k : ℕ) (given : Option S) → SendsDue m (noticed_send (resignalled given) k m)
+  pub signalled_sends : (m : SendMap S) (k : ℕ) (given : Option S) → SendsDue m (noticed_send (with_signal given) k m)
   signalled_sends m k given t =
-      let f = with_notice (resignalled given) in
+      let f = with_notice (with_signal given) in
       ⊎_elim (λ e.
       subst (λ y. SendDue false (get m t) y)
-      (sym (ap (get (noticed_send (resignalled given) k m)) e ∙ get-changed_same m k f ∙ ap (λ u. option_map f (get m u)) (sym e)))
+      (sym (ap (get (noticed_send (with_signal given) k m)) e ∙ get-changed_same m k f ∙ ap (λ u. option_map f (get m u)) (sym e)))
       (send_signalled given (get m t)))
       (λ ne. subst (λ y. SendDue false (get m t) y) (sym (get-changed_other m k f t ne)) (send_kept (get m t))) (cases_eq t k)
 
@@ -63,9 +63,9 @@ module _ {T S : Type 0} where
 
   -- one that parks
   pub new_receivers : (es : Entries T S) (k : ℕ) (kind : Kind) (signal : S) → entry_of k es ≡ None
-      → ReceiversDue es (es ++ begins k kind signal ∷ [])
+      → ReceiversDue es (es ++ new_receiver k kind signal ∷ [])
   new_receivers es k kind signal none t =
-      let x = begins k kind signal in
+      let x = new_receiver k kind signal in
       ⊎_elim (λ e.
       subst (λ y. ReceiverDue false (entry_of t es) y) (sym (ap (λ u. entry_of u (es ++ x ∷ [])) e ∙ entry_last es x none))
       (subst (λ y. ReceiverDue false y (Some x)) (sym (ap (λ u. entry_of u es) e ∙ none)) refl))

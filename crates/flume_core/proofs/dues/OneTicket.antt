@@ -6,7 +6,7 @@ use Rattle.flume_model.specs.declared.entry.Mark.{Mark}
 use Rattle.flume_model.specs.Entries.{is_waiting, marked}
 use Rattle.flume_state.specs.declared.notice.Notice.{Notice}
 use Rattle.flume_state.specs.declared.sends.LiveSend.{LiveSend}
-use Rattle.flume_state.specs.Notices.{due_now, resignalled}
+use Rattle.flume_state.specs.Notices.{due_now, with_signal}
 use Rattle.flume_state.specs.Sends.{blocked, accepted_now, with_notice}
 use Rattle.flume_state.specs.Due.{SendDue, ReceiverDue, blocked_in, receiver_due_in}
 
@@ -52,7 +52,7 @@ module _ {S : Type 0} where
   send_kept (Some send) = kept_bits send.accepted send.notice.due
 
   -- a send that has another signal
-  pub send_signalled : (given : Option S) (x : Option (LiveSend S)) → SendDue false x (option_map (with_notice (resignalled given)) x)
+  pub send_signalled : (given : Option S) (x : Option (LiveSend S)) → SendDue false x (option_map (with_notice (with_signal given)) x)
   send_signalled given None = refl
   send_signalled None (Some send) = kept_bits send.accepted send.notice.due
   send_signalled (Some signal) (Some send) = kept_bits send.accepted send.notice.due

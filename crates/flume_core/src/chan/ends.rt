@@ -16,7 +16,8 @@ impl<T: Drop, S: Drop, A: Allocator + Copy> Chan<T, S, A> {
     /// no more can be counted. Both leave the channel as it was. Takes no memory.
     pub fn clone_sender(&mut self) -> Reply<T, A>
         ensures step { Extends self.old Step.CloneSender result self.new }
-        ensures dues { IsReachable A self.old → BecomesDue self.old Step.CloneSender result self.new }
+        ensures dues { IsReachable A self.old
+            → BecomesDue self.old Step.CloneSender result self.new }
         ensures comes { PossibleReply Step.CloneSender result }
         ensures space { self.old.space ≤ self.new.space }
         ensures no_end { (result ≡ Reply.NoEnd) ↔ (self.old.senders ≡ 0) }
@@ -40,7 +41,8 @@ impl<T: Drop, S: Drop, A: Allocator + Copy> Chan<T, S, A> {
     /// One more receiver; as `clone_sender`.
     pub fn clone_receiver(&mut self) -> Reply<T, A>
         ensures step { Extends self.old Step.CloneReceiver result self.new }
-        ensures dues { IsReachable A self.old → BecomesDue self.old Step.CloneReceiver result self.new }
+        ensures dues { IsReachable A self.old
+            → BecomesDue self.old Step.CloneReceiver result self.new }
         ensures comes { PossibleReply Step.CloneReceiver result }
         ensures space { self.old.space ≤ self.new.space }
         ensures no_end { (result ≡ Reply.NoEnd) ↔ (self.old.receivers ≡ 0) }
@@ -67,7 +69,8 @@ impl<T: Drop, S: Drop, A: Allocator + Copy> Chan<T, S, A> {
     /// memory.
     pub fn drop_sender(&mut self) -> Reply<T, A>
         ensures step { Extends self.old Step.DropSender result self.new }
-        ensures dues { IsReachable A self.old → BecomesDue self.old Step.DropSender result self.new }
+        ensures dues { IsReachable A self.old
+            → BecomesDue self.old Step.DropSender result self.new }
         ensures comes { PossibleReply Step.DropSender result }
         ensures space { self.old.space ≤ self.new.space }
         ensures done { (result ≡ Reply.Done) ↔ (0 < self.old.senders) }
@@ -89,7 +92,8 @@ impl<T: Drop, S: Drop, A: Allocator + Copy> Chan<T, S, A> {
     /// One receiver leaves; as `drop_sender`.
     pub fn drop_receiver(&mut self) -> Reply<T, A>
         ensures step { Extends self.old Step.DropReceiver result self.new }
-        ensures dues { IsReachable A self.old → BecomesDue self.old Step.DropReceiver result self.new }
+        ensures dues { IsReachable A self.old
+            → BecomesDue self.old Step.DropReceiver result self.new }
         ensures comes { PossibleReply Step.DropReceiver result }
         ensures space { self.old.space ≤ self.new.space }
         ensures done { (result ≡ Reply.Done) ↔ (0 < self.old.receivers) }

@@ -4,11 +4,14 @@ ghost use Rattle.std.specs.Prelude.{None};
 ghost use Rattle.flume_model.specs.Limits.{IsOpen, IsClosed, is_closed};
 ghost use Rattle.flume_model.specs.Entries.{entry_of, again, passes_on, leave_fills};
 ghost use Rattle.flume_model.specs.Entries.{round_for_fills};
-ghost use Rattle.flume_state.specs.Receivers.{receiver_status, looks, blocks, noticed_receiver, waits_on};
+ghost use Rattle.flume_state.specs.Receivers.{receiver_status, looks, blocks, noticed_receiver};
+ghost use Rattle.flume_state.specs.Receivers.{waits_on};
 ghost use Rattle.flume_state.specs.Receivers.{only_leaves};
 ghost use Rattle.flume_model.specs.Entries.{held_by};
-ghost use Rattle.flume_state.specs.declared.entries.ReceiverStatus.TheVariants.{BlockWaiting, Filled};
-ghost use Rattle.flume_state.specs.Effects.{with_front, after_take, without_receiver, after_withdrawal, after_wake_round};
+ghost use Rattle.flume_state.specs.declared.entries.ReceiverStatus.TheVariants.{BlockWaiting};
+ghost use Rattle.flume_state.specs.declared.entries.ReceiverStatus.TheVariants.{Filled};
+ghost use Rattle.flume_state.specs.Effects.{with_front, after_take, without_receiver};
+ghost use Rattle.flume_state.specs.Effects.{after_withdrawal, after_wake_round};
 ghost use Rattle.flume_state.specs.Effects.{with_peak, Departs};
 ghost use Rattle.flume_state.specs.State.{State};
 ghost use Rattle.flume_core.specs.Represents.{Extends, IsReachable, ChangesNothing};
@@ -35,7 +38,8 @@ impl<T: Drop, S: Drop, A: Allocator + Copy> Chan<T, S, A> {
     /// ```
     pub fn poll(&mut self, ticket: u64, signal: Option<S>) -> Reply<T, A>
         ensures step { Extends self.old (Step.Poll ticket) result self.new }
-        ensures dues { IsReachable A self.old → BecomesDue self.old (Step.Poll ticket) result self.new }
+        ensures dues { IsReachable A self.old
+            → BecomesDue self.old (Step.Poll ticket) result self.new }
         ensures comes { PossibleReply (Step.Poll ticket) result }
         ensures space { self.old.space ≤ self.new.space }
         ensures no_ticket { (result ≡ Reply.NoTicket)
@@ -46,8 +50,10 @@ impl<T: Drop, S: Drop, A: Allocator + Copy> Chan<T, S, A> {
         ensures got { (message : T) (rest : List T)
             → looks (receiver_status ticket self.old.entries) ≡ true
             → (with_front self.old).queue ≡ message ∷ rest
-            → (result ≡ Reply.Got message) × (self.new ≡ without_receiver ticket (after_take rest self.old)) }
-        ensures ended { (result ≡ Reply.Ended) ↔ (looks (receiver_status ticket self.old.entries) ≡ true)
+            → (result ≡ Reply.Got message)
+            × (self.new ≡ without_receiver ticket (after_take rest self.old)) }
+        ensures ended { (result ≡ Reply.Ended)
+            ↔ (looks (receiver_status ticket self.old.entries) ≡ true)
             × ((with_front self.old).queue ≡ []) × IsClosed self.old.senders self.old.receivers }
         ensures waiting { (result ≡ Reply.Waiting)
             ↔ (receiver_status ticket self.old.entries ≡ Some BlockWaiting)
@@ -107,7 +113,8 @@ impl<T: Drop, S: Drop, A: Allocator + Copy> Chan<T, S, A> {
         ensures got { (message : T) (rest : List T)
             → blocks (receiver_status ticket self.old.entries) ≡ true
             → (with_front self.old).queue ≡ message ∷ rest
-            → (result ≡ Reply.Got message) × (self.new ≡ without_receiver ticket (after_take rest self.old)) }
+            → (result ≡ Reply.Got message)
+            × (self.new ≡ without_receiver ticket (after_take rest self.old)) }
         ensures gone { (closed : Bool) (filled : Option ℕ) → result ≡ Reply.Gone closed filled
             → Departs self.old self.new ticket closed filled }
         ensures leaves { (result ≡ Reply.Gone (is_closed self.old.senders self.old.receivers)

@@ -3,7 +3,8 @@ ghost use Rattle.std.specs.Prelude.{◌≡◌, ◌≢◌, ◌<◌, ◌≤◌, �
 ghost use Rattle.std.specs.Prelude.{IfNone, IfSome, Option};
 ghost use Rattle.std.specs.Prelude.{None, Vec};
 ghost use Rattle.flume_model.specs.Limits.{IsOpen, IsClosed, most};
-ghost use Rattle.flume_state.specs.Effects.{after_admission, with_front, after_refill, after_take, after_admissions};
+ghost use Rattle.flume_state.specs.Effects.{after_admission, with_front, after_refill, after_take};
+ghost use Rattle.flume_state.specs.Effects.{after_admissions};
 ghost use Rattle.flume_state.specs.Effects.{with_peak, Begins};
 ghost use Rattle.flume_state.specs.State.{State};
 ghost use Rattle.flume_core.specs.Represents.{Extends, IsReachable, IsRefusal};
@@ -49,8 +50,9 @@ impl<T: Drop, S: Drop, A: Allocator + Copy> Chan<T, S, A> {
 
     /// Asks for the message at the front as `try_recv` does, and parks in place of `Empty`.
     /// `Parked`: the receiver waits behind all others under this ticket, with the signal. `Spent`:
-    /// the greatest ticket was reached. `NoMemory`: there was no room to park. The last two leave
-    /// the channel as it was.
+    /// the greatest ticket was reached. `NoMemory`: there was no room to park. At most
+    /// 4,294,967,295 receivers are parked: past that the answer is `NoMemory` though no allocation
+    /// was refused. The last two leave the channel as it was.
     ///
     /// ```
     /// let mut chan: Chan<u64, u32> = Chan::new(alloc, None);
@@ -60,7 +62,8 @@ impl<T: Drop, S: Drop, A: Allocator + Copy> Chan<T, S, A> {
     /// ```
     pub fn recv(&mut self, kind: Kind, signal: S) -> Reply<T, A>
         ensures step { Extends self.old (Step.Recv kind) result self.new }
-        ensures dues { IsReachable A self.old → BecomesDue self.old (Step.Recv kind) result self.new }
+        ensures dues { IsReachable A self.old
+            → BecomesDue self.old (Step.Recv kind) result self.new }
         ensures comes { PossibleReply (Step.Recv kind) result }
         ensures space { self.old.space ≤ self.new.space }
         ensures got { (message : T) (rest : List T) → (with_front self.old).queue ≡ message ∷ rest

@@ -3,7 +3,7 @@ ghost use Rattle.std.specs.Prelude.{◌≡◌, ◌≢◌, ℕ, ◌+◌, ◌<◌,
 ghost use Rattle.std.specs.Prelude.{length, Option, Some, None, true, false};
 ghost use Rattle.std.specs.FinMap.{get, insert, remove};
 ghost use Rattle.flume_model.specs.Limits.{IsOpen, IsClosed, IsAtCapacity, most};
-ghost use Rattle.flume_state.specs.Notices.{resignalled};
+ghost use Rattle.flume_state.specs.Notices.{with_signal};
 ghost use Rattle.flume_state.specs.Sends.{blocked, noticed_send};
 ghost use Rattle.flume_model.specs.Entries.{some_wait};
 ghost use Rattle.flume_state.specs.Effects.{Joins, Returns};
@@ -24,8 +24,9 @@ impl<T: Drop, S: Drop, A: Allocator + Copy> Chan<T, S, A> {
     /// receiver that is none, and wakes that one, or where it blocks hands it the front of the
     /// queue and names its ticket. `Full`: no receiver waits, and the queue is at its capacity.
     /// `Closed`: all senders or all receivers are gone. `NoMemory`: there was no room for the
-    /// message (`room`), and no memory for more. The last three hand the message back and leave the
-    /// channel as it was.
+    /// message (`room`), and no memory for more. A channel holds at most 4,294,967,295 messages,
+    /// queued and blocked: past that the answer is `NoMemory` though no allocation was refused. The
+    /// last three hand the message back and leave the channel as it was.
     ///
     /// ```
     /// let mut chan: Chan<u64, ()> = Chan::new(alloc, None);
@@ -67,8 +68,9 @@ impl<T: Drop, S: Drop, A: Allocator + Copy> Chan<T, S, A> {
     /// Offers a message, and blocks where the queue is at its capacity. `Sent` as `try_send`.
     /// `Pending`: the message stands behind the queue under this ticket, with the signal. `Closed`
     /// as `try_send`. `Spent`: the greatest ticket was reached. `NoMemory`: as `try_send`, or no
-    /// room for the ticket of a message that would block. The last three hand the message back and
-    /// leave the channel as it was.
+    /// room for the ticket of a message that would block. A channel has at most 4,294,967,295 live
+    /// tickets of sends: past that a message that would block is refused so though no allocation
+    /// was. The last three hand the message back and leave the channel as it was.
     ///
     /// ```
     /// let mut chan: Chan<u64, u32> = Chan::new(alloc, Some(0));
@@ -146,11 +148,11 @@ impl<T: Drop, S: Drop, A: Allocator + Copy> Chan<T, S, A> {
             ↔ (accepted_at self.old ticket ≡ Some false)
             × IsOpen self.old.senders self.old.receivers }
         ensures replaced { result ≡ Reply.Waiting → self.new ≡ record self.old {
-          sends = noticed_send (resignalled signal) ticket self.old.sends;
+          sends = noticed_send (with_signal signal) ticket self.old.sends;
         } }
         ensures unchanged { IsRefusal result → self.new ≡ self.old }
     {
-        match self.status(ticket) {
+        match self.sends.accepted(ticket) {
             None => Reply::NoTicket,
             Some(true) => self.learn(ticket),
             Some(false) if !self.is_open() => self.take_back(ticket),
@@ -179,18 +181,11 @@ impl<T: Drop, S: Drop, A: Allocator + Copy> Chan<T, S, A> {
             → Returns self.old self.new ticket message closed }
         ensures unchanged { IsRefusal result → self.new ≡ self.old }
     {
-        match self.status(ticket) {
+        match self.sends.accepted(ticket) {
             None => Reply::NoTicket,
             Some(true) => self.learn(ticket),
             Some(false) => self.take_back(ticket),
         }
-    }
-
-    // Whether the live send with this ticket was accepted.
-    fn status(&self, ticket: u64) -> Option<bool>
-        ensures status { result ≡ accepted_at self.now ticket }
-    {
-        self.sends.accepted(ticket)
     }
 
     // Tells a sender that its message was taken in.
@@ -225,7 +220,7 @@ impl<T: Drop, S: Drop, A: Allocator + Copy> Chan<T, S, A> {
 
     fn replace_signal(&mut self, ticket: u64, signal: Option<S>)
         ensures replaced { self.new ≡ record self.old {
-          sends = noticed_send (resignalled signal) ticket self.old.sends;
+          sends = noticed_send (with_signal signal) ticket self.old.sends;
         } }
     {
         if let Some(signal) = signal {

@@ -38,7 +38,8 @@ impl<T: Drop, S: Drop, A: Allocator + Copy> Chan<T, S, A> {
 
     // Whether the parked receiver with this ticket, which doesn't block, would look at the line.
     fn looks_anew(&self, ticket: u64) -> bool
-        ensures leaves { IsTrue result ↔ (only_leaves (receiver_status ticket self.now.entries) ≡ true) }
+        ensures leaves { IsTrue result
+            ↔ (only_leaves (receiver_status ticket self.now.entries) ≡ true) }
     {
         match self.entries.status(ticket) {
             Some(ReceiverStatus::Waiting | ReceiverStatus::Woken) => true,

@@ -11,6 +11,8 @@ returns g c = record {
     reads = reads;
     one_each = search rules;
     run = (c.in-Ok.ensures.steps _ _ c.new-chan.ensures.stands).run;
+    last = c.run.new.chan;
+    transitions = rw c.new-chan.ensures.state at c.in-Ok.ensures.transitions;
     text_is = search rules;
     status_is = refl;
   };

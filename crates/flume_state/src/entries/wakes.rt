@@ -4,8 +4,8 @@ ghost use Rattle.std.specs.Option.{option_map};
 ghost use Rattle.flume_model.specs.Entries.{is_waiting, all_woken};
 ghost use Rattle.flume_model.specs.Entries.{round_for, round_for_fills};
 ghost use Rattle.flume_state.specs.Notices.{due_now};
-ghost use Rattle.flume_state.specs.EntryLayout.{first_waiting, first_marked};
-ghost use Rattle.flume_state.specs.Receivers.{unfilled, NoDueReceiver, NamesReceiver};
+ghost use Rattle.flume_state.specs.layout.EntryLayout.{first_waiting, with_first_marked};
+ghost use Rattle.flume_state.specs.Receivers.{after_fill, NoDueReceiver, NamesReceiver};
 
 use super::Entries;
 use crate::line::Line;
@@ -23,7 +23,7 @@ impl<T: Drop, S: Drop, A: Allocator + Copy> Entries<T, S, A> {
         ensures fills { result ≡ round_for_fills line.old.queued self.old }
         ensures woken { self.new ≡ round_for due_now line.old.queued self.old }
         ensures queue { line.new ≡ record line.old {
-          queued = unfilled
+          queued = after_fill
               (round_for_fills line.old.queued self.old) line.old.queued;
         } }
     {
@@ -41,7 +41,7 @@ impl<T: Drop, S: Drop, A: Allocator + Copy> Entries<T, S, A> {
         ensures fills { result ≡ round_for_fills line.old.queued self.old }
         ensures woken { self.new ≡ round_for due_now line.old.queued self.old }
         ensures queue { line.new ≡ record line.old {
-          queued = unfilled
+          queued = after_fill
               (round_for_fills line.old.queued self.old) line.old.queued;
         } }
     {
@@ -77,7 +77,7 @@ impl<T: Drop, S: Drop, A: Allocator + Copy> Entries<T, S, A> {
     #[inline(always)]
     fn wake_next(&mut self, mark: Mark<T>)
         requires awake { is_waiting mark ≡ false }
-        ensures woken { self.new ≡ first_marked due_now mark self.old }
+        ensures woken { self.new ≡ with_first_marked due_now mark self.old }
     {
         let Some(place) = self.waits else {
             return;

@@ -1,6 +1,6 @@
 //! The hash of a ticket.
 ghost use Rattle.std.specs.Prelude.{◌≡◌};
-ghost use Rattle.flume_state.specs.TicketHash.{hash_of};
+ghost use Rattle.flume_state.specs.layout.TicketHash.{hash_of};
 
 use std::hash::Hasher;
 
@@ -27,9 +27,9 @@ impl Default for TicketHasher {
 }
 
 impl Hasher for TicketHasher {
-    ghost use Rattle.flume_state.specs.TicketHash.{written};
+    ghost use Rattle.flume_state.specs.layout.TicketHash.{after_write};
 
-    ghost write = { written };
+    ghost write = { after_write };
 
     ghost finish = { λ hasher. hasher.hash };
 

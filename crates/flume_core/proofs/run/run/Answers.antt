@@ -1,13 +1,20 @@
 -- What a list of steps leaves.
 use Rattle.std.proofs.Common.{◌≡◌, [], rules}
-use Rattle.flume_core.proofs.Lists.{none_done, one_more, all_done, headline}
+use Rattle.flume_core.proofs.Headline.{headline}
+use Rattle.flume_core.proofs.Transitions.{none_done, one_more, all_done, extended, spacious}
 use Rattle.flume_model.proofs.Beginnings.{throughout}
 use Rattle.flume_core.proofs.run.run.Goals as goal
 
-pub returns-clause-steps : goal.returns-clause-steps
-returns-clause-steps g c o log h =
+pub returns-clause-transitions : goal.returns-clause-transitions
+returns-clause-transitions g c =
     let now = c.loop-step in
-    all_done c.args.chan.now now.chan c.args.steps.items now.rest.items now.replies.items now.invariant.done (search rules) o log h
+    all_done c.args.chan.now now.chan c.args.steps.items now.rest.items now.replies.items now.invariant.done (search rules)
+
+pub returns-clause-space : goal.returns-clause-space
+returns-clause-space g c = spacious _ _ _ _ (returns-clause-transitions g c)
+
+pub returns-clause-steps : goal.returns-clause-steps
+returns-clause-steps g c o log h = extended _ _ _ _ (returns-clause-transitions g c) o log h
 
 pub returns-clause-headline : goal.returns-clause-headline
 returns-clause-headline g c o log h = headline o _ _ (returns-clause-steps g c o log h)
@@ -30,7 +37,14 @@ pub loop-step-preserved : goal.loop-step-preserved
 loop-step-preserved g c = record {
   done = rw c.push_reserved.ensures.items
       (one_more c.args.chan.now c.loop-step.chan c.step.new.self c.args.steps.items c.pop_front.new.self.items c.loop-step.replies.items
-      c.in-Some.step c.step.result (rw c.in-Some.ensures.items at c.loop-step.invariant.done) c.step.ensures.step);
+      c.in-Some.step c.step.result (rw c.in-Some.ensures.items at c.loop-step.invariant.done) (record {
+        extends = c.step.ensures.step;
+        dues = c.step.ensures.dues;
+        comes = c.step.ensures.comes;
+        space = c.step.ensures.space;
+        refused = c.step.ensures.refused;
+        unchanged = c.step.ensures.unchanged;
+      }));
   counted = search rules;
   room = search rules;
 }

@@ -1,7 +1,7 @@
 -- How a send stands, as it is answered.
 use Rattle.std.proofs.Common.{refl, ◌∙◌, rules, eq-eqb}
 use Rattle.flume_model.specs.Limits.{IsClosed}
-use Rattle.flume_state.specs.Notices.{resignalled}
+use Rattle.flume_state.specs.Notices.{with_signal}
 use Rattle.flume_state.specs.Sends.{noticed_send}
 use Rattle.flume_core.proofs.Keeping.{still, still_signal}
 use Rattle.flume_core.proofs.Moves.{accepts}
@@ -31,9 +31,9 @@ returns-in-Some-false-clause-step g c o log h =
 pub returns-in-Some-false-2-clause-step : goal.returns-in-Some-false-2-clause-step
 returns-in-Some-false-2-clause-step g c o log h =
     let waiting = waits o log c.args.self.now c.args.ticket h cc in
-    still_signal o log _ c.args.self.now _ (noticed_send (resignalled c.args.signal) c.args.ticket c.args.self.now.sends) h
+    still_signal o log _ c.args.self.now _ (noticed_send (with_signal c.args.signal) c.args.ticket c.args.self.now.sends) h
     (waiting, open_at_log h (search rules)) refl c.replace_signal.ensures.replaced
-    (same_marks_noticed (resignalled c.args.signal) c.args.self.now.sends c.args.ticket)
+    (same_marks_noticed (with_signal c.args.signal) c.args.self.now.sends c.args.ticket)
 
 pub returns-in-None-clause-dues : goal.returns-in-None-clause-dues
 returns-in-None-clause-dues g c = λ led. unchanged _ _ _ _ (λ t. refl) (search rules)

@@ -1,6 +1,7 @@
 use Rattle.std.proofs.Common.{◌≡◌, Some, None, ap, ap₂, sym, ◌∙◌, option_map}
-use Rattle.flume_state.specs.EntryLayout.{first_waiting, ticket_or}
-use Rattle.flume_state.specs.Ticketed.{ticket_in}
+use Rattle.std.specs.Option.{unwrap_or}
+use Rattle.flume_state.specs.layout.EntryLayout.{first_waiting}
+use Rattle.flume_state.specs.layout.Ticketed.{ticket_in}
 use Rattle.flume_state.proofs.EntryParts.{read_some, read_value}
 use Rattle.flume_state.proofs.EntryDues.{nobody_waits, waits_at, waits_first}
 use Rattle.flume_state.proofs.entries.Entries.next_waiting.Goals as goal
@@ -14,7 +15,7 @@ returns-in_err-place g c = record {
 pub returns-in_err-ticket : goal.returns-in_err-ticket
 returns-in_err-ticket g c =
     let w = waits_at _ _ _ _ _ c.self.invariant c.in_ok-place.was in
-    let none : None ≡ Some (ticket_or w.element.ticket) = c.in_err-ticket.ensures.ticket ∙ ap ticket_in w.here ∙ w.class.0 in
+    let none : None ≡ Some (unwrap_or w.element.ticket 0) = c.in_err-ticket.ensures.ticket ∙ ap ticket_in w.here ∙ w.class.0 in
     absurd cc
 
 pub returns-in_err-parked : goal.returns-in_err-parked
@@ -28,6 +29,6 @@ returns g c =
     let value = read_value _ _ _ w.here c.in_ok-parked.ensures.found in
     let ticket : Some c.in_ok-ticket.ticket ≡ w.element.ticket = c.in_ok-ticket.ensures.ticket ∙ ap ticket_in w.here in
     record {
-      first = ap₂ (λ t p. Some (t, p.kind)) (ap ticket_or ticket) value
+      first = ap₂ (λ t p. Some (t, p.kind)) (ap (λ o. unwrap_or o 0) ticket) value
           ∙ sym (ap (option_map (λ e. (e.ticket, e.kind))) (ap first_waiting (sym c.self.view_is) ∙ waits_first _ _ _ _ _ c.self.invariant w));
     }

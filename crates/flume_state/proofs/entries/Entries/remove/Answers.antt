@@ -38,7 +38,7 @@ invariant_of-self-in-Waiting g c =
     let s = seated _ _ _ _ c.args.ticket _ c.self.invariant (sym c.in_ok-place.ensures.place) in
     let value = read_value _ _ _ s.here c.in_ok-mark.ensures.found in
     let waits = ap (λ p. is_waiting p.mark) (sym value) ∙ ap is_waiting c.in-Waiting.is in
-    rw (c.in_ok-mark.ensures.taken, c.moved_off-self-inside.ensures.off, c.moved_off-self-inside-2.ensures.off)
+    rw (c.in_ok-mark.ensures.taken, c.boundary_without-self-inside.ensures.boundary, c.boundary_without-self-inside-2.ensures.boundary)
     (sorted_without _ _ _ _ _ _ _ _ c.self.invariant s.here c.next-next.ensures.next
     (rw waits (omega (arith, one_waits _ _ _ _ _ _ c.self.invariant s.here waits))))
 
@@ -47,7 +47,7 @@ invariant_of-self-in_default g c =
     let s = seated _ _ _ _ c.args.ticket _ c.self.invariant (sym c.in_ok-place.ensures.place) in
     let value = read_value _ _ _ s.here c.in_ok-mark.ensures.found in
     let awake = ap (λ p. is_waiting p.mark) (sym value) ∙ not_waiting _ c.in_default.not-Waiting in
-    rw (c.in_ok-mark.ensures.taken, c.moved_off-self-inside.ensures.off, c.moved_off-self-inside-2.ensures.off)
+    rw (c.in_ok-mark.ensures.taken, c.boundary_without-self-inside.ensures.boundary, c.boundary_without-self-inside-2.ensures.boundary)
     (sorted_without _ _ _ _ _ _ _ _ c.self.invariant s.here c.next-next.ensures.next (rw awake (omega arith)))
 
 pub returns-clause-held : goal.returns-clause-held

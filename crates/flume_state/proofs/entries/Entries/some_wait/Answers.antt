@@ -1,6 +1,6 @@
 use Rattle.std.proofs.Common.{ap, ltb, ◌∙◌}
 use Rattle.flume_model.specs.Entries.{some_wait}
-use Rattle.flume_state.specs.EntryLayout.{entries_in}
+use Rattle.flume_state.specs.layout.EntryLayout.{entries_in}
 use Rattle.flume_state.proofs.EntryListLemmas.{some_wait_counted}
 use Rattle.flume_state.proofs.entries.Entries.some_wait.Goals as goal
 

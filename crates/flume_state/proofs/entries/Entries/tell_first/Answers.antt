@@ -1,7 +1,8 @@
 use Rattle.std.proofs.Common.{◌≡◌, None, Some, ap, not, sym, ◌∙◌, subst}
-use Rattle.flume_state.specs.EntryLayout.{ticket_or}
+use Rattle.std.specs.Option.{unwrap_or}
+use Rattle.flume_state.specs.layout.EntryLayout.{}
 use Rattle.flume_state.specs.Receivers.{NoDueReceiver}
-use Rattle.flume_state.specs.Ticketed.{ticket_in}
+use Rattle.flume_state.specs.layout.Ticketed.{ticket_in}
 use Rattle.flume_state.proofs.EntryParts.{read_value}
 use Rattle.flume_state.proofs.EntryTold.{dues_at, none_due, one_boundary, sorted_told, tells, two_boundaries}
 use Rattle.flume_state.proofs.entries.Entries.tell_first.Goals as goal
@@ -14,7 +15,7 @@ returns-then-eq-clause-none_due g c =
 pub returns-in_err-ticket-clause-none_due : goal.returns-in_err-ticket-clause-none_due
 returns-in_err-ticket-clause-none_due g c =
     let d = dues_at _ _ _ _ _ c.self.invariant (two_boundaries _ _ (sym c.if-eq.ensures)) c.in_ok-place.was in
-    let none : None ≡ Some (ticket_or d.element.ticket) = c.in_err-ticket.ensures.ticket ∙ ap ticket_in d.here ∙ d.class.0 in
+    let none : None ≡ Some (unwrap_or d.element.ticket 0) = c.in_err-ticket.ensures.ticket ∙ ap ticket_in d.here ∙ d.class.0 in
     absurd cc
 
 pub invariant_of-self-2 : goal.invariant_of-self-2

@@ -1,6 +1,6 @@
 use Rattle.std.proofs.Common.{ap, arith, refl, sym, ◌∙◌}
 use Rattle.flume_model.specs.Entries.{entry_of, is_woken}
-use Rattle.flume_state.specs.EntryLayout.{asked_again}
+use Rattle.flume_state.specs.layout.EntryLayout.{after_asking}
 use Rattle.flume_state.specs.Receivers.{waits_on}
 use Rattle.flume_state.proofs.EntryAsks.{again_entries, again_sorted, asks_entries, asks_filled, asks_none, asks_sorted, moved, woken_empty}
 use Rattle.flume_state.proofs.EntryParts.{read_some, read_value}
@@ -22,7 +22,7 @@ pub invariant_of-self-then-not-ask_again : goal.invariant_of-self-then-not-ask_a
 invariant_of-self-then-not-ask_again g c =
     let q = seated _ _ _ _ c.args.ticket _ c.self.invariant (sym c.find.ensures.place ∙ c.in-Some.is) in
     let value = read_value _ _ _ q.here c.in-Some-get_mut.ensures.value in
-    let asked = c.ask_again.ensures.asked ∙ ap (asked_again c.args.signal) value in
+    let asked = c.ask_again.ensures.asked ∙ ap (λ p. after_asking p.mark c.args.signal p) value in
     let asleep = ap (λ p. is_woken p.mark) (sym value) ∙ sym c.ask_again.ensures.woken ∙ c.if-not-ask_again.true in
     rw asked (asks_sorted _ _ _ _ _ _ c.args.signal _ c.self.invariant q refl asleep)
 
@@ -30,7 +30,7 @@ pub returns-then-not-ask_again-clause-waits : goal.returns-then-not-ask_again-cl
 returns-then-not-ask_again-clause-waits g c =
     let q = seated _ _ _ _ c.args.ticket _ c.self.invariant (sym c.find.ensures.place ∙ c.in-Some.is) in
     let value = read_value _ _ _ q.here c.in-Some-get_mut.ensures.value in
-    let asked = c.ask_again.ensures.asked ∙ ap (asked_again c.args.signal) value in
+    let asked = c.ask_again.ensures.asked ∙ ap (λ p. after_asking p.mark c.args.signal p) value in
     let asleep = ap (λ p. is_woken p.mark) (sym value) ∙ sym c.ask_again.ensures.woken ∙ c.if-not-ask_again.true in
     rw asked (asks_entries _ _ _ c.args.signal _ _ q c.self.view_is refl asleep)
 
@@ -38,7 +38,7 @@ pub returns-then-not-ask_again-clause-filled : goal.returns-then-not-ask_again-c
 returns-then-not-ask_again-clause-filled g c =
     let q = seated _ _ _ _ c.args.ticket _ c.self.invariant (sym c.find.ensures.place ∙ c.in-Some.is) in
     let value = read_value _ _ _ q.here c.in-Some-get_mut.ensures.value in
-    let asked = c.ask_again.ensures.asked ∙ ap (asked_again c.args.signal) value in
+    let asked = c.ask_again.ensures.asked ∙ ap (λ p. after_asking p.mark c.args.signal p) value in
     rw asked (asks_filled _ _ _ c.args.signal _ _ q c.self.view_is refl)
 
 pub overflow_add-self : goal.overflow_add-self
@@ -48,17 +48,17 @@ pub invariant_of-self-2 : goal.invariant_of-self-2
 invariant_of-self-2 g c =
     let q = seated _ _ _ _ c.args.ticket _ c.self.invariant (sym c.find.ensures.place ∙ c.in-Some.is) in
     let value = read_value _ _ _ q.here c.in-Some-get_mut.ensures.value in
-    let asked = c.ask_again.ensures.asked ∙ ap (asked_again c.args.signal) value in
+    let asked = c.ask_again.ensures.asked ∙ ap (λ p. after_asking p.mark c.args.signal p) value in
     let woken = ap (λ p. is_woken p.mark) (sym value) ∙ sym c.ask_again.ensures.woken ∙ c.if-not-ask_again.false in
     let back = moved _ _ _ _ _ _ q c.move_back.ensures.stood c.move_back.ensures.moved in
-    rw (back, c.or-self-inside.ensures, c.or-self-inside-2.ensures, c.moved_off.ensures.off, c.moved_off-2.ensures.off, asked)
+    rw (back, c.or-self-inside.ensures, c.or-self-inside-2.ensures, c.boundary_without.ensures.boundary, c.boundary_without-2.ensures.boundary, asked)
     (again_sorted _ _ _ _ _ _ _ c.args.signal _ c.self.invariant q refl woken c.next-next.ensures.next)
 
 pub returns-clause-waits : goal.returns-clause-waits
 returns-clause-waits g c free =
     let q = seated _ _ _ _ c.args.ticket _ c.self.invariant (sym c.find.ensures.place ∙ c.in-Some.is) in
     let value = read_value _ _ _ q.here c.in-Some-get_mut.ensures.value in
-    let asked = c.ask_again.ensures.asked ∙ ap (asked_again c.args.signal) value in
+    let asked = c.ask_again.ensures.asked ∙ ap (λ p. after_asking p.mark c.args.signal p) value in
     let woken = ap (λ p. is_woken p.mark) (sym value) ∙ sym c.ask_again.ensures.woken ∙ c.if-not-ask_again.false in
     let back = moved _ _ _ _ _ _ q c.move_back.ensures.stood c.move_back.ensures.moved in
     rw (back, asked) (again_entries _ _ _ c.args.signal _ _ q c.self.view_is refl woken)

@@ -1,7 +1,7 @@
 use Rattle.std.proofs.Common.{ap, sym, ◌∙◌}
 use Rattle.flume_state.specs.Notices.{due_now}
-use Rattle.flume_state.specs.EntryLayout.{entries_in, first_marked}
-use Rattle.flume_state.specs.Ticketed.{revalued}
+use Rattle.flume_state.specs.layout.EntryLayout.{entries_in, with_first_marked}
+use Rattle.flume_state.specs.layout.Ticketed.{with_value_at}
 use Rattle.flume_state.proofs.EntryParts.{read_some, read_value}
 use Rattle.flume_state.proofs.EntryDues.{nobody_marked, sorted_woken, waits_at, waits_some, woken_entries, woken_value}
 use Rattle.flume_state.proofs.entries.Entries.wake_next.Goals as goal
@@ -9,7 +9,7 @@ use Rattle.flume_state.proofs.entries.Entries.wake_next.Goals as goal
 pub returns-in_default : goal.returns-in_default
 returns-in_default g c = record {
   woken = sym c.self.view_is ∙ nobody_marked due_now c.args.mark _ _ _ _ c.self.invariant c.in_default.is
-      ∙ ap (first_marked due_now c.args.mark) c.self.view_is;
+      ∙ ap (with_first_marked due_now c.args.mark) c.self.view_is;
 }
 
 pub returns-in_default-get_mut : goal.returns-in_default-get_mut
@@ -31,6 +31,6 @@ returns g c =
     let w = waits_at _ _ _ _ _ c.self.invariant c.in-Some.is in
     let value = read_value _ _ _ w.here c.in-Some-get_mut.ensures.value in
     record {
-      woken = ap (λ p. entries_in (revalued c.in-Some.place c.self.inside.chain.items (woken_value c.args.mark p))) value
-          ∙ woken_entries _ _ _ _ _ c.args.mark c.self.invariant w ∙ ap (first_marked due_now c.args.mark) c.self.view_is;
+      woken = ap (λ p. entries_in (with_value_at c.in-Some.place c.self.inside.chain.items (woken_value c.args.mark p))) value
+          ∙ woken_entries _ _ _ _ _ c.args.mark c.self.invariant w ∙ ap (with_first_marked due_now c.args.mark) c.self.view_is;
     }

@@ -1,5 +1,5 @@
 use Rattle.std.proofs.Common.{None, Some, ◌≡◌, refl, sym, ap, subst, ◌∙◌}
-use Rattle.flume_state.specs.LineLayout.{line_of, space_of}
+use Rattle.flume_state.specs.layout.LineLayout.{line_of, space_of}
 use Rattle.flume_state.specs.Messages.{Admits}
 use Rattle.flume_state.proofs.LineSpace.{space_released}
 use Rattle.flume_state.proofs.LineSteps.{admitted}
@@ -8,19 +8,19 @@ use Rattle.flume_state.proofs.line.Line.admit.Goals as goal
 pub returns-in_err-ticket-clause-none_blocked : goal.returns-in_err-ticket-clause-none_blocked
 returns-in_err-ticket-clause-none_blocked g c =
     let e = c.release.ensures in
-    let r = admitted _ _ _ _ _ _ _ _ c.self.invariant c.self.view_is e.apart c.in_ok-place.was e.released refl in
+    let r = admitted _ _ _ _ _ _ _ _ c.self.invariant c.self.view_is c.facts.ensures.apart c.in_ok-place.was e.released refl in
     let both : Some r.ticket ≡ None = sym r.is_first ∙ sym e.ticket ∙ c.in_err-ticket.was in
     absurd (let no : ⊥ = cc in no)
 
 pub invariant_of-self-2 : goal.invariant_of-self-2
 invariant_of-self-2 g c =
     let e = c.release.ensures in
-    (admitted _ _ _ _ _ _ _ _ c.self.invariant c.self.view_is e.apart c.in_ok-place.was e.released c.next-self-inside.ensures.next).lined
+    (admitted _ _ _ _ _ _ _ _ c.self.invariant c.self.view_is c.facts.ensures.apart c.in_ok-place.was e.released c.next-self-inside.ensures.next).lined
 
 pub returns-clause-admitted : goal.returns-clause-admitted
 returns-clause-admitted g c =
     let e = c.release.ensures in
-    let r = admitted _ _ _ _ _ _ _ _ c.self.invariant c.self.view_is e.apart c.in_ok-place.was e.released c.next-self-inside.ensures.next in
+    let r = admitted _ _ _ _ _ _ _ _ c.self.invariant c.self.view_is c.facts.ensures.apart c.in_ok-place.was e.released c.next-self-inside.ensures.next in
     let both : Some r.ticket ≡ Some c.in_ok-ticket.ticket = sym r.is_first ∙ sym e.ticket ∙ c.in_ok-ticket.was in
     let same : r.ticket ≡ c.in_ok-ticket.ticket = cc in
     let space : c.args.self.now.space ≡ space_of c.release.new.self =

@@ -1,7 +1,7 @@
 -- The walk goes from one blocked message to the next, and marks the send of each.
 use Rattle.std.proofs.Common.{◌≡◌, sym, ap, ◌∙◌, arith}
 use Rattle.flume_state.specs.Effects.{with_all_due}
-use Rattle.flume_state.specs.Ticketed.{ticket_in}
+use Rattle.flume_state.specs.layout.Ticketed.{ticket_in}
 use Rattle.flume_chain.specs.Chained.{found}
 use Rattle.flume_state.proofs.LineMarks.{Stepped, left_from, marked_at, walk_begins, walk_steps, walk_ends}
 use Rattle.flume_state.proofs.line.Line.mark_blocked.Given.{Over}
@@ -16,7 +16,7 @@ loop-next-init g c =
 -- where the walk is, one more is marked
 stepped : (g : Over) (c : goal.After-next-next g)
     → Stepped c.self.inside.chain.items c.in-Some.place c.loop-next.sends (with_all_due c.args.self.now.blocked c.args.sends.now)
-stepped g c = walk_steps c.self.inside.chain.items c.loop-next.next c.in-Some.place c.loop-next.sends _ c.ticket.ensures.apart c.loop-next.invariant c.in-Some.is
+stepped g c = walk_steps c.self.inside.chain.items c.loop-next.next c.in-Some.place c.loop-next.sends _ c.facts.ensures.apart c.loop-next.invariant c.in-Some.is
 
 pub loop-next-smaller : goal.loop-next-smaller
 loop-next-smaller g c =

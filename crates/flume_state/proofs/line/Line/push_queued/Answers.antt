@@ -1,5 +1,5 @@
 use Rattle.std.proofs.Common.{◌≡◌, false, true, ap, length, ◌∙◌}
-use Rattle.flume_state.specs.LineLayout.{space_of}
+use Rattle.flume_state.specs.layout.LineLayout.{space_of}
 use Rattle.flume_state.proofs.LineSpace.{grows, has_room, length-put}
 use Rattle.flume_state.proofs.LineSteps.{queues}
 use Rattle.flume_state.proofs.line.Line.push_queued.Goals as goal
@@ -13,12 +13,12 @@ returns-in_err-insert_before-clause-succeeds g c more =
 pub invariant_of-self-2 : goal.invariant_of-self-2
 invariant_of-self-2 g c =
     let e = c.in_ok-insert_before.ensures in
-    (queues _ _ _ _ _ _ 0 _ _ c.self.invariant c.self.view_is e.apart e.inserted).lined
+    (queues _ _ _ _ _ _ 0 _ _ c.self.invariant c.self.view_is c.facts.ensures.apart e.inserted).lined
 
 pub returns-clause-pushed : goal.returns-clause-pushed
 returns-clause-pushed g c =
     let e = c.in_ok-insert_before.ensures in
-    (queues _ _ _ _ _ _ _ _ _ c.self.invariant c.self.view_is e.apart e.inserted).view
+    (queues _ _ _ _ _ _ _ _ _ c.self.invariant c.self.view_is c.facts.ensures.apart e.inserted).view
 
 pub returns-clause-space : goal.returns-clause-space
 returns-clause-space g c =

@@ -1,5 +1,5 @@
 use Rattle.std.proofs.Common.{◌≡◌, ◌∷◌, ap, sym, ◌∙◌}
-use Rattle.flume_state.specs.LineLayout.{line_of, queued_of, space_of}
+use Rattle.flume_state.specs.layout.LineLayout.{line_of, queued_of, space_of}
 use Rattle.flume_state.proofs.LineSpace.{space_behind}
 use Rattle.flume_state.proofs.LineSteps.{takes}
 use Rattle.flume_state.proofs.line.Line.take_queued.Goals as goal

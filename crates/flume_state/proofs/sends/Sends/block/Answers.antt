@@ -7,13 +7,13 @@ use Rattle.flume_state.proofs.sends.Sends.block.Goals as goal
 pub invariant_of-self : goal.invariant_of-self
 invariant_of-self g c =
     block_kept c.self.inside.chain _ _ c.args.ticket (blocked c.args.signal) _ refl c.self.invariant
-    c.insert_ticket.ensures.apart c.insert_ticket.ensures.inserted c.insert_ticket.ensures.unchanged
+    c.facts.ensures.apart c.insert_ticket.ensures.inserted c.insert_ticket.ensures.unchanged
 
 pub returns-clause-ok : goal.returns-clause-ok
 returns-clause-ok g c = elim c.match-insert_ticket.branch [
   | in-Ok w ↦ rw w.result-is
       (block_view c.self.inside.chain c.insert_ticket.new.self _ _ _ _ (blocked c.args.signal) _ c.self.view_is c.self.invariant
-      c.insert_ticket.ensures.apart c.insert_ticket.ensures.inserted c.insert_ticket.ensures.new_ticket w.in-Ok.is)
+      c.facts.ensures.apart c.insert_ticket.ensures.inserted c.insert_ticket.ensures.new_ticket w.in-Ok.is)
   | in-Err w ↦ rw w.result-is tt
 ]
 

@@ -16,6 +16,6 @@ pub returns : goal.returns
 returns g c = record {
   value =
       c.get.ensures.found
-      ∙ get_is _ c.args.ticket c.in_ok-place.place (sym c.find.ensures.place ∙ c.in_ok-place.was) c.find.ensures.apart c.find.ensures.single
+      ∙ get_is _ c.args.ticket c.in_ok-place.place (sym c.find.ensures.place ∙ c.in_ok-place.was) c.facts.ensures.apart c.facts.ensures.single
       ∙ ap (λ m. get m c.args.ticket) c.self.view_is;
 }

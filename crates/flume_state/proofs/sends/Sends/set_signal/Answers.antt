@@ -1,5 +1,5 @@
 use Rattle.std.proofs.Common.{Some, refl, sym, ◌∙◌}
-use Rattle.flume_state.specs.Notices.{resignalled}
+use Rattle.flume_state.specs.Notices.{with_signal}
 use Rattle.flume_state.specs.Sends.{with_notice}
 use Rattle.flume_state.proofs.ByTicket.{found_somewhere, stands}
 use Rattle.flume_state.proofs.SendSteps.{none_changed, written_kept, written_view}
@@ -16,12 +16,12 @@ returns-in_default-get_mut g c =
 
 pub invariant_of-self-2 : goal.invariant_of-self-2
 invariant_of-self-2 g c =
-    let s = stands _ _ _ _ (sym c.find.ensures.place ∙ c.in-Some.is) c.find.ensures.apart c.find.ensures.single c.in-Some-get_mut.ensures.value in
+    let s = stands _ _ _ _ (sym c.find.ensures.place ∙ c.in-Some.is) c.facts.ensures.apart c.facts.ensures.single c.in-Some-get_mut.ensures.value in
     written_kept c.self.inside.chain.items _ _ _ _ _ refl s c.self.invariant
 
 pub returns : goal.returns
 returns g c =
-    let s = stands _ _ _ _ (sym c.find.ensures.place ∙ c.in-Some.is) c.find.ensures.apart c.find.ensures.single c.in-Some-get_mut.ensures.value in
+    let s = stands _ _ _ _ (sym c.find.ensures.place ∙ c.in-Some.is) c.facts.ensures.apart c.facts.ensures.single c.in-Some-get_mut.ensures.value in
     record {
-      replaced = written_view c.self.inside.chain.items _ _ _ _ (with_notice (resignalled (Some c.args.signal))) c.self.view_is s;
+      replaced = written_view c.self.inside.chain.items _ _ _ _ (with_notice (with_signal (Some c.args.signal))) c.self.view_is s;
     }

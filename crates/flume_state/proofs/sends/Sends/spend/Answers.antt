@@ -20,7 +20,7 @@ invariant_of-self g c =
     elim c.if-eq.branch [
       | then-eq w ↦
           rw (taken, w.self-inside-is, w.next-self-inside.ensures.next)
-          (spent_first items _ c.in-Some.place (same_place _ _ (sym c.eq.ensures ∙ w.if-eq.true)) c.find.ensures.apart c.self.invariant)
+          (spent_first items _ c.in-Some.place (same_place _ _ (sym c.eq.ensures ∙ w.if-eq.true)) c.facts.ensures.apart c.self.invariant)
       | else-eq w ↦
           rw (taken, w.self-inside-is)
           (spent_other items _ c.in-Some.place (other_place _ _ (sym c.eq.ensures ∙ w.if-eq.false)) c.self.invariant)
@@ -35,5 +35,5 @@ returns g c =
     let e = rw same at c.remove.ensures in
     record {
       spent = taken_view c.self.inside.chain.items _ _ _ c.in-Some.place _ c.self.view_is (sym c.find.ensures.place ∙ c.in-Some.is)
-          c.find.ensures.apart c.find.ensures.single e.found e.taken;
+          c.facts.ensures.apart c.facts.ensures.single e.found e.taken;
     }

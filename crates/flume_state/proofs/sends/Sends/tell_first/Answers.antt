@@ -11,22 +11,22 @@ returns-in_err-place-clause-none_due g c =
 
 pub returns-in_err-ticket-clause-none_due : goal.returns-in_err-ticket-clause-none_due
 returns-in_err-ticket-clause-none_due g c =
-    absurd (due_ticket _ _ c.in_ok-place.place c.self.invariant c.in_ok-place.was c.ticket.ensures.apart c.in_err-ticket.ensures.ticket)
+    absurd (due_ticket _ _ c.in_ok-place.place c.self.invariant c.in_ok-place.was c.facts.ensures.apart c.in_err-ticket.ensures.ticket)
 
 pub invariant_of-self-2 : goal.invariant_of-self-2
 invariant_of-self-2 g c =
     let f = first_due _ _ c.in_ok-ticket.ticket c.in_ok-place.place _ c.self.invariant c.in_ok-place.was
-    c.ticket.ensures.apart c.ticket.ensures.single c.in_ok-ticket.ensures.ticket c.in_ok-send.ensures.value in
+    c.facts.ensures.apart c.facts.ensures.single c.in_ok-ticket.ensures.ticket c.in_ok-send.ensures.value in
     rw c.next-self-inside.ensures.next (told_kept _ _ _ _ _ f refl)
 
 pub returns-clause-was_due : goal.returns-clause-was_due
 returns-clause-was_due g c =
     let f = first_due _ _ c.in_ok-ticket.ticket c.in_ok-place.place _ c.self.invariant c.in_ok-place.was
-    c.ticket.ensures.apart c.ticket.ensures.single c.in_ok-ticket.ensures.ticket c.in_ok-send.ensures.value in
+    c.facts.ensures.apart c.facts.ensures.single c.in_ok-ticket.ensures.ticket c.in_ok-send.ensures.value in
     told_due _ _ _ _ _ c.self.view_is f
 
 pub returns-clause-taken : goal.returns-clause-taken
 returns-clause-taken g c =
     let f = first_due _ _ c.in_ok-ticket.ticket c.in_ok-place.place _ c.self.invariant c.in_ok-place.was
-    c.ticket.ensures.apart c.ticket.ensures.single c.in_ok-ticket.ensures.ticket c.in_ok-send.ensures.value in
+    c.facts.ensures.apart c.facts.ensures.single c.in_ok-ticket.ensures.ticket c.in_ok-send.ensures.value in
     written_view _ _ _ _ _ (with_notice no_longer_due) c.self.view_is f.stands

@@ -2,7 +2,7 @@ use Rattle.std.proofs.Common.{refl, sym, ap, ◌∙◌, inl}
 use Rattle.std.specs.Option.{option_map}
 use Rattle.flume_chain.specs.Chained.{Chained, found}
 use Rattle.flume_state.specs.declared.ticketed.Ticketed.{Ticketed}
-use Rattle.flume_state.specs.Ticketed.{revalued}
+use Rattle.flume_state.specs.layout.Ticketed.{with_value_at}
 use Rattle.flume_state.proofs.TicketEdits.{written_agrees}
 use Rattle.flume_state.proofs.TicketWrites.{put_revalued}
 use Rattle.flume_state.proofs.ticketed.TicketChain.get_mut.Goals as goal
@@ -19,7 +19,7 @@ returns-in-Some g c =
         c.element-1.given,
         λ w.
             (ap (λ l. record c.self.inside.chain { items = l }) (written w)
-            ∙ ap (λ (v : Chained (Ticketed g.row.E.Denot)). record v { items = revalued k v.items w }) c.self.view_is) i,
+            ∙ ap (λ (v : Chained (Ticketed g.row.E.Denot)). record v { items = with_value_at k v.items w }) c.self.view_is) i,
       ),
       record {
         writes_back = tt;

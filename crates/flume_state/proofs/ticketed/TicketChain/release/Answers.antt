@@ -1,7 +1,7 @@
 use Rattle.std.proofs.Common.{sym, ap, ◌∙◌}
 use Rattle.flume_chain.specs.Chained.{Chained, put_at}
 use Rattle.flume_state.specs.declared.ticketed.Ticketed.{Ticketed}
-use Rattle.flume_state.specs.Ticketed.{released}
+use Rattle.flume_state.specs.layout.Ticketed.{without_ticket_at}
 use Rattle.flume_state.proofs.TicketEdits.{written_agrees, released_agrees}
 use Rattle.flume_state.proofs.TicketWrites.{put_released, put_same, released_missing, at_none}
 use Rattle.flume_state.proofs.ticketed.TicketChain.release.Goals as goal
@@ -9,7 +9,7 @@ use Rattle.flume_state.proofs.ticketed.TicketChain.release.Goals as goal
 pub returns-in_err-element-clause-released : goal.returns-in_err-element-clause-released
 returns-in_err-element-clause-released g c =
     released_missing _ _ c.in_err-element.ensures.value
-    ∙ ap (λ (v : Chained (Ticketed g.row.E.Denot)). released c.args.place v.items) c.self.view_is
+    ∙ ap (λ (v : Chained (Ticketed g.row.E.Denot)). without_ticket_at c.args.place v.items) c.self.view_is
 
 pub invariant_of-self-in_err-ticket : goal.invariant_of-self-in_err-ticket
 invariant_of-self-in_err-ticket g c =
@@ -20,7 +20,7 @@ pub returns-in_err-ticket-clause-released : goal.returns-in_err-ticket-clause-re
 returns-in_err-ticket-clause-released g c =
     let e = c.in_ok-element.element.now in
     rw (c.take.ensures.after) (put_released c.args.place _ e (c.self.invariant.apart c.args.place) (sym c.in_ok-element.ensures.value)
-    ∙ ap (λ (v : Chained (Ticketed g.row.E.Denot)). released c.args.place v.items) c.self.view_is)
+    ∙ ap (λ (v : Chained (Ticketed g.row.E.Denot)). without_ticket_at c.args.place v.items) c.self.view_is)
 
 pub returns-in_err-ticket-clause-unchanged : goal.returns-in_err-ticket-clause-unchanged
 returns-in_err-ticket-clause-unchanged g c =
@@ -40,4 +40,4 @@ pub returns-clause-released : goal.returns-clause-released
 returns-clause-released g c =
     let e = c.in_ok-element.element.now in
     rw (c.take.ensures.after) (put_released c.args.place _ e (c.self.invariant.apart c.args.place) (sym c.in_ok-element.ensures.value)
-    ∙ ap (λ (v : Chained (Ticketed g.row.E.Denot)). released c.args.place v.items) c.self.view_is)
+    ∙ ap (λ (v : Chained (Ticketed g.row.E.Denot)). without_ticket_at c.args.place v.items) c.self.view_is)

@@ -1,0 +1,5 @@
+use Rattle.flume_core.proofs.Transitions.{joined}
+use Rattle.flume_core.proofs.run.two_runs_are_one.Goals as goal
+
+pub returns : goal.returns
+returns g c = record { joined = joined }

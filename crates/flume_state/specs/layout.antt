@@ -1,0 +1,9 @@
+-- How the lists of a channel's state lie in their chains. This crate alone needs these definitions: no
+-- contract above it names one.
+pub mod TicketHash
+pub mod Places
+pub mod Ticketed
+pub mod TicketedLends
+pub mod LineLayout
+pub mod SendLayout
+pub mod EntryLayout

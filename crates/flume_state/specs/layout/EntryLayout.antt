@@ -1,0 +1,77 @@
+-- For this crate alone: how the parked receivers lie in their chain, first those that neither wait
+-- nor are due, then those that are due, then those that wait.
+use Rattle.std.specs.Prelude.{◌≡◌, ℕ, ◌≤◌, ◌==◌, Bool, true, false, ⊤, if◌then◌else◌}
+use Rattle.std.specs.Prelude.{List, [], ◌∷◌, ◌++◌, Option, Some, None, length}
+use Rattle.std.specs.Option.{unwrap_or}
+use Rattle.flume_chain.specs.Chained.{Placed, times, places, first_place}
+use Rattle.flume_model.specs.Entries.{is_waiting, waiting_count, marked}
+use Rattle.flume_model.specs.declared.entry.Entry.{Entry}
+use Rattle.flume_model.specs.declared.entry.Mark.{Mark}
+use Rattle.flume_model.specs.declared.entry.Mark.TheVariants.{Waiting, Filled}
+use Rattle.flume_state.specs.declared.entries.Parked.{Parked}
+use Rattle.flume_state.specs.declared.notice.Notice.{Notice}
+use Rattle.flume_state.specs.declared.ticketed.Ticketed.{Ticketed}
+use Rattle.flume_state.specs.Receivers.{Entries, waits_on}
+
+-- a boundary once the element at a place, which has this one behind it, has left
+abbrev pub boundary_without : Option ℕ → ℕ → Option ℕ → Option ℕ
+boundary_without None k next = None
+boundary_without (Some b) k next = if b == k then next else Some b
+
+module _ {T N : Type 0} where
+  -- the first entry that waits
+  abbrev pub first_waiting : List (Entry T N) → Option (Entry T N)
+  first_waiting [] = None
+  first_waiting (e ∷ entries) = if is_waiting e.mark then Some e else first_waiting entries
+
+  -- the entries with another mark of the first that waits, which is told of it
+  abbrev pub with_first_marked : (N → N) → Mark T → List (Entry T N) → List (Entry T N)
+  with_first_marked tell mark [] = []
+  with_first_marked tell mark (e ∷ entries) =
+      if is_waiting e.mark then marked tell mark e ∷ entries
+      else e ∷ with_first_marked tell mark entries
+
+module _ {T S : Type 0} where
+  -- what becomes of one with this mark that asks again: a filled one stays as it is
+  abbrev pub after_asking : Mark T → Option S → Parked T S → Parked T S
+  after_asking (Filled message) signal p = p
+  after_asking _ signal p = record p { mark = Waiting; notice = waits_on signal p.notice }
+
+  -- an element of the chain as an entry
+  abbrev pub entry_in : Placed (Ticketed (Parked T S)) → Entry T (Notice S)
+  entry_in x = record {
+    ticket = unwrap_or x.element.ticket 0;
+    kind = x.element.value.kind;
+    mark = x.element.value.mark;
+    notice = x.element.value.notice;
+  }
+
+  -- the elements of the chain as entries
+  abbrev pub entries_in : List (Placed (Ticketed (Parked T S))) → Entries T S
+  entries_in [] = []
+  entries_in (x ∷ items) = entry_in x ∷ entries_in items
+
+  -- each has a ticket, and waits, and is due, as these say
+  abbrev pub Each : Bool → Bool → List (Placed (Ticketed (Parked T S))) → Type 0
+  Each waits due [] = ⊤
+  Each waits due (x ∷ items) =
+      (x.element.ticket ≡ Some (unwrap_or x.element.ticket 0))
+      × (is_waiting x.element.value.mark ≡ waits)
+      × (x.element.value.notice.due ≡ due)
+      × Each waits due items
+
+  -- the elements in their order, the boundaries, and how many wait
+  pub record EntryLayout (items : List (Placed (Ticketed (Parked T S)))) (due waits : Option ℕ)
+      (waiting : ℕ) : Type 0 where
+    pub quiet : List (Placed (Ticketed (Parked T S)))
+    pub dues : List (Placed (Ticketed (Parked T S)))
+    pub last : List (Placed (Ticketed (Parked T S)))
+    pub is : items ≡ quiet ++ (dues ++ last)
+    pub are_quiet : Each false false quiet
+    pub are_due : Each false true dues
+    pub wait : Each true false last
+    pub first_due : due ≡ first_place (dues ++ last)
+    pub first_waits : waits ≡ first_place last
+    pub count : waiting ≡ waiting_count (entries_in items)
+    pub apart : (k : ℕ) → times k (places items) ≤ 1
+    pub fits : length items ≤ 4294967295

@@ -1,0 +1,151 @@
+//! The places of tickets in a hash table, which is made when the first of them comes.
+ghost use Rattle.std.specs.Prelude.{◌≡◌, ◌↔◌, true, None, OnOk, OnErr};
+ghost use Rattle.std.specs.FinMap.{empty, get, insert, remove};
+ghost use Rattle.flume_state.specs.layout.Places.{places_in};
+
+use crate::places::ticket_hash::TicketHasher;
+use std::alloc::{AllocError, Allocator};
+use std::collections::HashMap;
+use std::hash::BuildHasherDefault;
+use std::marker::Model;
+
+type Table<A> = HashMap<u64, u32, BuildHasherDefault<TicketHasher>, A>;
+
+/// The place of each of some tickets, found by the ticket's hash. Where none ever came it has no
+/// table: so a channel on which nobody parks beside another is as small as one without. A channel
+/// has three of these. With three tables in it, what the ends share took 792 bytes, and a channel
+/// that is made, used once and dropped took twice the time.
+#[derive(Drop)]
+pub(super) struct TicketTable<A: Allocator> {
+    made: Option<Box<Table<A>, A>>,
+    alloc: A,
+}
+
+impl<A: Allocator> Model for TicketTable<A> {
+    ghost use Rattle.std.specs.Coded.{coded_ℕ};
+    ghost use Rattle.std.specs.FinMap.{code, empty};
+    ghost use Rattle.std.specs.Option.{option_map_or};
+    ghost use Rattle.flume_state.specs.layout.Places.{PlaceMap, places_in};
+
+    ghost Value = { PlaceMap };
+
+    ghost coded = { code coded_ℕ coded_ℕ };
+
+    ghost view = { λ a. option_map_or (λ b. places_in b.value.entries) a.made empty };
+}
+
+impl<A: Allocator + Copy> TicketTable<A> {
+    /// No ticket has a place. Takes no memory.
+    ///
+    /// ```
+    /// let mut places = TicketTable::new(alloc);
+    /// let _ = places.insert(7, 2);       // Ok(())
+    /// places.get(7);                     // Some(2)
+    /// places.is_empty();                 // false
+    /// ```
+    #[inline(always)]
+    pub fn new(alloc: A) -> Self
+        ensures empty { result ≡ empty }
+    {
+        TicketTable { made: None, alloc }
+    }
+
+    /// Whether no ticket has a place. It reads a count, whatever the length.
+    #[inline(always)]
+    pub fn is_empty(&self) -> bool
+        ensures empty { result ≡ true ↔ self.now ≡ empty }
+    {
+        match &self.made {
+            Some(made) => made.is_empty(),
+            None => true,
+        }
+    }
+
+    /// The place of `ticket`, and `None` where it has none.
+    #[tactic(auto, using(crate::proofs::TableLemmas::nothing_found))]
+    #[inline(always)]
+    pub fn get(&self, ticket: u64) -> Option<u32>
+        ensures place { result ≡ get self.now ticket }
+    {
+        match &self.made {
+            Some(made) => place_in(made, ticket),
+            None => None,
+        }
+    }
+
+    /// Gives `ticket` a place. One that it had is replaced, which needs no memory. With no memory
+    /// left, nothing changes.
+    #[tactic(auto, using(crate::proofs::TableLemmas::nothing_found))]
+    #[inline(never)]
+    pub fn insert(&mut self, ticket: u64, place: u32) -> Result<(), AllocError>
+        ensures inserted { OnOk result (self.new ≡ insert self.old ticket place) }
+        ensures unchanged { OnErr result (self.new ≡ self.old) }
+        ensures absent { OnErr result (get self.old ticket ≡ None) }
+    {
+        if let Some(made) = &mut self.made {
+            return insert_in(made, ticket, place);
+        }
+        let mut made = HashMap::with_hasher(self.alloc, BuildHasherDefault::new());
+        insert_in(&mut made, ticket, place)?;
+        match Box::new(self.alloc, made) {
+            Ok(made) => self.made = Some(made),
+            Err(_) => return Err(AllocError),
+        }
+        Ok(())
+    }
+
+    /// The ticket has no place any more. Nothing changes where it had none. Takes no memory.
+    #[tactic(auto, using(crate::proofs::TableLemmas::nothing_removed))]
+    #[inline(always)]
+    pub fn remove(&mut self, ticket: u64)
+        ensures removed { self.new ≡ remove self.old ticket }
+    {
+        if let Some(made) = &mut self.made {
+            remove_from(made, ticket);
+        }
+    }
+
+    /// No ticket has a place any more. Takes no memory.
+    pub fn clear(&mut self)
+        ensures empty { self.new ≡ empty }
+    {
+        if let Some(made) = &mut self.made {
+            made.clear();
+        }
+    }
+}
+
+// What is done in a table that is made stands out of line: most channels have none.
+
+#[tactic(auto, using(crate::proofs::TableLemmas::get_of_table))]
+#[inline(never)]
+fn place_in<A: Allocator + Copy>(table: &Table<A>, ticket: u64) -> Option<u32>
+    ensures place { result ≡ get (places_in table.now.entries) ticket }
+{
+    table.get(&ticket).copied()
+}
+
+#[tactic(auto, using(crate::proofs::TableLemmas::inserts))]
+#[inline(never)]
+fn insert_in<A: Allocator + Copy>(
+    table: &mut Table<A>,
+    ticket: u64,
+    place: u32,
+) -> Result<(), AllocError>
+    ensures inserted { OnOk result
+        (places_in table.new.entries ≡ insert (places_in table.old.entries) ticket place) }
+    ensures unchanged { OnErr result
+        (places_in table.new.entries ≡ places_in table.old.entries) }
+    ensures absent { OnErr result (get (places_in table.old.entries) ticket ≡ None) }
+{
+    table.insert(ticket, place)?;
+    Ok(())
+}
+
+#[tactic(auto, using(crate::proofs::TableLemmas::removed))]
+#[inline(never)]
+fn remove_from<A: Allocator + Copy>(table: &mut Table<A>, ticket: u64)
+    ensures removed { places_in table.new.entries ≡ remove (places_in table.old.entries) ticket }
+{
+    table.remove(&ticket);
+}

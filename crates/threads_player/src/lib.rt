@@ -1,0 +1,12 @@
+//! What threads do in scripts: the calls of ends and of selectors, a clock and an allocator that tell
+//! when a call has parked, and a thread that does line by line what its script says.
+#![tactic(auto)]
+
+pub mod answers;
+pub mod arms;
+pub mod calls;
+mod mixed;
+pub mod noted;
+pub mod player;
+pub mod selections;
+pub mod shared;
