@@ -3,7 +3,8 @@
 //!
 //! Each call of an end is a few steps of the one channel behind its lock, whose steps are proved.
 //! The names of `flume_core`, the calls, bells and gates of `flume_calls`, the audit of
-//! `flume_audit`, and the scripts of `flume_script`, are given again here.
+//! `flume_audit`, the check of a history of `flume_history`, and the scripts of `flume_script`, are
+//! given again here.
 //!
 //! ```
 //! let (tx, rx) = flume::on(rt).unbounded()?;
@@ -39,6 +40,7 @@ pub use flume_core::error::{
     TryRecvError, TrySendError,
 };
 pub use flume_core::{chan, error, facts, run, step};
+pub use flume_history::check::{Checked, check_history};
 pub use flume_script::{Script, run_script};
 pub use into_iter::IntoIter;
 pub use iterators::{Iter, TryIter};
