@@ -115,6 +115,7 @@ impl<'a> RecvGate<u64> for Toy<'a, RecvCall> {
         match self.says(1) {
             Says::Done => RecvNext::Done(Ok(7)),
             Says::Parks => RecvNext::NeedSignal,
+            Says::Refused => RecvNext::Done(Err(NoMemory)),
             _ => RecvNext::Done(Err(Disconnected)),
         }
     }
@@ -210,6 +211,7 @@ fn a_send_ends_as_its_last_turn_says(rt: HostRuntime) {
 const RECEIVES: &[(&[Says], Result<u64, RecvTimeoutError>, u64)] = &[
     (&[Done], Ok(7), 1),
     (&[Closed], Err(Disconnected), 1),
+    (&[Refused], Err(NoMemory), 1),
     (&[Parks, Refused], Err(NoMemory), 12),
     (&[Parks, Done, Done], Ok(7), 123),
     (&[Parks, Done, Parks, Done], Ok(7), 1234),

@@ -1,4 +1,4 @@
--- The arms of a selector: their turns, their ends, and their results.
+-- The arms of a selector: how they complete, and where a step takes them.
 use Rattle.std.specs.Prelude.{◌≡◌, Option, Some, None, Result, Ok, Err}
 use Rattle.flume_core.specs.declared.error.SendError.{SendError}
 use Rattle.flume_core.specs.declared.error.SendError.TheVariants as send
@@ -16,43 +16,6 @@ use Rattle.flume.specs.declared.select.receive.ReceiveState.{ReceiveState}
 use Rattle.flume.specs.declared.select.receive.ReceiveState.TheVariants as receiving
 
 module _ {T : Type 0} where
-  -- A turn of a send arm, from its state to what it leads to and its state after: it starts, or it
-  -- is polled. A message that comes back from its start is its own. A turn that isn't in the table
-  -- never comes.
-  abbrev pub SendTurn : SendState T → ArmNext → SendState T → Type 0
-  SendTurn (sending.Unstarted message) next.Parked (sending.Parked ticket) = Unit {0}
-  SendTurn (sending.Unstarted message) next.Completed (sending.Completed (Ok sent)) = Unit {0}
-  SendTurn (sending.Unstarted message) next.Completed (sending.Completed (Err back)) =
-      back ≡ message
-  SendTurn (sending.Unstarted message) next.NoMemory sending.Over = Unit {0}
-  SendTurn (sending.Parked ticket) next.Parked (sending.Parked same) = same ≡ ticket
-  SendTurn (sending.Parked ticket) next.Completed (sending.Completed result) = Unit {0}
-  SendTurn (sending.Completed result) next.Completed new = new ≡ sending.Completed result
-  SendTurn sending.Over next.NoMemory new = new ≡ sending.Over
-  SendTurn _ _ _ = ⊥
-
-  -- a turn of a receive arm, the same way
-  abbrev pub ReceiveTurn : ReceiveState T → ArmNext → ReceiveState T → Type 0
-  ReceiveTurn receiving.Unstarted next.Parked (receiving.Parked ticket) = Unit {0}
-  ReceiveTurn receiving.Unstarted next.Completed (receiving.Completed message) = Unit {0}
-  ReceiveTurn receiving.Unstarted next.NoMemory receiving.Over = Unit {0}
-  ReceiveTurn (receiving.Parked ticket) next.Parked (receiving.Parked same) = same ≡ ticket
-  ReceiveTurn (receiving.Parked ticket) next.Completed (receiving.Completed message) = Unit {0}
-  ReceiveTurn (receiving.Completed message) next.Completed new =
-      new ≡ receiving.Completed message
-  ReceiveTurn receiving.Over next.NoMemory new = new ≡ receiving.Over
-  ReceiveTurn _ _ _ = ⊥
-
-  -- a withdrawal of a send arm: one that is parked is over, and another one is as it was
-  abbrev pub SendEnd : SendState T → SendState T → Type 0
-  SendEnd (sending.Parked ticket) new = new ≡ sending.Over
-  SendEnd old new = new ≡ old
-
-  -- a withdrawal of a receive arm, the same way
-  abbrev pub ReceiveEnd : ReceiveState T → ReceiveState T → Type 0
-  ReceiveEnd (receiving.Parked ticket) new = new ≡ receiving.Over
-  ReceiveEnd old new = new ≡ old
-
   -- how a send arm completes: the message was taken in, or comes back since the channel is closed
   abbrev pub EndsSend : Result (Unit {0}) (SendError T) → Type 0
   EndsSend (Ok sent) = Unit {0}

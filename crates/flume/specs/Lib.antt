@@ -1,7 +1,9 @@
+pub mod ArmSteps
 pub mod ArmTurns
 pub mod Endings
 pub mod Ends
 pub mod Iterators
 pub mod Openings
 pub mod Polling
+pub mod Turning
 pub mod Selecting

@@ -58,6 +58,7 @@ pub(crate) fn waited_send<T: Drop>(
 #[inline(always)]
 pub(crate) fn tried_receive<T: Drop>(turn: RecvNext<T>) -> Result<T, TryRecvError>
     requires first { receive.IsFirst turn }
+    requires served { receive.IsntRefused turn }
     ensures message { (message : T) → (turn ≡ RecvNext.Done (Ok message)) ↔ (result ≡ Ok message) }
     ensures empty { (turn ≡ RecvNext.NeedSignal) ↔ (result ≡ Err TryRecvError.Empty) }
     ensures disconnected { (turn ≡ RecvNext.Done (Err RecvTimeoutError.Disconnected))

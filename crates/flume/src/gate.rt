@@ -92,7 +92,8 @@ impl<T: Drop, R: Waits, A: Allocator + Copy> RecvGate<T> for Gate<'_, T, R, A> {
 
     type Signal = Signal<A>;
 
-    ghost firsts = { λ old new next. (new ≡ old) × receive.IsFirst next };
+    ghost firsts = { λ old new next.
+        (new ≡ old) × receive.IsFirst next × receive.IsntRefused next };
 
     ghost arms = { λ old new _. new ≡ old };
 

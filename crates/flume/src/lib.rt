@@ -76,8 +76,8 @@
 //! ```
 //!
 //! The repository's docs/USING.md has more recipes, its README.md says what is proved. The crate
-//! also gives the names of `flume_core`, and most of `flume_calls`, `flume_audit` and
-//! `flume_script`.
+//! also gives the names of `flume_core`, `check_history`, and most of `flume_calls`, `flume_audit`
+//! and `flume_script`.
 #![tactic(auto)]
 
 mod answers;
@@ -107,6 +107,7 @@ pub use flume_core::error::{
     TryRecvError, TrySendError,
 };
 pub use flume_core::{chan, error, facts, run, step};
+pub use flume_history::check::{Checked, check_history};
 pub use flume_script::{Script, run_script};
 pub use into_iter::IntoIter;
 pub use iterators::{Iter, TryIter};

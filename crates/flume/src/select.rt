@@ -245,6 +245,9 @@ impl<'a, V, L: AtLeastOneArm<V, A>, A: Allocator + Copy> SelectGate for Selector
 }
 
 impl<V, A: Allocator + Copy> Default for Selector<'_, V, (), A> {
+    // It is the one of `new`: arm 0 begins.
+    ghost is_default = { λ selector. selector.start ≡ 0 };
+
     fn default() -> Self {
         Selector::new()
     }

@@ -2,6 +2,7 @@
 ghost use Rattle.std.specs.Prelude.{◌≡◌, None};
 ghost use Rattle.futures.specs.Task.{Covers, Keeps};
 ghost use Rattle.flume.specs.Polling.{HasPolled};
+ghost use Rattle.flume.specs.Turning.{HasMade};
 
 use crate::signal::{Parker, Signal};
 use crate::task::Task;
@@ -188,8 +189,11 @@ impl<T: Drop, R: Waits, A: Allocator + Copy> Shared<T, R, A> {
     #[inline(always)]
     pub(crate) fn call<C: Turn<T, Signal<A>, A>>(&self, turn: C) -> C::Answer
         ensures answers { C.answers turn result }
+        ensures made { HasMade (C.step turn) (C.table turn) result }
     {
-        self.lock().make(turn, &mut SignalBell { rt: self.rt })
+        let mut locked = self.lock();
+        locked.facts();
+        locked.make(turn, &mut SignalBell { rt: self.rt })
     }
 
     /// Makes the turn under the lock, in code of its own: so a turn that is seldom made costs the
@@ -198,6 +202,7 @@ impl<T: Drop, R: Waits, A: Allocator + Copy> Shared<T, R, A> {
     #[inline(never)]
     pub(crate) fn call_cold<C: Turn<T, Signal<A>, A>>(&self, turn: C) -> C::Answer
         ensures answers { C.answers turn result }
+        ensures made { HasMade (C.step turn) (C.table turn) result }
     {
         self.call(turn)
     }
@@ -219,7 +224,9 @@ impl<T: Drop, R: Waits, A: Allocator + Copy> Shared<T, R, A> {
         let mut locked = self.lock();
         let mut signal = None;
         if locked.would_wait(call) {
-            signal = task.signal(locked.parked_signal(call), cx);
+            if let Some(waker) = task.waker(locked.parked_signal(call), cx) {
+                signal = Some(Signal::of_task(waker));
+            }
         }
         locked.poll(call, &mut signal, &mut SignalBell { rt: self.rt })
     }

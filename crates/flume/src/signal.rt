@@ -155,13 +155,6 @@ pub struct TaskSignal {
 }
 
 impl TaskSignal {
-    // Holds this waker. Takes no memory.
-    pub(crate) fn new(waker: Waker) -> TaskSignal {
-        TaskSignal {
-            waker: Cell::new(Some(waker)),
-        }
-    }
-
     /// Wakes the task that polled the call last, if it wasn't woken since.
     pub fn fire(&self) {
         // A waker wakes its task as it is dropped.
@@ -212,6 +205,13 @@ pub enum Signal<A: Allocator = Global> {
 }
 
 impl<A: Allocator> Signal<A> {
+    // The signal of a call that is polled, by the waker of its task.
+    pub(crate) fn of_task(waker: Waker) -> Self {
+        Signal::Task(TaskSignal {
+            waker: Cell::new(Some(waker)),
+        })
+    }
+
     /// Wakes the call.
     pub fn fire<R: Wait>(&self, rt: &R) {
         match self {

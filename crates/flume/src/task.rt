@@ -1,9 +1,10 @@
 //! The task that polls a call.
 ghost use Rattle.std.specs.Prelude.{◌≡◌};
 ghost use Rattle.futures.specs.Task.{IsArmed, Hears, Keeps};
+ghost use Rattle.flume.specs.Polling.{LeavesWaker};
 
-use crate::signal::{Signal, TaskSignal};
-use futures::task::{Context, Poll, Source};
+use crate::signal::Signal;
+use futures::task::{Context, Poll, Source, Waker};
 use std::alloc::Allocator;
 
 /// What a polled call keeps of its task.
@@ -23,18 +24,21 @@ impl Task {
         }
     }
 
-    /// What a poll that waits leaves with the channel, with the waker of the task that polls, in
-    /// place of what the call left before. `None`: there was no memory for it. The waker of the
-    /// same task is taken over, since a waker wakes its task as it is dropped.
+    /// The waker that a poll leaves with the channel, in place of the one that the call left
+    /// before: that of the task that polls. The waker of the same task is taken over, since a waker
+    /// wakes its task as it is dropped. Where the executor can't make one, it polls the task again
+    /// without a wake; then the waker is the one that the call left before, another task's, or
+    /// `None` where it had left none.
     #[inline(never)]
-    pub(crate) fn signal<A: Allocator>(
+    pub(crate) fn waker<A: Allocator>(
         &self,
         parked: Option<&Signal<A>>,
         cx: &mut Context<'_>,
-    ) -> Option<Signal<A>>
+    ) -> Option<Waker>
         ensures armed { IsArmed cx.new }
         ensures heard { Hears cx.new self.now.source.id }
         ensures kept { Keeps cx.old cx.new }
+        ensures left { LeavesWaker cx.old cx.new result }
     {
         // A waker can't be cloned: a fresh one stored over the old one would have a task wake
         // itself again and again. So the old one is taken out first, `register` leaves it where it
@@ -44,6 +48,6 @@ impl Task {
             _ => None,
         };
         let _pending: Poll<()> = cx.register(&self.source, &mut waker);
-        Some(Signal::Task(TaskSignal::new(waker?)))
+        waker
     }
 }

@@ -1,5 +1,5 @@
 -- What a contract sees of a book, and what a step through it leaves.
-use Rattle.std.specs.Prelude.{◌≡◌, ℕ, List, [], ◌∷◌, ◌++◌, length, reverse, Option}
+use Rattle.std.specs.Prelude.{◌≡◌, ◌≤◌, ℕ, List, [], ◌∷◌, ◌++◌, length, reverse, Option}
 use Rattle.flume_model.specs.declared.step.Step.{Step}
 use Rattle.flume_model.specs.declared.step.Reply.{Reply}
 use Rattle.flume_model.specs.Log.{opens}
@@ -35,13 +35,14 @@ module _ {T A : Type 0} where
   IsChannelOfHistory book =
       Represents {A = A} (opens book.opening 1) (reverse book.history) book.channel
 
-  -- one core step of the channel, with its reply
+  -- one core step of the channel, with its reply; the channel keeps the room that it has
   pub record IsCoreStep (old : State T (Unit {0})) (step : Step T) (reply : Reply T A)
       (new : State T (Unit {0})) : Type 0 where
     pub stands : Extends old step reply new
     pub dues : BecomesDue old step reply new
     pub comes : PossibleReply step reply
     pub unchanged : ChangesNothing step reply → new ≡ old
+    pub space : old.space ≤ new.space
 
   -- a step through a book by a seat: the channel makes it, and it stands with the channel's reply
   -- at the end of the history, and with its number there in the seat; the seat's copy of the reply

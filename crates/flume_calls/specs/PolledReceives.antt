@@ -48,8 +48,8 @@ module _ {T S : Type 0} where
       : Type 0 where
     -- it isn't parked, and has no signal to park with: it tries
     Tries : (next : RecvNext T) → call ≡ None → signal ≡ None
-        → Turned {A = A} TryRecv after_try_recv old new next → IsFirst next
-        → FirstReceiveOutcome old new next
+        → Turned {A = A} TryRecv after_try_recv old new next
+        → IsFirst next → IsntRefused next → FirstReceiveOutcome old new next
         → settles_receive false next after answer
         → ReceivePoll A kind call signal old new after answer
     -- it isn't parked, and parks with the signal where it finds nothing

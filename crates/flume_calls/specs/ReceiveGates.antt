@@ -60,8 +60,9 @@ module _ {G T : Type 0} (firsts : G → G → RecvNext T → Type 0) (arms : G �
 
 module _ {G T : Type 0} (firsts : G → G → RecvNext T → Type 0) (arms : G → G → Bool → Type 0)
     (parks : G → G → RecvNext T → Type 0) where
-  -- a receive that ended with no memory before it was parked: what it parks on couldn't be made, or
-  -- the turn that may park answered so
+  -- a receive that ended with no memory before it was parked: the first turn answered so, what it
+  -- parks on couldn't be made, or the turn that may park answered so
   abbrev pub EndsUnparked : G → G → Type 0
-  EndsUnparked old new = (first : G) × firsts old first NeedSignal × (arms first new false
-      ⊎ ((armed : G) × arms first armed true × parks armed new (Done (Err NoMemory))))
+  EndsUnparked old new = firsts old new (Done (Err NoMemory))
+      ⊎ ((first : G) × firsts old first NeedSignal × (arms first new false
+      ⊎ ((armed : G) × arms first armed true × parks armed new (Done (Err NoMemory)))))

@@ -13,10 +13,9 @@ use Rattle.flume_calls.specs.declared.calls.receive.RecvNext.TheVariants.{Done, 
 use Rattle.flume_calls.specs.declared.calls.receive.RecvNext.TheVariants.{Refused}
 
 module _ {T : Type 0} where
-  -- the first turn never parks, is never too late and needs no memory
+  -- the first turn never parks and is never too late
   abbrev pub IsFirst : RecvNext T → Type 0
   IsFirst (Done (Err Timeout)) = ⊥
-  IsFirst (Done (Err NoMemory)) = ⊥
   IsFirst (Park ticket) = ⊥
   IsFirst (Refused ticket) = ⊥
   IsFirst _ = Unit {0}
@@ -51,6 +50,7 @@ module _ {T : Type 0} where
 
   -- it isn't that memory ran out
   abbrev pub IsntRefused : RecvNext T → Type 0
+  IsntRefused (Done (Err NoMemory)) = ⊥
   IsntRefused (Refused ticket) = ⊥
   IsntRefused _ = Unit {0}
 
@@ -68,11 +68,13 @@ module _ {T : Type 0} where
 module _ {T A : Type 0} where
   -- The tables: what is answered to each reply. A reply that isn't in a table never comes.
 
-  -- the first turn, to the reply of a `try_recv`
+  -- The first turn, to the reply of a `try_recv`. A `Chan` never answers it that it has no memory,
+  -- nor a `poll`; the row is of a channel with another body, which may.
   abbrev pub after_try_recv : Reply T A → RecvNext T → Type 0
   after_try_recv (Got message) next = next ≡ Done (Ok message)
   after_try_recv Empty next = next ≡ NeedSignal
   after_try_recv Ended next = next ≡ Done (Err Disconnected)
+  after_try_recv (reply.NoMemory back) next = next ≡ Done (Err NoMemory)
   after_try_recv _ next = ⊥
 
   -- the turn that may park, to the reply of a `recv`
@@ -84,8 +86,7 @@ module _ {T A : Type 0} where
   after_recv (Spent back) next = next ≡ Done (Err NoMemory)
   after_recv _ next = ⊥
 
-  -- A turn of a parked receive, to the reply of a `poll`. A `Chan` never answers that it has no
-  -- memory; the row is of a channel with another body, which may.
+  -- a turn of a parked receive, to the reply of a `poll`
   abbrev pub after_poll : ℕ → Reply T A → RecvNext T → Type 0
   after_poll ticket (Got message) next = next ≡ Done (Ok message)
   after_poll ticket Waiting next = next ≡ Park ticket

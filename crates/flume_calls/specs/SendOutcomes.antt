@@ -1,16 +1,17 @@
 -- What each turn of a send says of the state before it and the state after it, by its answer.
-use Rattle.std.specs.Prelude.{◌≡◌, ◌≢◌, ℕ, ◌+◌, ◌↔◌, Bool, true, false, Option, Some, None, Ok, Err}
+use Rattle.std.specs.Prelude.{◌≡◌, ◌≢◌, ℕ, ◌+◌, ◌<◌, ◌↔◌, Bool, true, false, Option, Some, None, Ok, Err}
 use Rattle.std.specs.Prelude.{◌++◌, ◌∷◌, [], length}
 use Rattle.std.specs.FinMap.{get, insert, remove}
 use Rattle.flume_model.specs.Limits.{IsOpen, IsClosed, IsAtCapacity}
 use Rattle.flume_model.specs.Entries.{some_wait}
 use Rattle.flume_state.specs.Notices.{with_signal}
 use Rattle.flume_state.specs.Sends.{blocked, noticed_send}
-use Rattle.flume_state.specs.State.{State, accepted_at}
+use Rattle.flume_state.specs.State.{State, accepted_at, message_count}
 use Rattle.flume_state.specs.Effects.{Joins, Returns}
 use Rattle.flume_core.specs.Represents.{IsReachable}
 use Rattle.flume_core.specs.Waiting.{FindsNoRoom}
 use Rattle.flume_core.specs.declared.error.SendTimeoutError.TheVariants.{Timeout, Disconnected}
+use Rattle.flume_core.specs.declared.error.SendTimeoutError.TheVariants.{NoMemory}
 use Rattle.flume_calls.specs.declared.calls.send.SendNext.{SendNext}
 use Rattle.flume_calls.specs.declared.calls.send.SendNext.TheVariants.{Done, NeedSignal, Park}
 use Rattle.flume_calls.specs.SendTurns.{IsBack}
@@ -23,6 +24,7 @@ module _ {T S : Type 0} where
     pub need_signal : (next ≡ NeedSignal message) ↔ IsOpen old.senders old.receivers
         × (some_wait old.entries ≡ false) × IsAtCapacity old.capacity (length old.queue)
     pub sent : next ≡ Done (Ok tt) → (filled : Option ℕ) × Joins old new message filled
+    pub succeeds : message_count old < old.space → next ≢ Done (Err (NoMemory message))
     pub unchanged : IsBack next → new ≡ old
 
   -- the turn that may park, with its signal
@@ -31,6 +33,8 @@ module _ {T S : Type 0} where
     pub closed : (next ≡ Done (Err (Disconnected message))) ↔ IsClosed old.senders old.receivers
     pub sent : next ≡ Done (Ok tt) → (filled : Option ℕ) × Joins old new message filled
     pub waits : (ticket : ℕ) → next ≡ Park ticket → FindsNoRoom old
+    pub refused : next ≡ Done (Err (NoMemory message)) → message_count old < old.space
+        → FindsNoRoom old
     pub parked : next ≡ Park old.next → new ≡ record old {
       blocked = old.blocked ++ record { ticket = old.next; message = message } ∷ [];
       space = new.space;

@@ -2,3 +2,4 @@ mod Returning
 mod Sending
 mod Receiving
 mod Counting
+mod Passing

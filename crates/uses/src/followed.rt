@@ -1,29 +1,42 @@
 //! A channel without a lock, in a loop: its owner knows at the end what any run knows.
-ghost use Rattle.std.specs.Prelude.{ℕ};
+ghost use Rattle.std.specs.Prelude.{◌≡◌, ℕ};
+ghost use Rattle.flume_model.specs.declared.step.Reply.{Reply};
 ghost use Rattle.flume_model.specs.Log.{Log, Opening};
-ghost use Rattle.flume_core.specs.Represents.{Represents};
-ghost use Rattle.flume_core.specs.Headline.{Headline};
+ghost use Rattle.flume_model.specs.Conserved.{gives};
+ghost use Rattle.flume_core.specs.Represents.{Represents, Extends};
+ghost use Rattle.uses.specs.Followed.{HasPassed, sum_of};
 
 use flume_core::chan::Chan;
 use flume_core::run::headline_of_steps;
-use flume_model::step::Reply;
+use flume_model::step::{Reply, Step};
 use std::alloc::Allocator;
 
 /// Sends each number below this one, and receives after each. The sum of what was received. At the
-/// end the channel stands for some longer run, and the headline holds of it: what was handed out is
-/// what was offered, in order, and the rest is queued or blocked.
+/// end the channel stands for the run that it stood for, and these steps after it; the headline
+/// holds of all that, so what was handed out is what was offered, in order, and the rest is queued
+/// or blocked; and the sum is that of the messages that these steps gave out.
 pub fn pass_all<A: Allocator + Copy>(chan: &mut Chan<u64, (), A>, count: u64) -> u64
-    ensures headline { (opening : Opening) (log : Log ℕ A) → Represents opening log chan.old
-        → (longer : Log ℕ A) × Represents opening longer chan.new
-        × Headline opening longer chan.new }
+    ensures passed { (opening : Opening) (log : Log ℕ A) → Represents opening log chan.old
+        → HasPassed opening log count chan.new result }
 {
     let mut sum = 0u64;
     for number in 0..count {
         chan.try_send(number);
-        if let Reply::Got(message) = chan.try_recv() {
-            sum = sum.wrapping_add(message);
-        }
+        sum = sum.wrapping_add(received(chan));
     }
     headline_of_steps(chan);
     sum
+}
+
+// Receives a message where one is there, and 0 where none is.
+fn received<A: Allocator + Copy>(chan: &mut Chan<u64, (), A>) -> u64
+    ensures step { (reply : Reply ℕ A) × Extends chan.old Step.TryRecv reply chan.new
+        × (sum_of (gives reply) ≡ result) }
+{
+    match chan.try_recv() {
+        Reply::Got(message) => message,
+        Reply::Empty => 0,
+        Reply::Ended => 0,
+        _ => unreachable!(),
+    }
 }

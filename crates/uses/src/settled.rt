@@ -1,29 +1,35 @@
 //! An audit that settled, and what that says.
 ghost use Rattle.std.specs.Prelude.{◌≡◌, IfSome, length, sum_by};
+ghost use Rattle.flume_audit.specs.Settled.{IsSettled};
 
 use flume_audit::audit::Audit;
+use flume_audit::book::Book;
 use flume_audit::closed::Closed;
 use flume_audit::seat::Seat;
 use flume_audit::weigh::Ones;
+use flume_model::step::{Reply, Step};
 use std::alloc::Allocator;
 use std::sync::ledger::Ledger;
 
-/// Ends an audit. How many steps were made where it settled: as many as all receipts tell of. None
-/// where it didn't settle.
-pub fn steps_told<T, L, R, A>(
+/// Ends an audit. Its book, where it settled: each step of the book's history is told by the one
+/// receipt with its number, which equals it, so the history is what the seats were told, in order;
+/// and it has as many steps as all seats were told of together. None where it didn't settle.
+pub fn settled_book<T, L, R, A>(
     audit: Audit<T, L, R, Ones, A>,
     seats: Vec<Seat<T, L, Ones, A>, A>,
-) -> Option<usize>
+) -> Option<Book<T, L, Ones, A>>
 where
     T: Copy + Eq,
     L: Ledger,
     R: Drop,
     A: Allocator + Copy,
-    ensures told { IfSome result (λ steps. steps ≡ sum_by length seats.items) }
+    ensures settled { IfSome result (λ book.
+        IsSettled ⟦<(Step<T>, Reply<T, A>) as PartialEq>⟧.eq book.history seats.items) }
+    ensures told { IfSome result (λ book. length book.history ≡ sum_by length seats.items) }
 {
     let (closed, book) = audit.close(seats);
     match closed {
-        Closed::Settled => Some(book.history().len()),
+        Closed::Settled => Some(book),
         _ => None,
     }
 }

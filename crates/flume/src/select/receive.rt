@@ -1,8 +1,9 @@
 //! A receive as an arm of a selector.
 ghost use Rattle.std.specs.Prelude.{◌≡◌, IsSome};
 ghost use Rattle.flume_calls.specs.declared.gates.select.ArmNext.{ArmNext};
-ghost use Rattle.flume.specs.ArmTurns.{ReceiveTurn, ReceiveEnd, EndsReceive, receive_result};
+ghost use Rattle.flume.specs.ArmTurns.{EndsReceive, receive_result};
 ghost use Rattle.flume.specs.ArmTurns.{IsArmReceive, TakesReceive};
+ghost use Rattle.flume.specs.ArmSteps.{ReceiveTurn, ReceiveEnd, StartsReceive, PollsReceive, Leaves};
 ghost use Rattle.flume.specs.Selecting.{CanMap, Maps, MapsResult};
 
 use crate::receiver::Receiver;
@@ -50,6 +51,46 @@ impl<'a, T: Drop, F: Drop, R: Waits, A: Allocator + Copy> RecvArm<'a, T, F, R, A
             mapper,
         }
     }
+
+    // Starts the arm. Where it parks it leaves a copy of the parker, with its number.
+    fn start(&mut self, number: usize, parker: &Arc<Parker, A>) -> ArmNext
+        ensures does { StartsReceive A result self.new.state }
+        ensures mapper { self.new.mapper ≡ self.old.mapper }
+    {
+        let Some(signal) = ArmSignal::new(parker, number) else {
+            self.state = ReceiveState::Over;
+            return ArmNext::NoMemory;
+        };
+        let (kind, signal) = (Kind::Arm, Signal::Arm(signal));
+        let shared = self.receiver.shared();
+        let (state, answer) = after(shared.call_cold(ParkReceive { kind, signal }));
+        self.state = state;
+        answer
+    }
+
+    // Polls the arm, which is parked.
+    fn poll(&mut self, call: RecvCall) -> ArmNext
+        ensures does { PollsReceive A call result self.new.state }
+        ensures mapper { self.new.mapper ≡ self.old.mapper }
+    {
+        let (late, signal) = (false, None);
+        let shared = self.receiver.shared();
+        let (state, answer) = after(shared.call_cold(AgainReceive { call, late, signal }));
+        self.state = state;
+        answer
+    }
+
+    // Takes the arm, which is parked, out of its channel. A message that it gets so is dropped.
+    fn leave(&self, call: RecvCall)
+        ensures leaves { Leaves {T = T} A call }
+    {
+        let (late, signal) = (true, None);
+        let shared = self.receiver.shared();
+        match shared.call_cold(AgainReceive { call, late, signal }) {
+            RecvNext::Done(result) => drop(result),
+            _ => unreachable!(),
+        }
+    }
 }
 
 // Where a turn takes the arm.
@@ -89,9 +130,9 @@ where
     ghost answers = { λ arm. MapsResult F.post arm.mapper (receive_result arm.state) };
 
     ghost turns = { λ old next new.
-        ReceiveTurn old.state next new.state × (new.mapper ≡ old.mapper) };
+        ReceiveTurn A old.state next new.state × (new.mapper ≡ old.mapper) };
 
-    ghost withdraws = { λ old new. ReceiveEnd old.state new.state × (new.mapper ≡ old.mapper) };
+    ghost withdraws = { λ old new. ReceiveEnd A old.state new.state × (new.mapper ≡ old.mapper) };
 
     fn runtime(&self) -> R {
         self.receiver.shared().rt
@@ -106,40 +147,20 @@ where
     }
 
     fn turn(&mut self, number: usize, parker: &Arc<Parker, A>) -> ArmNext {
-        let shared = self.receiver.shared();
-        let next = match replace(&mut self.state, ReceiveState::Over) {
-            ReceiveState::Unstarted => match ArmSignal::new(parker, number) {
-                Some(signal) => {
-                    let (kind, signal) = (Kind::Arm, Signal::Arm(signal));
-                    shared.call_cold(ParkReceive { kind, signal })
-                }
-                None => return ArmNext::NoMemory,
-            },
-            ReceiveState::Parked(call) => {
-                let (late, signal) = (false, None);
-                shared.call_cold(AgainReceive { call, late, signal })
-            }
+        match replace(&mut self.state, ReceiveState::Over) {
+            ReceiveState::Unstarted => self.start(number, parker),
+            ReceiveState::Parked(call) => self.poll(call),
             ReceiveState::Completed(message) => {
                 self.state = ReceiveState::Completed(message);
-                return ArmNext::Completed;
+                ArmNext::Completed
             }
-            ReceiveState::Over => return ArmNext::NoMemory,
-        };
-        let (state, answer) = after(next);
-        self.state = state;
-        answer
+            ReceiveState::Over => ArmNext::NoMemory,
+        }
     }
 
     fn withdraw(&mut self) {
         match replace(&mut self.state, ReceiveState::Over) {
-            ReceiveState::Parked(call) => {
-                let (late, signal) = (true, None);
-                let shared = self.receiver.shared();
-                match shared.call_cold(AgainReceive { call, late, signal }) {
-                    RecvNext::Done(result) => drop(result),
-                    _ => unreachable!(),
-                }
-            }
+            ReceiveState::Parked(call) => self.leave(call),
             other => self.state = other,
         }
     }

@@ -1,8 +1,9 @@
 //! A send as an arm of a selector.
 ghost use Rattle.std.specs.Prelude.{◌≡◌, IsSome};
 ghost use Rattle.flume_calls.specs.declared.gates.select.ArmNext.{ArmNext};
-ghost use Rattle.flume.specs.ArmTurns.{SendTurn, SendEnd, EndsSend, send_result};
+ghost use Rattle.flume.specs.ArmTurns.{EndsSend, send_result};
 ghost use Rattle.flume.specs.ArmTurns.{IsArmSend, TakesSend};
+ghost use Rattle.flume.specs.ArmSteps.{SendTurn, SendEnd, StartsSend, PollsSend, TakesBack};
 ghost use Rattle.flume.specs.Selecting.{CanMap, Maps, MapsResult};
 
 use crate::select::arms::Arm;
@@ -49,6 +50,46 @@ impl<'a, T: Drop, F: Drop, R: Waits, A: Allocator + Copy> SendArm<'a, T, F, R, A
             mapper,
         }
     }
+
+    // Starts the arm. Where it parks it leaves a copy of the parker, with its number.
+    fn start(&mut self, message: T, number: usize, parker: &Arc<Parker, A>) -> ArmNext
+        ensures does { StartsSend A message result self.new.state }
+        ensures mapper { self.new.mapper ≡ self.old.mapper }
+    {
+        let Some(signal) = ArmSignal::new(parker, number) else {
+            self.state = SendState::Over;
+            return ArmNext::NoMemory;
+        };
+        let signal = Signal::Arm(signal);
+        let shared = self.sender.shared();
+        let (state, answer) = after(shared.call_cold(ParkSend { message, signal }));
+        self.state = state;
+        answer
+    }
+
+    // Polls the arm, which is parked.
+    fn poll(&mut self, call: SendCall) -> ArmNext
+        ensures does { PollsSend A call result self.new.state }
+        ensures mapper { self.new.mapper ≡ self.old.mapper }
+    {
+        let (late, signal) = (false, None);
+        let shared = self.sender.shared();
+        let (state, answer) = after(shared.call_cold(AgainSend { call, late, signal }));
+        self.state = state;
+        answer
+    }
+
+    // Takes the message of the arm, which is parked, out of its channel, and drops it.
+    fn take_back(&self, call: SendCall)
+        ensures takes_back { TakesBack {T = T} A call }
+    {
+        let (late, signal) = (true, None);
+        let shared = self.sender.shared();
+        match shared.call_cold(AgainSend { call, late, signal }) {
+            SendNext::Done(result) => drop(result),
+            _ => unreachable!(),
+        }
+    }
 }
 
 // Where a turn takes the arm.
@@ -86,9 +127,9 @@ where
     ghost answers = { λ arm. MapsResult F.post arm.mapper (send_result arm.state) };
 
     ghost turns = { λ old next new.
-        SendTurn old.state next new.state × (new.mapper ≡ old.mapper) };
+        SendTurn A old.state next new.state × (new.mapper ≡ old.mapper) };
 
-    ghost withdraws = { λ old new. SendEnd old.state new.state × (new.mapper ≡ old.mapper) };
+    ghost withdraws = { λ old new. SendEnd A old.state new.state × (new.mapper ≡ old.mapper) };
 
     fn runtime(&self) -> R {
         self.sender.shared().rt
@@ -103,40 +144,20 @@ where
     }
 
     fn turn(&mut self, number: usize, parker: &Arc<Parker, A>) -> ArmNext {
-        let shared = self.sender.shared();
-        let next = match replace(&mut self.state, SendState::Over) {
-            SendState::Unstarted(message) => match ArmSignal::new(parker, number) {
-                Some(signal) => {
-                    let signal = Signal::Arm(signal);
-                    shared.call_cold(ParkSend { message, signal })
-                }
-                None => return ArmNext::NoMemory,
-            },
-            SendState::Parked(call) => {
-                let (late, signal) = (false, None);
-                shared.call_cold(AgainSend { call, late, signal })
-            }
+        match replace(&mut self.state, SendState::Over) {
+            SendState::Unstarted(message) => self.start(message, number, parker),
+            SendState::Parked(call) => self.poll(call),
             SendState::Completed(result) => {
                 self.state = SendState::Completed(result);
-                return ArmNext::Completed;
+                ArmNext::Completed
             }
-            SendState::Over => return ArmNext::NoMemory,
-        };
-        let (state, answer) = after(next);
-        self.state = state;
-        answer
+            SendState::Over => ArmNext::NoMemory,
+        }
     }
 
     fn withdraw(&mut self) {
         match replace(&mut self.state, SendState::Over) {
-            SendState::Parked(call) => {
-                let (late, signal) = (true, None);
-                let shared = self.sender.shared();
-                match shared.call_cold(AgainSend { call, late, signal }) {
-                    SendNext::Done(result) => drop(result),
-                    _ => unreachable!(),
-                }
-            }
+            SendState::Parked(call) => self.take_back(call),
             other => self.state = other,
         }
     }

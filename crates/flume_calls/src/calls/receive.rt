@@ -66,7 +66,7 @@ impl RecvCall {
     #[inline(always)]
     pub fn first<T: Drop, S: Drop, A: Allocator + Copy>(chan: &mut Chan<T, S, A>) -> RecvNext<T>
         ensures turn { Turned {A = A} Step.TryRecv after_try_recv chan.old chan.new result }
-        ensures answers { IsFirst result }
+        ensures answers { IsFirst result × IsntRefused result }
         ensures outcome { FirstReceiveOutcome chan.old chan.new result }
     {
         FirstReceive.apply(chan)
@@ -140,7 +140,7 @@ impl<T: Drop, S: Drop, A: Allocator + Copy> Turn<T, S, A> for FirstReceive {
 
     ghost table = { λ _. after_try_recv };
 
-    ghost answers = { λ _. IsFirst };
+    ghost answers = { λ _ next. IsFirst next × IsntRefused next };
 
     ghost outcome = { λ _. FirstReceiveOutcome };
 

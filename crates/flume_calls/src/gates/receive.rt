@@ -33,7 +33,8 @@ pub trait RecvGate<T> {
     // The gate before, the gate after, and the answer.
     ghost waits: { Self → Self → Bool → Type 0 };
 
-    /// The first turn, which doesn't park.
+    /// The first turn, which doesn't park. `Done(Err(NoMemory))`: the channel wanted memory to give
+    /// out a message that is there, and there was none.
     fn first(&mut self) -> RecvNext<T>
         ensures does { firsts self.old self.new result }
         ensures answers { IsFirst result };
@@ -59,10 +60,10 @@ pub trait RecvGate<T> {
 }
 
 /// A receive that waits. It parks where its first turn doesn't end it, and then asks and waits in
-/// turn until it ends. It ends as its last turn says; where there was no memory for what it parks
-/// on it ends with no memory. Where a turn of the parked call needs memory and there is none, the
-/// call withdraws, and ends with the message if one came, and else with no memory; through a gate
-/// where none does, it ends so only before it is parked.
+/// turn until it ends. It ends as its last turn says, with no memory too; where there was no memory
+/// for what it parks on it ends with no memory. Where a turn of the parked call needs memory and
+/// there is none, the call withdraws, and ends with the message if one came, and else with no
+/// memory; through a gate where none does, it ends so only before it is parked.
 ///
 /// ```
 /// // The gate is of an empty channel, and it has a deadline.

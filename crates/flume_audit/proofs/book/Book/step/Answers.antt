@@ -70,6 +70,7 @@ returns-clause-step g c =
         dues = c.step-reply.ensures.dues (_, _, c.self.invariant.0);
         comes = c.step-reply.ensures.comes;
         unchanged = c.step-reply.ensures.unchanged;
+        space = c.step-reply.ensures.space;
       };
       history = pushed (c.args.step, c.step-reply.result) c.try_reserve.ensures.items
           c.push_reserved-2.ensures.items;

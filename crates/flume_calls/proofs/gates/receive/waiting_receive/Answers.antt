@@ -6,14 +6,14 @@ use Rattle.flume_calls.proofs.gates.receive.waiting_receive.Goals as goal
 pub returns-in_default : goal.returns-in_default
 returns-in_default g c = record {
   run = λ start first. Unarmed first c.in_default.ensures.does refl;
-  no_memory = λ start first never e. (_, first, inl c.in_default.ensures.does);
+  no_memory = λ start first never e. inr (_, first, inl c.in_default.ensures.does);
 }
 
 pub returns-in-Done : goal.returns-in-Done
 returns-in-Done g c = record {
   run = λ start first. AtPark first c.in-Some.ensures.does c.in-Done.ensures.does;
   no_memory = λ start first never e.
-      (_, first, inr (_, c.in-Some.ensures.does, rw e at c.in-Done.ensures.does));
+      inr (_, first, inr (_, c.in-Some.ensures.does, rw e at c.in-Done.ensures.does));
 }
 
 pub returns-in-Park : goal.returns-in-Park

@@ -7,6 +7,7 @@ returns-in-Pending-clause-outcome g c = record {
   closed = search rules;
   sent = search rules;
   waits = search rules;
+  refused = search rules;
   parked = search rules;
   ticket = λ led ticket e.
       let run = (c.in-Pending.ensures.step led.0 led.1 led.2).run.0 in

@@ -1,0 +1,90 @@
+-- The turns of a selector's arms, and their ends: each makes one step of the arm's channel.
+use Rattle.std.specs.Prelude.{◌≡◌, ◌⊎◌, ℕ, false, true}
+use Rattle.flume_model.specs.declared.step.Kind.TheVariants.{Arm}
+use Rattle.flume_model.specs.declared.step.Step.{Step}
+use Rattle.flume_model.specs.declared.step.Step.TheVariants.{Send, Recv}
+use Rattle.flume_model.specs.declared.step.Reply.{Reply}
+use Rattle.flume_calls.specs.declared.calls.send.SendNext.{SendNext}
+use Rattle.flume_calls.specs.declared.calls.receive.RecvNext.{RecvNext}
+use Rattle.flume_calls.specs.declared.gates.select.ArmNext.{ArmNext}
+use Rattle.flume_calls.specs.declared.gates.select.ArmNext.TheVariants as next
+use Rattle.flume_calls.specs.SendTurns.{after_send, after_parked_send, step_of_parked_send}
+use Rattle.flume_calls.specs.SendTurns as send_turn
+use Rattle.flume_calls.specs.ReceiveTurns.{after_recv, after_parked_receive, step_of_parked_receive}
+use Rattle.flume_calls.specs.ReceiveTurns as receive_turn
+use Rattle.flume.specs.Turning.{HasMade}
+use Rattle.flume.specs.ArmTurns.{TakesSend, TakesReceive}
+use Rattle.flume.specs.declared.select.send.SendState.{SendState}
+use Rattle.flume.specs.declared.select.send.SendState.TheVariants as sending
+use Rattle.flume.specs.declared.select.receive.ReceiveState.{ReceiveState}
+use Rattle.flume.specs.declared.select.receive.ReceiveState.TheVariants as receiving
+
+module _ {T : Type 0} (A : Type 0) where
+  -- the step was made behind the lock of a send arm's channel, and takes the arm there; the turn
+  -- answered as it may
+  abbrev pub MakesSend : Step T → (Reply T A → SendNext T → Type 0) → (SendNext T → Type 0)
+      → ArmNext → SendState T → Type 0
+  MakesSend step table answers answer new =
+      (told : SendNext T) × HasMade step table told × answers told × TakesSend told answer new
+
+  -- a send arm that isn't started starts by one step; or there was no memory for a start
+  abbrev pub StartsSend : T → ArmNext → SendState T → Type 0
+  StartsSend message answer new =
+      MakesSend (Send message) after_send (send_turn.IsParking message) answer new
+      ⊎ ((answer ≡ next.NoMemory) × (new ≡ sending.Over))
+
+  -- a parked send arm is polled, by one step
+  abbrev pub PollsSend : ℕ → ArmNext → SendState T → Type 0
+  PollsSend ticket = MakesSend (step_of_parked_send ticket false) (after_parked_send ticket false)
+      (send_turn.IsAgain ticket false)
+
+  -- a parked send arm took its message back, by one step
+  abbrev pub TakesBack : ℕ → Type 0
+  TakesBack ticket = (told : SendNext T)
+      × HasMade (step_of_parked_send ticket true) (after_parked_send {A = A} ticket true) told
+
+  -- a turn of a send arm, from its state to what it leads to and its state after
+  abbrev pub SendTurn : SendState T → ArmNext → SendState T → Type 0
+  SendTurn (sending.Unstarted message) answer new = StartsSend message answer new
+  SendTurn (sending.Parked ticket) answer new = PollsSend ticket answer new
+  SendTurn (sending.Completed result) answer new =
+      (answer ≡ next.Completed) × (new ≡ sending.Completed result)
+  SendTurn sending.Over answer new = (answer ≡ next.NoMemory) × (new ≡ sending.Over)
+
+  -- a withdrawal of a send arm: one that is parked is over, and another one is as it was
+  abbrev pub SendEnd : SendState T → SendState T → Type 0
+  SendEnd (sending.Parked ticket) new = (new ≡ sending.Over) × TakesBack ticket
+  SendEnd old new = new ≡ old
+
+  -- the step was made behind the lock of a receive arm's channel, the same way
+  abbrev pub MakesReceive : Step T → (Reply T A → RecvNext T → Type 0) → (RecvNext T → Type 0)
+      → ArmNext → ReceiveState T → Type 0
+  MakesReceive step table answers answer new =
+      (told : RecvNext T) × HasMade step table told × answers told × TakesReceive told answer new
+
+  -- a receive arm starts, is polled, and leaves, the same way
+  abbrev pub StartsReceive : ArmNext → ReceiveState T → Type 0
+  StartsReceive answer new =
+      MakesReceive (Recv Arm) after_recv receive_turn.IsParking answer new
+      ⊎ ((answer ≡ next.NoMemory) × (new ≡ receiving.Over))
+
+  abbrev pub PollsReceive : ℕ → ArmNext → ReceiveState T → Type 0
+  PollsReceive ticket = MakesReceive (step_of_parked_receive ticket false)
+      (after_parked_receive ticket false) (receive_turn.IsAgain ticket false)
+
+  abbrev pub Leaves : ℕ → Type 0
+  Leaves ticket = (told : RecvNext T) × HasMade (step_of_parked_receive ticket true)
+      (after_parked_receive {A = A} ticket true) told
+
+  -- a turn of a receive arm
+  abbrev pub ReceiveTurn : ReceiveState T → ArmNext → ReceiveState T → Type 0
+  ReceiveTurn receiving.Unstarted answer new = StartsReceive answer new
+  ReceiveTurn (receiving.Parked ticket) answer new = PollsReceive ticket answer new
+  ReceiveTurn (receiving.Completed message) answer new =
+      (answer ≡ next.Completed) × (new ≡ receiving.Completed message)
+  ReceiveTurn receiving.Over answer new = (answer ≡ next.NoMemory) × (new ≡ receiving.Over)
+
+  -- a withdrawal of a receive arm
+  abbrev pub ReceiveEnd : ReceiveState T → ReceiveState T → Type 0
+  ReceiveEnd (receiving.Parked ticket) new = (new ≡ receiving.Over) × Leaves ticket
+  ReceiveEnd old new = new ≡ old
