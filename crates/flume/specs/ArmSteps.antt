@@ -19,6 +19,16 @@ use Rattle.flume.specs.declared.select.send.SendState.TheVariants as sending
 use Rattle.flume.specs.declared.select.receive.ReceiveState.{ReceiveState}
 use Rattle.flume.specs.declared.select.receive.ReceiveState.TheVariants as receiving
 
+-- a parked send arm took its message back, by one step
+abbrev pub TakesBack : (T A : Type 0) → ℕ → Type 0
+TakesBack T A ticket = (told : SendNext T)
+    × HasMade (step_of_parked_send ticket true) (after_parked_send {A = A} ticket true) told
+
+-- a parked receive arm left, by one step
+abbrev pub Leaves : (T A : Type 0) → ℕ → Type 0
+Leaves T A ticket = (told : RecvNext T)
+    × HasMade (step_of_parked_receive ticket true) (after_parked_receive {A = A} ticket true) told
+
 module _ {T : Type 0} (A : Type 0) where
   -- the step was made behind the lock of a send arm's channel, and takes the arm there; the turn
   -- answered as it may
@@ -38,11 +48,6 @@ module _ {T : Type 0} (A : Type 0) where
   PollsSend ticket = MakesSend (step_of_parked_send ticket false) (after_parked_send ticket false)
       (send_turn.IsAgain ticket false)
 
-  -- a parked send arm took its message back, by one step
-  abbrev pub TakesBack : ℕ → Type 0
-  TakesBack ticket = (told : SendNext T)
-      × HasMade (step_of_parked_send ticket true) (after_parked_send {A = A} ticket true) told
-
   -- a turn of a send arm, from its state to what it leads to and its state after
   abbrev pub SendTurn : SendState T → ArmNext → SendState T → Type 0
   SendTurn (sending.Unstarted message) answer new = StartsSend message answer new
@@ -53,7 +58,7 @@ module _ {T : Type 0} (A : Type 0) where
 
   -- a withdrawal of a send arm: one that is parked is over, and another one is as it was
   abbrev pub SendEnd : SendState T → SendState T → Type 0
-  SendEnd (sending.Parked ticket) new = (new ≡ sending.Over) × TakesBack ticket
+  SendEnd (sending.Parked ticket) new = (new ≡ sending.Over) × TakesBack T A ticket
   SendEnd old new = new ≡ old
 
   -- the step was made behind the lock of a receive arm's channel, the same way
@@ -62,7 +67,7 @@ module _ {T : Type 0} (A : Type 0) where
   MakesReceive step table answers answer new =
       (told : RecvNext T) × HasMade step table told × answers told × TakesReceive told answer new
 
-  -- a receive arm starts, is polled, and leaves, the same way
+  -- a receive arm starts, and is polled, the same way
   abbrev pub StartsReceive : ArmNext → ReceiveState T → Type 0
   StartsReceive answer new =
       MakesReceive (Recv Arm) after_recv receive_turn.IsParking answer new
@@ -71,10 +76,6 @@ module _ {T : Type 0} (A : Type 0) where
   abbrev pub PollsReceive : ℕ → ArmNext → ReceiveState T → Type 0
   PollsReceive ticket = MakesReceive (step_of_parked_receive ticket false)
       (after_parked_receive ticket false) (receive_turn.IsAgain ticket false)
-
-  abbrev pub Leaves : ℕ → Type 0
-  Leaves ticket = (told : RecvNext T) × HasMade (step_of_parked_receive ticket true)
-      (after_parked_receive {A = A} ticket true) told
 
   -- a turn of a receive arm
   abbrev pub ReceiveTurn : ReceiveState T → ArmNext → ReceiveState T → Type 0
@@ -86,5 +87,5 @@ module _ {T : Type 0} (A : Type 0) where
 
   -- a withdrawal of a receive arm
   abbrev pub ReceiveEnd : ReceiveState T → ReceiveState T → Type 0
-  ReceiveEnd (receiving.Parked ticket) new = (new ≡ receiving.Over) × Leaves ticket
+  ReceiveEnd (receiving.Parked ticket) new = (new ≡ receiving.Over) × Leaves T A ticket
   ReceiveEnd old new = new ≡ old

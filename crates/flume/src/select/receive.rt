@@ -82,7 +82,7 @@ impl<'a, T: Drop, F: Drop, R: Waits, A: Allocator + Copy> RecvArm<'a, T, F, R, A
 
     // Takes the arm, which is parked, out of its channel. A message that it gets so is dropped.
     fn leave(&self, call: RecvCall)
-        ensures leaves { Leaves {T = T} A call }
+        ensures leaves { Leaves T A call }
     {
         let (late, signal) = (true, None);
         let shared = self.receiver.shared();

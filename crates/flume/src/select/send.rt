@@ -81,7 +81,7 @@ impl<'a, T: Drop, F: Drop, R: Waits, A: Allocator + Copy> SendArm<'a, T, F, R, A
 
     // Takes the message of the arm, which is parked, out of its channel, and drops it.
     fn take_back(&self, call: SendCall)
-        ensures takes_back { TakesBack {T = T} A call }
+        ensures takes_back { TakesBack T A call }
     {
         let (late, signal) = (true, None);
         let shared = self.sender.shared();
