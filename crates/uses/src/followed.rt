@@ -12,9 +12,9 @@ use flume_model::step::{Reply, Step};
 use std::alloc::Allocator;
 
 /// Sends each number below this one, and receives after each. The sum of what was received. At the
-/// end the channel stands for the run that it stood for, and these steps after it; the headline
-/// holds of all that, so what was handed out is what was offered, in order, and the rest is queued
-/// or blocked; and the sum is that of the messages that these steps gave out.
+/// end the channel represents the run that it represented before, with these steps after it. The
+/// headline holds of all that: what was handed out is what was offered, in order, and the rest is
+/// queued or blocked. The sum is that of the messages that these steps gave out.
 pub fn pass_all<A: Allocator + Copy>(chan: &mut Chan<u64, (), A>, count: u64) -> u64
     ensures passed { (opening : Opening) (log : Log ℕ A) → Represents opening log chan.old
         → HasPassed opening log count chan.new result }
