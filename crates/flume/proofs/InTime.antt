@@ -75,7 +75,7 @@ module _ {T : Type 0} where
   -- a whole receive with no deadline is never too late
   pub receive_in_time : {old new : Deadline} {result : Result T RecvTimeoutError}
       → receive.WholeReceive RecvFirsts Arms RecvParks RecvAgains InWait old new result → old ≡ Never → result ≢ Err RecvTimeout
-  receive_in_time (receive.AtFirst f) never late = subst (λ r. receive_turn.IsFirst (RecvDone r)) late f.1.0
+  receive_in_time (receive.AtFirst f) never late = subst (λ r. receive_turn.IsFirst (RecvDone r)) late f.1
   receive_in_time (receive.Unarmed f a e) never late = absurd (let none : ⊥ = cc in none)
   receive_in_time (receive.AtPark f a p) never late = subst (λ r. receive_turn.IsParking (RecvDone r)) late p.1
   receive_in_time (receive.Parked f a p rest) never late = parked_receive rest (p.0 ∙ a ∙ f.0 ∙ never) late

@@ -1,1 +1,2 @@
 mod InTime
+mod SendPolls

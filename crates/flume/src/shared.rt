@@ -191,7 +191,8 @@ impl<T: Drop, R: Waits, A: Allocator + Copy> Shared<T, R, A> {
         ensures answers { C.answers turn result }
         ensures made { HasMade (C.step turn) (C.table turn) result }
     {
-        let mut locked = self.lock();
+        let mut guard = self.lock();
+        let locked = &mut *guard;
         locked.facts();
         locked.make(turn, &mut SignalBell { rt: self.rt })
     }

@@ -4,4 +4,4 @@ use Rattle.flume.proofs.select.receive.RecvArm.start.Goals as goal
 
 pub returns-clause-does : goal.returns-clause-does
 returns-clause-does g c =
-    let step = c.call_cold.ensures in inl (_, step.made, step.answers, c.after.ensures.does)
+    let step = c.call_cold.ensures in inl (_, step.made, step.answers, c.after-state.ensures.does)

@@ -1,0 +1,81 @@
+-- A poll of a send that is ready has ended it; where its message wasn't offered before, what comes back is that message.
+use Rattle.std.proofs.Common.{◌≡◌, Option, Some, None, Result, Ok, Err, ◌∙◌, ap}
+use Rattle.flume_state.specs.State.{State}
+use Rattle.flume_core.specs.declared.error.SendError.{SendError}
+use Rattle.flume_core.specs.declared.error.SendError.TheVariants.{Disconnected, NoMemory}
+use Rattle.flume_core.specs.declared.error.SendTimeoutError.TheVariants as timed
+use Rattle.flume_calls.specs.declared.calls.send.SendNext.{SendNext}
+use Rattle.flume_calls.specs.declared.calls.send.SendNext.TheVariants.{Done, NeedSignal, Park}
+use Rattle.flume_calls.specs.declared.polled.send.PolledSend.{PolledSend}
+use Rattle.flume_calls.specs.declared.polled.send.PolledSend.TheVariants.{Unsent, Finished}
+use Rattle.flume_calls.specs.SendTurns.{IsFirst, IsParking}
+use Rattle.flume_calls.specs.PolledSends.{settles_send, SendPoll, Over, Tries, Parks, Asks}
+
+-- what a poll answers
+abbrev Answer : Type 0 → Type 0
+Answer T = Option (Result (Unit {0}) (SendError T))
+
+module _ {T : Type 0} where
+  -- the message that an error holds
+  abbrev pub back_of : SendError T → T
+  back_of (Disconnected back) = back
+  back_of (NoMemory back) = back
+
+  -- a send whose poll is ready is finished
+  settled : (next : SendNext T) (after : PolledSend T) (answer : Answer T) → settles_send next after answer
+      → (result : Result (Unit {0}) (SendError T)) → answer ≡ Some result → after ≡ Finished
+  settled (Done (Ok sent)) after answer is result ready = is.0
+  settled (Done (Err (timed.Disconnected back))) after answer is result ready = is.0
+  settled (Done (Err (timed.NoMemory back))) after answer is result ready = is.0
+  settled (Done (Err (timed.Timeout back))) after answer is result ready = is.0
+  settled (NeedSignal back) after answer is result ready = is.0
+  settled (Park ticket) after answer is result ready =
+      let waits : answer ≡ None = is.1 in absurd (let none : ⊥ = cc in none)
+
+  -- what comes back by a first turn
+  first_back : (message : T) (next : SendNext T) → IsFirst message next → (after : PolledSend T) (answer : Answer T)
+      → settles_send next after answer → (error : SendError T) → answer ≡ Some (Err error) → back_of error ≡ message
+  first_back message (Done (Ok sent)) first after answer is error ready =
+      let ended : answer ≡ Some (Ok tt) = is.1 in absurd (let none : ⊥ = cc in none)
+  first_back message (Done (Err (timed.Disconnected back))) first after answer is error ready =
+      let ended : answer ≡ Some (Err (Disconnected back)) = is.1 in
+      let same : error ≡ Disconnected back = cc in ap back_of same ∙ first
+  first_back message (Done (Err (timed.NoMemory back))) first after answer is error ready =
+      let ended : answer ≡ Some (Err (NoMemory back)) = is.1 in
+      let same : error ≡ NoMemory back = cc in ap back_of same ∙ first
+  first_back message (Done (Err (timed.Timeout back))) first after answer is error ready = absurd first
+  first_back message (NeedSignal back) first after answer is error ready =
+      let ended : answer ≡ Some (Err (NoMemory back)) = is.1 in
+      let same : error ≡ NoMemory back = cc in ap back_of same ∙ first
+  first_back message (Park ticket) first after answer is error ready = absurd first
+
+  -- what comes back by a turn that may park
+  parking_back : (message : T) (next : SendNext T) → IsParking message next → (after : PolledSend T) (answer : Answer T)
+      → settles_send next after answer → (error : SendError T) → answer ≡ Some (Err error) → back_of error ≡ message
+  parking_back message (Done result) parking after answer is error ready =
+      first_back message (Done result) parking after answer is error ready
+  parking_back message (NeedSignal back) parking after answer is error ready = absurd parking
+  parking_back message (Park ticket) parking after answer is error ready =
+      let waits : answer ≡ None = is.1 in absurd (let none : ⊥ = cc in none)
+
+module _ {T S A : Type 0} {send after : PolledSend T} {signal : Option S} {old new : State T S} {answer : Answer T} where
+  -- a send whose poll is ready is finished
+  pub ended : SendPoll A send signal old new after answer → (result : Result (Unit {0}) (SendError T)) → answer ≡ Some result
+      → after ≡ Finished
+  ended (Over is same finished ok) result ready = finished
+  ended (Tries message next is none turned first outcome settles) result ready = settled next after answer settles result ready
+  ended (Parks message next given is some turned parking outcome settles) result ready =
+      settled next after answer settles result ready
+  ended (Asks late ticket next is held signalled turned again outcome settles) result ready =
+      settled next after answer settles result ready
+
+  -- what comes back of one that wasn't sent is its message
+  pub comes_back : SendPoll A send signal old new after answer → (message : T) → send ≡ Unsent message
+      → (error : SendError T) → answer ≡ Some (Err error) → back_of error ≡ message
+  comes_back (Over is same finished ok) message unsent error ready = absurd (let none : ⊥ = cc in none)
+  comes_back (Tries m next is none turned first outcome settles) message unsent error ready =
+      let same : m ≡ message = cc in first_back m next first after answer settles error ready ∙ same
+  comes_back (Parks m next given is some turned parking outcome settles) message unsent error ready =
+      let same : m ≡ message = cc in parking_back m next parking after answer settles error ready ∙ same
+  comes_back (Asks late ticket next is held signalled turned again outcome settles) message unsent error ready =
+      absurd (let none : ⊥ = cc in none)
