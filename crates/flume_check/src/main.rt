@@ -7,6 +7,7 @@ ghost use Rattle.flume_history.specs.HistoryText.{Judges};
 
 use flume_core::error::NoMemory;
 use flume_history::script::check_script;
+use flume_script::Script;
 use flume_script::serving::{FAULT, Unread, read_all, write_answer};
 use std::alloc::Allocator;
 use std::io;
@@ -25,10 +26,9 @@ fn serve<A: Allocator + Copy, R: Read, W: Write>(alloc: A, input: &mut R, output
         → W.contents output.old ≡ Some before
         → Serves (Judges A bytes) before (W.contents output.new) result }
 {
-    let answer = match read_all(alloc, input) {
-        Ok(bytes) => check_script(alloc, &bytes),
-        Err(Unread::NoMemory) => Err(NoMemory),
-        Err(Unread::Fault) => return FAULT,
-    };
-    write_answer(output, answer)
+    match read_all(alloc, input) {
+        Ok(bytes) => write_answer(output, check_script(alloc, &bytes)),
+        Err(Unread::NoMemory) => write_answer(output, Err::<Script<A>, _>(NoMemory)),
+        Err(Unread::Fault) => FAULT,
+    }
 }

@@ -6,8 +6,8 @@ ghost use Rattle.flume_script.specs.Serving.{Serves};
 ghost use Rattle.flume_script.specs.Program.{Prints};
 
 use flume_core::error::NoMemory;
-use flume_script::run_script;
 use flume_script::serving::{FAULT, Unread, read_all, write_answer};
+use flume_script::{Script, run_script};
 use std::alloc::Allocator;
 use std::io;
 use std::io::{Read, Write};
@@ -25,10 +25,9 @@ fn serve<A: Allocator + Copy, R: Read, W: Write>(alloc: A, input: &mut R, output
         → W.contents output.old ≡ Some before
         → Serves (Prints A bytes) before (W.contents output.new) result }
 {
-    let answer = match read_all(alloc, input) {
-        Ok(bytes) => run_script(alloc, &bytes),
-        Err(Unread::NoMemory) => Err(NoMemory),
-        Err(Unread::Fault) => return FAULT,
-    };
-    write_answer(output, answer)
+    match read_all(alloc, input) {
+        Ok(bytes) => write_answer(output, run_script(alloc, &bytes)),
+        Err(Unread::NoMemory) => write_answer(output, Err::<Script<A>, _>(NoMemory)),
+        Err(Unread::Fault) => FAULT,
+    }
 }
