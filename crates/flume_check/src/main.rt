@@ -26,9 +26,14 @@ fn serve<A: Allocator + Copy, R: Read, W: Write>(alloc: A, input: &mut R, output
         → W.contents output.old ≡ Some before
         → Serves (Judges A bytes) before (W.contents output.new) result }
 {
-    match read_all(alloc, input) {
-        Ok(bytes) => write_answer(output, check_script(alloc, &bytes)),
-        Err(Unread::NoMemory) => write_answer(output, Err::<Script<A>, _>(NoMemory)),
-        Err(Unread::Fault) => FAULT,
+    let bytes = match read_all(alloc, input) {
+        Ok(bytes) => bytes,
+        Err(Unread::NoMemory) => return write_answer(output, Err::<Script<A>, _>(NoMemory)),
+        Err(Unread::Fault) => return FAULT,
+    };
+    // Each case by itself: the prover then knows which of the two is written.
+    match check_script(alloc, &bytes) {
+        Ok(script) => write_answer(output, Ok(script)),
+        Err(NoMemory) => write_answer(output, Err::<Script<A>, _>(NoMemory)),
     }
 }
