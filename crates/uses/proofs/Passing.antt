@@ -5,6 +5,7 @@ use Rattle.std.proofs.Math.Nat.{mod-add-mod}
 use Rattle.flume_model.specs.declared.step.Step.{Step}
 use Rattle.flume_model.specs.declared.step.Step.TheVariants.{TrySend, TryRecv}
 use Rattle.flume_model.specs.declared.step.Reply.{Reply}
+use Rattle.flume_model.specs.declared.step.Reply.TheVariants.{Returned, Got, Drained}
 use Rattle.flume_model.specs.Log.{Log}
 use Rattle.flume_model.specs.Conserved.{gives, given_out}
 use Rattle.flume_core.specs.PossibleReply.{PossibleReply}
@@ -25,6 +26,9 @@ sum_of_one message =
 module _ {A : Type 0} where
   -- an offer gives out nothing
   offer_gives : (number : ℕ) (reply : Reply ℕ A) → PossibleReply (TrySend number) reply → gives reply ≡ []
+  offer_gives number (Returned message closed) comes = absurd comes
+  offer_gives number (Got message) comes = absurd comes
+  offer_gives number (Drained list) comes = absurd comes
   offer_gives number _ comes = refl
 
   -- the sum goes on by what was received
@@ -35,7 +39,7 @@ module _ {A : Type 0} where
   sum_next steps number offered received message sum after comes got was is =
       let none : gives offered ≡ [] = offer_gives number offered comes in
       let before = sum_of (given_out steps) in
-      let all : sum_of (gives received ++ gives offered ++ given_out steps) ≡ message + before =
+      let all : sum_of (gives received ++ (gives offered ++ given_out steps)) ≡ message + before =
       sum_by-append (λ m. m) (gives received) (gives offered ++ given_out steps)
       ∙ ap₂ (λ n m. n + m) got (ap (λ l. sum_of (l ++ given_out steps)) none) in
       let turned : before + message ≡ message + before = omega arith in

@@ -31,6 +31,7 @@ module _ {T A : Type 0} where
   first_got m (Got same) result told is = cc
   first_got m Empty result told is = absurd (let none : ⊥ = cc in none)
   first_got m Ended result told is = absurd (let none : ⊥ = cc in none)
+  first_got m (NoMemory back) result told is = absurd (let none : ⊥ = cc in none)
   first_got m _ result told is = absurd told
 
   -- it is never late
@@ -38,6 +39,7 @@ module _ {T A : Type 0} where
   first_in_time (Got same) result told is = cc
   first_in_time Empty result told is = cc
   first_in_time Ended result told is = cc
+  first_in_time (NoMemory back) result told is = cc
   first_in_time _ result told is = absurd told
 
   -- where it needs a signal the channel was empty
@@ -45,6 +47,7 @@ module _ {T A : Type 0} where
   empty Empty told = refl
   empty (Got same) told = absurd (let none : ⊥ = cc in none)
   empty Ended told = absurd (let none : ⊥ = cc in none)
+  empty (NoMemory back) told = absurd (let none : ⊥ = cc in none)
   empty _ told = absurd told
 
   -- the turn that may park, where it ends with a message

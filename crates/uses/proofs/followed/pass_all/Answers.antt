@@ -1,6 +1,7 @@
 -- Each step leads on; at the end the headline holds of the run.
-use Rattle.std.proofs.Common.{[], ◌∷◌, refl, map}
+use Rattle.std.proofs.Common.{◌≡◌, [], ◌∷◌, refl, map, ◌∙◌, ap, rules}
 use Rattle.flume_model.specs.declared.step.Step.TheVariants.{TrySend, TryRecv}
+use Rattle.uses.specs.Followed.{passes}
 use Rattle.uses.proofs.Passing.{passes_next, sum_next}
 use Rattle.uses.proofs.followed.pass_all.Goals as goal
 
@@ -13,11 +14,11 @@ loop-number-preserved g c = record {
       let so_far = c.loop-number.invariant.led o log h in
       let number = c.loop-number.number in
       let offered = c.try_send.result in
-      let received = c.received.ensures.step in (
+      let received = c.received-sum.ensures.step in (
         (TryRecv, received.0) ∷ (TrySend number, offered) ∷ so_far.0,
         passes_next number (map (λ pair. pair.0) so_far.0) so_far.1,
         received.1 o _ (c.try_send.ensures.step o _ so_far.2),
-        sum_next so_far.0 number offered received.0 c.received.result c.loop-number.sum _
+        sum_next so_far.0 number offered received.0 c.received-sum.result c.loop-number.sum _
             c.try_send.ensures.comes received.2 so_far.3 refl,
       );
 }
@@ -26,9 +27,10 @@ pub returns : goal.returns
 returns g c = record {
   passed = λ o log h.
       let all = c.loop-number.invariant.led o log h in
+      let last : c.loop-number.number ≡ c.args.count = search rules in
       record {
         steps = all.0;
-        made = all.1;
+        made = all.1 ∙ ap passes last;
         leads = all.2;
         headline = c.headline_of_steps.ensures.headline o _ all.2;
         sum_is = all.3;
