@@ -44,7 +44,10 @@ pub fn differs<T: Eq, A: Allocator, H: AsSlice<Receipt<T, A>>>(
 
 // The least number of a receipt that isn't above the one before it in its list, or the length
 // where a receipt is past the end and no such number is less.
-fn first_misplaced<T, A: Allocator, H: AsSlice<Receipt<T, A>>>(length: usize, seats: &[H]) -> Option<usize>
+fn first_misplaced<T, A: Allocator, H: AsSlice<Receipt<T, A>>>(
+    length: usize,
+    seats: &[H],
+) -> Option<usize>
     ensures least { IsLeast (λ number. Any (Misplaced length number) (map H.items seats.now))
         result }
 {

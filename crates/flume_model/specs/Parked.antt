@@ -52,8 +52,8 @@ module _ {T A : Type 0} where
   entries opening (p ∷ past) =
       if is_over (p ∷ past) then []
       else entries_after (queue opening past)
-          (not (is_closed_after past) && is_closed_after (p ∷ past))
-          (entries opening past) (change past p.0 p.1)
+      (not (is_closed_after past) && is_closed_after (p ∷ past))
+      (entries opening past) (change past p.0 p.1)
 
   -- the most that waited at once so far
   abbrev pub peak : Opening → Log T A → ℕ
