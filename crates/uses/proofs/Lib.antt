@@ -1,4 +1,5 @@
 mod Returning
+mod Turns
 mod Sending
 mod Receiving
 mod Counting

@@ -1,5 +1,5 @@
 -- What another does is one call.
-use Rattle.uses.proofs.Sending.{by_call}
+use Rattle.uses.proofs.Turns.{by_call}
 use Rattle.uses.proofs.lent.Lent.let_other.Goals as goal
 
 pub returns-in-Some-DropSender : goal.returns-in-Some-DropSender
