@@ -116,15 +116,17 @@ fn wrong_answer<S: Stage>(alloc: Global, stage: &mut S, line: &str) -> io::Resul
 
 impl Script<'_> {
     // What is wrong with the line behind `! `, with the script's growths refused, and whether one
-    // was. Where none was, the first answer is wanted, else the last, and nothing may have changed.
+    // was. Where none was, the first answer is wanted, else the one behind the bar, if there is one,
+    // and nothing may have changed.
     fn wrong_refusal<S: Stage>(
         &self,
         alloc: Global,
         stage: &mut S,
         line: &str,
     ) -> io::Result<Played> {
-        let (calls, answers) = line.split_once(" -> ").unwrap_or((line, ""));
-        let (granted, denied) = answers.split_once(" | ").unwrap_or((answers, ""));
+        let (calls, answers) = line.split_once(" -> ").unwrap_or((line, "done"));
+        let (granted, behind) = answers.split_once(" | ").unwrap_or((answers, answers));
+        let (denied, _) = behind.split_once(" | ").unwrap_or((behind, ""));
         let asks = chosen(calls, self.refused.call);
         let before = shown(alloc, stage)?;
         stage.refuse(self.refused.first, self.refused.last);
@@ -151,7 +153,7 @@ impl Script<'_> {
     }
 
     /// Plays the lines, up to the first whose answer isn't the wanted one. Those below a line
-    /// `! call` of which no growth was refused aren't played.
+    /// `! call` that says what it answers when refused aren't played where no growth of it was.
     pub fn play_on<S: Stage>(&self, alloc: Global, stage: &mut S) -> io::Result<Played> {
         let mut number = self.number.saturating_add(1);
         let mut is_refused = false;
@@ -163,7 +165,7 @@ impl Script<'_> {
                 let wrong = Some(format!(in alloc; "line {number}: {wrong}")?);
                 return Ok(Played { wrong, is_refused });
             }
-            if line.starts_with("! ") && !is_refused {
+            if line.starts_with("! ") && line.contains(" | ") && !is_refused {
                 break;
             }
         }
