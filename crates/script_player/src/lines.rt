@@ -94,6 +94,14 @@ fn chosen(calls: &str, number: usize) -> &str {
     calls.split(" or ").nth(number).unwrap_or("")
 }
 
+// What a call answers of which this growth is refused, out of answers parted by ` / `, one for each
+// growth: the last stands for all after it too.
+fn of_growth(answers: &str, growth: u64) -> &str {
+    let (_, last) = answers.rsplit_once(" / ").unwrap_or(("", answers));
+    let before = growth.saturating_sub(1) as usize;
+    answers.split(" / ").nth(before).unwrap_or(last)
+}
+
 // What is wrong with an answer, in words.
 fn compared(
     alloc: Global,
@@ -127,6 +135,7 @@ impl Script<'_> {
         let (calls, answers) = line.split_once(" -> ").unwrap_or((line, "done"));
         let (granted, behind) = answers.split_once(" | ").unwrap_or((answers, answers));
         let (denied, _) = behind.split_once(" | ").unwrap_or((behind, ""));
+        let denied = of_growth(denied, self.refused.first);
         let asks = chosen(calls, self.refused.call);
         let before = shown(alloc, stage)?;
         stage.refuse(self.refused.first, self.refused.last);
