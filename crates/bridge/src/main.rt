@@ -1,36 +1,38 @@
-//! A bridge between threads and tasks: a thread sends numbers, a task answers each, and the main
-//! thread reads the answers.
+//! A bridge between threads and tasks: a thread sends numbers, one task squares them, another one
+//! doubles the squares, and the main thread reads the answers.
 //!
-//! The task receives by a stream and answers through a sink, the thread sends and the main thread
-//! receives by calls that block. Each channel has one sender and one receiver, so what is printed
-//! comes in the order in which it was sent.
+//! The tasks receive by a stream and answer through a sink, the thread sends and the main thread
+//! receives by calls that block. The first task is a type with a `poll`, which tells why its stream
+//! ended. The second is a chain from the stream to the sink. Each channel has one sender and one
+//! receiver, so what is printed comes in the order in which it was sent.
 #![tactic(auto)]
 
-use flume::error::NoMemory;
 use flume::polled::{RecvStream, SendSink};
 use flume::{Receiver, Runtime, Sender, Waits};
 use futures::executor::block_on;
 use futures::task::{Context, Poll};
-use futures::{Future, Sink, Stream, ready};
+use futures::{Future, Sink, Stream, StreamExt, ready};
 use std::random::RandomSource;
 use std::{io, thread};
 
 fn main(rt: HostRuntime) -> io::Result<()> {
     // Of capacity 2: the thread may be ahead of the task by two numbers, and then waits for it.
     let (give, numbers) = flume::on(rt).bounded(2)?;
-    // Of capacity 1: the task may be ahead of the main thread by one answer, and then waits.
+    // Of capacity 1: a task may be ahead of who receives from it by one answer, and then waits.
+    let (square, squares) = flume::on(rt).bounded(1)?;
     let (answer, answers) = flume::on(rt).bounded(1)?;
     let feeder = thread::spawn(&rt, move || feed(&give))?;
-    let tasks = thread::spawn(&rt, move || run(&rt, numbers, answer))?;
+    let first = thread::spawn(&rt, move || run(&rt, numbers, square))?;
+    let second = thread::spawn(&rt, move || double(&rt, squares, answer))?;
     let mut answers = answers.iter();
     for answer in answers.by_ref() {
         println!(rt; "{answer}")?;
     }
-    if answers.fault() {
-        return Err(NoMemory.into());
-    }
-    // If the task failed, its error says why. The feeder's would only say that nobody received.
-    tasks.join(&rt)?;
+    answers.ended()?;
+    // If a task failed, its error says why. That of those before it would only say that nobody
+    // received.
+    second.join(&rt)?;
+    first.join(&rt)?;
     feeder.join(&rt)
 }
 
@@ -52,6 +54,19 @@ where
     let answers = answers.into_sink();
     // The outer error is the executor's, the inner one the task's.
     block_on(rt, Squares { numbers, answers })?
+}
+
+/// Runs a chain on this thread: each number is doubled, and sent on. It ends without an error also
+/// where the stream ended because memory ran out.
+fn double<R>(rt: &R, numbers: Receiver<u64, R>, answers: Sender<u64, R>) -> io::Result<()>
+where
+    R: Runtime + RandomSource,
+{
+    let doubles = numbers
+        .into_stream()
+        .map(|number| Ok(number.saturating_mul(2)));
+    block_on(rt, doubles.forward(answers.into_sink()))??;
+    Ok(())
 }
 
 /// Answers each number by its square, until no more can come.
@@ -84,9 +99,6 @@ impl<R: Waits> Future for Squares<'_, R> {
 impl<R: Waits> Squares<'_, R> {
     /// Why the stream ended: all senders are gone, or there was no memory to wait.
     fn ended(&self) -> io::Result<()> {
-        if self.numbers.fault() {
-            return Err(NoMemory.into());
-        }
-        Ok(())
+        Ok(self.numbers.ended()?)
     }
 }
