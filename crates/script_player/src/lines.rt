@@ -94,6 +94,14 @@ fn chosen(calls: &str, number: usize) -> &str {
     calls.split(" or ").nth(number).unwrap_or("")
 }
 
+// What a call answers of which this growth is refused, out of answers parted by ` / `, one for each
+// growth: the last stands for all after it too.
+fn of_growth(answers: &str, growth: u64) -> &str {
+    let (_, last) = answers.rsplit_once(" / ").unwrap_or(("", answers));
+    let before = growth.saturating_sub(1) as usize;
+    answers.split(" / ").nth(before).unwrap_or(last)
+}
+
 // What is wrong with an answer, in words.
 fn compared(
     alloc: Global,
@@ -116,15 +124,18 @@ fn wrong_answer<S: Stage>(alloc: Global, stage: &mut S, line: &str) -> io::Resul
 
 impl Script<'_> {
     // What is wrong with the line behind `! `, with the script's growths refused, and whether one
-    // was. Where none was, the first answer is wanted, else the last, and nothing may have changed.
+    // was. Where none was, the first answer is wanted, else the one behind the bar, if there is one,
+    // and nothing may have changed.
     fn wrong_refusal<S: Stage>(
         &self,
         alloc: Global,
         stage: &mut S,
         line: &str,
     ) -> io::Result<Played> {
-        let (calls, answers) = line.split_once(" -> ").unwrap_or((line, ""));
-        let (granted, denied) = answers.split_once(" | ").unwrap_or((answers, ""));
+        let (calls, answers) = line.split_once(" -> ").unwrap_or((line, "done"));
+        let (granted, behind) = answers.split_once(" | ").unwrap_or((answers, answers));
+        let (denied, _) = behind.split_once(" | ").unwrap_or((behind, ""));
+        let denied = of_growth(denied, self.refused.first);
         let asks = chosen(calls, self.refused.call);
         let before = shown(alloc, stage)?;
         stage.refuse(self.refused.first, self.refused.last);
@@ -151,7 +162,7 @@ impl Script<'_> {
     }
 
     /// Plays the lines, up to the first whose answer isn't the wanted one. Those below a line
-    /// `! call` of which no growth was refused aren't played.
+    /// `! call` that says what it answers when refused aren't played where no growth of it was.
     pub fn play_on<S: Stage>(&self, alloc: Global, stage: &mut S) -> io::Result<Played> {
         let mut number = self.number.saturating_add(1);
         let mut is_refused = false;
@@ -163,7 +174,7 @@ impl Script<'_> {
                 let wrong = Some(format!(in alloc; "line {number}: {wrong}")?);
                 return Ok(Played { wrong, is_refused });
             }
-            if line.starts_with("! ") && !is_refused {
+            if line.starts_with("! ") && line.contains(" | ") && !is_refused {
                 break;
             }
         }

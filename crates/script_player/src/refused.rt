@@ -82,6 +82,60 @@ fn by_other<T: Theatre>(
     Ok(None)
 }
 
+// Plays a script with the first growth of its line `! call` refused, and with all of them, by each of
+// so many calls, none of which has one.
+fn by_none<T: Theatre>(
+    alloc: Global,
+    theatre: &T,
+    script: &Script<'_>,
+    calls: usize,
+) -> io::Result<Option<String>> {
+    for call in 0..calls {
+        match with_growth(alloc, theatre, script, (1, call))? {
+            Outcome::Wrong(wrong) => return Ok(Some(wrong)),
+            Outcome::Refused => {
+                let text = format!(in alloc; "call {call} has a growth, and none is named")?;
+                return Ok(Some(text));
+            }
+            Outcome::NotRefused => {}
+        }
+    }
+    Ok(None)
+}
+
+// How many growths a line names: `parker, 4 blocks of a table` names five.
+fn named(names: &str) -> u64 {
+    let mut growths = 0u64;
+    for name in names.split(", ") {
+        let (first, _) = name.split_once(" ").unwrap_or((name, ""));
+        let one = if name.is_empty() { 0 } else { 1 };
+        growths = growths.saturating_add(first.parse::<u64>().unwrap_or(one));
+    }
+    growths
+}
+
+// Plays a script with each growth of its line `! call` refused, by each of so many calls. It has as
+// many as are named.
+fn by_each<T: Theatre>(
+    alloc: Global,
+    theatre: &T,
+    script: &Script<'_>,
+    (calls, names): (usize, &str),
+) -> io::Result<Option<String>> {
+    let (mut wrong, end) = each_growth(alloc, theatre, script)?;
+    let growths = end.saturating_sub(1);
+    let named = named(names);
+    if wrong.is_none() && growths != named {
+        wrong = Some(format!(in alloc; "the number of its growths is {growths}, not {named}")?);
+    }
+    for call in 1..calls {
+        if wrong.is_none() {
+            wrong = by_other(alloc, theatre, script, (end, call))?;
+        }
+    }
+    Ok(wrong)
+}
+
 /// What is wrong with a script whose line `! call` is this, without the `! `.
 pub(crate) fn wrong_if_refused<T: Theatre>(
     alloc: Global,
@@ -89,12 +143,13 @@ pub(crate) fn wrong_if_refused<T: Theatre>(
     script: &Script<'_>,
     line: &str,
 ) -> io::Result<Option<String>> {
-    let (mut wrong, end) = each_growth(alloc, theatre, script)?;
-    let calls = line.split(" or ").count();
-    for call in 1..calls {
-        if wrong.is_none() {
-            wrong = by_other(alloc, theatre, script, (end, call))?;
+    let (asks, answers) = line.split_once(" -> ").unwrap_or((line, ""));
+    let calls = asks.split(" or ").count();
+    match answers.split_once(" | ") {
+        Some((_, refusal)) => {
+            let (_, names) = refusal.split_once(" | ").unwrap_or((refusal, ""));
+            by_each(alloc, theatre, script, (calls, names))
         }
+        None => by_none(alloc, theatre, script, calls),
     }
-    Ok(wrong)
 }

@@ -12,4 +12,6 @@ mod mappers;
 #[cfg(test)]
 mod meeting;
 #[cfg(test)]
+mod parkers;
+#[cfg(test)]
 mod types;
