@@ -10,7 +10,7 @@ loop-seat-preserved g c = record {
   least = λ later is.
       let here = from_here g.H.AsSlice.items c.args.seats.now c.loop-seat.seat-index
       c.seat-item.result c.loop-seat-test.true c.seat-item.is in
-      let of_list = rw c.list.ensures.list at c.misplaced_in.ensures.least in
+      let of_list = rw c.as_slice.ensures at c.misplaced_in.ensures.least in
       rw (c.lesser-least.ensures.lesser, lesser_assoc)
       (c.loop-seat.invariant.least _ (rw here
       (least_of_any (Misplaced c.args.length) _ _ c.misplaced_in.result later of_list is)));
