@@ -1,7 +1,7 @@
 //! The result, from answers that come in any order.
-ghost use Rattle.std.specs.Prelude.{◌≡◌, All, IfNone, IfOk, IfSome, Some, false, map, true};
+ghost use Rattle.std.specs.Prelude.{◌≡◌, IfOk, map};
 ghost use Rattle.std.specs.Iterator.{IsFinite};
-ghost use Rattle.std.specs.List.{slice_get};
+ghost use Rattle.parallel_map.specs.Found.{IsFound};
 
 use crate::answer::Answer;
 use crate::error::WorkError;
@@ -52,10 +52,7 @@ pub fn position<W: Work<Value = bool>, I: Iterator<Item = Answer<W>> + Drop>(
 ) -> Result<Option<usize>, WorkError>
     requires can { I.can_next answers }
     requires ends { IsFinite (I.remaining answers) }
-    ensures some { IfOk result (λ found. IfSome found (λ number.
-        slice_get (map W.meaning jobs.now) number ≡ Some true)) }
-    ensures none { IfOk result (λ found. IfNone found
-        (All (λ value. value ≡ false) (map W.meaning jobs.now))) }
+    ensures found { IfOk result (IsFound (map W.meaning jobs.now)) }
 {
     let mut slots = Slots::new(alloc, jobs)?;
     for answer in answers {
@@ -87,8 +84,7 @@ fn in_order<W: Work>(alloc: Global, slots: Slots<'_, W>) -> Result<Vec<W::Value>
 
 // Where the first `true` stands.
 fn first_true(values: &[bool]) -> Option<usize>
-    ensures some { IfSome result (λ number. slice_get values.now number ≡ Some true) }
-    ensures none { IfNone result (All (λ value. value ≡ false) values.now) }
+    ensures found { IsFound values.now result }
 {
     values.iter().position(|value| *value)
 }

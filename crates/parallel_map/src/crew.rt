@@ -1,47 +1,55 @@
 //! The threads that do the jobs.
-ghost use Rattle.std.specs.Prelude.{◌≡◌, Ok};
+ghost use Rattle.std.specs.Prelude.{IfOk};
 
 use crate::answer::Answer;
 use crate::error::WorkError;
+use crate::gather::Gather;
 use crate::work::Work;
 use flume::error::NoMemory;
 use flume::{Receiver, Runtime, SendError, Sender, Waits};
-use std::thread::{JoinHandle, Scope, Threads};
+use std::thread;
+use std::thread::{JoinHandle, Threads};
 
 // How many jobs and how many answers wait in a channel at most.
 const CAPACITY: usize = 16;
 
-/// What a thread says at its end: whether memory was refused to it.
-pub(crate) type Ended = Result<(), NoMemory>;
+// What a thread says at its end: whether memory was refused to it.
+type Ended = Result<(), NoMemory>;
 
-/// Threads at work: one hands out the jobs, the others do them.
-pub(crate) struct Crew<W: Work, R: Waits> {
-    /// The answers. Where this is dropped, all threads end.
-    pub(crate) answers: Receiver<Answer<W>, R>,
-    pub(crate) threads: Vec<JoinHandle<Ended>>,
-}
-
-impl<W: Work + Sync, R: Runtime> Crew<W, R> {
-    /// Starts the threads. One of its own hands out the jobs: who receives the answers can't wait
-    /// for room here. Where one can't be started, the ends of the channels go, and so the others
-    /// end.
-    pub(crate) fn start<'s, E: 's>(
-        scope: &'s Scope<'s, E>,
-        rt: R,
-        work: &'s W,
-        jobs: &'s [W::Job],
-        workers: usize,
-    ) -> Result<Self, WorkError> {
-        let (give, to_do) = flume::on(rt).bounded(CAPACITY)?;
-        let (done, answers) = flume::on(rt).bounded(CAPACITY)?;
-        let mut threads = Vec::new(rt.alloc());
-        for _ in 0..workers.max(1) {
-            let (to_do, done) = (to_do.clone()?, done.clone()?);
-            threads.push(scope.spawn(move || serve(work, &to_do, &done))?)?;
-        }
-        threads.push(scope.spawn(move || feed(jobs, &give))?)?;
-        Ok(Crew { answers, threads })
-    }
+/// What is made of the answers of so many threads, at least one. One more hands the jobs to them:
+/// who receives the answers can't wait for room. At the end of the scope all of them have ended,
+/// also where one can't be started: the ends of the channels go then, and so the others end.
+pub(crate) fn by_threads<W: Work + Sync, R: Runtime, G: Gather<W>>(
+    rt: R,
+    work: &W,
+    jobs: &[W::Job],
+    workers: usize,
+    gather: &G,
+) -> Result<G::Result, WorkError>
+where
+    W::Job: Send + Sync,
+    W::Value: Send,
+    ensures right { IfOk result (G.is_right jobs.now) }
+{
+    thread::scope(
+        thread::scope_env(),
+        &rt,
+        |scope| -> Result<G::Result, WorkError>
+            ensures right { IfOk result (G.is_right jobs.entry.now) }
+        {
+            let (give, to_do) = flume::on(rt).bounded(CAPACITY)?;
+            let (done, answers) = flume::on(rt).bounded(CAPACITY)?;
+            let mut threads = Vec::new(rt.alloc());
+            for _ in 0..workers.max(1) {
+                let (to_do, done) = (to_do.clone()?, done.clone()?);
+                threads.push(scope.spawn(move || serve(work, &to_do, &done))?)?;
+            }
+            drop(to_do);
+            drop(done);
+            threads.push(scope.spawn(move || feed(jobs, &give))?)?;
+            received(rt, jobs, answers, threads, gather)
+        },
+    )
 }
 
 // Does jobs until there are no more, or nobody receives the answers.
@@ -58,7 +66,7 @@ fn serve<W: Work, R: Waits>(
             Err(SendError::NoMemory(_)) => return Err(NoMemory),
         }
     }
-    if jobs.fault() { Err(NoMemory) } else { Ok(()) }
+    jobs.ended()
 }
 
 // Sends all jobs with their numbers, or those up to where no worker is left.
@@ -73,21 +81,30 @@ fn feed<J: Copy, R: Waits>(jobs: &[J], give: &Sender<(usize, J), R>) -> Ended {
     Ok(())
 }
 
-/// Waits until the threads have ended, and says whether memory was refused to one of them.
-pub(crate) fn any_refused<R: Threads>(rt: &R, threads: Vec<JoinHandle<Ended>>) -> bool {
-    let mut refused = false;
-    for thread in threads {
-        refused |= thread.join(rt).is_err();
-    }
-    refused
+// What is made of the answers that come. Then the receiver goes, and so the threads end.
+fn received<W: Work, R: Runtime, G: Gather<W>>(
+    rt: R,
+    jobs: &[W::Job],
+    answers: Receiver<Answer<W>, R>,
+    threads: Vec<JoinHandle<Ended>>,
+    gather: &G,
+) -> Result<G::Result, WorkError>
+    ensures right { IfOk result (G.is_right jobs.now) }
+{
+    let mut answers = answers.into_iter();
+    let found = gather.gather(rt.alloc(), jobs, answers.by_ref());
+    let ended = answers.ended();
+    drop(answers);
+    join_all(&rt, threads)?;
+    ended?;
+    found
 }
 
-/// The result. Where memory was refused to a thread, an answer that is missing is missing for that.
-pub(crate) fn explained<V>(found: Result<V, WorkError>, refused: bool) -> Result<V, WorkError>
-    ensures ok { (value : V) → result ≡ Ok value → found ≡ Ok value }
-{
-    match found {
-        Err(WorkError::Missing(_)) if refused => Err(WorkError::NoMemory),
-        found => found,
+// Waits until all have ended. `Err`: memory was refused to one of them.
+fn join_all<R: Threads>(rt: &R, threads: Vec<JoinHandle<Ended>>) -> Ended {
+    let mut ended = Ok(());
+    for thread in threads {
+        ended = ended.and(thread.join(rt));
     }
+    ended
 }

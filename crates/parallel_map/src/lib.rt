@@ -38,8 +38,8 @@ pub mod answer;
 pub mod answers;
 mod crew;
 pub mod error;
+mod gather;
 mod map;
-mod search;
 mod slots;
 #[cfg(test)]
 mod tests;
@@ -47,6 +47,5 @@ pub mod work;
 
 pub use answer::Answer;
 pub use error::WorkError;
-pub use map::parallel_map;
-pub use search::position_any;
+pub use map::{parallel_map, position_any};
 pub use work::Work;

@@ -1,16 +1,16 @@
-//! The values of all jobs.
-ghost use Rattle.std.specs.Prelude.{◌≡◌, map, IfOk};
+//! What threads make of a list of jobs.
+ghost use Rattle.std.specs.Prelude.{◌≡◌, IfOk, map};
+ghost use Rattle.parallel_map.specs.Found.{IsFound};
 
-use crate::answers::collect;
-use crate::crew::{Crew, any_refused, explained};
+use crate::crew::by_threads;
 use crate::error::WorkError;
+use crate::gather::{Place, Values};
 use crate::work::Work;
 use flume::Runtime;
-use std::thread;
-use std::thread::Scope;
 
 /// The values of all jobs, in the order of the jobs, by so many threads: at least one, and another
-/// one that hands the jobs to them. All have ended when it returns.
+/// one that hands the jobs to them. All have ended when it returns. Where memory was refused to one
+/// of them it answers `NoMemory`.
 ///
 /// ```
 /// let squares = parallel_map(rt, &Square, &[1, 2, 3], 2)?;
@@ -22,28 +22,33 @@ pub fn parallel_map<W: Work + Sync, R: Runtime>(
     jobs: &[W::Job],
     workers: usize,
 ) -> Result<Vec<W::Value>, WorkError>
+where
+    W::Job: Send + Sync,
+    W::Value: Send,
     ensures values { IfOk result (λ values. values.items ≡ map W.meaning jobs.now) }
 {
-    thread::scope(thread::scope_env(), &rt, |scope| {
-        map_within(scope, rt, work, jobs, workers)
-    })
+    by_threads(rt, work, jobs, workers, &Values)
 }
 
-// The same, by threads of this scope.
-fn map_within<'s, E: 's, W: Work + Sync, R: Runtime>(
-    scope: &'s Scope<'s, E>,
+/// The number of a job of the value `true`, by threads as those of `parallel_map`. If there are
+/// several such jobs it is one of them. `None`: there is none.
+///
+/// It drops its receiver once it knows the number. Then the sends of the workers answer
+/// `Disconnected`, and they end; and with them the thread that hands out the jobs.
+///
+/// ```
+/// let found = position_any(rt, &IsEven, &[7, 8, 9], 2)?;
+/// assert_eq!(rt; found, Some(1));
+/// ```
+pub fn position_any<W: Work<Value = bool> + Sync, R: Runtime>(
     rt: R,
-    work: &'s W,
-    jobs: &'s [W::Job],
+    work: &W,
+    jobs: &[W::Job],
     workers: usize,
-) -> Result<Vec<W::Value>, WorkError>
-    ensures values { IfOk result (λ values. values.items ≡ map W.meaning jobs.now) }
+) -> Result<Option<usize>, WorkError>
+where
+    W::Job: Send + Sync,
+    ensures found { IfOk result (IsFound (map W.meaning jobs.now)) }
 {
-    let Crew { answers, threads } = Crew::start(scope, rt, work, jobs, workers)?;
-    let mut answers = answers.into_iter();
-    let values = collect(rt.alloc(), jobs, answers.by_ref());
-    let refused = answers.fault();
-    drop(answers);
-    let refused = any_refused(&rt, threads) || refused;
-    explained(values, refused)
+    by_threads(rt, work, jobs, workers, &Place)
 }

@@ -28,10 +28,10 @@ ghost use Rattle.std.specs.Prelude.{◌≡◌, true};
 /// ```
 pub trait Work {
     /// What is asked.
-    type Job: Copy + Eq + Send + Sync;
+    type Job: Copy + Eq;
 
     /// What comes of it.
-    type Value: Drop + Send;
+    type Value: Drop;
 
     // The value of each job.
     ghost meaning: { Self.Job → Self.Value };
