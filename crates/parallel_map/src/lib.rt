@@ -41,8 +41,6 @@ pub mod error;
 mod gather;
 mod map;
 mod slots;
-#[cfg(test)]
-mod tests;
 pub mod work;
 
 pub use answer::Answer;

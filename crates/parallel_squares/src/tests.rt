@@ -2,8 +2,8 @@
 ghost use Rattle.std.specs.Prelude.{◌%◌, ◌==◌};
 ghost use Rattle.std.proofs.Common.{rules};
 
-use crate::answers::collect;
-use crate::{Answer, Work, WorkError, parallel_map, position_any};
+use parallel_map::answers::collect;
+use parallel_map::{Answer, Work, WorkError, parallel_map, position_any};
 use std::alloc::{AllocError, Global};
 use std::test::Fail;
 
