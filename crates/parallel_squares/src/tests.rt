@@ -41,7 +41,7 @@ impl Work for IsNinety {
     }
 }
 
-// The numbers from 0 to 99, or up to this one.
+// The numbers below this one.
 fn numbers(alloc: Global, end: u64) -> Result<Vec<u64>, AllocError> {
     let mut numbers = Vec::new(alloc);
     for number in 0..end {
@@ -68,10 +68,11 @@ fn any_number_of_workers_give_what_a_loop_gives(rt: HostRuntime) -> Result<(), F
 #[test]
 fn a_search_finds_the_one_job_wherever_it_stands(rt: HostRuntime) -> Result<(), Fail> {
     let mut jobs = numbers(rt.alloc(), 100)?;
+    let without = numbers(rt.alloc(), 90)?;
     for workers in [1, 2, 5] {
         assert_eq!(rt; position_any(rt, &IsNinety, &jobs, workers)?, Some(90));
-        assert_eq!(rt; position_any(rt, &IsNinety, &jobs[..90], workers)?, None);
-        // All of them pass, and most aren't tried: both channels are full when the search ends.
+        assert_eq!(rt; position_any(rt, &IsNinety, &without, workers)?, None);
+        // All of them pass: the search ends at the first answer, while jobs are left.
         assert!(rt; position_any(rt, &IsNinety, &[90; 100], workers)?.is_some());
     }
     jobs.reverse();
