@@ -1,5 +1,5 @@
 -- Places that hold the values of jobs, or nothing yet.
-use Rattle.std.specs.Prelude.{◌≡◌, ℕ, List, Option, None, Some, length}
+use Rattle.std.specs.Prelude.{◌≡◌, ℕ, List, Option, Some, length}
 use Rattle.std.specs.List.{slice_get}
 
 module _ {V : Type 0} where
