@@ -1,0 +1,90 @@
+//! The result, from answers that come in any order.
+ghost use Rattle.std.specs.Prelude.{◌≡◌, IfOk, map};
+ghost use Rattle.std.specs.Iterator.{IsFinite};
+ghost use Rattle.parallel_map.specs.Found.{IsFound};
+
+use crate::answer::Answer;
+use crate::error::WorkError;
+use crate::slots::Slots;
+use crate::work::Work;
+use std::alloc::Global;
+
+/// The values of all jobs, in the order of the jobs. It compares each answer with the list: what
+/// the iterator gives needn't be believed. It stops at the first answer that is to no job
+/// (`Unknown`) or to a job that was answered (`Doubled`). Where the iterator ends before each job
+/// was answered, the first that wasn't is `Missing`.
+///
+/// ```
+/// let mixed = [Answer::of(&Square, 1, 3), Answer::of(&Square, 0, 2)];
+/// let answers = Vec::from_array(alloc, mixed)?;
+/// let values = collect(alloc, &[2, 3], answers.into_iter())?;
+/// assert_eq!(rt; values.as_slice(), [4, 9].as_slice());
+/// ```
+pub fn collect<W: Work, I: Iterator<Item = Answer<W>> + Drop>(
+    alloc: Global,
+    jobs: &[W::Job],
+    answers: I,
+) -> Result<Vec<W::Value>, WorkError>
+    requires can { I.can_next answers }
+    requires ends { IsFinite (I.remaining answers) }
+    ensures values { IfOk result (λ values. values.items ≡ map W.meaning jobs.now) }
+{
+    let mut slots = Slots::new(alloc, jobs)?;
+    for answer in answers {
+        slots.put(answer)?;
+    }
+    in_order(alloc, slots)
+}
+
+/// The number of a job of the value `true`: that of the first answer with this value, at which it
+/// stops. `None` where each job was answered, and none has this value. The errors are those of
+/// `collect`.
+///
+/// ```
+/// let answers = Vec::from_array(alloc, [Answer::of(&IsEven, 1, 8)])?;
+/// let found = position(alloc, &[7, 8, 9], answers.into_iter())?;
+/// assert_eq!(rt; found, Some(1));
+/// ```
+pub fn position<W: Work<Value = bool>, I: Iterator<Item = Answer<W>> + Drop>(
+    alloc: Global,
+    jobs: &[W::Job],
+    answers: I,
+) -> Result<Option<usize>, WorkError>
+    requires can { I.can_next answers }
+    requires ends { IsFinite (I.remaining answers) }
+    ensures found { IfOk result (IsFound (map W.meaning jobs.now)) }
+{
+    let mut slots = Slots::new(alloc, jobs)?;
+    for answer in answers {
+        let (number, found) = (answer.number, answer.value);
+        slots.put(answer)?;
+        if found {
+            return Ok(Some(number));
+        }
+    }
+    let values = in_order(alloc, slots)?;
+    Ok(first_true(&values))
+}
+
+// The values of all places. `Missing`: this place is empty.
+#[tactic(auto, using(crate::proofs::Places::take_found))]
+fn in_order<W: Work>(alloc: Global, slots: Slots<'_, W>) -> Result<Vec<W::Value>, WorkError>
+    ensures values { IfOk result (λ values. values.items ≡ map W.meaning slots.entry.jobs.now) }
+{
+    let mut slots = slots;
+    let mut values = Vec::new(alloc);
+    for number in 0..slots.jobs.len() {
+        match slots.take(number) {
+            Some(value) => values.push(value)?,
+            None => return Err(WorkError::Missing(number)),
+        }
+    }
+    Ok(values)
+}
+
+// Where the first `true` stands.
+fn first_true(values: &[bool]) -> Option<usize>
+    ensures found { IsFound values.now result }
+{
+    values.iter().position(|value| *value)
+}

@@ -1,0 +1,110 @@
+//! The threads that do the jobs.
+ghost use Rattle.std.specs.Prelude.{IfOk};
+
+use crate::answer::Answer;
+use crate::error::WorkError;
+use crate::gather::Gather;
+use crate::work::Work;
+use flume::error::NoMemory;
+use flume::{Receiver, Runtime, SendError, Sender, Waits};
+use std::thread;
+use std::thread::{JoinHandle, Threads};
+
+// How many jobs and how many answers wait in a channel at most.
+const CAPACITY: usize = 16;
+
+// What a thread says at its end: whether memory was refused to it.
+type Ended = Result<(), NoMemory>;
+
+/// What is made of the answers of so many threads, at least one. One more hands the jobs to them:
+/// who receives the answers can't wait for room. At the end of the scope all of them have ended,
+/// also where one can't be started: the ends of the channels go then, and so the others end.
+pub(crate) fn by_threads<W: Work + Sync, R: Runtime, G: Gather<W>>(
+    rt: R,
+    work: &W,
+    jobs: &[W::Job],
+    workers: usize,
+    gather: &G,
+) -> Result<G::Result, WorkError>
+where
+    W::Job: Send + Sync,
+    W::Value: Send,
+    ensures right { IfOk result (G.is_right jobs.now) }
+{
+    thread::scope(
+        thread::scope_env(),
+        &rt,
+        |scope| -> Result<G::Result, WorkError>
+            ensures right { IfOk result (G.is_right jobs.entry.now) }
+        {
+            let (give, to_do) = flume::on(rt).bounded(CAPACITY)?;
+            let (done, answers) = flume::on(rt).bounded(CAPACITY)?;
+            let mut threads = Vec::new(rt.alloc());
+            for _ in 0..workers.max(1) {
+                let (to_do, done) = (to_do.clone()?, done.clone()?);
+                threads.push(scope.spawn(move || serve(work, &to_do, &done))?)?;
+            }
+            drop(to_do);
+            drop(done);
+            threads.push(scope.spawn(move || feed(jobs, &give))?)?;
+            received(rt, jobs, answers, threads, gather)
+        },
+    )
+}
+
+// Does jobs until there are no more, or nobody receives the answers.
+fn serve<W: Work, R: Waits>(
+    work: &W,
+    to_do: &Receiver<(usize, W::Job), R>,
+    done: &Sender<Answer<W>, R>,
+) -> Ended {
+    let mut jobs = to_do.iter();
+    for (number, job) in jobs.by_ref() {
+        match done.send(Answer::of(work, number, job)) {
+            Ok(()) => {}
+            Err(SendError::Disconnected(_)) => return Ok(()),
+            Err(SendError::NoMemory(_)) => return Err(NoMemory),
+        }
+    }
+    jobs.ended()
+}
+
+// Sends all jobs with their numbers, or those up to where no worker is left.
+fn feed<J: Copy, R: Waits>(jobs: &[J], give: &Sender<(usize, J), R>) -> Ended {
+    for (number, job) in jobs.iter().enumerate() {
+        match give.send((number, *job)) {
+            Ok(()) => {}
+            Err(SendError::Disconnected(_)) => return Ok(()),
+            Err(SendError::NoMemory(_)) => return Err(NoMemory),
+        }
+    }
+    Ok(())
+}
+
+// What is made of the answers that come. Then the receiver goes, and so the threads end.
+fn received<W: Work, R: Runtime, G: Gather<W>>(
+    rt: R,
+    jobs: &[W::Job],
+    answers: Receiver<Answer<W>, R>,
+    threads: Vec<JoinHandle<Ended>>,
+    gather: &G,
+) -> Result<G::Result, WorkError>
+    ensures right { IfOk result (G.is_right jobs.now) }
+{
+    let mut answers = answers.into_iter();
+    let found = gather.gather(rt.alloc(), jobs, answers.by_ref());
+    let ended = answers.ended();
+    drop(answers);
+    join_all(&rt, threads)?;
+    ended?;
+    found
+}
+
+// Waits until all have ended. `Err`: memory was refused to one of them.
+fn join_all<R: Threads>(rt: &R, threads: Vec<JoinHandle<Ended>>) -> Ended {
+    let mut ended = Ok(());
+    for thread in threads {
+        ended = ended.and(thread.join(rt));
+    }
+    ended
+}

@@ -1,0 +1,87 @@
+//! Why there is no result.
+use flume::error::NoMemory;
+use std::alloc::{AllocError, AllocFailed};
+use std::error::Error;
+use std::io::ErrorKind;
+use std::thread::SpawnError;
+use std::{fmt, io};
+
+/// Why there is no result. The last three say that the answers weren't those to the jobs. With
+/// channels that do what they should none of them comes.
+///
+/// ```
+/// let none = Vec::<Answer<Square>>::new(alloc);
+/// let values = collect(alloc, &[2, 3], none.into_iter());
+/// assert_eq!(rt; values, Err(WorkError::Missing(0)));
+/// ```
+#[derive(Clone, Copy, Debug, PartialEq, Eq, Drop)]
+pub enum WorkError {
+    /// Memory was wanted, and there was none.
+    NoMemory,
+    /// A thread was wanted, and none could be started.
+    NoThread,
+    /// No answer has this number.
+    Missing(usize),
+    /// A second answer has this number.
+    Doubled(usize),
+    /// An answer has this number, and the list hasn't its job there.
+    Unknown(usize),
+}
+
+impl WorkError {
+    // What `{}` writes of it.
+    fn text(self) -> &'static str {
+        match self {
+            WorkError::NoMemory => "out of memory",
+            WorkError::NoThread => "no thread could be started",
+            WorkError::Missing(_) => "the answer to a job is missing",
+            WorkError::Doubled(_) => "a job was answered twice",
+            WorkError::Unknown(_) => "an answer is to no job of the list",
+        }
+    }
+}
+
+/// One text for each case, padded and cut as text is.
+impl fmt::Display for WorkError {
+    fn fmt<W: fmt::Write>(&self, f: &mut fmt::Formatter<W>) -> fmt::Result {
+        f.pad(self.text())
+    }
+}
+
+impl Error for WorkError {}
+
+/// Of the kind `OutOfMemory`, `WouldBlock` where there was no thread, or `InvalidData`.
+impl From<WorkError> for io::Error {
+    fn from(e: WorkError) -> io::Error {
+        let kind = match e {
+            WorkError::NoMemory => ErrorKind::OutOfMemory,
+            WorkError::NoThread => ErrorKind::WouldBlock,
+            _ => ErrorKind::InvalidData,
+        };
+        io::Error::new(kind, e.text())
+    }
+}
+
+impl From<NoMemory> for WorkError {
+    fn from(_refused: NoMemory) -> WorkError {
+        WorkError::NoMemory
+    }
+}
+
+impl From<AllocError> for WorkError {
+    fn from(_refused: AllocError) -> WorkError {
+        WorkError::NoMemory
+    }
+}
+
+impl<T: Drop> From<AllocFailed<T>> for WorkError {
+    fn from(_refused: AllocFailed<T>) -> WorkError {
+        WorkError::NoMemory
+    }
+}
+
+impl<F: Drop> From<SpawnError<F>> for WorkError {
+    fn from(_refused: SpawnError<F>) -> WorkError {
+        WorkError::NoThread
+    }
+}

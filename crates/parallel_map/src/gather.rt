@@ -1,0 +1,66 @@
+//! What is made of the answers to jobs.
+ghost use Rattle.std.specs.Prelude.{◌≡◌, List, IfOk, map};
+ghost use Rattle.std.specs.Iterator.{IsFinite};
+ghost use Rattle.parallel_map.specs.Found.{IsFound};
+
+use crate::answer::Answer;
+use crate::answers::{collect, position};
+use crate::error::WorkError;
+use crate::work::Work;
+use std::alloc::Global;
+
+/// A way to make a result of the answers, which come in any order.
+pub(crate) trait Gather<W: Work> {
+    /// The result.
+    type Result: Drop;
+
+    // When it is right for these jobs.
+    ghost is_right: { List W.Job → Self.Result → Type 0 };
+
+    /// The result. It may stop before the answers end.
+    fn gather<I: Iterator<Item = Answer<W>> + Drop>(
+        &self,
+        alloc: Global,
+        jobs: &[W::Job],
+        answers: I,
+    ) -> Result<Self::Result, WorkError>
+        requires can { I.can_next answers }
+        requires ends { IsFinite (I.remaining answers) }
+        ensures right { IfOk result (is_right jobs.now) };
+}
+
+/// The values of all jobs.
+pub(crate) struct Values;
+
+impl<W: Work> Gather<W> for Values {
+    type Result = Vec<W::Value>;
+
+    ghost is_right = { λ jobs values. values.items ≡ map W.meaning jobs };
+
+    fn gather<I: Iterator<Item = Answer<W>> + Drop>(
+        &self,
+        alloc: Global,
+        jobs: &[W::Job],
+        answers: I,
+    ) -> Result<Vec<W::Value>, WorkError> {
+        collect(alloc, jobs, answers)
+    }
+}
+
+/// The number of a job of the value `true`.
+pub(crate) struct Place;
+
+impl<W: Work<Value = bool>> Gather<W> for Place {
+    type Result = Option<usize>;
+
+    ghost is_right = { λ jobs found. IsFound (map W.meaning jobs) found };
+
+    fn gather<I: Iterator<Item = Answer<W>> + Drop>(
+        &self,
+        alloc: Global,
+        jobs: &[W::Job],
+        answers: I,
+    ) -> Result<Option<usize>, WorkError> {
+        position(alloc, jobs, answers)
+    }
+}

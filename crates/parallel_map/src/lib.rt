@@ -1,0 +1,49 @@
+//! Jobs for many threads, whose result is proved.
+//!
+//! `parallel_map` gives the jobs of a list to threads, through one channel, and gets their answers
+//! back through another, in any order. Where it answers `Ok`, the list is the value of each job, in
+//! the order of the jobs: what a loop in one thread would give. `position_any` searches the list in
+//! the same way, and ends its threads once one of them found something.
+//!
+//! ```
+//! let squares = parallel_map(rt, &Square, &[1, 2, 3], 2)?;
+//! assert_eq!(rt; squares.as_slice(), [1, 4, 9].as_slice());
+//! ```
+//!
+//! # Why it is proved
+//!
+//! No contract says which message a receive gives: other threads decide that. So nothing here rests
+//! on what the channels deliver.
+//!
+//! - The type of an answer says that its value is the work of its job (`Answer`). A value of a type
+//!   keeps what its type says, whichever way it came.
+//! - Whoever receives an answer compares its job with the job that the list has under its number,
+//!   and looks whether that number was answered before (`answers::collect`). At the end there has
+//!   to be an answer for each number.
+//!
+//! A channel that lost, doubled or mixed up messages could bring `Missing`, `Doubled` or `Unknown`,
+//! and never a wrong `Ok`. What isn't proved: that the call ends, and that it answers `Ok`.
+//!
+//! # For a program of your own
+//!
+//! Say what is to be done by a `Work`, and call one of the two functions. If your threads talk in
+//! another way, send an `Answer` or a type like it: a struct that has what was asked beside what
+//! came of it, with a ghost field that ties them together. Where it is received, compare what was
+//! asked with what you wanted to know. Then what you make of the answers is proved, and you needn't
+//! believe the way that they came. `answers::collect` and `answers::position` do that for any
+//! iterator over answers.
+#![tactic(auto)]
+
+pub mod answer;
+pub mod answers;
+mod crew;
+pub mod error;
+mod gather;
+mod map;
+mod slots;
+pub mod work;
+
+pub use answer::Answer;
+pub use error::WorkError;
+pub use map::{parallel_map, position_any};
+pub use work::Work;

@@ -1,0 +1,54 @@
+//! What threads make of a list of jobs.
+ghost use Rattle.std.specs.Prelude.{◌≡◌, IfOk, map};
+ghost use Rattle.parallel_map.specs.Found.{IsFound};
+
+use crate::crew::by_threads;
+use crate::error::WorkError;
+use crate::gather::{Place, Values};
+use crate::work::Work;
+use flume::Runtime;
+
+/// The values of all jobs, in the order of the jobs, by so many threads: at least one, and another
+/// one that hands the jobs to them. All have ended when it returns. Where memory was refused to one
+/// of them it answers `NoMemory`.
+///
+/// ```
+/// let squares = parallel_map(rt, &Square, &[1, 2, 3], 2)?;
+/// assert_eq!(rt; squares.as_slice(), [1, 4, 9].as_slice());
+/// ```
+pub fn parallel_map<W: Work + Sync, R: Runtime>(
+    rt: R,
+    work: &W,
+    jobs: &[W::Job],
+    workers: usize,
+) -> Result<Vec<W::Value>, WorkError>
+where
+    W::Job: Send + Sync,
+    W::Value: Send,
+    ensures values { IfOk result (λ values. values.items ≡ map W.meaning jobs.now) }
+{
+    by_threads(rt, work, jobs, workers, &Values)
+}
+
+/// The number of a job of the value `true`, by threads as those of `parallel_map`. If there are
+/// several such jobs it is one of them. `None`: there is none.
+///
+/// It drops its receiver once it knows the number. Then the sends of the workers answer
+/// `Disconnected`, and they end; and with them the thread that hands out the jobs.
+///
+/// ```
+/// let found = position_any(rt, &IsEven, &[7, 8, 9], 2)?;
+/// assert_eq!(rt; found, Some(1));
+/// ```
+pub fn position_any<W: Work<Value = bool> + Sync, R: Runtime>(
+    rt: R,
+    work: &W,
+    jobs: &[W::Job],
+    workers: usize,
+) -> Result<Option<usize>, WorkError>
+where
+    W::Job: Send + Sync,
+    ensures found { IfOk result (IsFound (map W.meaning jobs.now)) }
+{
+    by_threads(rt, work, jobs, workers, &Place)
+}

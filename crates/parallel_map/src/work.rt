@@ -1,0 +1,45 @@
+//! What is done for each job.
+ghost use Rattle.std.specs.Prelude.{◌≡◌, true};
+
+/// A kind of work: which jobs there are, and the value of each. The value is a function of the job
+/// alone (`meaning`), so what else the work needs stands in the job. It is a plain value, as a
+/// number: what takes memory of its own, as a `Vec` does, isn't determined by its job.
+///
+/// Jobs that `==` holds equal have to be the same (`exact`): the receiver of an answer compares
+/// its job so. For numbers the prover finds that.
+///
+/// ```
+/// // The square of a number.
+/// struct Square;
+///
+/// impl Work for Square {
+///     type Job = u32;
+///
+///     type Value = u64;
+///
+///     ghost meaning = { λ n. n * n };
+///
+///     ghost exact = { Prim.search rules };
+///
+///     fn work(&self, job: u32) -> u64 {
+///         u64::from(job) * u64::from(job)
+///     }
+/// }
+/// ```
+pub trait Work {
+    /// What is asked.
+    type Job: Copy + Eq;
+
+    /// What comes of it.
+    type Value: Drop;
+
+    // The value of each job.
+    ghost meaning: { Self.Job → Self.Value };
+
+    /// The value of the job. Called by several threads at once.
+    fn work(&self, job: Self::Job) -> Self::Value
+        ensures value { result ≡ meaning job };
+
+    // Jobs that are equal by `==` are the same.
+    ghost exact: { (one other : Self.Job) → Self.Job.eq one other ≡ true → one ≡ other };
+}
