@@ -1,7 +1,6 @@
 //! One thread owns an account and answers requests. Each request carries the sender of its reply.
 #![tactic(auto)]
 
-use flume::error::NoMemory;
 use flume::{Receiver, Runtime, Sender, Waits};
 use std::{io, thread};
 
@@ -82,9 +81,7 @@ fn own<R: Waits>(received: &Receiver<Request<R>, R>) -> io::Result<u64> {
     for request in requests.by_ref() {
         balance = answer(balance, request);
     }
-    if requests.fault() {
-        return Err(NoMemory.into());
-    }
+    requests.ended()?;
     Ok(balance)
 }
 

@@ -6,7 +6,6 @@
 //! comes in the order in which it was sent.
 #![tactic(auto)]
 
-use flume::error::NoMemory;
 use flume::polled::{RecvStream, SendSink};
 use flume::{Receiver, Runtime, Sender, Waits};
 use futures::executor::block_on;
@@ -26,9 +25,7 @@ fn main(rt: HostRuntime) -> io::Result<()> {
     for answer in answers.by_ref() {
         println!(rt; "{answer}")?;
     }
-    if answers.fault() {
-        return Err(NoMemory.into());
-    }
+    answers.ended()?;
     // If the task failed, its error says why. The feeder's would only say that nobody received.
     tasks.join(&rt)?;
     feeder.join(&rt)
@@ -84,9 +81,6 @@ impl<R: Waits> Future for Squares<'_, R> {
 impl<R: Waits> Squares<'_, R> {
     /// Why the stream ended: all senders are gone, or there was no memory to wait.
     fn ended(&self) -> io::Result<()> {
-        if self.numbers.fault() {
-            return Err(NoMemory.into());
-        }
-        Ok(())
+        Ok(self.numbers.ended()?)
     }
 }

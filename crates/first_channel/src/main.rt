@@ -1,7 +1,6 @@
 //! One thread sends the numbers from 1 to 9, another one sums them up.
 #![tactic(auto)]
 
-use flume::error::NoMemory;
 use flume::{Sender, Waits};
 use std::{io, thread};
 
@@ -13,9 +12,7 @@ fn main(rt: HostRuntime) -> io::Result<()> {
     for number in numbers.by_ref() {
         sum = sum.saturating_add(number);
     }
-    if numbers.fault() {
-        return Err(NoMemory.into());
-    }
+    numbers.ended()?;
     sender.join(&rt)?;
     println!(rt; "the sum is {sum}")
 }

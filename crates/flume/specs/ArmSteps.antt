@@ -1,4 +1,5 @@
--- The turns of a selector's arms, and their ends: each makes one step of the arm's channel.
+-- The turns of a selector's arms, and their ends: each answers as one step of a channel does. Where
+-- a comment here says that a step was made, `HasMade` is what the clause says.
 use Rattle.std.specs.Prelude.{◌≡◌, ◌⊎◌, ℕ, false, true}
 use Rattle.flume_model.specs.declared.step.Kind.TheVariants.{Arm}
 use Rattle.flume_model.specs.declared.step.Step.{Step}
@@ -67,12 +68,13 @@ module _ {T : Type 0} (A : Type 0) where
   MakesReceive step table answers answer new =
       (told : RecvNext T) × HasMade step table told × answers told × TakesReceive told answer new
 
-  -- a receive arm starts, and is polled, the same way
+  -- a receive arm that isn't started starts by one step; or there was no memory for a start
   abbrev pub StartsReceive : ArmNext → ReceiveState T → Type 0
   StartsReceive answer new =
       MakesReceive (Recv Arm) after_recv receive_turn.IsParking answer new
       ⊎ ((answer ≡ next.NoMemory) × (new ≡ receiving.Over))
 
+  -- a parked receive arm is polled, by one step
   abbrev pub PollsReceive : ℕ → ArmNext → ReceiveState T → Type 0
   PollsReceive ticket = MakesReceive (step_of_parked_receive ticket false)
       (after_parked_receive ticket false) (receive_turn.IsAgain ticket false)

@@ -6,8 +6,9 @@ use Rattle.flume_model.specs.Log.{Log, Opening}
 use Rattle.flume_model.specs.Replies.{IsRun}
 
 module _ {T A N : Type 0} where
-  -- the step was made, of whatever channel stood behind the lock: with its reply it goes on with the
-  -- run that led there, and the answer is the table's to that reply
+  -- the answer is the table's to a reply that some channel gives this step: its run goes on with
+  -- the two. Which channel stood behind the lock no clause can say; that it was the caller's own is
+  -- what tests show.
   pub record HasMade (step : Step T) (table : Reply T A → N → Type 0) (answer : N) : Type 0 where
     pub opening : Opening
     pub log : Log T A

@@ -121,8 +121,7 @@ impl<R: Waits, A: Allocator + Copy> Builder<R, A> {
 
     /// Opens a channel that holds at most `capacity` messages, apart from those sent while a
     /// receiver waits. At capacity 0, the rendezvous channel, a send waits until a receiver takes
-    /// its message.
-    /// `NoMemory`: there was no memory for what its ends share.
+    /// its message. `NoMemory`: there was no memory for what its ends share.
     ///
     /// Whatever the capacity, a channel holds at most 4,294,967,295 messages, as many parked
     /// receivers and as many live sends. Past that a call answers `NoMemory`, though no allocation

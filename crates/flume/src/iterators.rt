@@ -1,11 +1,12 @@
 //! Iterators over the messages of a receiver that they borrow.
-ghost use Rattle.std.specs.Prelude.{◌≡◌, false};
+ghost use Rattle.std.specs.Prelude.{◌≡◌, ◌↔◌, true, false, IsErr};
 ghost use Rattle.std.specs.Iterator.{at_most};
 ghost use Rattle.flume.specs.Iterators.{receiving_from, GoesOn};
 
 use crate::progress::Progress;
 use crate::receiver::Receiver;
 use crate::shared::Waits;
+use flume_core::error::NoMemory;
 use std::alloc::{Allocator, Global};
 use std::fmt;
 use std::marker::Model;
@@ -68,6 +69,29 @@ impl<'a, T: Drop, R: Waits, A: Allocator + Copy> Iter<'a, T, R, A> {
         ensures fault { result ≡ self.now.fault }
     {
         self.progress.fault
+    }
+
+    /// The same as a `Result`, for a program that goes on by `?` after a loop: an error exactly where
+    /// `fault` is true.
+    ///
+    /// ```
+    /// let (tx, rx) = flume::on(rt).unbounded::<u64>()?;
+    /// tx.send(42)?;
+    /// drop(tx);
+    /// let mut messages = rx.iter();
+    /// for message in messages.by_ref() {
+    ///     assert_eq!(rt; message, 42);
+    /// }
+    /// messages.ended()?;
+    /// ```
+    pub fn ended(&self) -> Result<(), NoMemory>
+        ensures no_memory { IsErr result ↔ self.now.fault ≡ true }
+    {
+        if self.progress.fault {
+            Err(NoMemory)
+        } else {
+            Ok(())
+        }
     }
 }
 

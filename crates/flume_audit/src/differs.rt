@@ -7,9 +7,10 @@ ghost use Rattle.flume_audit.specs.Settled.{is_told_once, told_at, entry_of};
 ghost use Rattle.flume_audit.specs.Only.{only};
 ghost use Rattle.flume_audit.specs.Misplaced.{IsLeast, Misplaced, lesser};
 
-use crate::receipt::{Receipt, Receipts};
+use crate::receipt::Receipt;
 use flume_model::step::{Reply, Step};
 use std::alloc::Allocator;
+use std::convert::AsSlice;
 
 /// The least number at which a history and the receipts of these lists disagree; `None` where they
 /// agree throughout. They agree at a number where exactly one receipt has it and equals the entry
@@ -21,16 +22,16 @@ use std::alloc::Allocator;
 /// let told: Vec<Receipt<u64>> = Vec::new(alloc);
 /// differs(&history, &[told]);        // Some(0): no receipt tells of the entry
 /// ```
-pub fn differs<T: Eq, A: Allocator, H: Receipts<T, A>>(
+pub fn differs<T: Eq, A: Allocator, H: AsSlice<Receipt<T, A>>>(
     history: &[(Step<T>, Reply<T, A>)],
     seats: &[H],
 ) -> Option<usize>
     ensures some { IfSome result (λ number. LeastDisagreement
         ⟦<(Step<T>, Reply<T, A>) as PartialEq>⟧.eq
-        history.now (map H.receipts seats.now) number) }
+        history.now (map H.items seats.now) number) }
     ensures none { IfNone result ((number : ℕ)
         → DisagreeAt ⟦<(Step<T>, Reply<T, A>) as PartialEq>⟧.eq
-        history.now (map H.receipts seats.now) number → ⊥) }
+        history.now (map H.items seats.now) number → ⊥) }
 {
     let end = first_misplaced(history.len(), seats);
     for number in 0..end.unwrap_or(history.len()) {
@@ -43,13 +44,16 @@ pub fn differs<T: Eq, A: Allocator, H: Receipts<T, A>>(
 
 // The least number of a receipt that isn't above the one before it in its list, or the length
 // where a receipt is past the end and no such number is less.
-fn first_misplaced<T, A: Allocator, H: Receipts<T, A>>(length: usize, seats: &[H]) -> Option<usize>
-    ensures least { IsLeast (λ number. Any (Misplaced length number) (map H.receipts seats.now))
+fn first_misplaced<T, A: Allocator, H: AsSlice<Receipt<T, A>>>(
+    length: usize,
+    seats: &[H],
+) -> Option<usize>
+    ensures least { IsLeast (λ number. Any (Misplaced length number) (map H.items seats.now))
         result }
 {
     let mut least = None;
     for seat in seats {
-        least = lesser(least, misplaced_in(length, seat.list()));
+        least = lesser(least, misplaced_in(length, seat.as_slice()));
     }
     least
 }
@@ -100,15 +104,15 @@ fn lesser(first: Option<usize>, second: Option<usize>) -> Option<usize>
 }
 
 // Whether there is one receipt with this number, over all lists, and it tells of this entry.
-fn is_told_at<T: Eq, A: Allocator, H: Receipts<T, A>>(
+fn is_told_at<T: Eq, A: Allocator, H: AsSlice<Receipt<T, A>>>(
     entry: &(Step<T>, Reply<T, A>),
     number: usize,
     seats: &[H],
 ) -> bool
-    requires before { (misplaced : ℕ) → Any (NotAbove misplaced) (map H.receipts seats.now)
+    requires before { (misplaced : ℕ) → Any (NotAbove misplaced) (map H.items seats.now)
         → number < misplaced }
     ensures told { result ≡ is_told_once ⟦<(Step<T>, Reply<T, A>) as PartialEq>⟧.eq entry.now
-        (told_at number (map H.receipts seats.now)) }
+        (told_at number (map H.items seats.now)) }
 {
     match only_receipt_at(number, seats) {
         Some(receipt) => tells(receipt, entry),
@@ -117,18 +121,18 @@ fn is_told_at<T: Eq, A: Allocator, H: Receipts<T, A>>(
 }
 
 // The one receipt with this number, over all lists; `None` where there is none, or another.
-fn only_receipt_at<T, A: Allocator, H: Receipts<T, A>>(
+fn only_receipt_at<T, A: Allocator, H: AsSlice<Receipt<T, A>>>(
     number: usize,
     seats: &[H],
 ) -> Option<&Receipt<T, A>>
-    requires before { (misplaced : ℕ) → Any (NotAbove misplaced) (map H.receipts seats.now)
+    requires before { (misplaced : ℕ) → Any (NotAbove misplaced) (map H.items seats.now)
         → number < misplaced }
     ensures only { option_map (λ receipt. receipt.now) result
-        ≡ only (told_at number (map H.receipts seats.now)) }
+        ≡ only (told_at number (map H.items seats.now)) }
 {
     let mut only: Option<&Receipt<T, A>> = None;
     for seat in seats {
-        if let Some(receipt) = receipt_at(number, seat.list()) {
+        if let Some(receipt) = receipt_at(number, seat.as_slice()) {
             if only.is_some() {
                 return None;
             }

@@ -1,7 +1,4 @@
 //! What a user of an audited channel was told.
-ghost use Rattle.std.specs.Prelude.{◌≡◌, List};
-ghost use Rattle.flume_audit.specs.declared.receipt.Receipt.{Receipt};
-
 use flume_model::step::{Reply, Step};
 use std::alloc::{Allocator, Global};
 
@@ -16,21 +13,4 @@ pub struct Receipt<T, A: Allocator = Global> {
     pub step: Step<T>,
     /// What the channel replied.
     pub reply: Reply<T, A>,
-}
-
-/// What has a list of receipts: a seat, or a list of them itself.
-pub trait Receipts<T, A: Allocator> {
-    ghost receipts: { Self → List (Receipt T A) };
-
-    /// The receipts, in the order in which they were given.
-    fn list(&self) -> &[Receipt<T, A>]
-        ensures list { result.now ≡ receipts self.now };
-}
-
-impl<T, A: Allocator> Receipts<T, A> for Vec<Receipt<T, A>, A> {
-    ghost receipts = { λ list. list.items };
-
-    fn list(&self) -> &[Receipt<T, A>] {
-        self
-    }
 }

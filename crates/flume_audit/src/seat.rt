@@ -3,9 +3,10 @@ ghost use Rattle.std.specs.Prelude.{◌≡◌, [], List};
 ghost use Rattle.flume_audit.specs.declared.receipt.Receipt.{Receipt};
 ghost use Rattle.flume_audit.specs.Weights.{receipts_weight};
 
-use crate::receipt::{Receipt, Receipts};
+use crate::receipt::Receipt;
 use crate::weigh::{Ones, Weigh};
 use std::alloc::{Allocator, Global};
+use std::convert::AsSlice;
 use std::marker::{Model, PhantomData};
 use std::sync::ledger::{Ledger, Share};
 
@@ -70,10 +71,11 @@ impl<T, L: Ledger, W: Weigh<T, A>, A: Allocator> Seat<T, L, W, A> {
     }
 }
 
-impl<T, L: Ledger, W: Weigh<T, A>, A: Allocator> Receipts<T, A> for Seat<T, L, W, A> {
-    ghost receipts = { λ seat. seat };
+// As a list of receipts, for `differs`.
+impl<T, L: Ledger, W: Weigh<T, A>, A: Allocator> AsSlice<Receipt<T, A>> for Seat<T, L, W, A> {
+    ghost items = { λ seat. seat };
 
-    fn list(&self) -> &[Receipt<T, A>] {
+    fn as_slice(&self) -> &[Receipt<T, A>] {
         self.receipts()
     }
 }

@@ -7,7 +7,8 @@ use Rattle.flume_model.specs.Entries.{entry_of, held_by, again}
 use Rattle.flume_state.specs.Receivers.{receiver_status, looks, blocks, noticed_receiver, waits_on}
 use Rattle.flume_state.specs.declared.entries.ReceiverStatus.TheVariants.{BlockWaiting}
 use Rattle.flume_state.specs.State.{State}
-use Rattle.flume_state.specs.Effects.{with_front, after_take, without_receiver, with_peak, Begins, Departs}
+use Rattle.flume_state.specs.Effects.{with_front, after_take, without_receiver, with_peak}
+use Rattle.flume_state.specs.Effects.{Begins, Departs}
 use Rattle.flume_core.specs.declared.error.RecvTimeoutError.{RecvTimeoutError}
 use Rattle.flume_core.specs.declared.error.RecvTimeoutError.TheVariants.{Timeout, Disconnected}
 use Rattle.flume_core.specs.declared.error.RecvTimeoutError.TheVariants.{NoMemory}

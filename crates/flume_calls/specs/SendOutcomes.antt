@@ -1,5 +1,6 @@
 -- What each turn of a send says of the state before it and the state after it, by its answer.
-use Rattle.std.specs.Prelude.{◌≡◌, ◌≢◌, ℕ, ◌+◌, ◌<◌, ◌↔◌, Bool, true, false, Option, Some, None, Ok, Err}
+use Rattle.std.specs.Prelude.{◌≡◌, ◌≢◌, ℕ, ◌+◌, ◌<◌, ◌↔◌, Bool, true, false, Option, Some, None}
+use Rattle.std.specs.Prelude.{Ok, Err}
 use Rattle.std.specs.Prelude.{◌++◌, ◌∷◌, [], length}
 use Rattle.std.specs.FinMap.{get, insert, remove}
 use Rattle.flume_model.specs.Limits.{IsOpen, IsClosed, IsAtCapacity}

@@ -94,7 +94,7 @@ pub enum AskTruth {
     IsEmpty,
     /// Whether the channel is bounded, and its queue at or past its capacity.
     IsFull,
-    /// Whether all senders or all receivers, have been dropped.
+    /// Whether all senders or all receivers have been dropped.
     IsDisconnected,
 }
 

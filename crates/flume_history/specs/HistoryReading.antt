@@ -13,5 +13,6 @@ pairs_of pairs = map (λ pair. (pair.0, pair.1.now)) pairs
 
 -- the bytes are a history of this capacity and these pairs, or this line of them is the first wrong
 abbrev pub IsHistoryReading : {Z : Type 0} → List ℕ → History Z → Type 0
-IsHistoryReading input (Right capacity pairs) = IsHistoryText (lines input) capacity (pairs_of pairs.items)
+IsHistoryReading input (Right capacity pairs) =
+    IsHistoryText (lines input) capacity (pairs_of pairs.items)
 IsHistoryReading input (Wrong line) = IsFirstWrongPair (lines input) line

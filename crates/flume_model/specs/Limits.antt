@@ -26,11 +26,11 @@ is_full (Some capacity) n = nat_le capacity n
 abbrev pub IsOpen : ℕ → ℕ → Type 0
 IsOpen senders receivers = 0 < min senders receivers
 
--- all senders or all receivers, have been dropped
+-- all senders or all receivers have been dropped
 abbrev pub IsClosed : ℕ → ℕ → Type 0
 IsClosed senders receivers = min senders receivers ≡ 0
 
--- whether all senders or all receivers, have been dropped
+-- whether all senders or all receivers have been dropped
 abbrev pub is_closed : ℕ → ℕ → Bool
 is_closed senders receivers = min senders receivers == 0
 

@@ -27,7 +27,8 @@ module _ {T : Type 0} where
 
   -- the entries after a change, where this was the queue, and the change closes the channel or not
   abbrev pub entries_after : List T → Bool → List (LogEntry T) → Change T → List (LogEntry T)
-  entries_after queue closes entries (Queues m filled) = round_for same_notice (queue ++ m ∷ []) entries
+  entries_after queue closes entries (Queues m filled) =
+      round_for same_notice (queue ++ m ∷ []) entries
   entries_after queue closes entries (Takes message (Some ticket)) = without ticket entries
   entries_after queue closes entries (Parks ticket kind) = entries ++ parks ticket kind ∷ []
   entries_after queue closes entries (Asks ticket) = again ticket entries
@@ -41,7 +42,7 @@ module _ {T : Type 0} where
   entries_after queue closes entries _ = entries
 
 module _ {T A : Type 0} where
-  -- all senders or all receivers, have been dropped
+  -- all senders or all receivers have been dropped
   abbrev pub is_closed_after : Log T A → Bool
   is_closed_after log = is_closed (senders log) (receivers log)
 
@@ -50,7 +51,8 @@ module _ {T A : Type 0} where
   entries opening [] = []
   entries opening (p ∷ past) =
       if is_over (p ∷ past) then []
-      else entries_after (queue opening past) (not (is_closed_after past) && is_closed_after (p ∷ past))
+      else entries_after (queue opening past)
+      (not (is_closed_after past) && is_closed_after (p ∷ past))
       (entries opening past) (change past p.0 p.1)
 
   -- the most that waited at once so far

@@ -1,9 +1,9 @@
 -- What a fill is of, tried on worked logs in which receivers are filled.
-use Rattle.std.specs.Prelude.{◌≡◌, ℕ, [], ◌∷◌, ◌++◌, Some, None}
-use Rattle.flume_model.specs.declared.step.Kind.TheVariants.{Block}
+use Rattle.std.specs.Prelude.{◌≡◌, ℕ, [], ◌∷◌, ◌++◌, false, Some, None}
+use Rattle.flume_model.specs.declared.step.Kind.TheVariants.{Block, Plain}
 use Rattle.flume_model.specs.declared.step.Step.TheVariants.{Send, Poll, Withdraw}
 use Rattle.flume_model.specs.declared.step.Step.TheVariants.{Recv, DropSender, DropReceiver}
-use Rattle.flume_model.specs.declared.step.Reply.TheVariants.{Sent, Got, Parked, Done}
+use Rattle.flume_model.specs.declared.step.Reply.TheVariants.{Sent, Got, Parked, Gone, Done}
 use Rattle.flume_model.specs.Log.{FilledIn, opens}
 use Rattle.flume_model.specs.Parked.{entries}
 use Rattle.flume_model.specs.Fills.{IsOf}
@@ -54,3 +54,15 @@ collects_before_the_end = collects ++ (DropSender, Done) ∷ (DropReceiver, Done
 -- both sides have disconnected while a receiver holds its message, which goes with them
 abbrev pub holds_until_the_end : Row
 holds_until_the_end = holds ++ (DropSender, Done) ∷ (DropReceiver, Done) ∷ []
+
+-- a receiver that blocks is filled with the front of the queue, which is older than the new message
+abbrev pub filled_with_front : Row
+filled_with_front =
+    (Recv Plain, Parked 1) ∷ (Recv Block, Parked 2) ∷ (Send 1, Sent None)
+    ∷ (Send 2, Sent (Some 2)) ∷ (Poll 2, Got 1) ∷ (Poll 1, Got 2) ∷ []
+
+-- a woken receiver that leaves passes its wake on
+abbrev pub wake_passed_on : Row
+wake_passed_on =
+    (Recv Plain, Parked 1) ∷ (Recv Block, Parked 2) ∷ (Send 5, Sent None)
+    ∷ (Withdraw 1, Gone false (Some 2)) ∷ (Poll 2, Got 5) ∷ []

@@ -1,10 +1,2 @@
 pub mod Rows
-pub mod NearMisses
-pub mod BlockedRows
-pub mod BlockedNearMisses
-pub mod ParkedRows
-pub mod ParkedNearMisses
-pub mod WakeNearMisses
 pub mod FillRows
-pub mod CapacityRows
-pub mod CapacityNearMisses

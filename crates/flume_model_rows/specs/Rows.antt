@@ -1,12 +1,13 @@
--- Rows of steps with their replies as logs, and some that are runs, where none blocks nor parks.
-use Rattle.std.specs.Prelude.{ℕ, List, [], ◌∷◌, Option, None}
+-- Rows of steps with their replies, when they are runs, and when near-misses.
+use Rattle.std.specs.Prelude.{ℕ, List, [], ◌∷◌, Option, Some, None}
+use Rattle.std.specs.declared.vec.Vec.{Vec}
+use Rattle.flume_model.specs.declared.step.Kind.TheVariants.{Plain}
 use Rattle.flume_model.specs.declared.step.Step.{Step}
-use Rattle.flume_model.specs.declared.step.Step.TheVariants.{TrySend, TryRecv, DropSender}
-use Rattle.flume_model.specs.declared.step.Step.TheVariants.{DropReceiver, Len}
+use Rattle.flume_model.specs.declared.step.Step.TheVariants.{Send, Recv}
 use Rattle.flume_model.specs.declared.step.Reply.{Reply}
-use Rattle.flume_model.specs.declared.step.Reply.TheVariants.{Sent, Full, Got, Empty, Ended, Done}
-use Rattle.flume_model.specs.declared.step.Reply.TheVariants.{NoEnd, Number}
+use Rattle.flume_model.specs.declared.step.Reply.TheVariants.{Sent, Parked}
 use Rattle.flume_model.specs.Log.{Log}
+use Rattle.flume_model.specs.Limits.{most}
 use Rattle.flume_model.specs.Replies.{IsRun}
 
 -- steps of numbers with their replies, the first one first
@@ -22,28 +23,28 @@ as_log log (p ∷ row) = as_log (p ∷ log) row
 abbrev pub Runs : Option ℕ → Row → Type 0
 Runs capacity row = IsRun (record { capacity = capacity; first = 1 }) (as_log [] row)
 
--- one message through an unbounded channel
-abbrev pub one_message : Row
-one_message =
-    (TryRecv, Empty) ∷ (TrySend 42, Sent None) ∷ (TryRecv, Got 42) ∷ (TryRecv, Empty) ∷ []
+-- the row is a run of a new channel of capacity 0 that has no ticket left
+abbrev pub RunsWithoutTickets : Row → Type 0
+RunsWithoutTickets row = IsRun (record { capacity = Some 0; first = most }) (as_log [] row)
 
--- a bounded channel, filled, refusing, and read
-abbrev pub filled : Row
-filled =
-    (TrySend 1, Sent None) ∷ (TrySend 2, Sent None) ∷ (TrySend 3, Full 3) ∷ (TryRecv, Got 1)
-    ∷ (Len, Number 1) ∷ []
+-- a row without its last pair
+abbrev pub but_last : Row → Row
+but_last [] = []
+but_last (p ∷ []) = []
+but_last (p ∷ q ∷ row) = p ∷ but_last (q ∷ row)
 
--- what was queued outlives the last sender
-abbrev pub outlived : Row
-outlived =
-    (TrySend 1, Sent None) ∷ (DropSender, Done) ∷ (TryRecv, Got 1) ∷ (TryRecv, Ended) ∷ []
+-- a row whose last reply alone misses a run of a new channel of this capacity
+abbrev pub IsNearMiss : Option ℕ → Row → Type 0
+IsNearMiss capacity row = Runs capacity (but_last row) × ¬ Runs capacity row
 
--- a channel of capacity 0 queues nothing
-abbrev pub no_capacity : Row
-no_capacity = (Len, Number 0) ∷ (TrySend 1, Full 1) ∷ (TryRecv, Empty) ∷ []
+-- what a drain hands out
+abbrev pub Numbers : Type 0
+Numbers = Vec ℕ (Unit {0})
 
--- with both ends gone, nothing is left
-abbrev pub both_gone : Row
-both_gone =
-    (TrySend 1, Sent None) ∷ (DropReceiver, Done) ∷ (DropSender, Done) ∷ (Len, Number 0)
-    ∷ (TryRecv, Ended) ∷ (DropReceiver, NoEnd) ∷ []
+-- two receivers wait at capacity 0, and one is woken for a message
+abbrev pub one_woken_of_two : Row
+one_woken_of_two = (Recv Plain, Parked 1) ∷ (Recv Plain, Parked 2) ∷ (Send 1, Sent None) ∷ []
+
+-- a round fills a receiver that doesn't block
+abbrev pub plain_filled : Row
+plain_filled = (Recv Plain, Parked 1) ∷ (Send 5, Sent (Some 1)) ∷ []

@@ -1,75 +1,134 @@
 //! Worked logs of blocked sends, of ends and of queries, and near-misses of them.
-ghost use Rattle.std.specs.Prelude.{Some, None};
+ghost use Rattle.std.specs.Prelude.{[], ◌∷◌, true, false, Some, None};
+ghost use Rattle.flume_model.specs.declared.step.Step.TheVariants.{TrySend, Send, PollSend};
+ghost use Rattle.flume_model.specs.declared.step.Step.TheVariants.{WithdrawSend, TryRecv};
+ghost use Rattle.flume_model.specs.declared.step.Step.TheVariants.{CloneSender, CloneReceiver};
+ghost use Rattle.flume_model.specs.declared.step.Step.TheVariants.{DropSender, DropReceiver, Len};
+ghost use Rattle.flume_model.specs.declared.step.Step.TheVariants.{IsEmpty, IsFull, Capacity};
+ghost use Rattle.flume_model.specs.declared.step.Step.TheVariants.{SenderCount, ReceiverCount};
+ghost use Rattle.flume_model.specs.declared.step.Step.TheVariants.{IsDisconnected};
+ghost use Rattle.flume_model.specs.declared.step.Reply.TheVariants.{Sent, Full, Closed, Spent};
+ghost use Rattle.flume_model.specs.declared.step.Reply.TheVariants.{Pending, Accepted, Waiting};
+ghost use Rattle.flume_model.specs.declared.step.Reply.TheVariants.{Returned, NoTicket, Got, Empty};
+ghost use Rattle.flume_model.specs.declared.step.Reply.TheVariants.{Ended, Done, NoEnd, CountFull};
+ghost use Rattle.flume_model.specs.declared.step.Reply.TheVariants.{Number, Truth};
+ghost use Rattle.flume_model.specs.declared.step.Reply.TheVariants.{Capacity as Bound};
 ghost use Rattle.flume_model_rows.specs.Rows.{Runs};
-ghost use Rattle.flume_model_rows.specs.BlockedRows.{taken_in_when_asked, blocked_comes_back};
-ghost use Rattle.flume_model_rows.specs.BlockedRows.{withdrawn_from_middle, withdrawn_too_late};
-ghost use Rattle.flume_model_rows.specs.BlockedRows.{blocked_outlived, senders_still_come};
-ghost use Rattle.flume_model_rows.specs.BlockedRows.{tickets_all_spent, asked_how_it_stands};
-ghost use Rattle.flume_model_rows.specs.BlockedNearMisses.{returned_after_accepted};
-ghost use Rattle.flume_model_rows.specs.BlockedNearMisses.{accepted_while_blocked, accepted_twice};
-ghost use Rattle.flume_model_rows.specs.BlockedNearMisses.{waiting_while_closed};
-ghost use Rattle.flume_model_rows.specs.BlockedNearMisses.{returned_while_open, another_withdrawn};
-ghost use Rattle.flume_model_rows.specs.BlockedNearMisses.{open_told_when_closed};
-ghost use Rattle.flume_model_rows.specs.BlockedNearMisses.{ticket_issued_twice};
-ghost use Rattle.flume_model_rows.specs.BlockedNearMisses.{ticket_issued_again};
-ghost use Rattle.flume_model_rows.specs.BlockedNearMisses.{no_ticket_while_live};
-ghost use Rattle.flume_model_rows.specs.BlockedNearMisses.{waiting_without_ticket};
-ghost use Rattle.flume_model_rows.specs.BlockedNearMisses.{ticket_outlives_both};
-ghost use Rattle.flume_model_rows.specs.BlockedNearMisses.{blocked_below_capacity, none_moved_in};
-ghost use Rattle.flume_model_rows.specs.BlockedNearMisses.{two_moved_in, later_moved_in};
-ghost use Rattle.flume_model_rows.specs.BlockedNearMisses.{withdrawn_handed_out};
-ghost use Rattle.flume_model_rows.specs.BlockedNearMisses.{sent_past_capacity};
-ghost use Rattle.flume_model_rows.specs.BlockedNearMisses.{pending_below_capacity};
-ghost use Rattle.flume_model_rows.specs.BlockedNearMisses.{pending_while_closed, spent_too_early};
-ghost use Rattle.flume_model_rows.specs.BlockedNearMisses.{sender_after_last, receiver_after_last};
-ghost use Rattle.flume_model_rows.specs.BlockedNearMisses.{count_full_at_one, senders_one_off};
-ghost use Rattle.flume_model_rows.specs.BlockedNearMisses.{receivers_one_off, full_denied};
-ghost use Rattle.flume_model_rows.specs.BlockedNearMisses.{empty_with_message};
-ghost use Rattle.flume_model_rows.specs.BlockedNearMisses.{disconnected_while_open};
-ghost use Rattle.flume_model_rows.specs.BlockedNearMisses.{capacity_one_off};
 
 /// Worked rows of blocked sends, of ends and of queries are runs.
 pub fn blocked_rows_are_runs()
-    ensures taken_in_when_asked { Runs (Some 0) taken_in_when_asked }
-    ensures blocked_comes_back { Runs (Some 1) blocked_comes_back }
-    ensures withdrawn_from_middle { Runs (Some 1) withdrawn_from_middle }
-    ensures withdrawn_too_late { Runs (Some 1) withdrawn_too_late }
-    ensures blocked_outlived { Runs (Some 0) blocked_outlived }
-    ensures senders_still_come { Runs None senders_still_come }
-    ensures tickets_all_spent { Runs (Some 1) tickets_all_spent }
-    ensures asked_how_it_stands { Runs (Some 2) asked_how_it_stands }
+    // A channel of capacity 0 takes a message in when it is asked for; a ticket is told of it once.
+    ensures taken_in_when_asked { Runs (Some 0) ((TrySend 7, Full 7) ∷ (Send 7, Pending 1)
+        ∷ (Len, Number 0) ∷ (TryRecv, Got 7) ∷ (PollSend 1, Accepted) ∷ (PollSend 1, NoTicket)
+        ∷ []) }
+    // With the receiver gone, a blocked message comes back, and a queued one stays.
+    ensures blocked_comes_back { Runs (Some 1) ((Send 1, Sent None) ∷ (Send 2, Pending 1)
+        ∷ (DropReceiver, Done) ∷ (PollSend 1, Returned 2 true) ∷ (Len, Number 1)
+        ∷ (TrySend 3, Closed 3) ∷ (IsDisconnected, Truth true) ∷ []) }
+    // A message withdrawn from the middle leaves the order of the others as it was.
+    ensures withdrawn_from_middle { Runs (Some 1) ((Send 1, Sent None) ∷ (Send 2, Pending 1)
+        ∷ (Send 3, Pending 2) ∷ (Send 4, Pending 3) ∷ (WithdrawSend 2, Returned 3 false)
+        ∷ (TryRecv, Got 1) ∷ (TryRecv, Got 2) ∷ (TryRecv, Got 4) ∷ (TryRecv, Empty)
+        ∷ (PollSend 1, Accepted) ∷ (PollSend 3, Accepted) ∷ []) }
+    // A message that moved into the queue can't be withdrawn.
+    ensures withdrawn_too_late { Runs (Some 1) ((Send 1, Sent None) ∷ (Send 2, Pending 1)
+        ∷ (TryRecv, Got 1) ∷ (WithdrawSend 1, Accepted) ∷ []) }
+    // A blocked message outlives the last sender, and is handed out.
+    ensures blocked_outlived { Runs (Some 0) ((Send 7, Pending 1) ∷ (DropSender, Done)
+        ∷ (TryRecv, Got 7) ∷ (PollSend 1, Accepted) ∷ (TryRecv, Ended) ∷ []) }
+    // Senders may still come where no receiver lives, but receivers can't.
+    ensures senders_still_come { Runs None ((DropReceiver, Done) ∷ (CloneSender, Done)
+        ∷ (SenderCount, Number 2) ∷ (IsDisconnected, Truth true) ∷ (CloneReceiver, NoEnd) ∷ []) }
+    // With both ends gone, no ticket is left.
+    ensures tickets_all_spent { Runs (Some 1) ((Send 1, Sent None) ∷ (Send 2, Pending 1)
+        ∷ (DropReceiver, Done) ∷ (DropSender, Done) ∷ (PollSend 1, NoTicket) ∷ []) }
+    // A bounded channel, asked how it stands.
+    ensures asked_how_it_stands { Runs (Some 2) ((TrySend 1, Sent None) ∷ (TrySend 2, Sent None)
+        ∷ (IsFull, Truth true) ∷ (TryRecv, Got 1) ∷ (IsFull, Truth false) ∷ (IsEmpty, Truth false)
+        ∷ (Capacity, Bound (Some 2)) ∷ (DropSender, Done) ∷ (IsDisconnected, Truth true) ∷ []) }
 {}
 
 /// Logs of blocked sends, of ends and of queries that miss a run in one place are no runs.
 pub fn blocked_near_misses_are_no_runs()
-    ensures returned_after_accepted { ¬ Runs (Some 1) returned_after_accepted }
-    ensures accepted_while_blocked { ¬ Runs (Some 1) accepted_while_blocked }
-    ensures accepted_twice { ¬ Runs (Some 0) accepted_twice }
-    ensures waiting_while_closed { ¬ Runs (Some 1) waiting_while_closed }
-    ensures returned_while_open { ¬ Runs (Some 0) returned_while_open }
-    ensures another_withdrawn { ¬ Runs (Some 0) another_withdrawn }
-    ensures open_told_when_closed { ¬ Runs (Some 0) open_told_when_closed }
-    ensures ticket_issued_twice { ¬ Runs (Some 0) ticket_issued_twice }
-    ensures ticket_issued_again { ¬ Runs (Some 0) ticket_issued_again }
-    ensures no_ticket_while_live { ¬ Runs (Some 0) no_ticket_while_live }
-    ensures waiting_without_ticket { ¬ Runs (Some 0) waiting_without_ticket }
-    ensures ticket_outlives_both { ¬ Runs (Some 0) ticket_outlives_both }
-    ensures blocked_below_capacity { ¬ Runs (Some 1) blocked_below_capacity }
-    ensures none_moved_in { ¬ Runs (Some 1) none_moved_in }
-    ensures two_moved_in { ¬ Runs (Some 1) two_moved_in }
-    ensures later_moved_in { ¬ Runs (Some 0) later_moved_in }
-    ensures withdrawn_handed_out { ¬ Runs (Some 0) withdrawn_handed_out }
-    ensures sent_past_capacity { ¬ Runs (Some 1) sent_past_capacity }
-    ensures pending_below_capacity { ¬ Runs (Some 1) pending_below_capacity }
-    ensures pending_while_closed { ¬ Runs (Some 1) pending_while_closed }
-    ensures spent_too_early { ¬ Runs (Some 0) spent_too_early }
-    ensures sender_after_last { ¬ Runs (Some 1) sender_after_last }
-    ensures receiver_after_last { ¬ Runs (Some 1) receiver_after_last }
-    ensures count_full_at_one { ¬ Runs (Some 1) count_full_at_one }
-    ensures senders_one_off { ¬ Runs (Some 1) senders_one_off }
-    ensures receivers_one_off { ¬ Runs (Some 1) receivers_one_off }
-    ensures full_denied { ¬ Runs (Some 1) full_denied }
-    ensures empty_with_message { ¬ Runs (Some 1) empty_with_message }
-    ensures disconnected_while_open { ¬ Runs (Some 1) disconnected_while_open }
-    ensures capacity_one_off { ¬ Runs (Some 1) capacity_one_off }
+    // A message comes back that moved into the queue.
+    ensures returned_after_accepted { ¬ Runs (Some 1) ((Send 1, Sent None) ∷ (Send 2, Pending 1)
+        ∷ (TryRecv, Got 1) ∷ (WithdrawSend 1, Returned 2 false) ∷ []) }
+    // A message is told as taken in that still blocks.
+    ensures accepted_while_blocked { ¬ Runs (Some 1) ((Send 1, Sent None) ∷ (Send 2, Pending 1)
+        ∷ (PollSend 1, Accepted) ∷ []) }
+    // A sender is told twice that its message was taken in.
+    ensures accepted_twice { ¬ Runs (Some 0) ((Send 1, Pending 1) ∷ (TryRecv, Got 1)
+        ∷ (PollSend 1, Accepted) ∷ (PollSend 1, Accepted) ∷ []) }
+    // A sender goes on waiting in a closed channel.
+    ensures waiting_while_closed { ¬ Runs (Some 1) ((Send 1, Sent None) ∷ (Send 2, Pending 1)
+        ∷ (DropReceiver, Done) ∷ (PollSend 1, Waiting) ∷ []) }
+    // A message comes back by a poll while the channel is open.
+    ensures returned_while_open { ¬ Runs (Some 0) ((Send 1, Pending 1)
+        ∷ (PollSend 1, Returned 1 false) ∷ []) }
+    // Another blocked message comes back than the one with the ticket.
+    ensures another_withdrawn { ¬ Runs (Some 0) ((Send 1, Pending 1) ∷ (Send 2, Pending 2)
+        ∷ (WithdrawSend 1, Returned 2 false) ∷ []) }
+    // A withdrawal from a closed channel tells of an open one.
+    ensures open_told_when_closed { ¬ Runs (Some 0) ((Send 1, Pending 1) ∷ (DropReceiver, Done)
+        ∷ (WithdrawSend 1, Returned 1 false) ∷ []) }
+    // One ticket is issued to two sends.
+    ensures ticket_issued_twice { ¬ Runs (Some 0) ((Send 1, Pending 1) ∷ (Send 2, Pending 1) ∷ []) }
+    // A ticket is issued again after it was spent.
+    ensures ticket_issued_again { ¬ Runs (Some 0) ((Send 1, Pending 1)
+        ∷ (WithdrawSend 1, Returned 1 false) ∷ (Send 2, Pending 1) ∷ []) }
+    // A live ticket isn't known.
+    ensures no_ticket_while_live { ¬ Runs (Some 0) ((Send 1, Pending 1) ∷ (PollSend 1, NoTicket)
+        ∷ []) }
+    // A ticket is known that was never issued.
+    ensures waiting_without_ticket { ¬ Runs (Some 0) ((Send 1, Pending 1) ∷ (PollSend 2, Waiting)
+        ∷ []) }
+    // A ticket is live once both sides have disconnected.
+    ensures ticket_outlives_both { ¬ Runs (Some 0) ((Send 1, Pending 1) ∷ (DropReceiver, Done)
+        ∷ (DropSender, Done) ∷ (PollSend 1, Returned 1 true) ∷ []) }
+    // A sender stays blocked below the capacity, which is 1.
+    ensures blocked_below_capacity { ¬ Runs (Some 1) ((Send 1, Sent None) ∷ (Send 2, Pending 1)
+        ∷ (TryRecv, Got 1) ∷ (PollSend 1, Waiting) ∷ []) }
+    // A take lets no blocked message in, as the length tells, at capacity 1.
+    ensures none_moved_in { ¬ Runs (Some 1) ((Send 1, Sent None) ∷ (Send 2, Pending 1)
+        ∷ (TryRecv, Got 1) ∷ (Len, Number 0) ∷ []) }
+    // One take moves two messages in, at capacity 1.
+    ensures two_moved_in { ¬ Runs (Some 1) ((Send 1, Sent None) ∷ (Send 2, Pending 1)
+        ∷ (Send 3, Pending 2) ∷ (TryRecv, Got 1) ∷ (PollSend 2, Accepted) ∷ []) }
+    // The later of two blocked messages moves in.
+    ensures later_moved_in { ¬ Runs (Some 0) ((Send 1, Pending 1) ∷ (Send 2, Pending 2)
+        ∷ (TryRecv, Got 2) ∷ []) }
+    // A message is handed out that was withdrawn.
+    ensures withdrawn_handed_out { ¬ Runs (Some 0) ((Send 1, Pending 1)
+        ∷ (WithdrawSend 1, Returned 1 false) ∷ (TryRecv, Got 1) ∷ []) }
+    // A send is taken in at the capacity, which is 1.
+    ensures sent_past_capacity { ¬ Runs (Some 1) ((Send 1, Sent None) ∷ (Send 2, Sent None) ∷ []) }
+    // A send blocks below the capacity, which is 1.
+    ensures pending_below_capacity { ¬ Runs (Some 1) ((Send 1, Pending 1) ∷ []) }
+    // A send blocks in a closed channel.
+    ensures pending_while_closed { ¬ Runs (Some 1) ((DropReceiver, Done) ∷ (Send 1, Pending 1)
+        ∷ []) }
+    // Tickets are told as spent while some are left.
+    ensures spent_too_early { ¬ Runs (Some 0) ((Send 1, Spent (Some 1)) ∷ []) }
+    // A sender comes after the last one left.
+    ensures sender_after_last { ¬ Runs (Some 1) ((DropSender, Done) ∷ (CloneSender, Done) ∷ []) }
+    // A receiver comes after the last one left.
+    ensures receiver_after_last { ¬ Runs (Some 1) ((DropReceiver, Done) ∷ (CloneReceiver, Done)
+        ∷ []) }
+    // No more senders can be counted although there is one.
+    ensures count_full_at_one { ¬ Runs (Some 1) ((CloneSender, CountFull) ∷ []) }
+    // A count of senders is one off.
+    ensures senders_one_off { ¬ Runs (Some 1) ((CloneSender, Done) ∷ (SenderCount, Number 1) ∷ []) }
+    // A count of receivers is one off.
+    ensures receivers_one_off { ¬ Runs (Some 1) ((DropReceiver, Done) ∷ (ReceiverCount, Number 1)
+        ∷ []) }
+    // A full channel is told as not full.
+    ensures full_denied { ¬ Runs (Some 1) ((TrySend 1, Sent None) ∷ (IsFull, Truth false) ∷ []) }
+    // A channel with a message is told as empty.
+    ensures empty_with_message { ¬ Runs (Some 1) ((TrySend 1, Sent None) ∷ (IsEmpty, Truth true)
+        ∷ []) }
+    // An open channel is told as closed.
+    ensures disconnected_while_open { ¬ Runs (Some 1) ((CloneSender, Done) ∷ (DropSender, Done)
+        ∷ (IsDisconnected, Truth true) ∷ []) }
+    // The capacity, which is 1, is told one greater.
+    ensures capacity_one_off { ¬ Runs (Some 1) ((Capacity, Bound (Some 2)) ∷ []) }
 {}

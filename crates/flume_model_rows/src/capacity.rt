@@ -1,53 +1,95 @@
 //! Worked logs in which the capacity is set, and near-misses of them.
-ghost use Rattle.std.specs.Prelude.{Some, None};
-ghost use Rattle.flume_model.specs.Line.{capacity};
-ghost use Rattle.flume_model_rows.specs.Rows.{Runs};
-ghost use Rattle.flume_model_rows.specs.ParkedNearMisses.{IsNearMiss};
-ghost use Rattle.flume_model_rows.specs.CapacityRows.{raised_then_lowered, none_to_set};
-ghost use Rattle.flume_model_rows.specs.CapacityRows.{closed_keeps_capacity, full_past_lowered};
-ghost use Rattle.flume_model_rows.specs.CapacityRows.{receivers_stay, set_as_it_was};
-ghost use Rattle.flume_model_rows.specs.CapacityNearMisses.{raised_lets_none_in};
-ghost use Rattle.flume_model_rows.specs.CapacityNearMisses.{raised_lets_two_in, raised_lets_one_in};
-ghost use Rattle.flume_model_rows.specs.CapacityNearMisses.{raised_lets_later_in};
-ghost use Rattle.flume_model_rows.specs.CapacityNearMisses.{raised_counts_twice, lowered_drops};
-ghost use Rattle.flume_model_rows.specs.CapacityNearMisses.{lowered_returns, lowered_leaves_room};
-ghost use Rattle.flume_model_rows.specs.CapacityNearMisses.{raised_makes_no_room, told_as_before};
-ghost use Rattle.flume_model_rows.specs.CapacityNearMisses.{set_wakes, set_fills};
-ghost use Rattle.flume_model_rows.specs.CapacityNearMisses.{done_while_closed};
-ghost use Rattle.flume_model_rows.specs.CapacityNearMisses.{ended_while_unbounded};
-ghost use Rattle.flume_model_rows.specs.CapacityNearMisses.{set_ended_while_open};
-ghost use Rattle.flume_model_rows.specs.CapacityNearMisses.{done_while_unbounded};
-ghost use Rattle.flume_model_rows.specs.CapacityNearMisses.{unbounded_while_bounded};
-ghost use Rattle.flume_model_rows.specs.CapacityNearMisses.{set_though_ended};
+ghost use Rattle.std.specs.Prelude.{[], ◌∷◌, true, false, Some, None};
+ghost use Rattle.flume_model.specs.declared.step.Kind.TheVariants.{Block, Plain};
+ghost use Rattle.flume_model.specs.declared.step.Step.TheVariants.{TrySend, Send, PollSend};
+ghost use Rattle.flume_model.specs.declared.step.Step.TheVariants.{TryRecv, Recv, Poll};
+ghost use Rattle.flume_model.specs.declared.step.Step.TheVariants.{DropReceiver, SetCapacity, Len};
+ghost use Rattle.flume_model.specs.declared.step.Step.TheVariants.{IsFull, Capacity};
+ghost use Rattle.flume_model.specs.declared.step.Reply.TheVariants.{Sent, Full, Pending, Accepted};
+ghost use Rattle.flume_model.specs.declared.step.Reply.TheVariants.{Waiting, Returned, Got, Ended};
+ghost use Rattle.flume_model.specs.declared.step.Reply.TheVariants.{Parked, Done, Number, Truth};
+ghost use Rattle.flume_model.specs.declared.step.Reply.TheVariants.{Unbounded, Capacity as Bound};
+ghost use Rattle.flume_model_rows.specs.Rows.{Runs, IsNearMiss};
 
 /// Worked rows in which the capacity is set are runs.
 pub fn capacity_rows_are_runs()
-    ensures raised_then_lowered { Runs (Some 1) raised_then_lowered }
-    ensures none_to_set { Runs None none_to_set }
-    ensures closed_keeps_capacity { Runs (Some 1) closed_keeps_capacity }
-    ensures full_past_lowered { Runs (Some 3) full_past_lowered }
-    ensures receivers_stay { Runs (Some 0) receivers_stay }
-    ensures set_as_it_was { Runs (Some 1) set_as_it_was }
+    // A raised capacity lets the first blocked message in and no other; a lowered one moves
+    // nothing, so that the queue stands past it, and a take lets none in.
+    ensures raised_then_lowered { Runs (Some 1) ((Send 1, Sent None) ∷ (Send 2, Pending 1)
+        ∷ (Send 3, Pending 2) ∷ (SetCapacity 2, Done) ∷ (Len, Number 2) ∷ (PollSend 1, Accepted)
+        ∷ (PollSend 2, Waiting) ∷ (SetCapacity 0, Done) ∷ (TryRecv, Got 1) ∷ (Len, Number 1) ∷ []) }
+    // An unbounded channel has no capacity to set, closed or open.
+    ensures none_to_set { Runs None ((SetCapacity 3, Unbounded) ∷ (Capacity, Bound None)
+        ∷ (DropReceiver, Done) ∷ (SetCapacity 3, Unbounded) ∷ []) }
+    // The capacity of a closed channel stays, and its blocked messages come back.
+    ensures closed_keeps_capacity { Runs (Some 1) ((Send 1, Sent None) ∷ (Send 2, Pending 1)
+        ∷ (DropReceiver, Done) ∷ (SetCapacity 5, Ended) ∷ (PollSend 1, Returned 2 true)
+        ∷ (Capacity, Bound (Some 1)) ∷ []) }
+    // A queue past a lowered capacity is full until enough was taken.
+    ensures full_past_lowered { Runs (Some 3) ((Send 1, Sent None) ∷ (Send 2, Sent None)
+        ∷ (Send 3, Sent None) ∷ (SetCapacity 1, Done) ∷ (IsFull, Truth true) ∷ (TryRecv, Got 1)
+        ∷ (TrySend 4, Full 4) ∷ (Send 5, Pending 1) ∷ (TryRecv, Got 2) ∷ (TryRecv, Got 3)
+        ∷ (PollSend 1, Accepted) ∷ (Len, Number 1) ∷ []) }
+    // Receivers that are parked as the capacity is set stay as they are.
+    ensures receivers_stay { Runs (Some 0) ((Recv Plain, Parked 1) ∷ (Recv Block, Parked 2)
+        ∷ (TrySend 1, Sent None) ∷ (SetCapacity 5, Done) ∷ (Poll 2, Waiting) ∷ (SetCapacity 0, Done)
+        ∷ (TrySend 2, Sent (Some 2)) ∷ (Poll 2, Got 1) ∷ (Poll 1, Got 2) ∷ []) }
+    // With its capacity as it was, all blocked messages stay blocked.
+    ensures set_as_it_was { Runs (Some 1) ((Send 1, Sent None) ∷ (Send 2, Pending 1)
+        ∷ (SetCapacity 1, Done) ∷ (Len, Number 1) ∷ (PollSend 1, Waiting) ∷ []) }
 {}
 
 /// Logs in which the capacity is set are runs but for their last reply.
 pub fn capacity_near_misses_are_no_runs()
-    ensures raised_lets_none_in { IsNearMiss (Some 1) raised_lets_none_in }
-    ensures raised_lets_two_in { IsNearMiss (Some 1) raised_lets_two_in }
-    ensures raised_lets_one_in { IsNearMiss (Some 0) raised_lets_one_in }
-    ensures raised_lets_later_in { IsNearMiss (Some 0) raised_lets_later_in }
-    ensures raised_counts_twice { IsNearMiss (Some 0) raised_counts_twice }
-    ensures lowered_drops { IsNearMiss (Some 2) lowered_drops }
-    ensures lowered_returns { IsNearMiss (Some 1) lowered_returns }
-    ensures lowered_leaves_room { IsNearMiss (Some 2) lowered_leaves_room }
-    ensures raised_makes_no_room { IsNearMiss (Some 1) raised_makes_no_room }
-    ensures told_as_before { IsNearMiss (Some 1) told_as_before }
-    ensures set_wakes { IsNearMiss (Some 1) set_wakes }
-    ensures set_fills { IsNearMiss (Some 1) set_fills }
-    ensures done_while_closed { IsNearMiss (Some 1) done_while_closed }
-    ensures ended_while_unbounded { IsNearMiss None ended_while_unbounded }
-    ensures set_ended_while_open { IsNearMiss (Some 1) set_ended_while_open }
-    ensures done_while_unbounded { IsNearMiss None done_while_unbounded }
-    ensures unbounded_while_bounded { IsNearMiss (Some 1) unbounded_while_bounded }
-    ensures set_though_ended { IsNearMiss (Some 1) set_though_ended }
+    // A raised capacity, from 1 to 2, lets no blocked message in.
+    ensures raised_lets_none_in { IsNearMiss (Some 1) ((Send 1, Sent None) ∷ (Send 2, Pending 1)
+        ∷ (SetCapacity 2, Done) ∷ (PollSend 1, Waiting) ∷ []) }
+    // A capacity raised from 1 to 2 lets two blocked messages in.
+    ensures raised_lets_two_in { IsNearMiss (Some 1) ((Send 1, Sent None) ∷ (Send 2, Pending 1)
+        ∷ (Send 3, Pending 2) ∷ (SetCapacity 2, Done) ∷ (PollSend 2, Accepted) ∷ []) }
+    // A capacity raised from 0 to 2 lets one of two blocked messages in.
+    ensures raised_lets_one_in { IsNearMiss (Some 0) ((Send 1, Pending 1) ∷ (Send 2, Pending 2)
+        ∷ (SetCapacity 2, Done) ∷ (Len, Number 1) ∷ []) }
+    // A capacity raised from 0 to 1 lets the later of two blocked messages in.
+    ensures raised_lets_later_in { IsNearMiss (Some 0) ((Send 1, Pending 1) ∷ (Send 2, Pending 2)
+        ∷ (SetCapacity 1, Done) ∷ (TryRecv, Got 2) ∷ []) }
+    // A message that a raised capacity lets in is counted twice.
+    ensures raised_counts_twice { IsNearMiss (Some 0) ((Send 1, Pending 1) ∷ (SetCapacity 5, Done)
+        ∷ (TryRecv, Got 1) ∷ (TryRecv, Got 1) ∷ []) }
+    // A capacity lowered from 2 to 1 drops a queued message.
+    ensures lowered_drops { IsNearMiss (Some 2) ((Send 1, Sent None) ∷ (Send 2, Sent None)
+        ∷ (SetCapacity 1, Done) ∷ (Len, Number 1) ∷ []) }
+    // A capacity lowered from 1 to 0 gives a blocked message back.
+    ensures lowered_returns { IsNearMiss (Some 1) ((Send 1, Sent None) ∷ (Send 2, Pending 1)
+        ∷ (SetCapacity 0, Done) ∷ (PollSend 1, Returned 2 false) ∷ []) }
+    // A capacity lowered from 2 to 1 leaves room for a second message.
+    ensures lowered_leaves_room { IsNearMiss (Some 2) ((TrySend 1, Sent None)
+        ∷ (SetCapacity 1, Done) ∷ (TrySend 2, Sent None) ∷ []) }
+    // A capacity raised from 1 to 2 makes no room.
+    ensures raised_makes_no_room { IsNearMiss (Some 1) ((TrySend 1, Sent None)
+        ∷ (SetCapacity 2, Done) ∷ (TrySend 2, Full 2) ∷ []) }
+    // The capacity, which was 1, is told as before.
+    ensures told_as_before { IsNearMiss (Some 1) ((SetCapacity 2, Done) ∷ (Capacity, Bound (Some 1))
+        ∷ []) }
+    // A receiver is woken, so that a send at capacity 0 finds none waiting.
+    ensures set_wakes { IsNearMiss (Some 1) ((Recv Plain, Parked 1) ∷ (SetCapacity 0, Done)
+        ∷ (TrySend 1, Full 1) ∷ []) }
+    // A receiver is filled with what another was woken for.
+    ensures set_fills { IsNearMiss (Some 1) ((Recv Plain, Parked 1) ∷ (Recv Block, Parked 2)
+        ∷ (TrySend 1, Sent None) ∷ (SetCapacity 5, Done) ∷ (Poll 2, Got 1) ∷ []) }
+    // The capacity of a closed channel is set.
+    ensures done_while_closed { IsNearMiss (Some 1) ((DropReceiver, Done) ∷ (SetCapacity 5, Done)
+        ∷ []) }
+    // The end is told by an unbounded channel, which is closed.
+    ensures ended_while_unbounded { IsNearMiss None ((DropReceiver, Done) ∷ (SetCapacity 5, Ended)
+        ∷ []) }
+    // The end is told by a bounded channel, which is open.
+    ensures set_ended_while_open { IsNearMiss (Some 1) ((SetCapacity 5, Ended) ∷ []) }
+    // An unbounded channel gets a capacity.
+    ensures done_while_unbounded { IsNearMiss None ((SetCapacity 5, Done) ∷ []) }
+    // A bounded channel is told to have no capacity.
+    ensures unbounded_while_bounded { IsNearMiss (Some 1) ((SetCapacity 5, Unbounded) ∷ []) }
+    // A closed channel's capacity, which is 1, is changed although the end was told.
+    ensures set_though_ended { IsNearMiss (Some 1) ((DropReceiver, Done) ∷ (SetCapacity 5, Ended)
+        ∷ (Capacity, Bound (Some 5)) ∷ []) }
 {}

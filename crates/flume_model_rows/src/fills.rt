@@ -1,10 +1,10 @@
 //! What the definition of a fill says after worked logs in which receivers are filled.
 ghost use Rattle.std.specs.Prelude.{None};
 ghost use Rattle.flume_model_rows.specs.Rows.{Runs};
-ghost use Rattle.flume_model_rows.specs.ParkedRows.{filled_with_front, wake_passed_on};
 ghost use Rattle.flume_model_rows.specs.FillRows.{IsFillOfOnly, IsLeftOut, holds, collects, leaves};
 ghost use Rattle.flume_model_rows.specs.FillRows.{holds_when_closed, two_filled};
 ghost use Rattle.flume_model_rows.specs.FillRows.{collects_before_the_end, holds_until_the_end};
+ghost use Rattle.flume_model_rows.specs.FillRows.{filled_with_front, wake_passed_on};
 
 /// Worked rows in which receivers are filled are runs.
 pub fn fill_rows_are_runs()

@@ -1,127 +1,242 @@
 //! Worked logs of receivers that park, are woken, and leave, and near-misses of them.
-ghost use Rattle.std.specs.Prelude.{◌≡◌, [], ◌∷◌, Some, None};
-ghost use Rattle.flume_model_rows.specs.Rows.{Runs, as_log};
-ghost use Rattle.flume_model_rows.specs.ParkedRows.{Numbers, RunsWithoutTickets};
-ghost use Rattle.flume_model_rows.specs.ParkedRows.{drain_lets_blocked_in, drain_past_capacity};
-ghost use Rattle.flume_model_rows.specs.ParkedRows.{filled_with_front, queued_past_capacity};
-ghost use Rattle.flume_model_rows.specs.ParkedRows.{streams_let_round_go_on, leaves_with_none};
-ghost use Rattle.flume_model_rows.specs.ParkedRows.{wake_passed_on, closing_wakes_all};
-ghost use Rattle.flume_model_rows.specs.ParkedRows.{leaves_with_front, tickets_of_a_side};
-ghost use Rattle.flume_model_rows.specs.ParkedRows.{none_let_in_past_capacity, asks_unwoken};
-ghost use Rattle.flume_model_rows.specs.ParkedRows.{ended_once, gone_closed, none_parked_when_over};
-ghost use Rattle.flume_model_rows.specs.ParkedRows.{waits_again_behind, three_kinds, tickets_spent};
-ghost use Rattle.flume_model_rows.specs.ParkedRows.{one_woken_of_two};
-ghost use Rattle.flume_model_rows.specs.ParkedNearMisses.{IsNearMiss, drain_lets_none_in};
-ghost use Rattle.flume_model_rows.specs.ParkedNearMisses.{drained_another, refused_drain};
-ghost use Rattle.flume_model_rows.specs.ParkedNearMisses.{filled_with_newest, wake_lost};
-ghost use Rattle.flume_model_rows.specs.ParkedNearMisses.{waiting_passes_on, waits_while_queued};
-ghost use Rattle.flume_model_rows.specs.ParkedNearMisses.{unwoken_block_takes};
-ghost use Rattle.flume_model_rows.specs.ParkedNearMisses.{told_end_while_queued};
-ghost use Rattle.flume_model_rows.specs.ParkedNearMisses.{told_end_while_open, waits_while_closed};
-ghost use Rattle.flume_model_rows.specs.ParkedNearMisses.{ended_twice, collected_twice};
-ghost use Rattle.flume_model_rows.specs.ParkedNearMisses.{message_lost, front_left};
-ghost use Rattle.flume_model_rows.specs.ParkedNearMisses.{front_taken_along};
-ghost use Rattle.flume_model_rows.specs.ParkedNearMisses.{gone_from_closed_as_open};
-ghost use Rattle.flume_model_rows.specs.ParkedNearMisses.{parked_while_queued};
-ghost use Rattle.flume_model_rows.specs.ParkedNearMisses.{parked_while_blocked};
-ghost use Rattle.flume_model_rows.specs.ParkedNearMisses.{parked_while_closed};
-ghost use Rattle.flume_model_rows.specs.ParkedNearMisses.{parked_under_one_ticket};
-ghost use Rattle.flume_model_rows.specs.ParkedNearMisses.{ticket_of_other_side, parked_unknown};
-ghost use Rattle.flume_model_rows.specs.ParkedNearMisses.{parked_when_over, let_in_past_capacity};
-ghost use Rattle.flume_model_rows.specs.ParkedNearMisses.{greatest_ticket_parked};
-ghost use Rattle.flume_model_rows.specs.WakeNearMisses.{refused_send_wakes, refused_send_removes};
-ghost use Rattle.flume_model_rows.specs.WakeNearMisses.{full_while_waiting, send_wakes_none};
-ghost use Rattle.flume_model_rows.specs.WakeNearMisses.{send_wakes_all, goes_on_after_plain};
-ghost use Rattle.flume_model_rows.specs.WakeNearMisses.{goes_on_after_arm, goes_on_after_block};
-ghost use Rattle.flume_model_rows.specs.WakeNearMisses.{ends_at_stream, ends_at_woken};
-ghost use Rattle.flume_model_rows.specs.WakeNearMisses.{filled_again, one_fills_two};
-ghost use Rattle.flume_model_rows.specs.WakeNearMisses.{one_collected_by_two, last_filled};
-ghost use Rattle.flume_model_rows.specs.WakeNearMisses.{plain_filled, filled_and_queued};
-ghost use Rattle.flume_model_rows.specs.WakeNearMisses.{asking_loses_place, again_before_others};
-ghost use Rattle.flume_model_rows.specs.WakeNearMisses.{passed_on_for_nothing, closing_wakes_first};
+ghost use Rattle.std.specs.Prelude.{◌≡◌, [], ◌∷◌, true, false, Some, None};
+ghost use Rattle.flume_model.specs.declared.step.Kind.TheVariants.{Block, Plain, Stream, Arm};
+ghost use Rattle.flume_model.specs.declared.step.Step.TheVariants.{TrySend, Send, PollSend};
+ghost use Rattle.flume_model.specs.declared.step.Step.TheVariants.{WithdrawSend, TryRecv, Recv};
+ghost use Rattle.flume_model.specs.declared.step.Step.TheVariants.{Poll, Withdraw, Drain};
+ghost use Rattle.flume_model.specs.declared.step.Step.TheVariants.{DropSender, DropReceiver, Len};
+ghost use Rattle.flume_model.specs.declared.step.Step.TheVariants.{IsFull};
+ghost use Rattle.flume_model.specs.declared.step.Reply.TheVariants.{Sent, Full, NoMemory, Spent};
+ghost use Rattle.flume_model.specs.declared.step.Reply.TheVariants.{Pending, Accepted, Waiting};
+ghost use Rattle.flume_model.specs.declared.step.Reply.TheVariants.{Returned, NoTicket, Got, Empty};
+ghost use Rattle.flume_model.specs.declared.step.Reply.TheVariants.{Ended, Parked, Gone, Drained};
+ghost use Rattle.flume_model.specs.declared.step.Reply.TheVariants.{Done, Number, Truth};
 ghost use Rattle.flume_model.specs.Log.{opens};
 ghost use Rattle.flume_model.specs.WaitLaws.{MeetsBounds, ToldFilled};
+ghost use Rattle.flume_model.specs.Limits.{most};
+ghost use Rattle.flume_model_rows.specs.Rows.{Runs, as_log, IsNearMiss, Numbers};
+ghost use Rattle.flume_model_rows.specs.Rows.{RunsWithoutTickets, one_woken_of_two, plain_filled};
+ghost use Rattle.flume_model_rows.specs.FillRows.{filled_with_front, wake_passed_on};
 
 /// Worked rows of receivers that park, are woken, and leave are runs.
 pub fn parked_rows_are_runs()
     ensures some_list { (list : Numbers) × (list.items ≡ 1 ∷ 2 ∷ []) }
+    // A drain hands out what is queued, 1, and lets the blocked message in, so the queue is full
+    // again.
     ensures drain_lets_blocked_in { (list : Numbers) → list.items ≡ 1 ∷ []
-        → Runs (Some 1) (drain_lets_blocked_in list) }
+        → Runs (Some 1) ((TrySend 1, Sent None) ∷ (Send 2, Pending 1) ∷ (Drain, Drained list)
+        ∷ (TrySend 3, Full 3) ∷ (TryRecv, Got 2) ∷ (PollSend 1, Accepted) ∷ []) }
+    // A drain hands out 1 and 2, which are past the capacity, and lets in as many as the capacity.
     ensures drain_past_capacity { (list : Numbers) → list.items ≡ 1 ∷ 2 ∷ []
-        → Runs (Some 1) (drain_past_capacity list) }
+        → Runs (Some 1) ((Recv Plain, Parked 1) ∷ (Recv Plain, Parked 2) ∷ (Send 1, Sent None)
+        ∷ (Send 2, Sent None) ∷ (Send 3, Pending 3) ∷ (Drain, Drained list) ∷ (Len, Number 1)
+        ∷ (PollSend 3, Accepted) ∷ (Poll 1, Got 3) ∷ (Poll 2, Waiting) ∷ []) }
     ensures filled_with_front { Runs None filled_with_front }
-    ensures queued_past_capacity { Runs (Some 0) queued_past_capacity }
-    ensures streams_let_round_go_on { Runs None streams_let_round_go_on }
-    ensures leaves_with_none { Runs None leaves_with_none }
+    // While receivers wait a channel of capacity 0 queues messages, a receiver woken for each.
+    ensures queued_past_capacity { Runs (Some 0) ((Recv Plain, Parked 1) ∷ (Recv Arm, Parked 2)
+        ∷ (TrySend 1, Sent None) ∷ (TrySend 2, Sent None) ∷ (TrySend 3, Full 3) ∷ (Len, Number 2)
+        ∷ (IsFull, Truth true) ∷ (Poll 2, Got 1) ∷ (Poll 1, Got 2) ∷ []) }
+    // A round wakes streams and goes on; one woken for a message that another got waits on.
+    ensures streams_let_round_go_on { Runs None ((Recv Stream, Parked 1) ∷ (Recv Stream, Parked 2)
+        ∷ (Recv Block, Parked 3) ∷ (Send 5, Sent (Some 3)) ∷ (Len, Number 0) ∷ (Poll 1, Waiting)
+        ∷ (Poll 3, Got 5) ∷ []) }
+    // A woken receiver that leaves takes no message with it.
+    ensures leaves_with_none { Runs None ((Recv Stream, Parked 1) ∷ (Send 5, Sent None)
+        ∷ (Send 6, Sent None) ∷ (Withdraw 1, Gone false None) ∷ (TryRecv, Got 5) ∷ (TryRecv, Got 6)
+        ∷ (TryRecv, Empty) ∷ []) }
     ensures wake_passed_on { Runs None wake_passed_on }
-    ensures closing_wakes_all { Runs None closing_wakes_all }
-    ensures leaves_with_front { Runs None leaves_with_front }
-    ensures tickets_of_a_side { Runs (Some 0) tickets_of_a_side }
-    ensures none_let_in_past_capacity { Runs (Some 1) none_let_in_past_capacity }
-    ensures asks_unwoken { Runs None asks_unwoken }
-    ensures ended_once { Runs None ended_once }
-    ensures gone_closed { Runs (Some 0) gone_closed }
-    ensures none_parked_when_over { Runs None none_parked_when_over }
-    ensures waits_again_behind { Runs None waits_again_behind }
-    ensures three_kinds { Runs (Some 1) three_kinds }
-    ensures tickets_spent { RunsWithoutTickets tickets_spent }
+    // Closing wakes a receiver that blocks, which may then take what is queued; another finds the
+    // end.
+    ensures closing_wakes_all { Runs None ((Recv Plain, Parked 1) ∷ (Recv Block, Parked 2)
+        ∷ (Send 9, Sent None) ∷ (DropSender, Done) ∷ (Poll 2, Got 9) ∷ (Poll 1, Ended) ∷ []) }
+    // A receiver that blocks and leaves takes the front with it; the one woken for it waits again.
+    ensures leaves_with_front { Runs None ((Recv Plain, Parked 1) ∷ (Recv Block, Parked 2)
+        ∷ (Send 5, Sent None) ∷ (Withdraw 2, Got 5) ∷ (Poll 1, Waiting) ∷ []) }
+    // A ticket of a send is none of a receiver.
+    ensures tickets_of_a_side { Runs (Some 0) ((Send 7, Pending 1) ∷ (Poll 1, NoTicket)
+        ∷ (Withdraw 1, NoTicket) ∷ (PollSend 1, Waiting) ∷ (WithdrawSend 1, Returned 7 false)
+        ∷ (PollSend 1, NoTicket) ∷ (PollSend 9, NoTicket) ∷ []) }
+    // Where the queue is past its capacity, which is 1, a take lets no blocked message in.
+    ensures none_let_in_past_capacity { Runs (Some 1) ((Recv Plain, Parked 1)
+        ∷ (Recv Plain, Parked 2) ∷ (Send 1, Sent None) ∷ (Send 2, Sent None) ∷ (Send 3, Pending 3)
+        ∷ (TryRecv, Got 1) ∷ (PollSend 3, Waiting) ∷ (TryRecv, Got 2) ∷ (PollSend 3, Accepted)
+        ∷ []) }
+    // A receiver that waits still, and asks, gets a message that another was woken for.
+    ensures asks_unwoken { Runs None ((Recv Plain, Parked 1) ∷ (Recv Plain, Parked 2)
+        ∷ (Send 5, Sent None) ∷ (Poll 2, Got 5) ∷ (Poll 1, Waiting) ∷ []) }
+    // A receiver that was told the end is parked no more.
+    ensures ended_once { Runs None ((Recv Stream, Parked 1) ∷ (DropSender, Done) ∷ (Poll 1, Ended)
+        ∷ (Poll 1, NoTicket) ∷ []) }
+    // A receiver that leaves a closed channel with none is told that it is closed.
+    ensures gone_closed { Runs (Some 0) ((Recv Block, Parked 1) ∷ (DropReceiver, Done)
+        ∷ (Withdraw 1, Gone true None) ∷ []) }
+    // With both ends gone, no receiver is parked.
+    ensures none_parked_when_over { Runs None ((Recv Plain, Parked 1) ∷ (DropSender, Done)
+        ∷ (DropReceiver, Done) ∷ (Poll 1, NoTicket) ∷ []) }
+    // A woken receiver that waits again stands behind all others, and one that waited keeps its
+    // place.
+    ensures waits_again_behind { Runs None ((Recv Plain, Parked 1) ∷ (Recv Block, Parked 2)
+        ∷ (Poll 1, Waiting) ∷ (Send 5, Sent None) ∷ (TryRecv, Got 5) ∷ (Poll 1, Waiting)
+        ∷ (Send 6, Sent (Some 2)) ∷ []) }
+    // Receivers of three kinds, a sender that blocks, at capacity 1.
+    ensures three_kinds { Runs (Some 1) ((Recv Stream, Parked 1) ∷ (Recv Plain, Parked 2)
+        ∷ (Recv Block, Parked 3) ∷ (Send 1, Sent None) ∷ (Send 2, Sent (Some 3))
+        ∷ (Send 3, Pending 4) ∷ (TrySend 4, Full 4) ∷ (Poll 2, Got 2)
+        ∷ (Withdraw 1, Gone false None) ∷ (Poll 3, Got 1) ∷ (TryRecv, Got 3)
+        ∷ (PollSend 4, Accepted) ∷ (Len, Number 0) ∷ []) }
+    // No ticket is left for a send nor for a receive.
+    ensures tickets_spent { RunsWithoutTickets ((Send 7, Spent (Some 7)) ∷ (Recv Block, Spent None)
+        ∷ (Len, Number 0) ∷ []) }
 {}
 
 /// Logs of receivers that park, ask and leave, and of drains, are runs but for their last
 /// reply.
 pub fn parked_near_misses_are_no_runs()
+    // A drain leaves the blocked sender behind, so that a later send, at capacity 1, overtakes it.
     ensures drain_lets_none_in { (list : Numbers) → list.items ≡ 1 ∷ []
-        → IsNearMiss (Some 1) (drain_lets_none_in list) }
+        → IsNearMiss (Some 1) ((TrySend 1, Sent None) ∷ (Send 2, Pending 1) ∷ (Drain, Drained list)
+        ∷ (TrySend 3, Sent None) ∷ []) }
+    // A drain hands out another list than what is queued.
     ensures drained_another { (list : Numbers) → list.items ≡ 2 ∷ 1 ∷ []
-        → IsNearMiss None (drained_another list) }
-    ensures refused_drain { IsNearMiss None refused_drain }
-    ensures filled_with_newest { IsNearMiss None filled_with_newest }
-    ensures wake_lost { IsNearMiss None wake_lost }
-    ensures waiting_passes_on { IsNearMiss None waiting_passes_on }
-    ensures waits_while_queued { IsNearMiss None waits_while_queued }
-    ensures unwoken_block_takes { IsNearMiss None unwoken_block_takes }
-    ensures told_end_while_queued { IsNearMiss None told_end_while_queued }
-    ensures told_end_while_open { IsNearMiss None told_end_while_open }
-    ensures waits_while_closed { IsNearMiss None waits_while_closed }
-    ensures ended_twice { IsNearMiss None ended_twice }
-    ensures collected_twice { IsNearMiss None collected_twice }
-    ensures message_lost { IsNearMiss None message_lost }
-    ensures front_left { IsNearMiss None front_left }
-    ensures front_taken_along { IsNearMiss None front_taken_along }
-    ensures gone_from_closed_as_open { IsNearMiss (Some 0) gone_from_closed_as_open }
-    ensures parked_while_queued { IsNearMiss None parked_while_queued }
-    ensures parked_while_blocked { IsNearMiss (Some 0) parked_while_blocked }
-    ensures parked_while_closed { IsNearMiss None parked_while_closed }
-    ensures parked_under_one_ticket { IsNearMiss None parked_under_one_ticket }
-    ensures ticket_of_other_side { IsNearMiss (Some 0) ticket_of_other_side }
-    ensures parked_unknown { IsNearMiss None parked_unknown }
-    ensures parked_when_over { IsNearMiss None parked_when_over }
-    ensures let_in_past_capacity { IsNearMiss (Some 1) let_in_past_capacity }
-    ensures greatest_ticket_parked { ¬ RunsWithoutTickets greatest_ticket_parked }
+        → IsNearMiss None ((TrySend 1, Sent None) ∷ (TrySend 2, Sent None) ∷ (Drain, Drained list)
+        ∷ []) }
+    // A drain is refused because memory ran out where nothing is queued.
+    ensures refused_drain { IsNearMiss None ((Drain, NoMemory None) ∷ []) }
+    // A receiver that blocks is filled with the new message, although an older one is queued.
+    ensures filled_with_newest { IsNearMiss None ((Recv Plain, Parked 1) ∷ (Recv Block, Parked 2)
+        ∷ (Send 1, Sent None) ∷ (Send 2, Sent (Some 2)) ∷ (Poll 2, Got 2) ∷ []) }
+    // A woken receiver leaves, and its wake is lost.
+    ensures wake_lost { IsNearMiss None ((Recv Plain, Parked 1) ∷ (Recv Block, Parked 2)
+        ∷ (Send 5, Sent None) ∷ (Withdraw 1, Gone false None) ∷ []) }
+    // A receiver that waits passes a wake on that it never got.
+    ensures waiting_passes_on { IsNearMiss None ((Recv Plain, Parked 1) ∷ (Recv Block, Parked 2)
+        ∷ (Recv Plain, Parked 3) ∷ (TrySend 1, Sent None) ∷ (Withdraw 3, Gone false (Some 2))
+        ∷ []) }
+    // A receiver asks, and waits on although a message is queued.
+    ensures waits_while_queued { IsNearMiss None ((Recv Plain, Parked 1) ∷ (Recv Plain, Parked 2)
+        ∷ (Send 5, Sent None) ∷ (Poll 2, Waiting) ∷ []) }
+    // A receiver that blocks, and wasn't woken, takes what is queued for another.
+    ensures unwoken_block_takes { IsNearMiss None ((Recv Plain, Parked 1) ∷ (Recv Block, Parked 2)
+        ∷ (Send 5, Sent None) ∷ (Poll 2, Got 5) ∷ []) }
+    // The end is told to a parked receiver while a message is queued.
+    ensures told_end_while_queued { IsNearMiss None ((Recv Plain, Parked 1) ∷ (TrySend 1, Sent None)
+        ∷ (DropSender, Done) ∷ (Poll 1, Ended) ∷ []) }
+    // The end is told to a parked receiver while the channel is open.
+    ensures told_end_while_open { IsNearMiss None ((Recv Plain, Parked 1) ∷ (Poll 1, Ended) ∷ []) }
+    // A receiver goes on waiting in a closed channel.
+    ensures waits_while_closed { IsNearMiss None ((Recv Stream, Parked 1) ∷ (DropSender, Done)
+        ∷ (Poll 1, Waiting) ∷ []) }
+    // A receiver that was told the end is still parked.
+    ensures ended_twice { IsNearMiss None ((Recv Stream, Parked 1) ∷ (DropSender, Done)
+        ∷ (Poll 1, Ended) ∷ (Poll 1, Ended) ∷ []) }
+    // A filled receiver collects twice.
+    ensures collected_twice { IsNearMiss None ((Recv Block, Parked 1) ∷ (Send 5, Sent (Some 1))
+        ∷ (Poll 1, Got 5) ∷ (Poll 1, Got 5) ∷ []) }
+    // A filled receiver leaves, and its message is lost.
+    ensures message_lost { IsNearMiss None ((Recv Block, Parked 1) ∷ (Send 5, Sent (Some 1))
+        ∷ (Withdraw 1, Gone false None) ∷ []) }
+    // A receiver that blocks leaves with no message although one is queued.
+    ensures front_left { IsNearMiss None ((Recv Plain, Parked 1) ∷ (Recv Block, Parked 2)
+        ∷ (Send 5, Sent None) ∷ (Withdraw 2, Gone false None) ∷ []) }
+    // A receiver of another kind leaves with the front.
+    ensures front_taken_along { IsNearMiss None ((Recv Stream, Parked 1) ∷ (Send 5, Sent None)
+        ∷ (Withdraw 1, Got 5) ∷ []) }
+    // A receiver that leaves a closed channel is told of an open one.
+    ensures gone_from_closed_as_open { IsNearMiss (Some 0) ((Recv Block, Parked 1)
+        ∷ (DropReceiver, Done) ∷ (Withdraw 1, Gone false None) ∷ []) }
+    // A receiver parks where a message is queued.
+    ensures parked_while_queued { IsNearMiss None ((Send 5, Sent None) ∷ (Recv Block, Parked 1)
+        ∷ []) }
+    // A receiver parks where a sender is blocked, at capacity 0.
+    ensures parked_while_blocked { IsNearMiss (Some 0) ((Send 5, Pending 1) ∷ (Recv Plain, Parked 2)
+        ∷ []) }
+    // A receiver parks in a closed channel.
+    ensures parked_while_closed { IsNearMiss None ((DropSender, Done) ∷ (Recv Plain, Parked 1)
+        ∷ []) }
+    // One ticket is issued to two receivers.
+    ensures parked_under_one_ticket { IsNearMiss None ((Recv Plain, Parked 1)
+        ∷ (Recv Block, Parked 1) ∷ []) }
+    // A send's ticket is taken for a receiver's.
+    ensures ticket_of_other_side { IsNearMiss (Some 0) ((Send 7, Pending 1) ∷ (Poll 1, Waiting)
+        ∷ []) }
+    // A parked receiver isn't known.
+    ensures parked_unknown { IsNearMiss None ((Recv Arm, Parked 1) ∷ (Poll 1, NoTicket) ∷ []) }
+    // A receiver is parked once both sides have disconnected.
+    ensures parked_when_over { IsNearMiss None ((Recv Plain, Parked 1) ∷ (DropSender, Done)
+        ∷ (DropReceiver, Done) ∷ (Poll 1, Ended) ∷ []) }
+    // Where the queue is past its capacity, which is 1, a take lets a blocked message in.
+    ensures let_in_past_capacity { IsNearMiss (Some 1) ((Recv Plain, Parked 1)
+        ∷ (Recv Plain, Parked 2) ∷ (Send 1, Sent None) ∷ (Send 2, Sent None) ∷ (Send 3, Pending 3)
+        ∷ (TryRecv, Got 1) ∷ (Len, Number 2) ∷ []) }
+    // The greatest ticket is issued, by a channel that has no other left.
+    ensures greatest_ticket_parked { ¬ RunsWithoutTickets ((Recv Block, Parked most) ∷ []) }
 {}
 
 /// Logs of wake rounds are runs but for their last reply.
 pub fn wake_near_misses_are_no_runs()
-    ensures refused_send_wakes { IsNearMiss (Some 0) refused_send_wakes }
-    ensures refused_send_removes { IsNearMiss (Some 0) refused_send_removes }
-    ensures full_while_waiting { IsNearMiss (Some 0) full_while_waiting }
-    ensures send_wakes_none { IsNearMiss (Some 0) send_wakes_none }
-    ensures send_wakes_all { IsNearMiss (Some 0) send_wakes_all }
-    ensures goes_on_after_plain { IsNearMiss None goes_on_after_plain }
-    ensures goes_on_after_arm { IsNearMiss None goes_on_after_arm }
-    ensures goes_on_after_block { IsNearMiss (Some 0) goes_on_after_block }
-    ensures ends_at_stream { IsNearMiss None ends_at_stream }
-    ensures ends_at_woken { IsNearMiss None ends_at_woken }
-    ensures filled_again { IsNearMiss None filled_again }
-    ensures one_fills_two { IsNearMiss None one_fills_two }
-    ensures one_collected_by_two { IsNearMiss None one_collected_by_two }
-    ensures last_filled { IsNearMiss None last_filled }
+    // A refused send wakes the receiver, so that the next one finds none and capacity 0.
+    ensures refused_send_wakes { IsNearMiss (Some 0) ((Recv Plain, Parked 1)
+        ∷ (Send 1, NoMemory (Some 1)) ∷ (TrySend 2, Full 2) ∷ []) }
+    // A refused send removes the receiver.
+    ensures refused_send_removes { IsNearMiss (Some 0) ((Recv Plain, Parked 1)
+        ∷ (Send 1, NoMemory (Some 1)) ∷ (Poll 1, NoTicket) ∷ []) }
+    // A send is refused at capacity 0 although a receiver waits.
+    ensures full_while_waiting { IsNearMiss (Some 0) ((Recv Plain, Parked 1) ∷ (TrySend 1, Full 1)
+        ∷ []) }
+    // A send wakes none, so that the next one is taken in at capacity 0.
+    ensures send_wakes_none { IsNearMiss (Some 0) ((Recv Plain, Parked 1) ∷ (TrySend 1, Sent None)
+        ∷ (TrySend 2, Sent None) ∷ []) }
+    // A send wakes both that wait, so that the next one finds none and capacity 0.
+    ensures send_wakes_all { IsNearMiss (Some 0) ((Recv Plain, Parked 1) ∷ (Recv Arm, Parked 2)
+        ∷ (TrySend 1, Sent None) ∷ (TrySend 2, Full 2) ∷ []) }
+    // A round goes on after a plain receiver.
+    ensures goes_on_after_plain { IsNearMiss None ((Recv Plain, Parked 1) ∷ (Recv Block, Parked 2)
+        ∷ (Send 1, Sent (Some 2)) ∷ []) }
+    // A round goes on after an arm of a selector.
+    ensures goes_on_after_arm { IsNearMiss None ((Recv Arm, Parked 1) ∷ (Recv Block, Parked 2)
+        ∷ (Send 1, Sent (Some 2)) ∷ []) }
+    // A round goes on after it filled one, and wakes the next, so that a send at capacity 0 finds
+    // none.
+    ensures goes_on_after_block { IsNearMiss (Some 0) ((Recv Block, Parked 1)
+        ∷ (Recv Plain, Parked 2) ∷ (TrySend 1, Sent (Some 1)) ∷ (TrySend 2, Full 2) ∷ []) }
+    // A round ends at a stream.
+    ensures ends_at_stream { IsNearMiss None ((Recv Stream, Parked 1) ∷ (Recv Block, Parked 2)
+        ∷ (Send 5, Sent None) ∷ []) }
+    // A round ends at a receiver that was woken before.
+    ensures ends_at_woken { IsNearMiss None ((Recv Plain, Parked 1) ∷ (Recv Block, Parked 2)
+        ∷ (Recv Block, Parked 3) ∷ (TrySend 1, Sent None) ∷ (TrySend 2, Sent (Some 2))
+        ∷ (TrySend 3, Sent None) ∷ []) }
+    // A round fills one that was filled before.
+    ensures filled_again { IsNearMiss None ((Recv Block, Parked 1) ∷ (Recv Block, Parked 2)
+        ∷ (TrySend 1, Sent (Some 1)) ∷ (TrySend 2, Sent (Some 1)) ∷ []) }
+    // One message fills both that wait, so that the next send names none.
+    ensures one_fills_two { IsNearMiss None ((Recv Block, Parked 1) ∷ (Recv Block, Parked 2)
+        ∷ (TrySend 1, Sent (Some 1)) ∷ (TrySend 2, Sent None) ∷ []) }
+    // One message fills both that wait, and the second collects it too.
+    ensures one_collected_by_two { IsNearMiss None ((Recv Block, Parked 1) ∷ (Recv Block, Parked 2)
+        ∷ (TrySend 1, Sent (Some 1)) ∷ (Poll 1, Got 1) ∷ (Poll 2, Got 1) ∷ []) }
+    // A round fills the last that waits.
+    ensures last_filled { IsNearMiss None ((Recv Block, Parked 1) ∷ (Recv Block, Parked 2)
+        ∷ (TrySend 1, Sent (Some 2)) ∷ []) }
     ensures plain_filled { IsNearMiss None plain_filled }
-    ensures filled_and_queued { IsNearMiss None filled_and_queued }
-    ensures asking_loses_place { IsNearMiss None asking_loses_place }
-    ensures again_before_others { IsNearMiss None again_before_others }
-    ensures passed_on_for_nothing { IsNearMiss (Some 0) passed_on_for_nothing }
-    ensures closing_wakes_first { IsNearMiss None closing_wakes_first }
+    // A message that filled a receiver is queued as well.
+    ensures filled_and_queued { IsNearMiss None ((Recv Block, Parked 1) ∷ (Send 5, Sent (Some 1))
+        ∷ (Len, Number 1) ∷ []) }
+    // A receiver that waits and asks goes behind the others.
+    ensures asking_loses_place { IsNearMiss None ((Recv Plain, Parked 1) ∷ (Recv Block, Parked 2)
+        ∷ (Poll 1, Waiting) ∷ (Send 5, Sent (Some 2)) ∷ []) }
+    // A woken receiver that waits again stands before the others.
+    ensures again_before_others { IsNearMiss None ((Recv Plain, Parked 1) ∷ (TrySend 1, Sent None)
+        ∷ (TryRecv, Got 1) ∷ (Recv Block, Parked 2) ∷ (Poll 1, Waiting) ∷ (TrySend 2, Sent None)
+        ∷ []) }
+    // A wake is passed on although nothing is queued, so that a send at capacity 0 finds none
+    // waiting.
+    ensures passed_on_for_nothing { IsNearMiss (Some 0) ((Recv Plain, Parked 1)
+        ∷ (TrySend 1, Sent None) ∷ (TryRecv, Got 1) ∷ (Recv Plain, Parked 2)
+        ∷ (Withdraw 1, Gone false None) ∷ (TrySend 2, Full 2) ∷ []) }
+    // Closing wakes only the first of two.
+    ensures closing_wakes_first { IsNearMiss None ((Recv Block, Parked 1) ∷ (Recv Block, Parked 2)
+        ∷ (DropSender, Done) ∷ (Poll 2, Waiting) ∷ []) }
 {}
 
 /// After a worked row a receiver waits and both bounds are met, so neither can be stricter.

@@ -1,40 +1,69 @@
 //! Worked logs in which nobody blocks or parks, and near-misses of them.
-ghost use Rattle.std.specs.Prelude.{Some, None};
-ghost use Rattle.flume_model_rows.specs.Rows.{Runs, one_message, filled, outlived, no_capacity};
-ghost use Rattle.flume_model_rows.specs.Rows.{both_gone};
-ghost use Rattle.flume_model_rows.specs.NearMisses.{wrong_message, newer_first, handed_out_twice};
-ghost use Rattle.flume_model_rows.specs.NearMisses.{empty_while_queued, ended_while_queued};
-ghost use Rattle.flume_model_rows.specs.NearMisses.{ended_while_open, full_below_capacity};
-ghost use Rattle.flume_model_rows.specs.NearMisses.{sent_at_capacity, sent_while_closed};
-ghost use Rattle.flume_model_rows.specs.NearMisses.{closed_while_open, another_returned};
-ghost use Rattle.flume_model_rows.specs.NearMisses.{done_at_zero, no_end_at_one, left_when_over};
-ghost use Rattle.flume_model_rows.specs.NearMisses.{one_off, refused_receive};
+ghost use Rattle.std.specs.Prelude.{[], ◌∷◌, Some, None};
+ghost use Rattle.flume_model.specs.declared.step.Step.TheVariants.{TrySend, TryRecv, DropSender};
+ghost use Rattle.flume_model.specs.declared.step.Step.TheVariants.{DropReceiver, Len};
+ghost use Rattle.flume_model.specs.declared.step.Reply.TheVariants.{Sent, Full, Closed, NoMemory};
+ghost use Rattle.flume_model.specs.declared.step.Reply.TheVariants.{Got, Empty, Ended, Done, NoEnd};
+ghost use Rattle.flume_model.specs.declared.step.Reply.TheVariants.{Number};
+ghost use Rattle.flume_model_rows.specs.Rows.{Runs};
 
 /// Worked rows are runs.
 pub fn rows_are_runs()
-    ensures one_message { Runs None one_message }
-    ensures filled { Runs (Some 2) filled }
-    ensures outlived { Runs None outlived }
-    ensures no_capacity { Runs (Some 0) no_capacity }
-    ensures both_gone { Runs None both_gone }
+    // One message through an unbounded channel.
+    ensures one_message { Runs None ((TryRecv, Empty) ∷ (TrySend 42, Sent None) ∷ (TryRecv, Got 42)
+        ∷ (TryRecv, Empty) ∷ []) }
+    // A bounded channel, filled, refusing, and read.
+    ensures filled { Runs (Some 2) ((TrySend 1, Sent None) ∷ (TrySend 2, Sent None)
+        ∷ (TrySend 3, Full 3) ∷ (TryRecv, Got 1) ∷ (Len, Number 1) ∷ []) }
+    // What was queued outlives the last sender.
+    ensures outlived { Runs None ((TrySend 1, Sent None) ∷ (DropSender, Done) ∷ (TryRecv, Got 1)
+        ∷ (TryRecv, Ended) ∷ []) }
+    // A channel of capacity 0 queues nothing.
+    ensures no_capacity { Runs (Some 0) ((Len, Number 0) ∷ (TrySend 1, Full 1) ∷ (TryRecv, Empty)
+        ∷ []) }
+    // With both ends gone, nothing is left.
+    ensures both_gone { Runs None ((TrySend 1, Sent None) ∷ (DropReceiver, Done)
+        ∷ (DropSender, Done) ∷ (Len, Number 0) ∷ (TryRecv, Ended) ∷ (DropReceiver, NoEnd) ∷ []) }
 {}
 
 /// Logs that miss a run in one place are no runs.
 pub fn near_misses_are_no_runs()
-    ensures wrong_message { ¬ Runs None wrong_message }
-    ensures newer_first { ¬ Runs None newer_first }
-    ensures handed_out_twice { ¬ Runs None handed_out_twice }
-    ensures empty_while_queued { ¬ Runs None empty_while_queued }
-    ensures ended_while_queued { ¬ Runs None ended_while_queued }
-    ensures ended_while_open { ¬ Runs None ended_while_open }
-    ensures full_below_capacity { ¬ Runs (Some 2) full_below_capacity }
-    ensures sent_at_capacity { ¬ Runs (Some 2) sent_at_capacity }
-    ensures sent_while_closed { ¬ Runs None sent_while_closed }
-    ensures closed_while_open { ¬ Runs None closed_while_open }
-    ensures another_returned { ¬ Runs None another_returned }
-    ensures done_at_zero { ¬ Runs None done_at_zero }
-    ensures no_end_at_one { ¬ Runs None no_end_at_one }
-    ensures left_when_over { ¬ Runs None left_when_over }
-    ensures one_off { ¬ Runs None one_off }
-    ensures refused_receive { ¬ Runs None refused_receive }
+    // Another message comes out than went in.
+    ensures wrong_message { ¬ Runs None ((TrySend 42, Sent None) ∷ (TryRecv, Got 43) ∷ []) }
+    // The newer message comes out first.
+    ensures newer_first { ¬ Runs None ((TrySend 1, Sent None) ∷ (TrySend 2, Sent None)
+        ∷ (TryRecv, Got 2) ∷ []) }
+    // One message comes out twice.
+    ensures handed_out_twice { ¬ Runs None ((TrySend 1, Sent None) ∷ (TryRecv, Got 1)
+        ∷ (TryRecv, Got 1) ∷ []) }
+    // Nothing is found where a message is queued.
+    ensures empty_while_queued { ¬ Runs None ((TrySend 42, Sent None) ∷ (TryRecv, Empty) ∷ []) }
+    // The end is told while a message is queued.
+    ensures ended_while_queued { ¬ Runs None ((TrySend 42, Sent None) ∷ (DropSender, Done)
+        ∷ (TryRecv, Ended) ∷ []) }
+    // The end is told in an open channel.
+    ensures ended_while_open { ¬ Runs None ((TryRecv, Ended) ∷ []) }
+    // A send is refused below the capacity, which is 2.
+    ensures full_below_capacity { ¬ Runs (Some 2) ((TrySend 1, Sent None) ∷ (TrySend 2, Full 2)
+        ∷ []) }
+    // A send is taken in at the capacity, which is 2.
+    ensures sent_at_capacity { ¬ Runs (Some 2) ((TrySend 1, Sent None) ∷ (TrySend 2, Sent None)
+        ∷ (TrySend 3, Sent None) ∷ []) }
+    // A send is taken in although no receiver lives.
+    ensures sent_while_closed { ¬ Runs None ((DropReceiver, Done) ∷ (TrySend 1, Sent None) ∷ []) }
+    // A send is told of a closed channel while both ends live.
+    ensures closed_while_open { ¬ Runs None ((TrySend 1, Closed 1) ∷ []) }
+    // Another message comes back than was handed in.
+    ensures another_returned { ¬ Runs None ((DropReceiver, Done) ∷ (TrySend 1, Closed 2) ∷ []) }
+    // A receiver leaves although none is left.
+    ensures done_at_zero { ¬ Runs None ((DropReceiver, Done) ∷ (DropReceiver, Done) ∷ []) }
+    // No sender is told of while one lives.
+    ensures no_end_at_one { ¬ Runs None ((DropSender, NoEnd) ∷ []) }
+    // A message is left once both sides have disconnected.
+    ensures left_when_over { ¬ Runs None ((TrySend 1, Sent None) ∷ (DropReceiver, Done)
+        ∷ (DropSender, Done) ∷ (TryRecv, Got 1) ∷ []) }
+    // A number is one off.
+    ensures one_off { ¬ Runs None ((TrySend 1, Sent None) ∷ (Len, Number 2) ∷ []) }
+    // A receive is refused because memory ran out while no sender is blocked.
+    ensures refused_receive { ¬ Runs None ((TrySend 1, Sent None) ∷ (TryRecv, NoMemory None) ∷ []) }
 {}

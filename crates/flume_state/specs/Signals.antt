@@ -24,6 +24,7 @@ module _ {T S : Type 0} where
   -- a ticket that was due is named: one of a send, or of a parked receiver
   pub data Names (old new : State T S) (ticket : ℕ) : Type 0 where
     Send : is_due_send old.sends ticket ≡ true
-        → new ≡ record old { sends = noticed_send no_longer_due ticket old.sends } → Names old new ticket
+        → new ≡ record old { sends = noticed_send no_longer_due ticket old.sends }
+        → Names old new ticket
     Receive : NamesReceiver old.entries new.entries ticket
         → new ≡ record old { entries = new.entries } → Names old new ticket

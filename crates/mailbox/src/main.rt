@@ -11,7 +11,6 @@ mod in_order;
 #[cfg(test)]
 mod rows;
 
-use flume::error::NoMemory;
 use flume::{Receiver, Runtime, Sender, Waits};
 use in_order::{MESSAGES, WORKERS, in_order};
 use std::io::Write;
@@ -59,9 +58,7 @@ fn receive_all<R: Runtime>(rt: &R, mailbox: &Receiver<Message, R>) -> io::Result
     for message in messages.by_ref() {
         all.push(message)?;
     }
-    if messages.fault() {
-        return Err(NoMemory.into());
-    }
+    messages.ended()?;
     Ok(all)
 }
 

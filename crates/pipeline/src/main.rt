@@ -5,7 +5,6 @@
 
 ghost use Rattle.std.specs.Prelude.{◌≤◌};
 
-use flume::error::NoMemory;
 use flume::{Receiver, Sender, Waits};
 use std::{io, thread};
 
@@ -28,9 +27,7 @@ fn main(rt: HostRuntime) -> io::Result<()> {
     for mean in means.by_ref() {
         println!(rt; "{mean}")?;
     }
-    if means.fault() {
-        return Err(NoMemory.into());
-    }
+    means.ended()?;
     // If a stage failed, its error says why. Those before it only say that nobody received.
     dividing.join(&rt)?;
     adding.join(&rt)?;
@@ -54,10 +51,7 @@ fn add<R: Waits>(numbers: &Receiver<u64, R>, totals: &Sender<Total, R>) -> io::R
         count = count.saturating_add(1);
         totals.send(Total { sum, count })?;
     }
-    if numbers.fault() {
-        return Err(NoMemory.into());
-    }
-    Ok(())
+    Ok(numbers.ended()?)
 }
 
 /// Sends the mean of each total that it receives, rounded down. No total is of no number: that came
@@ -67,8 +61,5 @@ fn divide<R: Waits>(totals: &Receiver<Total, R>, means: &Sender<u64, R>) -> io::
     for total in totals.by_ref() {
         means.send(total.sum / total.count)?;
     }
-    if totals.fault() {
-        return Err(NoMemory.into());
-    }
-    Ok(())
+    Ok(totals.ended()?)
 }

@@ -1,6 +1,6 @@
 //! The messages of a receiver as a stream.
 ghost use Rattle.std.specs.Prelude.{◌≡◌, ◌==◌, ◌↔◌, ⊤, true, false, Ok, Some, None};
-ghost use Rattle.std.specs.Prelude.{IfSome, OnSome};
+ghost use Rattle.std.specs.Prelude.{IsErr, IfSome, OnSome};
 ghost use Rattle.flume.specs.Iterators.{is_refused};
 ghost use Rattle.futures.specs.Task.{Covers, Keeps};
 ghost use Rattle.futures.specs.Poll.{IfReady, OnPending};
@@ -11,7 +11,7 @@ use crate::polled::owned_or_ref::OwnedOrRef;
 use crate::polled::receive::RecvFut;
 use crate::receiver::Receiver;
 use crate::shared::Waits;
-use flume_core::error::RecvError;
+use flume_core::error::{NoMemory, RecvError};
 use flume_model::step::Kind;
 use futures::task::{Context, Poll};
 use futures::{Future, Stream};
@@ -80,6 +80,14 @@ impl<'a, T: Drop, R: Waits, A: Allocator + Copy> RecvStream<'a, T, R, A> {
         ensures fault { result ≡ self.now.fault }
     {
         self.fault
+    }
+
+    /// The same as a `Result`, for a program that goes on by `?`: an error exactly where `fault` is
+    /// true.
+    pub fn ended(&self) -> Result<(), NoMemory>
+        ensures no_memory { IsErr result ↔ self.now.fault ≡ true }
+    {
+        if self.fault { Err(NoMemory) } else { Ok(()) }
     }
 
     // The item that a receive's answer is, with a note of why there is none.

@@ -3,7 +3,8 @@ ghost use Rattle.std.specs.Prelude.{◌≡◌, IsSome};
 ghost use Rattle.flume_calls.specs.declared.gates.select.ArmNext.{ArmNext};
 ghost use Rattle.flume.specs.ArmTurns.{EndsReceive, receive_result};
 ghost use Rattle.flume.specs.ArmTurns.{IsArmReceive, TakesReceive};
-ghost use Rattle.flume.specs.ArmSteps.{ReceiveTurn, ReceiveEnd, StartsReceive, PollsReceive, Leaves};
+ghost use Rattle.flume.specs.ArmSteps.{ReceiveTurn, ReceiveEnd, StartsReceive, PollsReceive};
+ghost use Rattle.flume.specs.ArmSteps.{Leaves};
 ghost use Rattle.flume.specs.Selecting.{CanMap, Maps, MapsResult};
 
 use crate::receiver::Receiver;

@@ -66,7 +66,8 @@ impl RecvCall {
     #[inline(always)]
     pub fn first<T: Drop, S: Drop, A: Allocator + Copy>(chan: &mut Chan<T, S, A>) -> RecvNext<T>
         ensures turn { Turned {A = A} Step.TryRecv after_try_recv chan.old chan.new result }
-        ensures answers { IsFirst result × IsntRefused result }
+        ensures answers { IsFirst result }
+        ensures served { IsntRefused result }
         ensures outcome { FirstReceiveOutcome chan.old chan.new result }
     {
         FirstReceive.apply(chan)
@@ -119,7 +120,8 @@ impl RecvCall {
     ) -> RecvNext<T>
         ensures turn { Turned {A = A} (step_of_parked_receive self late)
             (after_parked_receive self late) chan.old chan.new result }
-        ensures answers { IsAgain self late result × IsntRefused result }
+        ensures answers { IsAgain self late result }
+        ensures served { IsntRefused result }
         ensures outcome { AgainReceiveOutcome self late signal chan.old chan.new result }
     {
         let call = self;

@@ -44,7 +44,7 @@ impl PolledReceive {
     /// let mut receive = PolledReceive::new(Kind::Plain);
     /// receive.poll(&mut chan, &mut Some(10));      // None: it waits, with the signal 10
     /// if let Some(leaves) = receive.end() {
-    ///     leaves.apply(&mut chan);                  // Done(Err(Timeout)): it leaves
+    ///     leaves.apply(&mut chan);                 // Done(Err(Timeout)): it leaves
     /// }
     /// ```
     pub fn end<S>(&mut self) -> Option<AgainReceive<S>>

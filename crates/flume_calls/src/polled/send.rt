@@ -30,7 +30,7 @@ impl<T: Drop> PolledSend<T> {
     /// let mut send = PolledSend::Unsent(7);
     /// send.poll(&mut chan, &mut Some(10));         // None: it waits, with the signal 10
     /// if let Some(takes_back) = send.end() {
-    ///     takes_back.apply(&mut chan);              // Done(Err(Timeout(7)))
+    ///     takes_back.apply(&mut chan);             // Done(Err(Timeout(7)))
     /// }
     /// ```
     pub fn end<S>(&mut self) -> Option<AgainSend<S>>

@@ -76,7 +76,7 @@ impl<T: Drop, S: Drop, A: Allocator + Copy> Chan<T, S, A> {
         Reply::Number(self.receivers)
     }
 
-    /// Whether all senders or all receivers, have been dropped, as a `Truth`. Takes no memory.
+    /// Whether all senders or all receivers have been dropped, as a `Truth`. Takes no memory.
     pub fn is_disconnected(&self) -> Reply<T, A>
         ensures step { Extends self.now Step.IsDisconnected result self.now }
         ensures dues { BecomesDue self.now Step.IsDisconnected result self.now }

@@ -23,7 +23,7 @@ impl<T: Drop, S: Drop, A: Allocator + Copy> Chan<T, S, A> {
     /// where a receiver waits, and then a wake round follows: it wakes streams up to the first
     /// receiver that is none, and wakes that one, or where it blocks hands it the front of the
     /// queue and names its ticket. `Full`: no receiver waits, and the queue is at its capacity.
-    /// `Closed`: all senders or all receivers, have been dropped. `NoMemory`: there was no room for
+    /// `Closed`: all senders or all receivers have been dropped. `NoMemory`: there was no room for
     /// the message (`room`), and no memory for more. A channel holds at most 4,294,967,295
     /// messages, queued and blocked: past that the answer is `NoMemory` though no allocation was
     /// refused. The last three hand the message back and leave the channel as it was.

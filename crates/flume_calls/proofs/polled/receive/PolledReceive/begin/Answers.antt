@@ -7,7 +7,7 @@ use Rattle.flume_calls.proofs.polled.receive.PolledReceive.begin.Goals as goal
 pub returns-in_default-clause-row : goal.returns-in_default-clause-row
 returns-in_default-clause-row g c =
     let first = c.first.ensures in
-    Tries _ refl (search rules) first.turn first.answers.0 first.answers.1 first.outcome c.settle.ensures.settles
+    Tries _ refl (search rules) first.turn first.answers first.served first.outcome c.settle.ensures.settles
 
 pub returns-in_default-clause-step : goal.returns-in_default-clause-step
 returns-in_default-clause-step g c =
