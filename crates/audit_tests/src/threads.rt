@@ -69,8 +69,8 @@ struct Plan {
     seed: u64,
 }
 
-// The step of this number. Of drawn ones each eighth sets a capacity from 0 to 4, three withdraw, and
-// none counts an end.
+// The step of this number. Of drawn ones each eighth sets a capacity from 0 to 4, three withdraw,
+// and none counts an end.
 fn step_of(plan: Plan, draws: &mut Draws, number: usize) -> Step<u64> {
     let last = draws.issued;
     match (plan.seed, number % 8) {

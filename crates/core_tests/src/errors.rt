@@ -20,29 +20,18 @@ fn each_error_without_a_message_has_its_debug_text(rt: HostRuntime) {
     let (r, a) = (&rt, rt.alloc());
     let errors = [RecvError::Disconnected, RecvError::NoMemory];
     shows(r, a, &errors, "[Disconnected, NoMemory]");
-    let errors = [
-        TryRecvError::Empty,
-        TryRecvError::Disconnected,
-        TryRecvError::NoMemory,
-    ];
+    let (empty, closed) = (TryRecvError::Empty, TryRecvError::Disconnected);
+    let errors = [empty, closed, TryRecvError::NoMemory];
     shows(r, a, &errors, "[Empty, Disconnected, NoMemory]");
     let (timeout, closed) = (RecvTimeoutError::Timeout, RecvTimeoutError::Disconnected);
     let errors = [timeout, closed, RecvTimeoutError::NoMemory];
     shows(r, a, &errors, "[Timeout, Disconnected, NoMemory]");
     let errors = [SelectError::Timeout, SelectError::NoMemory];
     shows(r, a, &errors, "[Timeout, NoMemory]");
-    let errors = [CapacityError::Unbounded, CapacityError::Disconnected];
-    shows(r, a, &errors, "[Unbounded, Disconnected]");
-    is(
-        r,
-        CapacityError::Unbounded == CapacityError::Unbounded,
-        true,
-    );
-    is(
-        r,
-        CapacityError::Unbounded == CapacityError::Disconnected,
-        false,
-    );
+    let (unbounded, closed) = (CapacityError::Unbounded, CapacityError::Disconnected);
+    shows(r, a, &[unbounded, closed], "[Unbounded, Disconnected]");
+    is(r, unbounded == CapacityError::Unbounded, true);
+    is(r, unbounded == closed, false);
     shows(r, a, &[NoMemory], "[NoMemory]");
 }
 

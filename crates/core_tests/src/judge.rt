@@ -71,14 +71,10 @@ impl Told {
     /// Keeps what the reply to this step tells.
     pub fn add(&mut self, step: &Step<u64>, reply: &Reply<u64>) -> Result<(), AllocError> {
         match step {
-            Step::TrySend(message) => self.offered(*message, reply)?,
-            Step::Send(message) => self.offered(*message, reply)?,
-            Step::PollSend(ticket) => self.asked(*ticket, reply),
-            Step::WithdrawSend(ticket) => self.asked(*ticket, reply),
-            Step::TryRecv => self.received(reply)?,
-            Step::Recv(_) => self.received(reply)?,
-            Step::Poll(ticket) => self.answered(*ticket, reply)?,
-            Step::Withdraw(ticket) => self.answered(*ticket, reply)?,
+            Step::TrySend(message) | Step::Send(message) => self.offered(*message, reply)?,
+            Step::PollSend(ticket) | Step::WithdrawSend(ticket) => self.asked(*ticket, reply),
+            Step::TryRecv | Step::Recv(_) => self.received(reply)?,
+            Step::Poll(ticket) | Step::Withdraw(ticket) => self.answered(*ticket, reply)?,
             Step::Drain => self.drained(reply)?,
             _ => self.counted(step, reply),
         }

@@ -3,8 +3,8 @@ use std::alloc::{AllocError, Allocator};
 use std::sync::atomic::{AtomicU64, Ordering};
 
 // How many blocks are out; how many were asked for, and how many of these were refused, since the
-// range was set; the range of those that are refused, counted from 1; and one in how many is refused
-// beside them, where that isn't 0.
+// range was set; the range of those that are refused, counted from 1; and one in how many is
+// refused beside them, where that isn't 0.
 struct Blocks {
     live: AtomicU64,
     asked: AtomicU64,

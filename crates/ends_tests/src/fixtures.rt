@@ -1,14 +1,17 @@
-//! What several tests use: answers compared in one place, channels of any capacity, threads and
-//! times. What can't be had fails the test here: a `?` in a test costs the prover a second, and an
-//! abort none.
+//! What several tests use: answers compared in one place, channels of any capacity, threads, times,
+//! and a clock. What can't be had fails the test here: a `?` in a test costs the prover a second,
+//! and an abort none. Other crates of tests have their own, since no library may abort.
+use crate::ends::open;
 use crate::works::Work;
-use flume::{Receiver, Sender, Waits, bounded, unbounded};
+use flume::{Receiver, Sender, Waits};
 use std::alloc::Allocator;
 use std::fmt::Debug;
 use std::process::Abort;
-use std::thread;
+use std::sync::Wait;
+use std::sync::atomic::{AtomicU64, Ordering};
 use std::thread::{JoinHandle, Threads};
 use std::time::{Clock, Duration, Instant};
+use std::{io, thread};
 
 /// The answer is the wanted one.
 pub(crate) fn is<T: Debug + PartialEq + Drop>(rt: &impl Abort, answer: T, wanted: T) {
@@ -26,10 +29,7 @@ pub(crate) fn opened<T: Drop, R: Waits + Abort, A: Allocator + Copy>(
     alloc: A,
     capacity: Option<usize>,
 ) -> (Sender<T, R, A>, Receiver<T, R, A>) {
-    match capacity {
-        Some(capacity) => had(&rt, bounded(rt, alloc, 1, capacity)),
-        None => had(&rt, unbounded(rt, alloc, 1)),
-    }
+    had(&rt, open(rt, alloc, capacity))
 }
 
 /// A thread that does this.
@@ -58,4 +58,24 @@ pub(crate) fn later<R: Clock + Abort>(rt: &R) -> Instant {
     present(rt)
         .checked_add(long())
         .expect(rt, "an hour has a sum")
+}
+
+/// A runtime whose clock counts its readings: each is a microsecond after the one before.
+#[derive(Clone, Copy)]
+pub(crate) struct Counting<'a, R> {
+    pub(crate) rt: &'a R,
+    pub(crate) readings: &'a AtomicU64,
+}
+
+impl<R: Wait> Wait for Counting<'_, R> {}
+
+impl<R> Clock for Counting<'_, R> {
+    fn monotonic(&self) -> io::Result<Duration> {
+        let earlier = self.readings.fetch_add(1, Ordering::SeqCst);
+        Ok(Duration::from_micros(earlier))
+    }
+
+    fn since_1970(&self) -> io::Result<Duration> {
+        self.monotonic()
+    }
 }

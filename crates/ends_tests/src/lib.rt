@@ -7,6 +7,7 @@ pub mod changes;
 #[cfg(test)]
 mod clocks;
 pub mod counting;
+pub mod ends;
 #[cfg(test)]
 mod fixtures;
 #[cfg(test)]

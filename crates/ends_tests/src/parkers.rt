@@ -1,7 +1,7 @@
-//! What a call waits on: a wake that comes before the wait, and one that comes in the midst of it, as
-//! the wait has found none and reads its clock. A spin that looked for another word would only
+//! What a call waits on: a wake that comes before the wait, and one that comes in the midst of it,
+//! as the wait has found none and reads its clock. A spin that looked for another word would only
 //! be slow: no test shows it.
-use crate::fixtures::is;
+use crate::fixtures::{Counting, is};
 use crate::watch::begin_watch;
 use crate::works::Work;
 use flume::signal::Parker;
@@ -12,26 +12,6 @@ use std::sync::atomic::{AtomicU64, Ordering};
 use std::test::Fail;
 use std::time::{Clock, Duration, Instant};
 
-// A clock that counts its readings: each is a millisecond after the one before.
-#[derive(Clone, Copy)]
-struct Counting<'a, R> {
-    rt: &'a R,
-    readings: &'a AtomicU64,
-}
-
-impl<R: Wait> Wait for Counting<'_, R> {}
-
-impl<R> Clock for Counting<'_, R> {
-    fn monotonic(&self) -> io::Result<Duration> {
-        let before = self.readings.fetch_add(1, Ordering::SeqCst);
-        Ok(Duration::from_millis(before))
-    }
-
-    fn since_1970(&self) -> io::Result<Duration> {
-        self.monotonic()
-    }
-}
-
 // Whether a wait takes a wake. Else it looks at the clock, and ends at the third reading.
 fn takes_a_wake<R: Wait + Abort>(rt: &R, parker: &Parker) -> bool {
     let readings = AtomicU64::new(0);
@@ -41,7 +21,7 @@ fn takes_a_wake<R: Wait + Abort>(rt: &R, parker: &Parker) -> bool {
     };
     // The first reading, of 0, is the one that the deadline is made of.
     let now = Instant::now(&counting).expect(rt, "this clock can be read");
-    let deadline = now.checked_add(Duration::from_millis(2)).unwrap_or(now);
+    let deadline = now.checked_add(Duration::from_micros(2)).unwrap_or(now);
     parker.wait_until(&counting, deadline);
     readings.into_inner() == 1
 }
@@ -106,8 +86,8 @@ impl<R: Wait> Clock for Firing<'_, R> {
     }
 }
 
-// A wake comes as a wait of an hour reads its clock. Where time is left the wait takes the wake, and
-// doesn't sleep; where it is up, the wake stays for the next wait.
+// A wake comes as a wait of an hour reads its clock. Where time is left the wait takes the wake,
+// and doesn't sleep; where it is up, the wake stays for the next wait.
 fn wake_in_the_midst<R: Wait + Abort>(rt: &R, parker: &Parker, is_past: bool) {
     let readings = AtomicU64::new(0);
     let firing = Firing {

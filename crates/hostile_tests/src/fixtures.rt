@@ -1,5 +1,5 @@
-//! What several tests use. What can't be had fails the test here: a `?` in a test costs the prover a
-//! second, and an abort none.
+//! What several tests use. What can't be had fails the test here: a `?` in a test costs the prover
+//! a second, and an abort none.
 use ends_tests::counting::Counting;
 use std::alloc::Global;
 use std::fmt::Debug;

@@ -86,8 +86,8 @@ fn scripted<'h>(heap: Heap<'h>, script: &str, growth: u64) -> (Vec<u8, Heap<'h>>
     }
 }
 
-// A list, or a script, of which this growth is refused, answers as it should: whether it was refused
-// as a whole, and whether a growth was refused at all.
+// A list, or a script, of which this growth is refused, answers as it should: whether it was
+// refused as a whole, and whether a growth was refused at all.
 fn is_so(
     rt: &impl Abort,
     heap: Heap<'_>,

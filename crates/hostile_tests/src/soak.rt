@@ -1,12 +1,13 @@
 //! Eight threads on one channel whose allocator refuses one growth in a hundred: senders and
 //! receivers that try, block, wait a short time, poll and leave, with ends that are cloned,
 //! upgraded and dropped, at each of several capacities, and while it changes all along.
-use crate::fixtures::Heap;
+use crate::fixtures::{Heap, had, holds};
 use ends_tests::counting::Counting;
+use ends_tests::ends::open;
 use ends_tests::watch::{Watch, Watched, begin_watch};
 use ends_tests::works::Work;
 use flume::error::{RecvError, RecvTimeoutError, TryRecvError};
-use flume::{Receiver, Sender, Waits, bounded, unbounded};
+use flume::{Receiver, Sender, Waits};
 use futures::task::Poll;
 use futures::test::MockTask;
 use std::alloc::{AllocGlobal, Allocator, Global};
@@ -29,6 +30,9 @@ const ALL: usize = 8 * EACH as usize;
 
 // The first message of each of the four.
 const FIRSTS: &[u64] = &[0, 2 * EACH, 4 * EACH, 6 * EACH];
+
+// What the test is of.
+const TITLE: &str = "threads";
 
 // What a runtime value can do that the threads use.
 trait Runs: Waits + RandomSource + AllocGlobal + Threads + Abort + Send + Sync + 'static {}
@@ -287,24 +291,6 @@ fn are_right(counts: &[u32], sent: &[Sent]) -> bool {
     true
 }
 
-// The ends of a new channel of this capacity: `None` is unbounded.
-fn opened<'h, R: Runs>(
-    rt: R,
-    heap: Heap<'h>,
-    capacity: Option<usize>,
-) -> (Sender<u64, R, Heap<'h>>, Receiver<u64, R, Heap<'h>>) {
-    let ends = match capacity {
-        Some(capacity) => bounded(rt, heap, 1, capacity),
-        None => unbounded(rt, heap, 1),
-    };
-    ends.expect(&rt, "there is memory")
-}
-
-// It is so; what fails where it isn't.
-fn holds(rt: &impl Abort, fault: &str, is_so: bool) {
-    assert!(rt; is_so, "{fault}");
-}
-
 // All run at this capacity, or at one that begins so and changes, and some message comes all along.
 // Growths were refused, messages came back from sends that were left, and no block is left.
 fn soak<R: Runs>(
@@ -314,28 +300,27 @@ fn soak<R: Runs>(
     (capacity, changes): (Option<usize>, bool),
 ) {
     let heap = Counting::new(alloc);
-    let counts = vec![in alloc; 0u32; ALL].expect(&rt, "there is memory");
-    let sent = vec![in alloc; Sent::Unknown; ALL].expect(&rt, "there is memory");
-    let (counts, sent) = (Mutex::new(counts), Mutex::new(sent));
+    let counts = Mutex::new(had(&rt, vec![in alloc; 0u32; ALL]));
+    let sent = Mutex::new(had(&rt, vec![in alloc; Sent::Unknown; ALL]));
     let tally = Tally {
         counts,
         sent,
         watched,
     };
-    let ends = opened(rt, &heap, capacity);
+    let ends = had(&rt, open(rt, &heap, capacity));
     heap.refuse_one_in(100);
     let is_run = all_run(rt, ends, changes, &tally);
-    holds(&rt, "not all threads ran", is_run);
+    holds(&rt, (TITLE, "not all threads ran"), is_run);
     let Tally { counts, sent, .. } = tally;
     let (counts, sent) = (counts.into_inner(), sent.into_inner());
     let are_right = are_right(&counts, &sent);
     holds(
         &rt,
-        "a message is lost, or came against its answer",
+        (TITLE, "a message is lost, or came against its answer"),
         are_right,
     );
-    holds(&rt, "no growth was refused", heap.refusals() > 0);
-    holds(&rt, "blocks are left", heap.live() == 0);
+    holds(&rt, (TITLE, "no growth was refused"), heap.refusals() > 0);
+    holds(&rt, (TITLE, "blocks are left"), heap.live() == 0);
 }
 
 // The thread that watches over a test.

@@ -1,8 +1,7 @@
 //! A task that is woken for a message which another receiver takes first: it finds nothing, waits
 //! again, and is woken by the next message.
-use crate::fixtures::{begun, had, is, opened, receive_was};
-use crate::works::{Runs, Stuck};
-use ends_tests::watch::begin_watch;
+use crate::fixtures::{begun, had, is, opened, receive_was, watching};
+use crate::works::Runs;
 use ends_tests::works::Work;
 use flume::polled::RecvStream;
 use flume::{Receiver, Sender};
@@ -12,7 +11,6 @@ use futures::{Future, Stream};
 use std::alloc::Global;
 use std::sync::atomic::{AtomicU64, Ordering};
 use std::sync::{Arc, Wait};
-use std::test::Fail;
 use std::thread;
 
 // In how many rounds the task is to find nothing.
@@ -91,63 +89,84 @@ fn wait_for<R: Wait>(rt: &R, number: &AtomicU64, least: u64) {
     unreachable!()
 }
 
-// Sends a message to the task, which waits, and takes it at once. Whether it could: then the task
-// was woken, found nothing and waits again.
-fn takes_it<R: Runs>(
-    rt: &R,
-    (tx, rx): (&Sender<u64, R>, &Receiver<u64, R>),
-    told: &Told,
-    number: u64,
-) -> bool {
-    let waits = told.waits.load(Ordering::SeqCst);
-    let _ = tx.send(number);
-    let is_taken = rx.try_recv().is_ok();
-    if is_taken {
-        wait_for(rt, &told.waits, waits.wrapping_add(1));
-    }
-    is_taken
+// The ends by which the task is sent to and sends back, and what it tells.
+#[derive(Drop)]
+struct Beside<R: Runs> {
+    tx: Sender<u64, R>,
+    rx: Receiver<u64, R>,
+    echoed: Receiver<u64, R>,
+    told: Arc<Told>,
 }
 
-// Goes on until the task has found nothing so often. What isn't taken comes back from it.
-fn echo_all<R: Runs>(rt: R, alloc: Global) {
-    let (tx, rx) = opened::<u64, _>(rt, alloc, None);
-    let (back, echoed) = opened::<u64, _>(rt, alloc, None);
+impl<R: Runs> Beside<R> {
+    // Sends a message to the task, which waits, and takes it at once. Whether it could: then the
+    // task was woken, found nothing and waits again.
+    fn takes_it(&self, rt: &R, number: u64) -> bool {
+        let waits = self.told.waits.load(Ordering::SeqCst);
+        let _ = self.tx.send(number);
+        let is_taken = self.rx.try_recv().is_ok();
+        if is_taken {
+            wait_for(rt, &self.told.waits, waits.wrapping_add(1));
+        }
+        is_taken
+    }
+
+    // The task sends this message back.
+    fn comes_back(&self, rt: &R, number: u64) {
+        receive_was(rt, self.echoed.recv(), Ok(number));
+    }
+
+    // Goes on until the task has found nothing so often. What isn't taken comes back from it.
+    fn echo_all(&self, rt: &R) {
+        let (mut found, mut number) = (0u64, 0u64);
+        wait_for(rt, &self.told.waits, 1);
+        for _ in rt.forever() {
+            if found == ROUNDS {
+                return;
+            }
+            if self.takes_it(rt, number) {
+                found = found.wrapping_add(1);
+            } else {
+                self.comes_back(rt, number);
+                number = number.wrapping_add(1);
+            }
+            let _ = self.tx.send(number);
+            self.comes_back(rt, number);
+            number = number.wrapping_add(1);
+            wait_for(rt, &self.told.sent_back, number);
+        }
+        unreachable!()
+    }
+}
+
+// The task in a thread, and a receiver beside it.
+fn beside_a_task<R: Runs>(rt: R, alloc: Global) {
+    let (tx, rx) = opened(rt, alloc, None);
+    let (back, echoed) = opened(rt, alloc, None);
     let (waits, sent_back) = (AtomicU64::new(0), AtomicU64::new(0));
     let told = had(&rt, Arc::new(alloc, Told { waits, sent_back }));
+    let (other, its) = (had(&rt, rx.clone()), had(&rt, told.clone()));
     let echoing = Echoing {
         rt,
-        rx: had(&rt, rx.clone()),
+        rx: other,
         back,
-        told: had(&rt, told.clone()),
+        told: its,
     };
     let echoing = begun(&rt, echoing);
-    let (mut found, mut number) = (0u64, 0u64);
-    wait_for(&rt, &told.waits, 1);
-    for _ in rt.forever() {
-        if found == ROUNDS {
-            break;
-        }
-        if takes_it(&rt, (&tx, &rx), &told, number) {
-            found = found.wrapping_add(1);
-        } else {
-            receive_was(&rt, echoed.recv(), Ok(number));
-            number = number.wrapping_add(1);
-        }
-        let _ = tx.send(number);
-        receive_was(&rt, echoed.recv(), Ok(number));
-        number = number.wrapping_add(1);
-        wait_for(&rt, &told.sent_back, number);
-    }
-    drop(tx);
+    let beside = Beside {
+        tx,
+        rx,
+        echoed,
+        told,
+    };
+    beside.echo_all(&rt);
+    drop(beside);
     is(&rt, echoing.join(&rt), true);
 }
 
 #[test]
-fn a_task_that_was_woken_for_nothing_waits_again_and_loses_no_wake(
-    rt: HostRuntime,
-) -> Result<(), Fail> {
-    let watch = begin_watch(rt, rt.alloc(), Stuck(rt))?;
-    echo_all(rt, rt.alloc());
+fn a_task_that_was_woken_for_nothing_waits_again_and_loses_no_wake(rt: HostRuntime) {
+    let watch = watching(rt, rt.alloc());
+    beside_a_task(rt, rt.alloc());
     watch.end(&rt);
-    Ok(())
 }

@@ -1,10 +1,12 @@
 //! What several tests use: answers compared in one place, channels of any capacity, threads, and an
 //! executor. What can't be had fails the test here: a `?` in a test costs the prover a second, and
-//! an abort none.
+//! an abort none. Other crates of tests have their own, since no library may abort.
 use crate::works::Runs;
+use ends_tests::ends::open;
+use ends_tests::watch::{Watch, begin_watch};
 use ends_tests::works::Work;
-use flume::error::{RecvError, SendError};
-use flume::{Receiver, Sender, Waits, bounded, unbounded};
+use flume::error::RecvError;
+use flume::{Receiver, Sender, Waits};
 use futures::Future;
 use futures::executor::block_on;
 use std::alloc::Global;
@@ -23,16 +25,13 @@ pub(crate) fn had<T, E: Debug + Drop>(rt: &impl Abort, answer: Result<T, E>) -> 
     answer.expect(rt, "the system gives what is asked for")
 }
 
-/// The ends of a new channel of this capacity: `None` is unbounded.
-pub(crate) fn opened<T: Drop, R: Waits + Abort>(
+/// The ends of a new channel of numbers, of this capacity: `None` is unbounded.
+pub(crate) fn opened<R: Waits + Abort>(
     rt: R,
     alloc: Global,
     capacity: Option<usize>,
-) -> (Sender<T, R>, Receiver<T, R>) {
-    match capacity {
-        Some(capacity) => had(&rt, bounded(rt, alloc, 1, capacity)),
-        None => had(&rt, unbounded(rt, alloc, 1)),
-    }
+) -> (Sender<u64, R>, Receiver<u64, R>) {
+    had(&rt, open(rt, alloc, capacity))
 }
 
 /// A thread that does this.
@@ -53,15 +52,6 @@ pub(crate) fn ran<R: Runs, F: Future>(rt: &R, future: F) -> F::Output
     had(rt, block_on(rt, future))
 }
 
-/// A send ended so.
-pub(crate) fn send_was(
-    rt: &impl Abort,
-    answer: Result<(), SendError<u64>>,
-    wanted: Result<(), SendError<u64>>,
-) {
-    assert_eq!(rt; answer, wanted);
-}
-
 /// A receive ended so.
 pub(crate) fn receive_was(
     rt: &impl Abort,
@@ -69,4 +59,24 @@ pub(crate) fn receive_was(
     wanted: Result<u64, RecvError>,
 ) {
     assert_eq!(rt; answer, wanted);
+}
+
+// Fails a test in which nothing moves any more.
+#[derive(Drop)]
+struct Stuck<R: Waits + Abort>(R);
+
+impl<R: Waits + Abort> Work for Stuck<R> {
+    type Answer = ();
+
+    fn work(self) {
+        panic!(self.0; "a wake is lost: nothing moved for too long")
+    }
+}
+
+/// The thread that watches over a test.
+pub(crate) fn watching<R: Runs>(rt: R, alloc: Global) -> Watch {
+    match begin_watch(rt, alloc, Stuck(rt)) {
+        Ok(watch) => watch,
+        Err(_) => panic!(rt; "a test can be watched"),
+    }
 }

@@ -1,16 +1,13 @@
 //! A stream that is forwarded through a sink arrives whole and in its order.
-use crate::fixtures::{had, is, opened, ran};
-use crate::works::{Runs, Stuck};
-use ends_tests::watch::begin_watch;
-use ends_tests::works::{Work, started};
+use crate::fixtures::{begun, had, is, opened, ran, watching};
+use crate::works::Runs;
+use ends_tests::works::Work;
+use flume::Sender;
 use flume::error::SendError;
-use flume::{Sender, bounded};
 use futures::executor::block_on;
 use futures::task::{Context, Poll};
 use futures::{Stream, StreamExt};
 use std::alloc::Global;
-use std::process::Abort;
-use std::test::Fail;
 
 // How many numbers are forwarded.
 const ALL: u64 = 1000;
@@ -35,16 +32,6 @@ impl Stream for Numbers {
     }
 }
 
-// The messages are 0, 1, 2 and so on, so many.
-fn are_all(rt: &impl Abort, messages: &[u64]) {
-    is(rt, messages.len() as u64, ALL);
-    let mut next = 0u64;
-    for &message in messages {
-        is(rt, message, next);
-        next = next.saturating_add(1);
-    }
-}
-
 // Forwards to a sink that owns its sender, and drops it. Whether all was sent.
 #[derive(Drop)]
 struct Forwards<R: Runs> {
@@ -65,33 +52,21 @@ impl<R: Runs> Work for Forwards<R> {
     }
 }
 
-// At this capacity a stream gives all that a thread forwards.
-fn passes_all<R: Runs>(rt: R, alloc: Global, capacity: usize) -> Result<(), Fail> {
-    let (tx, rx) = bounded::<u64, _, _>(rt, alloc, 1, capacity)?;
-    let forwarding = started(&rt, Forwards { rt, tx })?;
-    let received = block_on(&rt, rx.stream().collect(alloc))??;
+// At this capacity a stream that owns its receiver gives all that a thread forwards, until that is
+// done.
+fn passes_all<R: Runs>(rt: R, alloc: Global, capacity: usize) {
+    let (tx, rx) = opened(rt, alloc, Some(capacity));
+    let forwarding = begun(&rt, Forwards { rt, tx });
+    let received = had(&rt, ran(&rt, rx.into_stream().collect(alloc)));
     is(&rt, forwarding.join(&rt), true);
-    are_all(&rt, received.as_slice());
-    Ok(())
+    is(&rt, received.iter().copied().eq(0..ALL), true);
 }
 
 #[test]
-fn a_stream_goes_through_a_sink(rt: HostRuntime) -> Result<(), Fail> {
-    let watch = begin_watch(rt, rt.alloc(), Stuck(rt))?;
+fn a_stream_goes_through_a_sink(rt: HostRuntime) {
+    let watch = watching(rt, rt.alloc());
     for capacity in [100, 1] {
-        passes_all(rt, rt.alloc(), capacity)?;
+        passes_all(rt, rt.alloc(), capacity);
     }
     watch.end(&rt);
-    Ok(())
-}
-
-#[test]
-fn a_stream_that_owns_its_receiver_is_collected_until_the_sender_is_gone(rt: HostRuntime) {
-    let (tx, rx) = opened::<u64, _>(rt, rt.alloc(), None);
-    for message in 1..=3 {
-        is(&rt, tx.send(message), Ok(()));
-    }
-    drop(tx);
-    let received = had(&rt, ran(&rt, rx.into_stream().collect(rt.alloc())));
-    is(&rt, received.as_slice(), &[1, 2, 3]);
 }

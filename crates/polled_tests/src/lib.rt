@@ -1,5 +1,6 @@
-//! Tests of what is polled by executors and by threads: the futures, sinks and streams of the ends.
-//! What one thread does by hand is scripts, in `core_scripts` and `end_scripts`.
+//! Tests of what executors poll: many futures and streams of one channel, long orders, a sink that
+//! is forwarded into, and a task beside a thread. Single polled calls are scripts: those of one
+//! thread in `end_scripts`, those that meet other threads in `threads_tests`.
 #![tactic(auto)]
 
 #[cfg(test)]
@@ -11,12 +12,8 @@ mod forwarded;
 #[cfg(test)]
 mod many;
 #[cfg(test)]
-mod moved;
-#[cfg(test)]
 mod numbers;
 #[cfg(test)]
 mod order;
-#[cfg(test)]
-mod waiting;
 #[cfg(test)]
 mod works;

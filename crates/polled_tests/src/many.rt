@@ -1,15 +1,13 @@
 //! Many futures and streams of one channel, polled together.
-use crate::fixtures::{begun, had, is, opened, ran};
+use crate::fixtures::{begun, had, is, opened, ran, watching};
 use crate::numbers::Numbers;
-use crate::works::{Runs, SendUpTo, Stuck};
-use ends_tests::watch::begin_watch;
+use crate::works::{Runs, SendUpTo};
 use flume::{Receiver, Waits};
 use futures::stream::FuturesUnordered;
 use futures::task::{Context, Poll};
 use futures::{Future, StreamExt};
 use std::alloc::Global;
 use std::process::Abort;
-use std::test::Fail;
 
 // How many messages are sent.
 const ALL: u64 = 1000;
@@ -86,7 +84,7 @@ fn count_all(rt: &impl Abort, ended: Vec<Option<Vec<u64>>>, counts: &mut [u32]) 
 
 // A thread sends, and the loops receive each message once.
 fn receive_all<R: Runs>(rt: R, alloc: Global) {
-    let (tx, rx) = opened::<u64, _>(rt, alloc, Some(10));
+    let (tx, rx) = opened(rt, alloc, Some(10));
     let set = loops((rt, alloc), &rx);
     let sender = begun(&rt, SendUpTo { tx, end: ALL });
     let ended = had(&rt, ran(&rt, set.collect(alloc)));
@@ -97,9 +95,8 @@ fn receive_all<R: Runs>(rt: R, alloc: Global) {
 }
 
 #[test]
-fn twenty_loops_on_one_thread_share_the_messages_of_another(rt: HostRuntime) -> Result<(), Fail> {
-    let watch = begin_watch(rt, rt.alloc(), Stuck(rt))?;
+fn twenty_loops_on_one_thread_share_the_messages_of_another(rt: HostRuntime) {
+    let watch = watching(rt, rt.alloc());
     receive_all(rt, rt.alloc());
     watch.end(&rt);
-    Ok(())
 }

@@ -1,12 +1,10 @@
 //! What a thread does, as a value: a closure costs the prover several times as much in each test.
 use ends_tests::changes::change_capacity;
 use ends_tests::works::Work;
-use flume::error::{RecvError, SendError};
 use flume::{Receiver, Sender, Waits};
 use std::alloc::AllocGlobal;
 use std::process::Abort;
 use std::random::RandomSource;
-use std::thread;
 use std::thread::Threads;
 
 /// What a runtime value can do that executors, threads and channels use.
@@ -20,49 +18,6 @@ pub(crate) trait Runs: Waits
     + 'static {}
 
 impl<R: Waits + RandomSource + AllocGlobal + Threads + Abort + Send + Sync + 'static> Runs for R {}
-
-/// Fails a test in which nothing moves any more.
-#[derive(Drop)]
-pub(crate) struct Stuck<R: Waits + Abort>(pub(crate) R);
-
-impl<R: Waits + Abort> Work for Stuck<R> {
-    type Answer = ();
-
-    fn work(self) {
-        panic!(self.0; "a wake is lost: nothing moved for too long")
-    }
-}
-
-/// Sends a number by a call that blocks.
-#[derive(Drop)]
-pub(crate) struct SendOne<R: Waits> {
-    pub(crate) tx: Sender<u64, R>,
-    pub(crate) message: u64,
-}
-
-impl<R: Waits> Work for SendOne<R> {
-    type Answer = Result<(), SendError<u64>>;
-
-    fn work(self) -> Result<(), SendError<u64>> {
-        let SendOne { tx, message } = self;
-        tx.send(message)
-    }
-}
-
-/// Receives a number by a call that blocks.
-#[derive(Drop)]
-pub(crate) struct ReceiveOne<R: Waits> {
-    pub(crate) rx: Receiver<u64, R>,
-}
-
-impl<R: Waits> Work for ReceiveOne<R> {
-    type Answer = Result<u64, RecvError>;
-
-    fn work(self) -> Result<u64, RecvError> {
-        let ReceiveOne { rx } = self;
-        rx.recv()
-    }
-}
 
 /// Sends 0, 1, 2 and so on, so many, by calls that block.
 #[derive(Drop)]
@@ -95,24 +50,5 @@ impl<R: Waits> Work for ChangeCapacity<R> {
     fn work(self) -> u64 {
         let ChangeCapacity { rt, rx } = self;
         change_capacity(&rt, &rx)
-    }
-}
-
-/// Drops what it holds, after so many yields.
-#[derive(Drop)]
-pub(crate) struct DropLater<E> {
-    pub(crate) held: E,
-    pub(crate) yields: u32,
-}
-
-impl<E: Drop> Work for DropLater<E> {
-    type Answer = ();
-
-    fn work(self) {
-        let DropLater { held, yields } = self;
-        for _ in 0..yields {
-            thread::yield_now();
-        }
-        drop(held);
     }
 }

@@ -5,7 +5,8 @@ use crate::answers::{
 };
 use crate::mixed::mix_send;
 use ends_tests::changes::change_capacity;
-use flume::error::{RecvTimeoutError, SendTimeoutError, TryRecvError, TrySendError};
+use ends_tests::ends::{until_given, until_taken};
+use flume::error::{RecvTimeoutError, SendTimeoutError};
 use flume::{Receiver, Sender, Waits, WeakSender};
 use std::alloc::Allocator;
 use std::thread;
@@ -23,32 +24,6 @@ pub type Weak<R: Waits, A: Allocator + Copy> = WeakSender<u64, R, A>;
 /// So long that no test waits for its end.
 pub fn long() -> Duration {
     Duration::from_secs(3600)
-}
-
-// Tries to send until the channel isn't full any more. At capacity 0 a receive that waits takes it.
-fn until_taken<R: Waits, A: Allocator + Copy>(
-    rt: &R,
-    tx: &Tx<R, A>,
-    message: u64,
-) -> Result<(), TrySendError<u64>> {
-    for _ in rt.forever() {
-        match tx.try_send(message) {
-            Err(TrySendError::Full(_)) => thread::yield_now(),
-            answer => return answer,
-        }
-    }
-    unreachable!()
-}
-
-// Tries to receive until the channel isn't empty and open any more.
-fn until_given<R: Waits, A: Allocator + Copy>(rt: &R, rx: &Rx<R, A>) -> Result<u64, TryRecvError> {
-    for _ in rt.forever() {
-        match rx.try_recv() {
-            Err(TryRecvError::Empty) => thread::yield_now(),
-            answer => return answer,
-        }
-    }
-    unreachable!()
 }
 
 // Whether a channel of this capacity may hold so many messages.

@@ -1,6 +1,9 @@
 //! A clock that notes how often it is read, and stands still where it is told to. A call up to a
-//! deadline reads its clock once it has parked, and before it sleeps: so a test knows when it waits.
+//! deadline reads its clock once it has parked, and before it sleeps: so a test knows when it
+//! waits.
 use flume::Waits;
+use std::alloc::{Alloc, AllocGlobal, Global};
+use std::random::RandomSource;
 use std::sync::Wait;
 use std::sync::atomic::{AtomicBool, AtomicU64, Ordering};
 use std::time::{Clock, Duration};
@@ -76,5 +79,19 @@ impl<R: Waits> Clock for Noted<'_, R> {
 
     fn since_1970(&self) -> io::Result<Duration> {
         self.rt.since_1970()
+    }
+}
+
+impl<R: RandomSource> RandomSource for Noted<'_, R> {
+    fn fill_bytes(&self, bytes: &mut [u8]) -> io::Result<()> {
+        self.rt.fill_bytes(bytes)
+    }
+}
+
+impl<R: AllocGlobal> Alloc for Noted<'_, R> {
+    type A = Global;
+
+    fn alloc(&self) -> Global {
+        self.rt.alloc()
     }
 }

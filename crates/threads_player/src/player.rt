@@ -1,6 +1,7 @@
 //! A thread of a script: what it works on, and what it does line by line.
 use crate::answers::Answer;
 use crate::calls::{Rx, Tx, Weak, by_both, by_receiver, by_sender, by_weak};
+use crate::polled::{Polls, by_executor};
 use crate::selections::by_selection;
 use crate::shared::Shared;
 use flume::Waits;
@@ -51,7 +52,9 @@ impl<'a, R: Waits, A: Allocator + Copy> Player<'a, R, A> {
             later: self.later,
         })
     }
+}
 
+impl<R: Polls, A: Allocator + Copy> Player<'_, R, A> {
     // What a call of one end is answered. `None`: it is none, or the thread hasn't that end.
     fn by_end(&self, call: (&str, u64)) -> Option<Answer> {
         let rt = &self.rt;
@@ -79,11 +82,15 @@ impl<'a, R: Waits, A: Allocator + Copy> Player<'a, R, A> {
         if selected.is_some() {
             return selected;
         }
+        let polled = by_executor(&self.rt, (tx, rx), call);
+        if polled.is_some() {
+            return polled;
+        }
         by_both(&self.rt, rx?, tx?, call)
     }
 
-    // What a line is answered. `None`: it can't be read, or the thread hasn't the ends for it. Where
-    // it has no number, it has the one by which it is known that `CALL` has parked.
+    // What a line is answered. `None`: it can't be read, or the thread hasn't the ends for it.
+    // Where it has no number, it has the one by which it is known that `CALL` has parked.
     fn answer(&self, asks: &str) -> Option<Answer> {
         let (_, parked) = self.call.1.split_once(" ").unwrap_or(("", "0"));
         let (call, number) = asks.split_once(" ").unwrap_or((asks, parked));
@@ -122,8 +129,8 @@ impl<'a, R: Waits, A: Allocator + Copy> Player<'a, R, A> {
         Ok(first)
     }
 
-    /// Does what each line asks, and lets go of the ends. Where a line is answered otherwise than it
-    /// says, the threads share what is wrong with it.
+    /// Does what each line asks, and lets go of the ends. Where a line is answered otherwise than
+    /// it says, the threads share what is wrong with it.
     pub fn play(self) -> Result<(), AllocError> {
         if let Some(wrong) = self.first_wrong()? {
             *self.shared.wrong.lock(&self.rt) = Some(wrong);

@@ -1,5 +1,5 @@
-//! What the threads of a script share: what they say to each other, when a call has parked, what they
-//! count, and what went wrong.
+//! What the threads of a script share: what they say to each other, when a call has parked, what
+//! they count, and what went wrong.
 use crate::answers::{Answer, DONE, after_recv};
 use crate::calls::Rx;
 use crate::mixed::{is_next, receive_by};
@@ -95,8 +95,8 @@ impl Shared {
         unreachable!()
     }
 
-    // Counts all that is received by calls of every kind, where what each thread sends comes in order.
-    // What the last receive answers.
+    // Counts all that is received by calls of every kind, where what each thread sends comes in
+    // order. What the last receive answers.
     fn mix_count<R: Waits, A: Allocator + Copy>(&self, rt: &R, rx: &Rx<R, A>) -> Answer {
         let (mut number, mut next) = (0u64, [0; 4]);
         for _ in rt.forever() {

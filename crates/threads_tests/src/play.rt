@@ -1,8 +1,9 @@
 //! Scripts for threads, played. Each has a line `= title`, and one with the capacities of its
 //! channels. A line `CALL:` names calls that it is played with, each with how it is known that this
-//! call has parked: by so many readings of the clock, or so many requests for memory. A line `- ` is a
-//! thread, or so many that share their ends: which ends, and what it does.
+//! call has parked: by so many readings of the clock, or so many requests for memory. A line `- `
+//! is a thread, or so many that share their ends: which ends, and what it does.
 use crate::fixtures::{had, later, opened, watching};
+use ends_tests::watch::Watched;
 use flume::Waits;
 use std::alloc::{Allocator, Global};
 use std::fmt::Debug;
@@ -13,6 +14,7 @@ use std::thread::Threads;
 use std::time::Instant;
 use threads_player::calls::{Rx, Tx, Weak};
 use threads_player::player::Player;
+use threads_player::polled::Polls;
 use threads_player::shared::Shared;
 
 // How many channels a script has.
@@ -172,7 +174,7 @@ fn players<'a, H: Abort, R: Waits, A: Allocator + Copy>(
 fn play_all<H, R, A>(rt: &H, players: Vec<Player<'_, R, A>>)
 where
     H: Waits + Threads + Sync + Abort,
-    R: Waits + Send + Sync,
+    R: Polls + Send + Sync,
     A: Allocator + Copy + Send + Sync,
 {
     thread::scope(thread::scope_env(), rt, move |scope| {
@@ -184,7 +186,7 @@ where
 }
 
 // Plays a script's threads. All lines are answered as they say, and no block of memory is left.
-fn play_version<R: Waits + Threads + Abort + Send + Sync>(
+fn play_version<R: Polls + Threads + Abort + Send + Sync>(
     rt: &R,
     alloc: Global,
     (title, parts): (&str, &str),
@@ -212,7 +214,7 @@ fn play_version<R: Waits + Threads + Abort + Send + Sync>(
 }
 
 // Plays a script at each capacity that these words name.
-fn play_at_each<R: Waits + Threads + Abort + Send + Sync>(
+fn play_at_each<R: Polls + Threads + Abort + Send + Sync>(
     rt: &R,
     alloc: Global,
     script: (&str, &str),
@@ -229,31 +231,37 @@ fn play_at_each<R: Waits + Threads + Abort + Send + Sync>(
 }
 
 // Plays a script, as often as it says and with each call that it names.
-fn play_block<R: Waits + Threads + Abort + Send + Sync>(rt: &R, alloc: Global, block: &str) {
+fn play_block<R: Polls + Threads + Abort + Send + Sync>(
+    rt: &R,
+    alloc: Global,
+    watched: &Watched,
+    block: &str,
+) {
     let (title, script) = block.split_once("\n").unwrap_or((block, ""));
     let (opening, parts) = script.split_once("\n- ").unwrap_or((script, ""));
     let (opening, calls) = opening.split_once("\nCALL: ").unwrap_or((opening, ""));
     let (times, capacities) = opening.split_once(" times at ").unwrap_or(("1", opening));
     let times = had(rt, times.parse::<u32>());
     let capacities = capacities.strip_prefix("at ").unwrap_or(capacities);
-    for call in calls.split(", ") {
+    for call in calls.split(",") {
+        let call = call.trim();
         let call = call.split_once(" ").unwrap_or((call, ""));
         for _ in 0..times {
             play_at_each(rt, alloc, (title, parts), (capacities, call));
+            watched.say_moved();
         }
     }
 }
 
 /// Plays scripts. Each line is answered as it says.
-pub(crate) fn play<R: Waits + Threads + Abort + Send + Sync + 'static>(
+pub(crate) fn play<R: Polls + Threads + Abort + Send + Sync + 'static>(
     rt: R,
     alloc: Global,
     scripts: &str,
 ) {
     let watch = watching(rt, alloc);
     for block in scripts.trim_end().split("\n= ").skip(1) {
-        play_block(&rt, alloc, block);
-        watch.watched().say_moved();
+        play_block(&rt, alloc, watch.watched(), block);
     }
     watch.end(&rt);
 }

@@ -1,5 +1,5 @@
-//! Scripts of threads that meet over channels. Each call is answered so in whatever order the threads
-//! run.
+//! Scripts of threads that meet over channels. Each call is answered so in whatever order the
+//! threads run.
 use crate::play::play;
 
 const MEETINGS: &str = "
@@ -21,8 +21,27 @@ at 0
 - rx0: recv -> got 7; recv -> disconnected
 = each of many short-lived channels is closed while a send is made
 100 times at 0
-- tx0: send 9 -> disconnected 9
+CALL: send, send_async
+- tx0: CALL 9 -> disconnected 9
 - rx0: say
+= each of many short-lived channels is closed while a receive is made
+100 times at any 0
+CALL: recv, recv_async
+- tx0: say
+- rx0: CALL -> disconnected
+= each of many short-lived channels is closed while a stream is polled
+100 times at any 0
+- tx0: say
+- rx0: next -> ended
+= an executor gets the message of a thread, and then the end
+at any 0 1
+CALL: recv_async, next
+- tx0: send 7 -> sent
+- rx0: CALL -> got 7; recv_async -> disconnected; next -> ended
+= an executor sends to a thread
+at any 0 1
+- tx0: send_async 7 -> sent
+- rx0: recv -> got 7
 = one thread receives in the order of the other, and never more are queued than the channel holds
 at any 0 1 3
 - tx0: send_all 1000 -> 1000
@@ -37,14 +56,20 @@ at any
 const PARKED: &str = "
 = a parked receive is served
 at any 0 1
-CALL: recv memory 2, recv_far clock 1, recv_hour clock 2, select_recv memory 2, select_recv_far clock 1, select_recv_hour clock 2
+CALL: recv memory 2, recv_far clock 1, recv_hour clock 2, recv_async memory 1, next memory 1,
+  select_recv memory 2, select_recv_far clock 1, select_recv_hour clock 2
 - rx0: CALL -> got 7
 - tx0: parked; try_send 7 -> sent
 = a parked receive ends as the last sender goes
 at any 0 1
-CALL: recv memory 2, recv_far clock 1, recv_hour clock 2, select_recv memory 2, select_recv_far clock 1, select_recv_hour clock 2
+CALL: recv memory 2, recv_far clock 1, recv_hour clock 2, recv_async memory 1,
+  select_recv memory 2, select_recv_far clock 1, select_recv_hour clock 2
 - rx0: CALL -> disconnected
 - tx0: parked
+= a stream that waits ends as the last sender goes
+at any 0 1
+- rx0: next -> ended
+- tx0: memory 1
 = a parked receive is late once its deadline passes
 at any 0 1
 CALL: recv_far clock 1, recv_hour clock 2, select_recv_far clock 1, select_recv_hour clock 2
@@ -52,32 +77,38 @@ CALL: recv_far clock 1, recv_hour clock 2, select_recv_far clock 1, select_recv_
 - tx0: parked; pass; await 1
 = a blocked send is taken
 at 0
-CALL: send memory 3, send_far clock 1, send_hour clock 2, select_send memory 3, select_send_far clock 1, select_send_hour clock 2
+CALL: send memory 3, send_far clock 1, send_hour clock 2, send_async memory 2,
+  select_send memory 3, select_send_far clock 1, select_send_hour clock 2
 - tx0: CALL 10 -> sent
 - rx0: parked; try_recv -> got 10
 = a blocked send is let into a full channel by a receive
 at 1
-CALL: send memory 3, send_far clock 1, send_hour clock 2, select_send memory 3, select_send_far clock 1, select_send_hour clock 2
+CALL: send memory 3, send_far clock 1, send_hour clock 2, send_async memory 2,
+  select_send memory 3, select_send_far clock 1, select_send_hour clock 2
 - tx0: try_send 1 -> sent; CALL 10 -> sent
 - rx0: parked; try_recv -> got 1; recv -> got 10
 = a blocked send is let in by a drain, and no later send passes it
 at 1
-CALL: send memory 3, send_far clock 1, send_hour clock 2, select_send memory 3, select_send_far clock 1, select_send_hour clock 2
+CALL: send memory 3, send_far clock 1, send_hour clock 2, send_async memory 2,
+  select_send memory 3, select_send_far clock 1, select_send_hour clock 2
 - tx0: try_send 1 -> sent; CALL 2 -> sent
 - tx0 rx0: parked; drain -> 1; try_send 3 -> full 3; recv -> got 2
 = a blocked send is let in as the capacity is raised, and stays as it is lowered again
 at 0
-CALL: send memory 3, send_far clock 1, send_hour clock 2, select_send memory 3, select_send_far clock 1, select_send_hour clock 2
+CALL: send memory 3, send_far clock 1, send_hour clock 2, send_async memory 2,
+  select_send memory 3, select_send_far clock 1, select_send_hour clock 2
 - tx0: CALL 7 -> sent; say; await 2
 - rx0: parked; set_capacity 1; set_capacity 0; await 1; recv -> got 7; say
 = a blocked send gets its message back as the last receiver goes
 at 0
-CALL: send memory 3, send_far clock 1, send_hour clock 2, select_send memory 3, select_send_far clock 1, select_send_hour clock 2
+CALL: send memory 3, send_far clock 1, send_hour clock 2, send_async memory 2,
+  select_send memory 3, select_send_far clock 1, select_send_hour clock 2
 - tx0: CALL 9 -> disconnected 9
 - rx0: parked
 = a blocked send into a full channel gets its message back as the last receiver goes
 at 1
-CALL: send memory 3, send_far clock 1, send_hour clock 2, select_send memory 3, select_send_far clock 1, select_send_hour clock 2
+CALL: send memory 3, send_far clock 1, send_hour clock 2, send_async memory 2,
+  select_send memory 3, select_send_far clock 1, select_send_hour clock 2
 - tx0: try_send 1 -> sent; CALL 9 -> disconnected 9
 - rx0: parked
 = a blocked send gets its message back once its deadline passes
@@ -104,7 +135,7 @@ at any 0 2
 ";
 
 const MANY: &str = "
-= four threads send each number to four others, of which it arrives four times; two on each side share an end
+= four threads send each number, which arrives four times; two on each side share an end
 at any 0 1 3
 - 2 tx0: send_all 250 -> 250
 - tx0: send_all 250 -> 250
@@ -227,19 +258,22 @@ at any 0
 - tx1: await 1
 = a selection that is parked by a send and a receive sends
 at 0
-CALL: select_send_or_recv memory 4, select_recv_or_send memory 4, select_send_or_recv_far clock 1, select_recv_or_send_far clock 1
+CALL: select_send_or_recv memory 4, select_recv_or_send memory 4,
+  select_send_or_recv_far clock 1, select_recv_or_send_far clock 1
 - tx0 rx1: CALL 5 -> sent; say; await 2
 - rx0: parked; try_recv -> got 5
 - tx1: await 1; try_send 6 -> full 6; say
 = a selection that is parked by a send and a receive receives, and sends nothing
 at 0
-CALL: select_send_or_recv memory 4, select_recv_or_send memory 4, select_send_or_recv_far clock 1, select_recv_or_send_far clock 1
+CALL: select_send_or_recv memory 4, select_recv_or_send memory 4,
+  select_send_or_recv_far clock 1, select_recv_or_send_far clock 1
 - tx0 rx1: CALL 5 -> first got 6; say; await 2
 - tx1: parked; try_send 6 -> sent
 - rx0: await 1; try_recv -> empty; say
 = a selection that is parked by a send and a receive gets its message back
 at 0
-CALL: select_send_or_recv memory 4, select_recv_or_send memory 4, select_send_or_recv_far clock 1, select_recv_or_send_far clock 1
+CALL: select_send_or_recv memory 4, select_recv_or_send memory 4,
+  select_send_or_recv_far clock 1, select_recv_or_send_far clock 1
 - tx0 rx1: CALL 5 -> disconnected 5; say; await 2
 - rx0: parked
 - tx1: await 1; try_send 6 -> full 6; say
