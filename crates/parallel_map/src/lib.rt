@@ -36,11 +36,11 @@
 
 pub mod answer;
 pub mod answers;
-mod crew;
 pub mod error;
 mod gather;
 mod map;
 mod slots;
+mod threads;
 pub mod work;
 
 pub use answer::Answer;

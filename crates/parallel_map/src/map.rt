@@ -2,9 +2,9 @@
 ghost use Rattle.std.specs.Prelude.{◌≡◌, IfOk, map};
 ghost use Rattle.parallel_map.specs.Found.{IsFound};
 
-use crate::crew::by_threads;
 use crate::error::WorkError;
 use crate::gather::{Place, Values};
+use crate::threads::by_threads;
 use crate::work::Work;
 use flume::Runtime;
 
