@@ -124,8 +124,8 @@ fn wrong_answer<S: Stage>(alloc: Global, stage: &mut S, line: &str) -> io::Resul
 
 impl Script<'_> {
     // What is wrong with the line behind `! `, with the script's growths refused, and whether one
-    // was. Where none was, the first answer is wanted, else the one behind the bar, if there is one,
-    // and nothing may have changed.
+    // was. Where none was, the first answer is wanted, else the one behind the bar, if there is
+    // one, and nothing may have changed.
     fn wrong_refusal<S: Stage>(
         &self,
         alloc: Global,

@@ -82,8 +82,8 @@ fn by_other<T: Theatre>(
     Ok(None)
 }
 
-// Plays a script with the first growth of its line `! call` refused, and with all of them, by each of
-// so many calls, none of which has one.
+// Plays a script with the first growth of its line `! call` refused, and with all of them, by each
+// of so many calls, none of which has one.
 fn by_none<T: Theatre>(
     alloc: Global,
     theatre: &T,

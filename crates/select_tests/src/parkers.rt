@@ -1,8 +1,9 @@
-//! A wake that comes while a wait sleeps. Here one thread does both: a wait up to a deadline reads its
-//! clock once it has said that it sleeps and has let go of its lock, and again as it wakes up, and the
-//! clock of this test fires then. Of other moments it can't: a wait without a deadline reads no clock
-//! (`tools/idle` ends such sleeps from another thread), and a wait that wakes up and looks for its
-//! wake again holds its lock, for which a fire waits. `ends_tests` has the wakes before the sleep.
+//! A wake that comes while a wait sleeps. Here one thread does both: a wait up to a deadline reads
+//! its clock once it has said that it sleeps and has let go of its lock, and again as its sleep
+//! ends, and there the clock of this test fires. At other moments it can't: a wait without a
+//! deadline reads no clock (`tools/idle` ends such sleeps from another thread), and a wait that
+//! looks for its wake after a sleep holds its lock, for which a fire waits. `ends_tests` has the
+//! wakes before the sleep.
 use crate::fixtures::{is, watching};
 use flume::signal::Parker;
 use std::io;
