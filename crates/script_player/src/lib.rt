@@ -7,10 +7,10 @@
 //! One line of a script may begin with `! `. It is played with each growth of memory refused in
 //! turn, alone and with all after it: `! call -> answer | answer when refused | growth, growth`. It
 //! has as many growths as are named. Then the stage shows what it showed before, and the lines
-//! below answer as they say. Calls behind ` or ` are made in its place, with the same growths refused:
-//! `! recv_short or recv -> late | no memory | parker, receiver`. Refused answers that differ by
-//! growth are parted by ` / `. A line `! call -> answer` has no growth, whichever of its calls is
-//! made, and answers so with all memory refused.
+//! below answer as they say. Calls behind ` or ` are made in its place, with the same growths
+//! refused: `! recv_short or recv -> late | no memory | parker, receiver`. Refused answers that
+//! differ by growth are parted by ` / `. A line `! call -> answer` has no growth, whichever of its
+//! calls is made, and answers so with all memory refused.
 #![tactic(auto)]
 
 mod files;
