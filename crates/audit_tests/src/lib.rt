@@ -9,8 +9,6 @@ mod compared;
 #[cfg(test)]
 mod fixtures;
 #[cfg(test)]
-mod memory;
-#[cfg(test)]
 mod seated;
 #[cfg(test)]
 mod threads;

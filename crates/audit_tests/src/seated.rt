@@ -1,95 +1,69 @@
-//! Seats in one thread: what they read, and what closing answers.
+//! Books in one thread: a missing seat is told, and no book is made where one of its growths is
+//! refused. An audit opens and closes a book, and takes no other memory.
 ghost use Rattle.std.specs.Prelude.{◌≡◌};
 
-use crate::fixtures::is;
-use flume_audit::audit::Audit;
+use crate::fixtures::{Heap, holds};
+use ends_tests::counting::Counting;
+use flume_audit::book::Book;
 use flume_audit::closed::Closed;
-use flume_audit::seat::Seat;
-use flume_history::check::{Checked, check_history};
-use flume_model::step::{Reply, Step};
+use flume_audit::weigh::Ones;
 use std::alloc::Global;
 use std::marker::Brand;
 use std::process::Abort;
-use std::sync::Wait;
 use std::sync::ledger::{Blank, Ledger};
-use std::test::Fail;
 
-// One seat sends a message and receives it.
-fn read_back<L: Ledger, R: Wait + Abort + Copy>(
-    rt: R,
-    alloc: Global,
-    blank: Blank,
-) -> Result<(), Fail>
+// More growths than a new book has.
+const GROWTHS: u64 = 9;
+
+// What closing a new book of two seats answers where so many of them are handed in. `None`: no book
+// is made.
+fn closed<L: Ledger>(heap: Heap<'_>, blank: Blank, handed: usize) -> Option<Closed>
     requires name { blank.name ≡ L.name }
     requires parts { blank.parts ≡ L.parts }
-    requires one_each { blank.parts ≡ 1 }
+    requires two { blank.parts ≡ 2 }
 {
-    let (audit, mut seats) = Audit::<u64, L, R>::new(rt, alloc, blank, None, 1)?;
-    for seat in seats.iter_mut() {
-        let sent = audit.step(seat, Step::TrySend(5));
-        is(&rt, sent, Ok(Reply::Sent { filled: None }));
-        is(&rt, audit.step(seat, Step::TryRecv), Ok(Reply::Got(5)));
-    }
-    let (closed, book) = audit.close(seats);
-    is(&rt, closed, Closed::Settled);
-    let checked = check_history(alloc, book.opening(), book.history());
-    is(&rt, checked, Checked::Run);
-    is(&rt, book.history().len(), 2);
-    Ok(())
+    let opened = Book::<u64, L, Ones, Heap<'_>>::new(heap, blank, None, 2);
+    let (mut book, mut seats) = opened.ok()?;
+    seats.truncate(handed);
+    Some(book.close(seats))
 }
 
 #[test]
-fn one_seat_reads_its_write_back(rt: HostRuntime) -> Result<(), Fail> {
-    read_back::<Brand, _>(rt, rt.alloc(), Blank::new(1))
+fn a_missing_seat_is_told(rt: HostRuntime) {
+    let heap = Counting::new(rt.alloc());
+    for handed in [1, 0] {
+        let told = closed::<Brand>(&heap, Blank::new(2), handed);
+        let is_missing = matches!(told, Some(Closed::MissingSeat));
+        holds(&rt, ("closed", "no seat is missing"), is_missing);
+    }
 }
 
-// Two seats, of which the second isn't handed in, or neither is.
-fn close_short<L: Ledger, R: Wait + Abort + Copy>(
-    rt: R,
-    alloc: Global,
-    blank: Blank,
-    hands_one: bool,
-) -> Result<(), Fail>
-    requires name { blank.name ≡ L.name }
-    requires parts { blank.parts ≡ L.parts }
-    requires one_each { blank.parts ≡ 2 }
-{
-    let (audit, seats) = Audit::<u64, L, R>::new(rt, alloc, blank, None, 2)?;
-    let mut handed: Vec<Seat<u64, L>> = Vec::new(alloc);
-    for seat in seats {
-        if hands_one && handed.is_empty() {
-            handed.push(seat)?;
+// Opens a book once for each of its growths, with that one refused and all after it up to `last`,
+// and closes it. How many were refused. No block is left.
+fn count_refused(rt: &impl Abort, alloc: Global, last: Option<u64>) -> u64 {
+    let heap = Counting::new(alloc);
+    for growth in 1..GROWTHS {
+        heap.refuse_between(growth, last.unwrap_or(growth));
+        let told = closed::<Brand>(&heap, Blank::new(2), 2);
+        let is_refused = heap.refusals() > 0;
+        let is_so = match told {
+            None => is_refused,
+            Some(told) => !is_refused && matches!(told, Closed::Settled),
+        };
+        holds(rt, ("opened", "refused otherwise than the memory"), is_so);
+        holds(rt, ("opened", "blocks are left"), heap.live() == 0);
+        if !is_refused {
+            return growth.wrapping_sub(1);
         }
     }
-    is(&rt, audit.close(handed).0, Closed::MissingSeat);
-    Ok(())
+    GROWTHS
 }
 
 #[test]
-fn a_missing_seat_is_told(rt: HostRuntime) -> Result<(), Fail> {
-    close_short::<Brand, _>(rt, rt.alloc(), Blank::new(2), true)?;
-    close_short::<Brand, _>(rt, rt.alloc(), Blank::new(2), false)
-}
-
-// A channel of capacity 2, on which no step is made.
-fn close_at_once<L: Ledger, R: Wait + Abort + Copy>(
-    rt: R,
-    alloc: Global,
-    blank: Blank,
-) -> Result<(), Fail>
-    requires name { blank.name ≡ L.name }
-    requires parts { blank.parts ≡ L.parts }
-    requires one_each { blank.parts ≡ 1 }
-{
-    let (audit, seats) = Audit::<u64, L, R>::new(rt, alloc, blank, Some(2), 1)?;
-    let (closed, book) = audit.close(seats);
-    is(&rt, closed, Closed::Settled);
-    is(&rt, book.opening(), Some(2));
-    is(&rt, book.channel().len(), Reply::Number(0));
-    Ok(())
-}
-
-#[test]
-fn an_audit_with_no_step_settles_with_its_capacity(rt: HostRuntime) -> Result<(), Fail> {
-    close_at_once::<Brand, _>(rt, rt.alloc(), Blank::new(1))
+fn no_book_is_made_where_one_growth_is_refused(rt: HostRuntime) {
+    for last in [None, Some(u64::MAX)] {
+        let refused = count_refused(&rt, rt.alloc(), last);
+        let is_some = refused > 0 && refused < GROWTHS;
+        holds(&rt, ("opened", "refused never, or always"), is_some);
+    }
 }

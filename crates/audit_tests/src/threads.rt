@@ -5,6 +5,7 @@ ghost use Rattle.std.specs.Prelude.{◌≡◌, ◌<◌};
 use crate::fixtures::{had, holds};
 use core_tests::draws::Draws;
 use flume_audit::audit::Audit;
+use flume_audit::book::Book;
 use flume_audit::closed::Closed;
 use flume_audit::seat::Seat;
 use flume_history::check::{Checked, check_history};
@@ -192,6 +193,17 @@ fn ask_at_last<L: Ledger, R: Wait + Copy>(
     true
 }
 
+// The history of the book has so many entries, and is a run. With none the channel is empty.
+fn is_right<L: Ledger>(rt: &impl Abort, alloc: Global, book: &Book<u64, L>, entries: usize) {
+    let is_whole = book.history().len() == entries;
+    holds(rt, ("an audit", "steps are missing"), is_whole);
+    let checked = check_history(alloc, book.opening(), book.history());
+    let is_run = matches!(checked, Checked::Run);
+    holds(rt, ("an audit", "its history is no run"), is_run);
+    let is_empty = matches!(book.channel().len(), Reply::Number(0));
+    holds(rt, ("an audit", "it isn't empty"), is_empty || entries > 0);
+}
+
 // So many threads carry the plan out on a new channel. The audit settles, each step is
 // written, and the history is a run. Its replies are added to the text.
 fn are_audited<L, R>(rt: R, blank: Blank, threads: usize, plan: Plan, text: &mut String)
@@ -217,11 +229,9 @@ where
     let is_settled = matches!(closed, Closed::Settled);
     holds(&rt, ("an audit", "it doesn't settle"), is_settled);
     let entries = threads.saturating_mul(plan.steps).saturating_add(last);
-    let is_whole = book.history().len() == entries;
-    holds(&rt, ("an audit", "steps are missing"), is_whole);
-    let checked = check_history(alloc, book.opening(), book.history());
-    let is_run = matches!(checked, Checked::Run);
-    holds(&rt, ("an audit", "its history is no run"), is_run);
+    let is_opened = book.opening() == plan.capacity;
+    holds(&rt, ("an audit", "its capacity is another"), is_opened);
+    is_right(&rt, alloc, &book, entries);
     for (_, reply) in book.history() {
         had(&rt, write_reply(text, reply));
     }
@@ -236,6 +246,18 @@ fn count(text: &str, start: &str) -> u64 {
         }
     }
     count
+}
+
+#[test]
+fn an_audit_with_no_step_settles_with_its_capacity(rt: HostRuntime) {
+    let (capacity, steps, seed) = (Some(2), 0, 0);
+    let plan = Plan {
+        capacity,
+        steps,
+        seed,
+    };
+    let mut text = String::new(rt.alloc());
+    are_audited::<Brand, _>(rt, Blank::new(1), 1, plan, &mut text);
 }
 
 #[test]
