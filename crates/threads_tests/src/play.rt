@@ -131,15 +131,6 @@ impl<'a, H: Abort, R: Waits, A: Allocator + Copy> Run<'a, H, R, A> {
         }
     }
 
-    // The threads of all parts, none of which has begun. They alone have ends of the channels.
-    fn players(self, parts: &'a str) -> Vec<Player<'a, R, A>> {
-        let mut players = Vec::new(self.alloc);
-        for part in parts.split("\n- ") {
-            self.enlist(&mut players, part);
-        }
-        players
-    }
-
     // The threads of which a part of a script tells.
     fn enlist(&self, players: &mut Vec<Player<'a, R, A>>, part: &'a str) {
         let (ends, lines) = part.split_once(": ").unwrap_or((part, ""));
@@ -152,18 +143,31 @@ impl<'a, H: Abort, R: Waits, A: Allocator + Copy> Run<'a, H, R, A> {
     }
 }
 
-// The ends of all channels, of this capacity.
-fn all_ends<R: Waits, A: Allocator + Copy>(
-    host: &impl Abort,
-    (rt, heap): (R, A),
-    alloc: Global,
-    capacity: Option<usize>,
-) -> Ends<R, A> {
+// The threads of a script, none of which has begun. They alone have ends of its channels.
+fn players<'a, H: Abort, R: Waits, A: Allocator + Copy>(
+    (host, rt): (&'a H, R),
+    (alloc, heap): (Global, A),
+    (shared, later): (&'a Shared, Instant),
+    (version, parts): (Version<'a>, &'a str),
+) -> Vec<Player<'a, R, A>> {
     let mut ends = Vec::new(alloc);
     for _ in 0..CHANNELS {
-        had(host, ends.push(opened(host, (rt, heap), capacity)));
+        had(host, ends.push(opened(host, (rt, heap), version.capacity)));
     }
-    ends
+    let run = Run {
+        host,
+        rt,
+        alloc,
+        ends,
+        shared,
+        call: version.call,
+        later,
+    };
+    let mut players = Vec::new(alloc);
+    for part in parts.split("\n- ") {
+        run.enlist(&mut players, part);
+    }
+    players
 }
 
 // The threads do what their lines say, each in a thread of its own.
@@ -181,16 +185,7 @@ where
     })
 }
 
-// All lines were answered as they say, and no block of memory is left.
-fn went_right<R: Waits + Abort>(rt: &R, shared: &Shared, (title, call): (&str, &str)) {
-    let wrong = shared.wrong.lock(rt);
-    let fault = wrong.as_deref().unwrap_or("");
-    assert!(rt; wrong.is_none(), "{title}, {call}: {fault}");
-    let is_clean = shared.heap.live() == 0;
-    assert!(rt; is_clean, "{title}, {call}: blocks are left");
-}
-
-// Plays a script's threads.
+// Plays a script's threads. All lines are answered as they say, and no block of memory is left.
 fn play_version<R: Polls + Threads + Abort + Send + Sync>(
     rt: &R,
     alloc: Global,
@@ -199,20 +194,23 @@ fn play_version<R: Polls + Threads + Abort + Send + Sync>(
 ) {
     let shared = Shared::new(alloc);
     let (noted, heap) = (shared.noted(*rt), &shared.heap);
-    let run = Run {
-        host: rt,
-        rt: noted,
-        alloc,
-        ends: all_ends(rt, (noted, heap), alloc, version.capacity),
-        shared: &shared,
-        call: version.call,
-        later: later(rt),
-    };
-    let players = run.players(parts);
+    let common = (&shared, later(rt));
+    let players = players((rt, noted), (alloc, heap), common, (version, parts));
     // From now on what is asked for is counted, and nothing is refused.
     heap.refuse_between(1, 0);
     play_all(rt, players);
-    went_right(rt, &shared, (title, version.call.0));
+    let wrong = shared.wrong.lock(rt);
+    assert!(rt;
+        wrong.is_none(),
+        "{title}, {}: {}",
+        version.call.0,
+        wrong.as_deref().unwrap_or("")
+    );
+    assert!(rt;
+        heap.live() == 0,
+        "{title}, {}: blocks are left",
+        version.call.0
+    );
 }
 
 // Plays a script at each capacity that these words name.
