@@ -1,5 +1,5 @@
 //! What the program is asked to time.
-use std::time::Duration;
+use crate::fault::Fault;
 
 /// What one run does. The first word of a call names it.
 #[derive(Clone, Copy)]
@@ -11,11 +11,8 @@ pub enum Shape {
     Oneshot,
     Inout,
     TryPair,
-    TryEmpty,
-    TryFull,
     Plain,
     AuditPair,
-    AuditMemory,
     CheckPair,
     PollPair,
     PollRecvPark,
@@ -42,28 +39,23 @@ enum At {
     Any,
     // At each but 0.
     NotZero,
-    // Unbounded, or at as many as there are messages.
-    NoNumber,
-    // At a number.
-    Number,
+    // Unbounded.
+    Unbounded,
     // At a number above 0: of messages, or of those that stand in a crowd.
     AboveZero,
 }
 
 // The shapes, by their words.
 const SHAPES: &[(&str, Shape, At)] = &[
-    ("seq", Shape::Seq, At::NoNumber),
+    ("seq", Shape::Seq, At::Unbounded),
     ("spsc", Shape::Spsc, At::Any),
     ("mpsc", Shape::Mpsc, At::Any),
     ("mpmc", Shape::Mpmc, At::Any),
     ("oneshot", Shape::Oneshot, At::NotZero),
     ("inout", Shape::Inout, At::NotZero),
     ("try_pair", Shape::TryPair, At::NotZero),
-    ("try_empty", Shape::TryEmpty, At::Any),
-    ("try_full", Shape::TryFull, At::Number),
-    ("plain", Shape::Plain, At::NoNumber),
+    ("plain", Shape::Plain, At::Unbounded),
     ("audit_pair", Shape::AuditPair, At::NotZero),
-    ("audit_memory", Shape::AuditMemory, At::Any),
     ("check_pair", Shape::CheckPair, At::NotZero),
     ("poll_pair", Shape::PollPair, At::NotZero),
     ("poll_recv_park", Shape::PollRecvPark, At::Any),
@@ -83,23 +75,13 @@ const SHAPES: &[(&str, Shape, At)] = &[
     ("crowd_futures", Shape::CrowdFutures, At::AboveZero),
 ];
 
-// The capacity of the channel.
-#[derive(Clone, Copy)]
-enum Capacity {
-    Unbounded,
-    // As many as there are messages.
-    Big,
-    Of(usize),
-}
-
 impl At {
-    fn allows(self, capacity: Capacity) -> bool {
+    fn allows(self, capacity: Option<usize>) -> bool {
         match self {
             At::Any => true,
-            At::NotZero => !matches!(capacity, Capacity::Of(0)),
-            At::NoNumber => !matches!(capacity, Capacity::Of(_)),
-            At::Number => matches!(capacity, Capacity::Of(_)),
-            At::AboveZero => matches!(capacity, Capacity::Of(1..)),
+            At::NotZero => capacity != Some(0),
+            At::Unbounded => capacity.is_none(),
+            At::AboveZero => matches!(capacity, Some(1..)),
         }
     }
 }
@@ -108,55 +90,44 @@ impl At {
 #[derive(Clone, Copy)]
 pub struct Arguments {
     pub shape: Shape,
-    /// Whether the shape can be had at this capacity, without waiting for ever.
-    pub can_be_timed: bool,
     /// `None` is unbounded.
     pub capacity: Option<usize>,
     pub messages: usize,
-    pub rounds: usize,
 }
 
 impl Arguments {
-    /// Reads `SHAPE CAPACITY MESSAGES [ROUNDS]`. `None` where the words are no such thing.
-    pub fn read(words: &[String]) -> Option<Arguments> {
-        let (first, rounds) = match words {
-            [_, _, _] => (words, 1),
-            [first @ .., rounds] => (first, number(rounds)?),
-            _ => return None,
+    /// Reads `SHAPE CAPACITY MESSAGES`.
+    pub fn read(words: &[String]) -> Result<Arguments, Fault> {
+        let [shape, capacity, messages] = words else {
+            return Err(if words.is_empty() {
+                Fault::NoWords
+            } else {
+                Fault::WrongWords
+            });
         };
-        let [shape, capacity, messages] = first else {
-            return None;
+        let (Some((shape, at)), Some(capacity), Ok(messages)) = (
+            shape_named(shape),
+            capacity_of(capacity),
+            messages.parse(),
+        ) else {
+            return Err(Fault::WrongWords);
         };
-        let (shape, at) = shape_named(shape)?;
-        let capacity = match capacity.as_str() {
-            "unbounded" => Capacity::Unbounded,
-            "big" => Capacity::Big,
-            _ => Capacity::Of(number(capacity)?),
-        };
-        let messages = number(messages)?;
-        Some(Arguments {
+        if !at.allows(capacity) {
+            return Err(Fault::WrongCapacity);
+        }
+        Ok(Arguments {
             shape,
-            can_be_timed: at.allows(capacity),
-            capacity: capacity.of_messages(messages),
+            capacity,
             messages,
-            rounds,
         })
-    }
-
-    /// The time that one message takes, where all take this time, in hundredths of a nanosecond.
-    pub fn hundredths_a_message(&self, time: Duration) -> u128 {
-        time.as_nanos().saturating_mul(100) / (self.messages.max(1) as u128)
     }
 }
 
-impl Capacity {
-    // The number, `None` of an unbounded channel.
-    fn of_messages(self, messages: usize) -> Option<usize> {
-        match self {
-            Capacity::Unbounded => None,
-            Capacity::Big => Some(messages),
-            Capacity::Of(capacity) => Some(capacity),
-        }
+// The capacity that this word says.
+fn capacity_of(word: &str) -> Option<Option<usize>> {
+    match word {
+        "unbounded" => Some(None),
+        _ => word.parse().ok().map(Some),
     }
 }
 
@@ -168,8 +139,4 @@ fn shape_named(word: &str) -> Option<(Shape, At)> {
         }
     }
     None
-}
-
-fn number(word: &str) -> Option<usize> {
-    word.parse().ok()
 }

@@ -1,170 +1,143 @@
-//! One channel to be timed.
+//! A run, timed.
 use crate::arguments::{Arguments, Shape};
-use flume::error::{NoMemory, RecvError, SendError};
-use flume::{Receiver, Runtime, Sender, Waits};
-use std::alloc::{AllocError, AllocFailed};
+use crate::fault::Fault;
+use crate::one_thread::{inout, plain, seq, try_pair};
+use flume::{Receiver, Runtime, Sender, Waits, bounded, unbounded};
+use futures::test::MockTask;
+use std::alloc::Global;
 use std::random::RandomSource;
-use std::time::{Duration, Instant};
-use std::{fmt, io};
+use std::time::{Clock, Duration, Instant};
 
-/// What may go wrong.
-#[derive(Clone, Copy)]
-pub enum Fault {
-    NoMemory,
-    NoThread,
-    NoClock,
-    NoExecutor,
-    NotSent,
-    NotReceived,
-    /// What was received isn't what was sent.
-    WrongMessages,
+/// Both ends of a channel.
+#[derive(Drop)]
+pub struct Ends<R: Waits> {
+    pub tx: Sender<usize, R>,
+    pub rx: Receiver<usize, R>,
 }
 
-impl fmt::Display for Fault {
-    fn fmt<W: fmt::Write>(&self, f: &mut fmt::Formatter<W>) -> fmt::Result {
-        f.write_str(match self {
-            Fault::NoMemory => "out of memory",
-            Fault::NoThread => "no thread can be started",
-            Fault::NoClock => "the clock can't be read",
-            Fault::NoExecutor => "no executor can be made",
-            Fault::NotSent => "a message wasn't sent",
-            Fault::NotReceived => "no message came",
-            Fault::WrongMessages => "what was received isn't what was sent",
-        })
-    }
-}
-
-impl From<NoMemory> for Fault {
-    fn from(_: NoMemory) -> Fault {
-        Fault::NoMemory
-    }
-}
-
-impl From<AllocError> for Fault {
-    fn from(_: AllocError) -> Fault {
-        Fault::NoMemory
-    }
-}
-
-impl<T: Drop> From<AllocFailed<T>> for Fault {
-    fn from(_: AllocFailed<T>) -> Fault {
-        Fault::NoMemory
-    }
-}
-
-impl From<io::Error> for Fault {
-    fn from(_: io::Error) -> Fault {
-        Fault::NoClock
-    }
-}
-
-impl From<SendError<usize>> for Fault {
-    fn from(_: SendError<usize>) -> Fault {
-        Fault::NotSent
-    }
-}
-
-impl From<RecvError> for Fault {
-    fn from(_: RecvError) -> Fault {
-        Fault::NotReceived
-    }
-}
-
-/// A channel of this capacity, and how many messages go through it.
-#[derive(Clone, Copy)]
+/// A run: the capacity of its channels, and how many messages go through them.
+#[derive(Drop)]
 pub struct Bench<R: Waits> {
     pub rt: R,
+    pub alloc: Global,
     pub capacity: Option<usize>,
     pub messages: usize,
 }
 
-impl<R: Runtime> Bench<R> {
+impl<R: Waits> Bench<R> {
     /// A new channel.
-    pub fn open(&self) -> Result<(Sender<usize, R>, Receiver<usize, R>), NoMemory> {
-        match self.capacity {
-            None => flume::on(self.rt).unbounded(),
-            Some(capacity) => flume::on(self.rt).bounded(capacity),
+    pub fn open(&self) -> Result<Ends<R>, Fault> {
+        let opened = match self.capacity {
+            None => unbounded(self.rt, self.alloc, 0),
+            Some(capacity) => bounded(self.rt, self.alloc, 0, capacity),
+        };
+        match opened {
+            Ok((tx, rx)) => Ok(Ends { tx, rx }),
+            Err(_) => Err(Fault::NoMemory),
+        }
+    }
+}
+
+/// How long the run took that the arguments ask for. The task is for the shapes polled by hand.
+pub fn time<R: Runtime + RandomSource>(
+    rt: R,
+    alloc: Global,
+    task: &MockTask,
+    asked: &Arguments,
+) -> Result<Duration, Fault> {
+    let bench = Bench {
+        rt,
+        alloc,
+        capacity: asked.capacity,
+        messages: asked.messages,
+    };
+    let Ok(mut start) = Instant::now(&rt) else {
+        return Err(Fault::NoClock);
+    };
+    let sum = bench.run(asked.shape, task, &mut start)?;
+    let Ok(time) = start.elapsed(&rt) else {
+        return Err(Fault::NoClock);
+    };
+    if sum == sum_sent(asked.shape, asked.messages) {
+        Ok(time)
+    } else {
+        Err(Fault::WrongMessages)
+    }
+}
+
+/// Sets the start to now. Where the clock can't be read it stays.
+pub fn begin_anew<R: Clock>(rt: &R, start: &mut Instant) {
+    if let Ok(now) = Instant::now(rt) {
+        *start = now;
+    }
+}
+
+/// The sum of what is sent: each sender sends 0, 1, 2 and so on.
+fn sum_sent(shape: Shape, messages: usize) -> usize {
+    let senders = match shape {
+        Shape::Mpsc | Shape::Mpmc | Shape::SelectRx => 4,
+        Shape::Plain | Shape::AsyncPing => 2,
+        _ => 1,
+    };
+    let mut sum = 0usize;
+    for message in 0..messages / senders {
+        sum = sum.wrapping_add(message);
+    }
+    sum.wrapping_mul(senders)
+}
+
+impl<R: Runtime + RandomSource> Bench<R> {
+    // The sum of what is received. Sets the start anew where something is made ready first.
+    fn run(&self, shape: Shape, task: &MockTask, start: &mut Instant) -> Result<usize, Fault> {
+        match shape {
+            Shape::Spsc => self.in_threads(1, false),
+            Shape::Mpsc => self.in_threads(4, false),
+            Shape::Mpmc => self.in_threads(4, true),
+            Shape::AsyncPair => self.async_pair(),
+            Shape::AsyncJoin => self.async_join(),
+            Shape::AsyncPing => self.async_ping(),
+            Shape::SelectRx => self.select_rx(),
+            _ => self.in_one_thread(shape, task, start),
         }
     }
 }
 
 impl<R: Waits> Bench<R> {
-    /// The time since then, where the messages received are those that each of so many senders
-    /// sent: 0, 1, 2 and so on.
-    pub fn time_since(
+    // The same of the shapes in one thread, without an executor.
+    fn in_one_thread(
         &self,
-        start: Instant,
-        sum: usize,
-        senders: usize,
-    ) -> Result<Duration, Fault> {
-        let time = start.elapsed(&self.rt)?;
-        let each = (0..self.messages / senders.max(1)).fold(0usize, usize::wrapping_add);
-        if sum == each.wrapping_mul(senders) {
-            Ok(time)
-        } else {
-            Err(Fault::WrongMessages)
-        }
-    }
-}
-
-impl<R: Runtime + RandomSource> Bench<R> {
-    /// What the arguments ask for: the least time of their rounds.
-    pub fn least(rt: R, arguments: &Arguments) -> Result<Duration, Fault> {
-        let bench = Bench {
-            rt,
-            capacity: arguments.capacity,
-            messages: arguments.messages,
-        };
-        let mut least = bench.round(arguments.shape)?;
-        for _ in 1..arguments.rounds {
-            least = least.min(bench.round(arguments.shape)?);
-        }
-        Ok(least)
-    }
-
-    fn round(&self, shape: Shape) -> Result<Duration, Fault> {
+        shape: Shape,
+        task: &MockTask,
+        start: &mut Instant,
+    ) -> Result<usize, Fault> {
         match shape {
-            Shape::Spsc | Shape::Mpsc | Shape::Mpmc => self.in_threads(shape),
+            Shape::Oneshot => Ok(self.oneshot()),
             Shape::AuditPair => self.audit_pair(),
-            Shape::AuditMemory => self.audit_memory(),
-            Shape::CheckPair => self.check_pair(),
-            Shape::SelectSeq => self.select_seq(),
-            Shape::SelectRx => self.select_rx(),
-            Shape::AsyncPair | Shape::AsyncJoin => self.in_one_task(shape),
-            Shape::AsyncPing => self.async_ping(),
-            Shape::PollPair
-            | Shape::PollRecvPark
-            | Shape::PollSendPark
-            | Shape::Pending
-            | Shape::PendingDrop
-            | Shape::CrowdFutures => self.by_hand(shape),
+            Shape::CheckPair => Ok(self.check_pair(start)),
+            Shape::SelectSeq => Ok(self.select_seq()),
             Shape::CrowdPoll
             | Shape::CrowdDraw
             | Shape::CrowdWithdraw
             | Shape::CrowdCancel
-            | Shape::CrowdSend => self.crowd(shape),
-            _ => self.in_one_thread(shape),
+            | Shape::CrowdSend => Ok(self.crowd(shape, start)),
+            _ => self.pass(shape, &self.open()?, task, start),
         }
     }
-}
 
-/// Sends 0, 1, 2 and so on.
-pub fn send_each<R: Waits>(tx: &Sender<usize, R>, messages: usize) {
-    for message in 0..messages {
-        if tx.send(message).is_err() {
-            return;
+    // The same of those over one channel.
+    fn pass(
+        &self,
+        shape: Shape,
+        ends: &Ends<R>,
+        task: &MockTask,
+        start: &mut Instant,
+    ) -> Result<usize, Fault> {
+        match shape {
+            Shape::Seq => Ok(seq(ends, self.messages)),
+            Shape::Inout => Ok(inout(ends, self.messages)),
+            Shape::TryPair => Ok(try_pair(ends, self.messages)),
+            Shape::Plain => plain(ends, self.messages / 2),
+            _ => Ok(task.enter(|cx| self.in_one_poll(shape, ends, start, cx))),
         }
     }
-}
-
-/// The sum of so many messages, or of those that come.
-pub fn receive_each<R: Waits>(rx: &Receiver<usize, R>, messages: usize) -> usize {
-    let mut sum = 0usize;
-    for _ in 0..messages {
-        let Ok(message) = rx.recv() else {
-            return sum;
-        };
-        sum = sum.wrapping_add(message);
-    }
-    sum
 }

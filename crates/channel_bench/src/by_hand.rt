@@ -1,169 +1,152 @@
 //! The shapes polled by hand. All polls of a run lie in one poll of a task, and are handed its
 //! context: so no executor is in the time of a message.
 use crate::arguments::Shape;
-use crate::bench::{Bench, Fault, send_each};
+use crate::bench::{Bench, Ends, begin_anew};
+use crate::one_thread::send_each;
 use flume::polled::RecvFut;
-use flume::{Receiver, Runtime, Sender, Waits};
+use flume::{Receiver, Waits};
 use futures::Future;
 use futures::task::{Context, Poll};
-use futures::test::MockTask;
-use std::random::RandomSource;
-use std::time::{Duration, Instant};
+use std::mem::forget;
+use std::time::Instant;
 
-impl<R: Runtime + RandomSource> Bench<R> {
-    /// A shape that is polled by hand: all of it in one poll of one task.
-    pub fn by_hand(&self, shape: Shape) -> Result<Duration, Fault> {
-        let (tx, rx) = self.open()?;
-        let Ok(task) = MockTask::new(&self.rt) else {
-            return Err(Fault::NoExecutor);
-        };
-        task.enter(|cx| self.in_one_poll(shape, &tx, &rx, cx))
-    }
-}
-
-impl<R: Runtime> Bench<R> {
-    // What the shape asks of a new channel. Those that wait all along are gathered first, and a
-    // channel that is to be full is filled.
-    fn in_one_poll(
+impl<R: Waits> Bench<R> {
+    /// The polls of the shape.
+    pub fn in_one_poll(
         &self,
         shape: Shape,
-        tx: &Sender<usize, R>,
-        rx: &Receiver<usize, R>,
+        ends: &Ends<R>,
+        start: &mut Instant,
         cx: &mut Context<'_>,
-    ) -> Result<Duration, Fault> {
-        let standing = match shape {
-            Shape::Pending | Shape::PendingDrop => self.messages,
-            Shape::CrowdFutures => self.capacity.unwrap_or(0),
-            _ => 0,
-        };
-        let mut receives = self.park_each(standing, rx, cx)?;
-        if let Shape::PollSendPark = shape {
-            send_each(tx, self.capacity.unwrap_or(0));
+    ) -> usize {
+        match shape {
+            Shape::PollPair => pass_each(ends, self.messages, cx),
+            Shape::PollSendPark => {
+                send_each(&ends.tx, self.capacity.unwrap_or(0));
+                park_sends(ends, self.messages, cx)
+            }
+            Shape::PollRecvPark => self.over_parked(shape, 1, ends, start, cx),
+            Shape::CrowdFutures => {
+                self.over_parked(shape, self.capacity.unwrap_or(0), ends, start, cx)
+            }
+            _ => self.over_parked(shape, self.messages, ends, start, cx),
         }
-        self.poll_each(shape, tx, rx, &mut receives, cx)
     }
 
-    // The polls of the shape, timed.
-    fn poll_each<'a>(
+    // The polls of a shape for which so many receives wait already. These polls aren't timed.
+    fn over_parked(
         &self,
         shape: Shape,
-        tx: &Sender<usize, R>,
-        rx: &'a Receiver<usize, R>,
-        receives: &mut Vec<RecvFut<'a, usize, R>>,
+        standing: usize,
+        ends: &Ends<R>,
+        start: &mut Instant,
         cx: &mut Context<'_>,
-    ) -> Result<Duration, Fault> {
-        let start = Instant::now(&self.rt)?;
+    ) -> usize {
+        let mut receives = self.park_each(standing, &ends.rx, cx);
+        begin_anew(&self.rt, start);
         let sum = match shape {
-            Shape::PendingDrop => drop_each(receives),
-            Shape::Pending => fill_each(tx, receives, cx),
-            Shape::CrowdFutures => renew_each(tx, rx, receives, self.messages, cx),
-            _ => pass_each(shape, tx, rx, self.messages, cx),
+            Shape::PendingDrop => drop_each(&mut receives),
+            Shape::Pending => fill_each(ends, &mut receives, self.messages, false, cx),
+            _ => fill_each(ends, &mut receives, self.messages, true, cx),
         };
-        self.time_since(start, sum, 1)
+        forget(receives);
+        sum
     }
 
-    // So many receives, each of which was polled once and waits.
+    // So many receives, each of which was polled once and waits; fewer where there is no memory.
     fn park_each<'a>(
         &self,
         standing: usize,
         rx: &'a Receiver<usize, R>,
         cx: &mut Context<'_>,
-    ) -> Result<Vec<RecvFut<'a, usize, R>>, Fault> {
-        let mut receives = Vec::new(self.rt.alloc());
+    ) -> Vec<RecvFut<'a, usize, R>> {
+        let mut receives = Vec::new(self.alloc);
         for _ in 0..standing {
-            let mut receive = rx.recv_async();
-            if receive.poll(cx).is_pending() {
-                receives.push(receive)?;
-            }
+            park(&mut receives, rx, cx);
         }
-        Ok(receives)
+        receives
     }
 }
 
-/// The sum of so many messages, each of which is passed before the next.
-fn pass_each<R: Waits>(
-    shape: Shape,
-    tx: &Sender<usize, R>,
-    rx: &Receiver<usize, R>,
-    messages: usize,
+/// Adds a receive, which is polled once, and waits.
+fn park<'a, R: Waits>(
+    receives: &mut Vec<RecvFut<'a, usize, R>>,
+    rx: &'a Receiver<usize, R>,
     cx: &mut Context<'_>,
-) -> usize {
+) {
+    if receives.try_reserve(1).is_ok() {
+        let mut receive = rx.recv_async();
+        let _ = receive.poll(cx);
+        receives.push_reserved(receive);
+    }
+}
+
+/// Each message sent, and received before the next, by futures that are ready at once.
+fn pass_each<R: Waits>(ends: &Ends<R>, messages: usize, cx: &mut Context<'_>) -> usize {
     let mut sum = 0usize;
     for message in 0..messages {
-        let passed = match shape {
-            Shape::PollSendPark => park_send(tx, rx, message, cx),
-            Shape::PollRecvPark => park_receive(tx, rx, message, cx),
-            _ => tx.send_async(message).poll(cx).is_ready()
-                && gets(&mut rx.recv_async(), message, cx),
-        };
-        if passed {
+        let _ = ends.tx.send_async(message).poll(cx);
+        if let Poll::Ready(Ok(message)) = ends.rx.recv_async().poll(cx) {
             sum = sum.wrapping_add(message);
         }
     }
     sum
 }
 
-/// Whether the send waits first, and then until another message is received.
-#[inline(always)]
-fn park_send<R: Waits>(
-    tx: &Sender<usize, R>,
-    rx: &Receiver<usize, R>,
-    message: usize,
-    cx: &mut Context<'_>,
-) -> bool {
-    let mut send = tx.send_async(message);
-    send.poll(cx).is_pending() && rx.try_recv().is_ok() && send.poll(cx).is_ready()
-}
-
-/// Whether a receive waits first, and then gets the message.
-#[inline(always)]
-fn park_receive<R: Waits>(
-    tx: &Sender<usize, R>,
-    rx: &Receiver<usize, R>,
-    message: usize,
-    cx: &mut Context<'_>,
-) -> bool {
-    let mut receive = rx.recv_async();
-    receive.poll(cx).is_pending() && fill(tx, &mut receive, message, cx)
-}
-
-/// Whether the message is sent, and the receive, which waits, takes it.
-#[inline(always)]
-fn fill<R: Waits>(
-    tx: &Sender<usize, R>,
-    receive: &mut RecvFut<'_, usize, R>,
-    message: usize,
-    cx: &mut Context<'_>,
-) -> bool {
-    tx.try_send(message).is_ok() && gets(receive, message, cx)
-}
-
-/// Whether the receive is ready, with this message.
-#[inline(always)]
-fn gets<R: Waits>(
-    receive: &mut RecvFut<'_, usize, R>,
-    message: usize,
-    cx: &mut Context<'_>,
-) -> bool {
-    match receive.poll(cx) {
-        Poll::Ready(Ok(got)) => got == message,
-        _ => false,
+/// For each message a send that waits first, and then until another message is received.
+fn park_sends<R: Waits>(ends: &Ends<R>, messages: usize, cx: &mut Context<'_>) -> usize {
+    let mut sum = 0usize;
+    for message in 0..messages {
+        let mut send = ends.tx.send_async(message);
+        if send.poll(cx).is_pending() && ends.rx.try_recv().is_ok() && send.poll(cx).is_ready() {
+            sum = sum.wrapping_add(message);
+        }
     }
+    sum
 }
 
-/// For each receive that waits a message sent, which it takes as it is polled again.
-fn fill_each<R: Waits>(
-    tx: &Sender<usize, R>,
-    receives: &mut Vec<RecvFut<'_, usize, R>>,
+/// For each message the receive that waits longest takes it; where they are renewed another begins
+/// to wait, so that as many wait all along.
+fn fill_each<'a, R: Waits>(
+    ends: &'a Ends<R>,
+    receives: &mut Vec<RecvFut<'a, usize, R>>,
+    messages: usize,
+    renewed: bool,
     cx: &mut Context<'_>,
 ) -> usize {
-    let mut sum = 0usize;
-    for (message, receive) in receives.iter_mut().enumerate() {
-        if fill(tx, receive, message, cx) {
-            sum = sum.wrapping_add(message);
+    let (mut sum, mut place) = (0usize, 0usize);
+    for message in 0..messages {
+        if place == receives.len() {
+            place = 0;
         }
+        if let Some(receive) = receives.get_mut(place) {
+            sum = sum.wrapping_add(fill(ends, receive, message, renewed, cx));
+        }
+        place = place.wrapping_add(1);
     }
     sum
+}
+
+/// What the receive takes, which waits, after this message was sent; 0 where it takes none. Where it
+/// is renewed another begins to wait in its place.
+#[inline(always)]
+fn fill<'a, R: Waits>(
+    ends: &'a Ends<R>,
+    receive: &mut RecvFut<'a, usize, R>,
+    message: usize,
+    renewed: bool,
+    cx: &mut Context<'_>,
+) -> usize {
+    let sent = ends.tx.try_send(message);
+    let taken = receive.poll(cx);
+    if renewed {
+        *receive = ends.rx.recv_async();
+        let _ = receive.poll(cx);
+    }
+    match (sent, taken) {
+        (Ok(()), Poll::Ready(Ok(message))) => message,
+        _ => 0,
+    }
 }
 
 /// Each receive that waits dropped, the newest first.
@@ -172,30 +155,6 @@ fn drop_each<R: Waits>(receives: &mut Vec<RecvFut<'_, usize, R>>) -> usize {
     for message in 0..receives.len() {
         if receives.pop().is_some() {
             sum = sum.wrapping_add(message);
-        }
-    }
-    sum
-}
-
-/// For each message the receive that waits longest takes it, and another begins to wait: so as many
-/// wait all along.
-fn renew_each<'a, R: Waits>(
-    tx: &Sender<usize, R>,
-    rx: &'a Receiver<usize, R>,
-    receives: &mut Vec<RecvFut<'a, usize, R>>,
-    messages: usize,
-    cx: &mut Context<'_>,
-) -> usize {
-    let mut sum = 0usize;
-    let standing = receives.len();
-    for message in 0..messages {
-        if let Some(receive) = receives.get_mut(message % standing.max(1))
-            && fill(tx, receive, message, cx)
-        {
-            *receive = rx.recv_async();
-            if receive.poll(cx).is_pending() {
-                sum = sum.wrapping_add(message);
-            }
         }
     }
     sum

@@ -2,23 +2,50 @@
 ghost use Rattle.futures.specs.Poll.{OnPending};
 ghost use Rattle.futures.specs.Task.{IsArmed, Keeps};
 
+use crate::bench::Ends;
+use flume::Waits;
 use flume::polled::{RecvFut, SendFut};
-use flume::{Receiver, Sender, Waits};
 use futures::task::{Context, Poll};
 use futures::{Future, ready};
 
 /// Which calls a loop makes.
 #[derive(Clone, Copy)]
-pub enum Calls {
-    /// It sends 0, 1, 2 and so on.
-    Sends,
-    /// It receives.
-    Receives,
-    /// It sends 0, receives, sends the number after the one that it received, and so on.
-    SendsFirst,
-    /// It receives, sends what it received, and so on.
-    ReceivesFirst,
+pub struct Calls {
+    // The first one sends.
+    sends: bool,
+    // After one that sends comes one that receives, and the other way round.
+    alternates: bool,
+    // The number that is sent is by so many greater than the last one that was sent or received.
+    adds: usize,
 }
+
+/// It sends 0, 1, 2 and so on.
+pub const SENDS: Calls = Calls {
+    sends: true,
+    alternates: false,
+    adds: 1,
+};
+
+/// It receives.
+pub const RECEIVES: Calls = Calls {
+    sends: false,
+    alternates: false,
+    adds: 0,
+};
+
+/// It sends 0, receives, sends the number after the one that it received, and so on.
+pub const SENDS_FIRST: Calls = Calls {
+    sends: true,
+    alternates: true,
+    adds: 1,
+};
+
+/// It receives, sends what it received, and so on.
+pub const RECEIVES_FIRST: Calls = Calls {
+    sends: false,
+    alternates: true,
+    adds: 0,
+};
 
 // The call that is made now.
 #[derive(Drop)]
@@ -27,13 +54,42 @@ enum Call<'a, R: Waits> {
     Receives(RecvFut<'a, usize, R>),
 }
 
+impl<'a, R: Waits> Call<'a, R> {
+    // Sends this message, or receives one.
+    #[inline(always)]
+    fn new(ends: &'a Ends<R>, sends: bool, message: usize) -> Self {
+        if sends {
+            Call::Sends(ends.tx.send_async(message))
+        } else {
+            Call::Receives(ends.rx.recv_async())
+        }
+    }
+
+    // This message, where it was sent, or the one that was received. `None`: the channel is
+    // disconnected, or there is no memory.
+    #[inline(always)]
+    fn poll(&mut self, message: usize, cx: &mut Context<'_>) -> Poll<Option<usize>>
+        ensures armed { OnPending result (IsArmed cx.new) }
+        ensures kept { Keeps cx.old cx.new }
+    {
+        match self {
+            Call::Sends(send) => match ready!(send.poll(cx)) {
+                Ok(()) => Poll::Ready(Some(message)),
+                Err(_) => Poll::Ready(None),
+            },
+            Call::Receives(receive) => Poll::Ready(ready!(receive.poll(cx)).ok()),
+        }
+    }
+}
+
 /// So many calls of a channel, one after the other. It gives the sum of what was received.
 #[derive(Drop)]
 pub struct Loop<'a, R: Waits> {
-    tx: &'a Sender<usize, R>,
-    rx: &'a Receiver<usize, R>,
+    ends: &'a Ends<R>,
     calls: Calls,
     call: Call<'a, R>,
+    // Whether the call sends.
+    sends: bool,
     // The message that is sent, or was sent last.
     message: usize,
     // How many calls are left.
@@ -43,21 +99,12 @@ pub struct Loop<'a, R: Waits> {
 
 impl<'a, R: Waits> Loop<'a, R> {
     /// A loop that hasn't begun.
-    pub fn new(
-        tx: &'a Sender<usize, R>,
-        rx: &'a Receiver<usize, R>,
-        calls: Calls,
-        left: usize,
-    ) -> Self {
-        let call = match calls {
-            Calls::Sends | Calls::SendsFirst => Call::Sends(tx.send_async(0)),
-            Calls::Receives | Calls::ReceivesFirst => Call::Receives(rx.recv_async()),
-        };
+    pub fn new(ends: &'a Ends<R>, calls: Calls, left: usize) -> Self {
         Loop {
-            tx,
-            rx,
+            ends,
             calls,
-            call,
+            call: Call::new(ends, calls.sends, 0),
+            sends: calls.sends,
             message: 0,
             left,
             sum: 0,
@@ -66,40 +113,13 @@ impl<'a, R: Waits> Loop<'a, R> {
 
     // Begins the call that follows one that sent or received this message.
     #[inline(always)]
-    fn begin_next(&mut self, message: usize, sent: bool) {
-        self.message = match (self.calls, sent) {
-            (Calls::Sends, _) | (Calls::SendsFirst, false) => message.wrapping_add(1),
-            (Calls::ReceivesFirst, false) => message,
-            _ => {
-                self.call = Call::Receives(self.rx.recv_async());
-                return;
-            }
-        };
-        self.call = Call::Sends(self.tx.send_async(self.message));
-    }
-
-    // One call. `false`: the channel is disconnected, or there is no memory.
-    #[inline(always)]
-    fn make_call(&mut self, cx: &mut Context<'_>) -> Poll<bool>
-        ensures armed { OnPending result (IsArmed cx.new) }
-        ensures kept { Keeps cx.old cx.new }
-    {
-        let next = self.message;
-        let (message, sent) = match &mut self.call {
-            Call::Sends(send) => match ready!(send.poll(cx)) {
-                Ok(()) => (next, true),
-                Err(_) => return Poll::Ready(false),
-            },
-            Call::Receives(receive) => match ready!(receive.poll(cx)) {
-                Ok(message) => (message, false),
-                Err(_) => return Poll::Ready(false),
-            },
-        };
-        if !sent {
+    fn begin_next(&mut self, message: usize) {
+        if !self.sends {
             self.sum = self.sum.wrapping_add(message);
         }
-        self.begin_next(message, sent);
-        Poll::Ready(true)
+        self.message = message.wrapping_add(self.calls.adds);
+        self.sends = self.sends != self.calls.alternates;
+        self.call = Call::new(self.ends, self.sends, self.message);
     }
 }
 
@@ -108,9 +128,10 @@ impl<R: Waits> Future for Loop<'_, R> {
 
     fn poll(&mut self, cx: &mut Context<'_>) -> Poll<usize> {
         for left in (0..self.left).rev() {
-            if !ready!(self.make_call(cx)) {
+            let Some(message) = ready!(self.call.poll(self.message, cx)) else {
                 break;
-            }
+            };
+            self.begin_next(message);
             self.left = left;
         }
         Poll::Ready(self.sum)

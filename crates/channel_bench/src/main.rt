@@ -6,6 +6,7 @@ mod audited;
 mod bench;
 mod by_hand;
 mod crowds;
+mod fault;
 mod loops;
 mod one_thread;
 mod polled;
@@ -13,31 +14,30 @@ mod select;
 mod threads;
 
 use crate::arguments::Arguments;
-use crate::bench::{Bench, Fault};
+use crate::bench::time;
+use crate::fault::Fault;
+use futures::test::MockTask;
 use std::process::ExitCode;
 use std::time::Duration;
 use std::{env, io};
 
-const USAGE: &str = "channel_bench SHAPE CAPACITY MESSAGES [ROUNDS]
+const USAGE: &str = "channel_bench SHAPE CAPACITY MESSAGES
 
-Prints how many nanoseconds a message takes, in the least of ROUNDS runs (1 where none are given).
+Prints how many nanoseconds a message takes.
 
-CAPACITY   unbounded, big (as many as there are messages), or a number
+CAPACITY   unbounded, or a number
 
 SHAPE
-seq             one thread sends all, and then receives all; not at a number
+seq             one thread sends all, and then receives all; unbounded
 spsc            one thread sends, one receives
 mpsc            four threads send, one receives
 mpmc            four threads send, four receive
 oneshot         a channel made, one message sent and received, both ends dropped; not at 0
 inout           one message sent and received, again and again, by one thread; not at 0
 try_pair        the same by try_send and try_recv; not at 0
-try_empty       try_recv of an empty channel
-try_full        try_send into a full channel; only at a number
 plain           a user's loop: one half sent and received in turn, the other sent and taken by an
-                iterator, with `?` and an error of its own; not at a number
+                iterator, with `?` and an error of its own; unbounded
 audit_pair      try_pair as steps of an audited channel, by one seat; not at 0
-audit_memory    what an audit keeps of these steps stored in lists, with no channel
 check_pair      the history of try_pair checked: two of its steps a message; not at 0
 poll_pair       a send polled by hand, and then a receive, each ready at once; not at 0
 poll_recv_park  a receive polled, which waits, a try_send, and the receive polled again
@@ -65,40 +65,37 @@ crowd_futures   a message is sent, the receive that waited longest is polled and
                 another receive is polled, which waits";
 
 fn main(rt: HostRuntime) -> io::Result<ExitCode> {
-    let mut words = Vec::new(rt.alloc());
-    for word in env::args(&rt)?.skip(1) {
-        words.push(word)?;
+    match asked(&rt)? {
+        Ok(asked) => {
+            let task = MockTask::new(&rt)?;
+            print(&rt, asked.messages, time(rt, rt.alloc(), &task, &asked))
+        }
+        Err(fault) => print(&rt, 0, Err(fault)),
     }
-    if words.is_empty() {
-        println!(rt; "{USAGE}")?;
-        return Ok(ExitCode::SUCCESS);
-    }
-    let Some(arguments) = Arguments::read(&words) else {
-        eprintln!(rt; "{USAGE}")?;
-        return Ok(ExitCode::from(2));
-    };
-    if !arguments.can_be_timed {
-        eprintln!(rt; "this shape can't be had at this capacity")?;
-        return Ok(ExitCode::from(3));
-    }
-    print_time(&rt, &arguments, Bench::least(rt, &arguments))
 }
 
-/// Prints how long a message takes, where the least run took this time, or what went wrong.
-fn print_time(
-    rt: &HostRuntime,
-    arguments: &Arguments,
-    least: Result<Duration, Fault>,
-) -> io::Result<ExitCode> {
-    match least {
+/// What the words of the call ask for.
+fn asked(rt: &HostRuntime) -> io::Result<Result<Arguments, Fault>> {
+    let words: Vec<String> = env::args(rt)?.skip(1).collect(rt.alloc())?;
+    Ok(Arguments::read(&words))
+}
+
+/// Prints how long one of so many messages takes, in nanoseconds, where all took this time; or what
+/// went wrong.
+fn print(rt: &HostRuntime, messages: usize, time: Result<Duration, Fault>) -> io::Result<ExitCode> {
+    match time {
         Ok(time) => {
-            let hundredths = arguments.hundredths_a_message(time);
+            let hundredths = time.as_nanos().saturating_mul(100) / (messages.max(1) as u128);
             println!(rt; "{}.{:02}", hundredths / 100, hundredths % 100)?;
+            Ok(ExitCode::SUCCESS)
+        }
+        Err(Fault::NoWords) => {
+            println!(rt; "{USAGE}")?;
             Ok(ExitCode::SUCCESS)
         }
         Err(fault) => {
             eprintln!(rt; "{fault}")?;
-            Ok(ExitCode::FAILURE)
+            Ok(ExitCode::from(fault.status()))
         }
     }
 }

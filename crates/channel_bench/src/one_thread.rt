@@ -1,112 +1,107 @@
 //! The shapes in one thread.
-use crate::arguments::Shape;
-use crate::bench::{Bench, Fault, receive_each, send_each};
-use flume::{Receiver, Runtime, Sender, Waits};
-use std::time::{Duration, Instant};
+use crate::bench::{Bench, Ends};
+use crate::fault::Fault;
+use flume::{Receiver, Sender, Waits};
 
-impl<R: Runtime> Bench<R> {
-    /// A shape that makes calls of a new channel in one thread.
-    pub fn in_one_thread(&self, shape: Shape) -> Result<Duration, Fault> {
-        let (tx, rx) = self.open()?;
-        if let Shape::TryFull = shape {
-            send_each(&tx, self.capacity.unwrap_or(0));
-        }
-        self.calls(shape, &tx, &rx)
-    }
-
-    fn calls(
-        &self,
-        shape: Shape,
-        tx: &Sender<usize, R>,
-        rx: &Receiver<usize, R>,
-    ) -> Result<Duration, Fault> {
-        let start = Instant::now(&self.rt)?;
-        match shape {
-            Shape::Plain => self.time_since(start, plain(tx, rx, self.messages / 2)?, 2),
-            Shape::Seq => {
-                send_each(tx, self.messages);
-                self.time_since(start, receive_each(rx, self.messages), 1)
-            }
-            _ => self.time_since(start, self.pass_each(shape, tx, rx), 1),
-        }
-    }
-
-    // The sum of so many messages, each of which is passed before the next.
-    fn pass_each(&self, shape: Shape, tx: &Sender<usize, R>, rx: &Receiver<usize, R>) -> usize {
-        let mut sum = 0usize;
-        for message in 0..self.messages {
-            sum = sum.wrapping_add(match shape {
-                Shape::Inout => pass(tx, rx, message),
-                Shape::TryPair => try_pass(tx, rx, message),
-                Shape::TryEmpty if rx.try_recv().is_err() => message,
-                Shape::TryFull if tx.try_send(message).is_err() => message,
-                Shape::Oneshot => self.pass_once(message),
-                _ => 0,
-            });
-        }
-        sum
-    }
-
-    // The message that went through a channel of its own, of which both ends are dropped.
-    fn pass_once(&self, message: usize) -> usize {
-        match self.open() {
-            Ok((tx, rx)) => pass(&tx, &rx, message),
-            Err(_) => 0,
+/// Sends 0, 1, 2 and so on.
+pub fn send_each<R: Waits>(tx: &Sender<usize, R>, messages: usize) {
+    for message in 0..messages {
+        if tx.send(message).is_err() {
+            return;
         }
     }
 }
 
+/// The sum of so many messages, or of those that come.
+pub fn receive_each<R: Waits>(rx: &Receiver<usize, R>, messages: usize) -> usize {
+    let mut sum = 0usize;
+    for _ in 0..messages {
+        let Ok(message) = rx.recv() else {
+            return sum;
+        };
+        sum = sum.wrapping_add(message);
+    }
+    sum
+}
+
+/// All messages sent, and then all received.
+pub fn seq<R: Waits>(ends: &Ends<R>, messages: usize) -> usize {
+    send_each(&ends.tx, messages);
+    receive_each(&ends.rx, messages)
+}
+
+/// Each message sent, and received before the next.
+pub fn inout<R: Waits>(ends: &Ends<R>, messages: usize) -> usize {
+    let mut sum = 0usize;
+    for message in 0..messages {
+        sum = sum.wrapping_add(pass(ends, message));
+    }
+    sum
+}
+
 /// The message that was sent and then received; 0 where none was.
 #[inline(always)]
-fn pass<R: Waits>(tx: &Sender<usize, R>, rx: &Receiver<usize, R>, message: usize) -> usize {
-    match tx.send(message) {
-        Ok(()) => rx.recv().unwrap_or(0),
+fn pass<R: Waits>(ends: &Ends<R>, message: usize) -> usize {
+    match ends.tx.send(message) {
+        Ok(()) => ends.rx.recv().unwrap_or(0),
         Err(_) => 0,
     }
 }
 
 /// The same by the calls that don't wait.
-#[inline(always)]
-fn try_pass<R: Waits>(tx: &Sender<usize, R>, rx: &Receiver<usize, R>, message: usize) -> usize {
-    match tx.try_send(message) {
-        Ok(()) => rx.try_recv().unwrap_or(0),
-        Err(_) => 0,
+pub fn try_pair<R: Waits>(ends: &Ends<R>, messages: usize) -> usize {
+    let mut sum = 0usize;
+    for message in 0..messages {
+        if ends.tx.try_send(message).is_ok() {
+            sum = sum.wrapping_add(ends.rx.try_recv().unwrap_or(0));
+        }
+    }
+    sum
+}
+
+impl<R: Waits> Bench<R> {
+    /// For each message a channel made, the message passed, and both ends dropped.
+    pub fn oneshot(&self) -> usize {
+        let mut sum = 0usize;
+        for message in 0..self.messages {
+            if let Ok(ends) = self.open() {
+                sum = sum.wrapping_add(pass(&ends, message));
+            }
+        }
+        sum
     }
 }
 
 /// A loop as a user writes it, with `?` and an error of the user's: so many messages sent and
 /// received in turn, and then so many sent and taken. The sum of all.
-fn plain<R: Waits>(
-    tx: &Sender<usize, R>,
-    rx: &Receiver<usize, R>,
-    messages: usize,
-) -> Result<usize, Fault> {
-    let one_by_one = in_turn(tx, rx, messages)?;
-    Ok(one_by_one.wrapping_add(at_once(tx, rx, messages)?))
+pub fn plain<R: Waits>(ends: &Ends<R>, messages: usize) -> Result<usize, Fault> {
+    let one_by_one = in_turn(ends, messages)?;
+    Ok(one_by_one.wrapping_add(at_once(ends, messages)?))
 }
 
 /// Each message sent, and received before the next.
-fn in_turn<R: Waits>(
-    tx: &Sender<usize, R>,
-    rx: &Receiver<usize, R>,
-    messages: usize,
-) -> Result<usize, Fault> {
+fn in_turn<R: Waits>(ends: &Ends<R>, messages: usize) -> Result<usize, Fault> {
     let mut sum = 0usize;
     for message in 0..messages {
-        tx.send(message)?;
-        sum = sum.wrapping_add(rx.recv()?);
+        ends.tx.send(message)?;
+        sum = sum.wrapping_add(ends.rx.recv()?);
     }
     Ok(sum)
 }
 
 /// All sent, and then all taken that are there.
-fn at_once<R: Waits>(
-    tx: &Sender<usize, R>,
-    rx: &Receiver<usize, R>,
-    messages: usize,
-) -> Result<usize, Fault> {
+fn at_once<R: Waits>(ends: &Ends<R>, messages: usize) -> Result<usize, Fault> {
     for message in 0..messages {
-        tx.send(message)?;
+        ends.tx.send(message)?;
     }
-    Ok(rx.try_iter().fold(0usize, usize::wrapping_add))
+    Ok(take_each(&ends.rx))
+}
+
+/// The sum of the messages that are there.
+fn take_each<R: Waits>(rx: &Receiver<usize, R>) -> usize {
+    let mut sum = 0usize;
+    for message in rx.try_iter() {
+        sum = sum.wrapping_add(message);
+    }
+    sum
 }

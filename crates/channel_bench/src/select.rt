@@ -1,117 +1,115 @@
 //! The shapes of selections over four channels.
-use crate::bench::{Bench, Fault, send_each};
-use crate::threads::{End, SEVERAL};
+use crate::bench::{Bench, Ends};
+use crate::fault::Fault;
 use flume::error::RecvError;
-use flume::select::Arms;
-use flume::{Receiver, Runtime, Selector, Sender, Waits};
+use flume::select::{Arm, Arms};
+use flume::{Receiver, Runtime, Selector, Waits};
 use std::alloc::Global;
-use std::thread::JoinHandle;
-use std::time::{Duration, Instant};
+use std::random::RandomSource;
 
-// The ends of four channels.
-type Ends<R> = (Vec<Sender<usize, R>>, Vec<Receiver<usize, R>>);
+// How many channels there are.
+const FOUR: usize = 4;
 
-impl<R: Runtime> Bench<R> {
-    /// Each message sent into one of the channels in turn, and received by a selection over all.
-    pub fn select_seq(&self) -> Result<Duration, Fault> {
-        let (senders, receivers) = self.open_four()?;
-        let start = Instant::now(&self.rt)?;
-        let sum = select_in_turn(&senders, &receivers, self.messages);
-        self.time_since(start, sum, 1)
-    }
-
+impl<R: Runtime + RandomSource> Bench<R> {
     /// Four threads send, each into a channel of its own, and this one receives all by selections.
     /// Making the channels and the threads is in the time. No channel closes before.
-    pub fn select_rx(&self) -> Result<Duration, Fault> {
-        let start = Instant::now(&self.rt)?;
-        let each = self.messages / SEVERAL;
-        let (senders, receivers) = self.open_four()?;
-        let threads = self.start_senders(&senders, each)?;
-        let sum = select_each(&receivers, each.saturating_mul(SEVERAL));
-        self.time_since(start, sum.wrapping_add(self.joined(threads)), SEVERAL)
+    pub fn select_rx(&self) -> Result<usize, Fault> {
+        let each = self.messages / FOUR;
+        let channels = self.open_four();
+        let mut threads = Vec::new(self.alloc);
+        for ends in &channels {
+            self.start_each(&mut threads, ends, 1, false, each)?;
+        }
+        let sum = select_each(&channels, each.saturating_mul(FOUR));
+        Ok(sum.wrapping_add(self.joined(threads)))
+    }
+}
+
+impl<R: Waits> Bench<R> {
+    /// Each message sent into one of the channels in turn, and received by a selection over all.
+    pub fn select_seq(&self) -> usize {
+        select_in_turn(&self.open_four(), self.messages)
     }
 
-    // A thread for each sender, which sends so many messages.
-    fn start_senders(
-        &self,
-        senders: &[Sender<usize, R>],
-        each: usize,
-    ) -> Result<Vec<JoinHandle<usize>>, Fault> {
-        let mut threads = Vec::new(self.rt.alloc());
-        for tx in senders {
-            self.start(&mut threads, End::Sends(tx.clone()?), each)?;
+    // Four channels; fewer where there is no memory for them.
+    fn open_four(&self) -> Vec<Ends<R>> {
+        let mut channels = Vec::new(self.alloc);
+        for _ in 0..FOUR {
+            if channels.try_reserve(1).is_err() {
+                return channels;
+            }
+            if let Ok(ends) = self.open() {
+                channels.push_reserved(ends);
+            }
         }
-        Ok(threads)
-    }
-
-    // Four channels.
-    fn open_four(&self) -> Result<Ends<R>, Fault> {
-        let (mut senders, mut receivers) = (Vec::new(self.rt.alloc()), Vec::new(self.rt.alloc()));
-        for _ in 0..SEVERAL {
-            let (tx, rx) = self.open()?;
-            senders.push(tx)?;
-            receivers.push(rx)?;
-        }
-        Ok((senders, receivers))
+        channels
     }
 }
 
 /// The sum of so many messages, each of which goes through one of the channels in turn.
-fn select_in_turn<R: Waits>(
-    senders: &[Sender<usize, R>],
-    receivers: &[Receiver<usize, R>],
-    messages: usize,
-) -> usize {
+fn select_in_turn<R: Waits>(channels: &[Ends<R>], messages: usize) -> usize {
     let mut sum = 0usize;
     for message in 0..messages {
-        if let Some(tx) = senders.get(message % SEVERAL)
-            && tx.send(message).is_ok()
+        if let Some(ends) = channels.get(message % FOUR)
+            && ends.tx.send(message).is_ok()
         {
-            sum = sum.wrapping_add(select(receivers));
+            sum = sum.wrapping_add(select(channels));
         }
     }
     sum
 }
 
 /// The sum of what so many selections receive.
-fn select_each<R: Waits>(receivers: &[Receiver<usize, R>], messages: usize) -> usize {
+fn select_each<R: Waits>(channels: &[Ends<R>], messages: usize) -> usize {
     let mut sum = 0usize;
     for _ in 0..messages {
-        sum = sum.wrapping_add(select(receivers));
+        sum = sum.wrapping_add(select(channels));
     }
     sum
 }
 
 /// What one selection over the four channels receives, 0 where that is nothing.
-fn select<R: Waits>(receivers: &[Receiver<usize, R>]) -> usize {
-    match receivers {
+fn select<R: Waits>(channels: &[Ends<R>]) -> usize {
+    match channels {
         [one, two, three, four] => {
-            let selector = Selector::new().recv(one, message_or_none);
-            by_two_more(selector.recv(two, message_or_none), three, four)
+            let selector = Selector::new().recv(&one.rx, message_or_none);
+            (&two.rx, (&three.rx, (&four.rx, ()))).select(selector)
         }
         _ => 0,
     }
 }
 
-/// What a selection receives with two arms more. It is proved once for whatever arms come before.
-fn by_two_more<'a, L: Arms<usize, Global> + Drop, R: Waits>(
-    selector: Selector<'a, usize, L>,
-    next: &'a Receiver<usize, R>,
-    last: &'a Receiver<usize, R>,
-) -> usize
-    requires can_map { L.can_map (L.mappers selector.arms) }
-{
-    by_one_more(selector.recv(next, message_or_none), last)
+/// Receivers that a selector gets more, an arm each. It is proved once for each list of arms, in
+/// whose last one only that it is an arm is known: the whole type takes the prover far longer.
+trait MoreArms<'a> {
+    /// What the selection receives then, 0 where that is nothing.
+    fn select<L: Arms<usize, Global> + Drop, C: Arm<usize, Global> + Drop>(
+        self,
+        selector: Selector<'a, usize, (L, C)>,
+    ) -> usize
+        requires before { L.can_map (L.mappers selector.arms.0) }
+        requires last { C.can_map (C.mapper selector.arms.1) };
 }
 
-/// The same with one arm more.
-fn by_one_more<'a, L: Arms<usize, Global> + Drop, R: Waits>(
-    selector: Selector<'a, usize, L>,
-    last: &'a Receiver<usize, R>,
-) -> usize
-    requires can_map { L.can_map (L.mappers selector.arms) }
-{
-    selector.recv(last, message_or_none).wait().unwrap_or(0)
+// None.
+impl<'a> MoreArms<'a> for () {
+    fn select<L: Arms<usize, Global> + Drop, C: Arm<usize, Global> + Drop>(
+        self,
+        selector: Selector<'a, usize, (L, C)>,
+    ) -> usize {
+        selector.wait().unwrap_or(0)
+    }
+}
+
+// One, and those after it.
+impl<'a, R: Waits, M: MoreArms<'a>> MoreArms<'a> for (&'a Receiver<usize, R>, M) {
+    fn select<L: Arms<usize, Global> + Drop, C: Arm<usize, Global> + Drop>(
+        self,
+        selector: Selector<'a, usize, (L, C)>,
+    ) -> usize {
+        let (next, more) = self;
+        more.select(selector.recv(next, message_or_none))
+    }
 }
 
 /// The message, 0 where there is none.

@@ -1,97 +1,107 @@
 //! The shapes in several threads. Making the channel and the threads is in the time.
-use crate::arguments::Shape;
-use crate::bench::{Bench, Fault, receive_each, send_each};
-use flume::error::NoMemory;
+use crate::bench::{Bench, Ends};
+use crate::fault::Fault;
+use crate::loops::RECEIVES_FIRST;
+use crate::one_thread::{receive_each, send_each};
+use crate::polled::to_and_fro;
 use flume::{Receiver, Runtime, Sender, Waits};
+use std::random::RandomSource;
 use std::thread;
 use std::thread::JoinHandle;
-use std::time::{Duration, Instant};
 
-/// How many threads send, and how many receive, where several do.
-pub const SEVERAL: usize = 4;
-
-/// The end that a thread has.
+/// What a thread does with the ends that it has.
 #[derive(Drop)]
-pub enum End<R: Waits> {
+pub enum Work<R: Waits> {
+    /// It sends.
     Sends(Sender<usize, R>),
+    /// It receives.
     Receives(Receiver<usize, R>),
+    /// It sends back what it receives, in a task.
+    Echoes(Ends<R>),
 }
 
-impl<R: Waits> End<R> {
-    fn clone(&self) -> Result<End<R>, NoMemory> {
-        Ok(match self {
-            End::Sends(tx) => End::Sends(tx.clone()?),
-            End::Receives(rx) => End::Receives(rx.clone()?),
-        })
-    }
-
+impl<R: Runtime + RandomSource> Work<R> {
     // The sum of so many messages that were received: 0 where they were sent.
-    fn pass_each(&self, messages: usize) -> usize {
+    fn pass_each(&self, rt: &R, messages: usize) -> usize {
         match self {
-            End::Sends(tx) => {
+            Work::Sends(tx) => {
                 send_each(tx, messages);
                 0
             }
-            End::Receives(rx) => receive_each(rx, messages),
+            Work::Receives(rx) => receive_each(rx, messages),
+            Work::Echoes(ends) => to_and_fro(rt, ends, RECEIVES_FIRST, messages).unwrap_or(0),
         }
     }
 }
 
-impl<R: Runtime> Bench<R> {
-    /// A shape of threads that send, or receive, all through one channel.
-    pub fn in_threads(&self, shape: Shape) -> Result<Duration, Fault> {
-        let start = Instant::now(&self.rt)?;
-        match shape {
-            Shape::Spsc => self.time_since(start, self.to_one(1)?, 1),
-            Shape::Mpsc => self.time_since(start, self.to_one(SEVERAL)?, SEVERAL),
-            _ => self.time_since(start, self.to_several()?, SEVERAL),
-        }
-    }
-
-    // What this thread receives from so many others.
-    fn to_one(&self, senders: usize) -> Result<usize, Fault> {
+impl<R: Runtime + RandomSource> Bench<R> {
+    /// What this thread receives from so many others; where several receive, what they do.
+    pub fn in_threads(&self, senders: usize, several: bool) -> Result<usize, Fault> {
         let each = self.messages / senders.max(1);
-        let (tx, rx) = self.open()?;
-        let mut threads = Vec::new(self.rt.alloc());
-        self.start_each(&mut threads, senders, &End::Sends(tx), each)?;
-        let sum = receive_each(&rx, each.saturating_mul(senders));
+        let ends = self.open()?;
+        let mut threads = Vec::new(self.alloc);
+        self.start_each(&mut threads, &ends, senders, several, each)?;
+        let Ends { tx, rx } = ends;
+        drop(tx);
+        let left = if several { 0 } else { self.messages };
+        let sum = receive_each(&rx, left);
         Ok(sum.wrapping_add(self.joined(threads)))
     }
 
-    // What four threads receive from four others.
-    fn to_several(&self) -> Result<usize, Fault> {
-        let each = self.messages / SEVERAL;
-        let (tx, rx) = self.open()?;
-        let mut threads = Vec::new(self.rt.alloc());
-        self.start_each(&mut threads, SEVERAL, &End::Sends(tx), each)?;
-        self.start_each(&mut threads, SEVERAL, &End::Receives(rx), each)?;
-        Ok(self.joined(threads))
-    }
-
-    // Starts so many threads, each with a clone of this end.
-    fn start_each(
+    /// Starts so many threads that send so many messages each; where several receive, as many more.
+    pub fn start_each(
         &self,
         threads: &mut Vec<JoinHandle<usize>>,
-        count: usize,
-        end: &End<R>,
+        ends: &Ends<R>,
+        senders: usize,
+        several: bool,
         each: usize,
     ) -> Result<(), Fault> {
-        for _ in 0..count {
-            self.start(threads, end.clone()?, each)?;
+        for _ in 0..senders {
+            self.start_clone(threads, ends, true, each)?;
+            if several {
+                self.start_clone(threads, ends, false, each)?;
+            }
         }
         Ok(())
     }
 
-    /// Starts a thread that passes so many messages through this end.
+    // Starts a thread that sends, or receives, so many messages.
+    fn start_clone(
+        &self,
+        threads: &mut Vec<JoinHandle<usize>>,
+        ends: &Ends<R>,
+        sends: bool,
+        each: usize,
+    ) -> Result<(), Fault> {
+        let work = if sends {
+            match ends.tx.clone() {
+                Ok(tx) => Work::Sends(tx),
+                Err(_) => return Err(Fault::NoMemory),
+            }
+        } else {
+            match ends.rx.clone() {
+                Ok(rx) => Work::Receives(rx),
+                Err(_) => return Err(Fault::NoMemory),
+            }
+        };
+        self.start(threads, work, each)
+    }
+
+    /// Starts a thread that does this with so many messages.
     pub fn start(
         &self,
         threads: &mut Vec<JoinHandle<usize>>,
-        end: End<R>,
+        work: Work<R>,
         each: usize,
     ) -> Result<(), Fault> {
-        match thread::spawn(&self.rt, move || end.pass_each(each)) {
-            Ok(thread) => Ok(threads.push(thread)?),
-            Err(_) => Err(Fault::NoThread),
+        let rt = self.rt;
+        let Ok(thread) = thread::spawn(&rt, move || work.pass_each(&rt, each)) else {
+            return Err(Fault::NoThread);
+        };
+        match threads.push(thread) {
+            Ok(()) => Ok(()),
+            Err(_) => Err(Fault::NoMemory),
         }
     }
 
