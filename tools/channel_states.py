@@ -12,6 +12,11 @@ from collections import namedtuple
 # The greatest ticket, which is never issued, and the greatest count.
 MOST = 2**64 - 1
 KINDS = ("block", "plain", "stream", "arm")
+# The words of the steps that have a number, and the lines of the others.
+NUMBERED_STEPS = "try_send send poll_send withdraw_send poll withdraw set_capacity".split()
+PLAIN_STEPS = [*(f"recv {kind}" for kind in KINDS), *"try_recv drain clone_sender clone_receiver".split()]
+PLAIN_STEPS += "drop_sender drop_receiver len is_empty is_full capacity sender_count receiver_count".split()
+PLAIN_STEPS += ["is_disconnected"]
 
 # A step's word, and its number or kind, if it has one.
 Step = namedtuple("Step", "word value text")
@@ -51,6 +56,23 @@ class NotLawful(Exception):
 def number_of(digits):
     """The number that these digits are, with zeros before it or not."""
     return int(digits.lstrip("0") or "0")
+
+
+def is_numbered(line, words):
+    """Whether a line is one of these words and a number of 64 bits."""
+    word, _, digits = line.partition(" ")
+    short = re.fullmatch("0*[0-9]{1,20}", digits)
+    return word in words and short is not None and number_of(digits) <= MOST
+
+
+def is_opening(line):
+    """Whether a line is the first of a script."""
+    return line == "unbounded" or is_numbered(line, ["bounded"])
+
+
+def is_step(line):
+    """Whether a line is a step."""
+    return line in PLAIN_STEPS or is_numbered(line, NUMBERED_STEPS)
 
 
 def step_of(line):
@@ -525,7 +547,7 @@ def moments(capacity, steps, answers):
             if not IS_REPLY.get(step.word, is_query)(channel, step, reply):
                 raise NotLawful("after what came before it, this step can't be answered so")
         except NotLawful as why:
-            raise NotLawful(f"step {place}, '{step.text}', is answered '{answer}': {why}") from None
+            raise NotLawful(f"step {place}, '{step.text}', is answered {answer!r}: {why}") from None
         moment = Moment(channel, step, reply, number)
         made.append(moment)
         number += moment.offer is not None

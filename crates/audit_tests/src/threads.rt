@@ -135,11 +135,7 @@ where
         let mut state = plan.seed;
         for seat in seats {
             state = state.wrapping_add(1);
-            let draws = Draws {
-                state,
-                message: 0,
-                issued: 0,
-            };
+            let draws = Draws::seeded(state);
             let works = move || work(rt, audit, seat, (plan, draws), handed);
             if scope.spawn(works).is_err() {
                 return false;

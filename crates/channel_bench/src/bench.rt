@@ -1,7 +1,9 @@
 //! A run, timed.
 use crate::arguments::{Arguments, Shape};
 use crate::fault::Fault;
+use crate::many::seq_many;
 use crate::one_thread::{inout, plain, seq, try_pair};
+use crate::threads::Crew;
 use flume::{Receiver, Runtime, Sender, Waits, bounded, unbounded};
 use futures::test::MockTask;
 use std::alloc::Global;
@@ -75,7 +77,7 @@ pub fn begin_anew<R: Clock>(rt: &R, start: &mut Instant) {
 /// The sum of what is sent: each sender sends 0, 1, 2 and so on.
 fn sum_sent(shape: Shape, messages: usize) -> usize {
     let senders = match shape {
-        Shape::Mpsc | Shape::Mpmc | Shape::SelectRx => 4,
+        Shape::Mpsc | Shape::Mpmc | Shape::MpmcMany | Shape::SelectRx => 4,
         Shape::Plain | Shape::AsyncPing => 2,
         _ => 1,
     };
@@ -90,9 +92,21 @@ impl<R: Runtime + RandomSource> Bench<R> {
     // The sum of what is received. Sets the start anew where something is made ready first.
     fn run(&self, shape: Shape, task: &MockTask, start: &mut Instant) -> Result<usize, Fault> {
         match shape {
-            Shape::Spsc => self.in_threads(1, false),
-            Shape::Mpsc => self.in_threads(4, false),
-            Shape::Mpmc => self.in_threads(4, true),
+            Shape::Spsc => self.in_threads(Crew::of(1)),
+            Shape::Mpsc => self.in_threads(Crew::of(4)),
+            Shape::Mpmc => self.in_threads(Crew {
+                several: true,
+                ..Crew::of(4)
+            }),
+            Shape::SpscMany => self.in_threads(Crew {
+                many: true,
+                ..Crew::of(1)
+            }),
+            Shape::MpmcMany => self.in_threads(Crew {
+                several: true,
+                many: true,
+                ..Crew::of(4)
+            }),
             Shape::AsyncPair => self.async_pair(),
             Shape::AsyncJoin => self.async_join(),
             Shape::AsyncPing => self.async_ping(),
@@ -134,6 +148,7 @@ impl<R: Waits> Bench<R> {
     ) -> Result<usize, Fault> {
         match shape {
             Shape::Seq => Ok(seq(ends, self.messages)),
+            Shape::SeqMany => Ok(seq_many(self.alloc, ends, self.messages)),
             Shape::Inout => Ok(inout(ends, self.messages)),
             Shape::TryPair => Ok(try_pair(ends, self.messages)),
             Shape::Plain => plain(ends, self.messages / 2),

@@ -8,6 +8,7 @@ mod by_hand;
 mod crowds;
 mod fault;
 mod loops;
+mod many;
 mod one_thread;
 mod polled;
 mod select;
@@ -32,6 +33,9 @@ seq             one thread sends all, and then receives all; unbounded
 spsc            one thread sends, one receives
 mpsc            four threads send, one receives
 mpmc            four threads send, four receive
+seq_many        seq, 64 messages a call; unbounded
+spsc_many       spsc, up to 64 messages a call
+mpmc_many       mpmc, up to 64 messages a call
 oneshot         a channel made, one message sent and received, both ends dropped; not at 0
 inout           one message sent and received, again and again, by one thread; not at 0
 try_pair        the same by try_send and try_recv; not at 0

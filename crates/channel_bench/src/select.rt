@@ -1,6 +1,7 @@
 //! The shapes of selections over four channels.
 use crate::bench::{Bench, Ends};
 use crate::fault::Fault;
+use crate::threads::Crew;
 use flume::error::RecvError;
 use flume::select::{Arm, Arms};
 use flume::{Receiver, Runtime, Selector, Waits};
@@ -18,7 +19,7 @@ impl<R: Runtime + RandomSource> Bench<R> {
         let channels = self.open_four();
         let mut threads = Vec::new(self.alloc);
         for ends in &channels {
-            self.start_each(&mut threads, ends, 1, false, each)?;
+            self.start_each(&mut threads, ends, Crew::of(1), each)?;
         }
         let sum = select_each(&channels, each.saturating_mul(FOUR));
         Ok(sum.wrapping_add(self.joined(threads)))

@@ -2,6 +2,7 @@
 use crate::bench::{Bench, Ends};
 use crate::fault::Fault;
 use crate::loops::RECEIVES_FIRST;
+use crate::many::{receive_blocks, send_blocks};
 use crate::one_thread::{receive_each, send_each};
 use crate::polled::to_and_fro;
 use flume::{Receiver, Runtime, Sender, Waits};
@@ -16,6 +17,10 @@ pub enum Work<R: Waits> {
     Sends(Sender<usize, R>),
     /// It receives.
     Receives(Receiver<usize, R>),
+    /// It sends, many messages a call.
+    SendsMany(Sender<usize, R>),
+    /// It receives, many messages a call.
+    ReceivesMany(Receiver<usize, R>),
     /// It sends back what it receives, in a task.
     Echoes(Ends<R>),
 }
@@ -29,58 +34,90 @@ impl<R: Runtime + RandomSource> Work<R> {
                 0
             }
             Work::Receives(rx) => receive_each(rx, messages),
+            Work::SendsMany(tx) => {
+                send_blocks(rt.alloc(), tx, messages);
+                0
+            }
+            Work::ReceivesMany(rx) => receive_blocks(rt.alloc(), rx, messages),
             Work::Echoes(ends) => to_and_fro(rt, ends, RECEIVES_FIRST, messages).unwrap_or(0),
         }
     }
 }
 
+/// How many threads send and receive, and how.
+#[derive(Clone, Copy)]
+pub struct Crew {
+    /// So many threads send.
+    pub senders: usize,
+    /// As many others receive; else this thread does.
+    pub several: bool,
+    /// They move many messages a call.
+    pub many: bool,
+}
+
+impl Crew {
+    /// So many threads send, and this one receives, a message a call.
+    pub fn of(senders: usize) -> Crew {
+        Crew {
+            senders,
+            several: false,
+            many: false,
+        }
+    }
+}
+
 impl<R: Runtime + RandomSource> Bench<R> {
-    /// What this thread receives from so many others; where several receive, what they do.
-    pub fn in_threads(&self, senders: usize, several: bool) -> Result<usize, Fault> {
-        let each = self.messages / senders.max(1);
+    /// What this thread receives from others; where several receive, what they do.
+    pub fn in_threads(&self, crew: Crew) -> Result<usize, Fault> {
+        let each = self.messages / crew.senders.max(1);
         let ends = self.open()?;
         let mut threads = Vec::new(self.alloc);
-        self.start_each(&mut threads, &ends, senders, several, each)?;
+        self.start_each(&mut threads, &ends, crew, each)?;
         let Ends { tx, rx } = ends;
         drop(tx);
-        let left = if several { 0 } else { self.messages };
-        let sum = receive_each(&rx, left);
+        let left = if crew.several { 0 } else { self.messages };
+        let sum = if crew.many {
+            receive_blocks(self.alloc, &rx, left)
+        } else {
+            receive_each(&rx, left)
+        };
         Ok(sum.wrapping_add(self.joined(threads)))
     }
 
-    /// Starts so many threads that send so many messages each; where several receive, as many more.
+    /// Starts the threads that send so many messages each; where several receive, as many more.
     pub fn start_each(
         &self,
         threads: &mut Vec<JoinHandle<usize>>,
         ends: &Ends<R>,
-        senders: usize,
-        several: bool,
+        crew: Crew,
         each: usize,
     ) -> Result<(), Fault> {
-        for _ in 0..senders {
-            self.start_clone(threads, ends, true, each)?;
-            if several {
-                self.start_clone(threads, ends, false, each)?;
+        for _ in 0..crew.senders {
+            self.start_clone(threads, ends, (true, crew.many), each)?;
+            if crew.several {
+                self.start_clone(threads, ends, (false, crew.many), each)?;
             }
         }
         Ok(())
     }
 
-    // Starts a thread that sends, or receives, so many messages.
+    // Starts a thread that sends, or receives, so many messages; many a call, or one.
     fn start_clone(
         &self,
         threads: &mut Vec<JoinHandle<usize>>,
         ends: &Ends<R>,
-        sends: bool,
+        (sends, many): (bool, bool),
         each: usize,
     ) -> Result<(), Fault> {
         let work = if sends {
             match ends.tx.clone() {
+                Ok(tx) if many => Work::SendsMany(tx),
                 Ok(tx) => Work::Sends(tx),
                 Err(_) => return Err(Fault::NoMemory),
             }
         } else {
             match ends.rx.clone() {
+                Ok(rx) if many => Work::ReceivesMany(rx),
                 Ok(rx) => Work::Receives(rx),
                 Err(_) => return Err(Fault::NoMemory),
             }

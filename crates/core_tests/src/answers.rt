@@ -22,8 +22,3 @@ pub(crate) fn is_so<T: Debug + PartialEq + Drop>(
 ) {
     assert_eq!(rt; answer, wanted, "{title}");
 }
-
-/// The bytes are those of the text.
-pub(crate) fn text_is(rt: &impl Abort, title: &str, bytes: &[u8], wanted: &str) {
-    assert_eq!(rt; bytes, wanted.as_bytes(), "{title}");
-}

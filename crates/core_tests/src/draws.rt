@@ -14,6 +14,15 @@ pub struct Draws {
 }
 
 impl Draws {
+    /// Draws from this seed.
+    pub fn seeded(state: u64) -> Draws {
+        Draws {
+            state,
+            message: 0,
+            issued: 0,
+        }
+    }
+
     fn below(&mut self, bound: u64) -> u64 {
         self.state = self
             .state

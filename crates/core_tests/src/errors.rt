@@ -1,12 +1,14 @@
-//! Texts of the errors that no contract says: those that are derived; and an error whose message
-//! has no text.
+//! Texts of the errors that no contract says: those that are derived, and those of std's io errors;
+//! and an error whose message has no text.
 use crate::answers::{had, is};
 use flume_core::error::{
-    CapacityError, NoMemory, RecvError, RecvTimeoutError, SelectError, TryRecvError, TrySendError,
+    CapacityError, NoMemory, RecvError, RecvTimeoutError, SelectError, SendError, SendTimeoutError,
+    TryRecvError, TrySendError,
 };
-use std::alloc::Global;
+use std::alloc::{AllocError, Global};
 use std::error::Error;
 use std::fmt::Debug;
+use std::io;
 use std::process::Abort;
 
 // The list has this debug text.
@@ -54,4 +56,72 @@ fn a_send_error_is_one_of_std_whatever_its_message(rt: HostRuntime) {
         "sending on a full channel, \"Full(..)\"",
     );
     is(&rt, refused.into_inner().0, 5);
+}
+
+// As std's io errors, errors have these kinds and texts.
+fn turn_into<E: Into<io::Error> + Copy>(
+    rt: &impl Abort,
+    alloc: Global,
+    errors: &[E],
+    wanted: &str,
+) {
+    let mut shown = String::new(alloc);
+    for &error in errors {
+        let error: io::Error = error.into();
+        had(rt, write!(shown, "{:?}: {error}; ", error.kind()));
+    }
+    is(rt, shown.as_str().trim_end(), wanted);
+}
+
+#[test]
+fn each_error_of_a_send_becomes_an_io_error_of_its_kind_with_its_text(rt: HostRuntime) {
+    let (r, a) = (&rt, rt.alloc());
+    let errors = [SendError::Disconnected(1u8), SendError::NoMemory(1)];
+    let wanted = "BrokenPipe: sending on a closed channel; OutOfMemory: out of memory;";
+    turn_into(r, a, &errors, wanted);
+    let (full, closed) = (TrySendError::Full(1u8), TrySendError::Disconnected(1));
+    let wanted = "WouldBlock: sending on a full channel; \
+        BrokenPipe: sending on a closed channel; OutOfMemory: out of memory;";
+    turn_into(r, a, &[full, closed, TrySendError::NoMemory(1)], wanted);
+    let (late, closed) = (
+        SendTimeoutError::Timeout(1u8),
+        SendTimeoutError::Disconnected(1),
+    );
+    let wanted = "TimedOut: timed out sending on a full channel; \
+        BrokenPipe: sending on a closed channel; OutOfMemory: out of memory;";
+    turn_into(r, a, &[late, closed, SendTimeoutError::NoMemory(1)], wanted);
+}
+
+#[test]
+fn each_error_of_a_receive_becomes_an_io_error_of_its_kind_with_its_text(rt: HostRuntime) {
+    let (r, a) = (&rt, rt.alloc());
+    let errors = [RecvError::Disconnected, RecvError::NoMemory];
+    let wanted = "UnexpectedEof: receiving on a closed channel; OutOfMemory: out of memory;";
+    turn_into(r, a, &errors, wanted);
+    let (empty, closed) = (TryRecvError::Empty, TryRecvError::Disconnected);
+    let wanted = "WouldBlock: receiving on an empty channel; \
+        UnexpectedEof: channel is empty and closed; OutOfMemory: out of memory;";
+    turn_into(r, a, &[empty, closed, TryRecvError::NoMemory], wanted);
+    let (late, closed) = (RecvTimeoutError::Timeout, RecvTimeoutError::Disconnected);
+    let wanted = "TimedOut: timed out waiting on a channel; \
+        UnexpectedEof: channel is empty and closed; OutOfMemory: out of memory;";
+    turn_into(r, a, &[late, closed, RecvTimeoutError::NoMemory], wanted);
+}
+
+#[test]
+fn each_other_error_becomes_an_io_error_of_its_kind_with_its_text(rt: HostRuntime) {
+    let (r, a) = (&rt, rt.alloc());
+    let errors = [SelectError::Timeout, SelectError::NoMemory];
+    turn_into(
+        r,
+        a,
+        &errors,
+        "TimedOut: timeout occurred; OutOfMemory: out of memory;",
+    );
+    let errors = [CapacityError::Unbounded, CapacityError::Disconnected];
+    let wanted = "Unsupported: channel has no capacity; \
+        BrokenPipe: changing the capacity of a closed channel;";
+    turn_into(r, a, &errors, wanted);
+    turn_into(r, a, &[NoMemory], "OutOfMemory: out of memory;");
+    is(r, AllocError::from(NoMemory), AllocError);
 }

@@ -142,11 +142,7 @@ fn replay_drawn<R: Abort>(rt: &R, alloc: Global, draws: &mut Draws, script: u64)
 
 #[test]
 fn a_drawn_script_drops_each_message_and_signal_once(rt: HostRuntime) {
-    let mut draws = Draws {
-        state: 20_261_123,
-        message: 0,
-        issued: 0,
-    };
+    let mut draws = Draws::seeded(20_261_123);
     let mut made = 0u64;
     for script in 0..SCRIPTS {
         made = made.saturating_add(replay_drawn(&rt, rt.alloc(), &mut draws, script));

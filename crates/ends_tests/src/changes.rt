@@ -1,4 +1,5 @@
 //! A capacity that changes all along.
+use crate::works::Work;
 use flume::{Receiver, Waits};
 use std::alloc::Allocator;
 use std::thread;
@@ -24,6 +25,22 @@ pub fn change_capacity<T: Drop, R: Waits, A: Allocator + Copy>(
         thread::yield_now();
     }
     unreachable!()
+}
+
+/// Does so, as what a thread does.
+#[derive(Drop)]
+pub struct ChangeCapacity<R: Waits> {
+    pub rt: R,
+    pub rx: Receiver<u64, R>,
+}
+
+impl<R: Waits> Work for ChangeCapacity<R> {
+    type Answer = u64;
+
+    fn work(self) -> u64 {
+        let ChangeCapacity { rt, rx } = self;
+        change_capacity(&rt, &rx)
+    }
 }
 
 /// Waits until the capacity isn't this one any more.

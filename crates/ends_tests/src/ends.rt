@@ -1,9 +1,15 @@
 //! What tests do with ends: they open a channel of any capacity, and try until the other side is
-//! there.
+//! there; and a long time.
 use flume::error::{NoMemory, TryRecvError, TrySendError};
 use flume::{Receiver, Sender, Waits, bounded, unbounded};
 use std::alloc::Allocator;
 use std::thread;
+use std::time::Duration;
+
+/// So long that no test waits for its end.
+pub fn long() -> Duration {
+    Duration::from_secs(3600)
+}
 
 /// The ends of a new channel of this capacity: `None` is unbounded.
 pub fn open<T: Drop, R: Waits, A: Allocator + Copy>(

@@ -10,8 +10,8 @@ pub mod counting;
 pub mod ends;
 #[cfg(test)]
 mod fixtures;
-#[cfg(test)]
-mod parkers;
+pub mod noted;
+pub mod ticking;
 #[cfg(test)]
 mod types;
 pub mod watch;

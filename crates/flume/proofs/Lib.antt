@@ -1,2 +1,5 @@
 mod InTime
+mod ManyReceives
+mod ManySendCalls
+pub mod Outlives
 mod SendPolls

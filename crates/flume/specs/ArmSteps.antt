@@ -1,17 +1,19 @@
 -- The turns of a selector's arms, and their ends: each answers as one step of a channel does. Where
 -- a comment here says that a step was made, `HasMade` is what the clause says.
-use Rattle.std.specs.Prelude.{◌≡◌, ◌⊎◌, ℕ, false, true}
+use Rattle.std.specs.Prelude.{◌≡◌, ◌⊎◌, ℕ, Bool, false, true}
 use Rattle.flume_model.specs.declared.step.Kind.TheVariants.{Arm}
 use Rattle.flume_model.specs.declared.step.Step.{Step}
-use Rattle.flume_model.specs.declared.step.Step.TheVariants.{Send, Recv}
+use Rattle.flume_model.specs.declared.step.Step.TheVariants.{Send, Recv, TrySend, TryRecv}
 use Rattle.flume_model.specs.declared.step.Reply.{Reply}
 use Rattle.flume_calls.specs.declared.calls.send.SendNext.{SendNext}
 use Rattle.flume_calls.specs.declared.calls.receive.RecvNext.{RecvNext}
 use Rattle.flume_calls.specs.declared.gates.select.ArmNext.{ArmNext}
 use Rattle.flume_calls.specs.declared.gates.select.ArmNext.TheVariants as next
 use Rattle.flume_calls.specs.SendTurns.{after_send, after_parked_send, step_of_parked_send}
+use Rattle.flume_calls.specs.SendTurns.{after_try_send}
 use Rattle.flume_calls.specs.SendTurns as send_turn
 use Rattle.flume_calls.specs.ReceiveTurns.{after_recv, after_parked_receive, step_of_parked_receive}
+use Rattle.flume_calls.specs.ReceiveTurns.{after_try_recv}
 use Rattle.flume_calls.specs.ReceiveTurns as receive_turn
 use Rattle.flume.specs.Turning.{HasMade}
 use Rattle.flume.specs.ArmTurns.{TakesSend, TakesReceive}
@@ -44,18 +46,29 @@ module _ {T : Type 0} (A : Type 0) where
       MakesSend (Send message) after_send (send_turn.IsParking message) answer new
       ⊎ ((answer ≡ next.NoMemory) × (new ≡ sending.Over))
 
+  -- a send arm that isn't started is tried, by one step; it isn't parked
+  abbrev pub TriesSend : T → ArmNext → SendState T → Type 0
+  TriesSend message =
+      MakesSend (TrySend message) after_try_send (send_turn.IsFirst message)
+
+  -- the first turn of a send arm, by whether it may park
+  abbrev pub BeginsSend : Bool → T → ArmNext → SendState T → Type 0
+  BeginsSend true message answer new = StartsSend message answer new
+  BeginsSend false message answer new = TriesSend message answer new
+
   -- a parked send arm is polled, by one step
   abbrev pub PollsSend : ℕ → ArmNext → SendState T → Type 0
   PollsSend ticket = MakesSend (step_of_parked_send ticket false) (after_parked_send ticket false)
       (send_turn.IsAgain ticket false)
 
-  -- a turn of a send arm, from its state to what it leads to and its state after
-  abbrev pub SendTurn : SendState T → ArmNext → SendState T → Type 0
-  SendTurn (sending.Unstarted message) answer new = StartsSend message answer new
-  SendTurn (sending.Parked ticket) answer new = PollsSend ticket answer new
-  SendTurn (sending.Completed result) answer new =
+  -- a turn of a send arm, by whether it may park, from its state to what it leads to and its state
+  -- after
+  abbrev pub SendTurn : Bool → SendState T → ArmNext → SendState T → Type 0
+  SendTurn parks (sending.Unstarted message) answer new = BeginsSend parks message answer new
+  SendTurn parks (sending.Parked ticket) answer new = PollsSend ticket answer new
+  SendTurn parks (sending.Completed result) answer new =
       (answer ≡ next.Completed) × (new ≡ sending.Completed result)
-  SendTurn sending.Over answer new = (answer ≡ next.NoMemory) × (new ≡ sending.Over)
+  SendTurn parks sending.Over answer new = (answer ≡ next.NoMemory) × (new ≡ sending.Over)
 
   -- a withdrawal of a send arm: one that is parked is over, and another one is as it was
   abbrev pub SendEnd : SendState T → SendState T → Type 0
@@ -74,18 +87,27 @@ module _ {T : Type 0} (A : Type 0) where
       MakesReceive (Recv Arm) after_recv receive_turn.IsParking answer new
       ⊎ ((answer ≡ next.NoMemory) × (new ≡ receiving.Over))
 
+  -- a receive arm that isn't started is tried, by one step; it isn't parked
+  abbrev pub TriesReceive : ArmNext → ReceiveState T → Type 0
+  TriesReceive = MakesReceive TryRecv after_try_recv receive_turn.IsFirst
+
+  -- the first turn of a receive arm, by whether it may park
+  abbrev pub BeginsReceive : Bool → ArmNext → ReceiveState T → Type 0
+  BeginsReceive true answer new = StartsReceive answer new
+  BeginsReceive false answer new = TriesReceive answer new
+
   -- a parked receive arm is polled, by one step
   abbrev pub PollsReceive : ℕ → ArmNext → ReceiveState T → Type 0
   PollsReceive ticket = MakesReceive (step_of_parked_receive ticket false)
       (after_parked_receive ticket false) (receive_turn.IsAgain ticket false)
 
   -- a turn of a receive arm
-  abbrev pub ReceiveTurn : ReceiveState T → ArmNext → ReceiveState T → Type 0
-  ReceiveTurn receiving.Unstarted answer new = StartsReceive answer new
-  ReceiveTurn (receiving.Parked ticket) answer new = PollsReceive ticket answer new
-  ReceiveTurn (receiving.Completed message) answer new =
+  abbrev pub ReceiveTurn : Bool → ReceiveState T → ArmNext → ReceiveState T → Type 0
+  ReceiveTurn parks receiving.Unstarted answer new = BeginsReceive parks answer new
+  ReceiveTurn parks (receiving.Parked ticket) answer new = PollsReceive ticket answer new
+  ReceiveTurn parks (receiving.Completed message) answer new =
       (answer ≡ next.Completed) × (new ≡ receiving.Completed message)
-  ReceiveTurn receiving.Over answer new = (answer ≡ next.NoMemory) × (new ≡ receiving.Over)
+  ReceiveTurn parks receiving.Over answer new = (answer ≡ next.NoMemory) × (new ≡ receiving.Over)
 
   -- a withdrawal of a receive arm
   abbrev pub ReceiveEnd : ReceiveState T → ReceiveState T → Type 0

@@ -40,23 +40,22 @@ module _ {T : Type 0} where
   receive_result (receiving.Completed None) = Some (Err receive.Disconnected)
   receive_result _ = None
 
-  -- a step of a send arm: it never wants a signal, and is never too late
+  -- a step of a send arm: it is never too late
   abbrev pub IsArmSend : SendNext T → Type 0
-  IsArmSend (SendNext.NeedSignal back) = ⊥
   IsArmSend (SendNext.Done (Err (SendTimeoutError.Timeout back))) = ⊥
   IsArmSend _ = Unit {0}
 
-  -- a step of a receive arm: it never wants a signal, is never too late, and never ends because
-  -- memory ran out once it is parked
+  -- a step of a receive arm: it is never too late, and never ends because memory ran out once it is
+  -- parked
   abbrev pub IsArmReceive : RecvNext T → Type 0
-  IsArmReceive RecvNext.NeedSignal = ⊥
   IsArmReceive (RecvNext.Done (Err RecvTimeoutError.Timeout)) = ⊥
   IsArmReceive (RecvNext.Refused ticket) = ⊥
   IsArmReceive _ = Unit {0}
 
   -- where a step takes a send arm
   abbrev pub TakesSend : SendNext T → ArmNext → SendState T → Type 0
-  TakesSend (SendNext.Park ticket) next.Parked new = new ≡ sending.Parked ticket
+  TakesSend (SendNext.Park ticket) next.Waits new = new ≡ sending.Parked ticket
+  TakesSend (SendNext.NeedSignal back) next.Waits new = new ≡ sending.Unstarted back
   TakesSend (SendNext.Done (Ok sent)) next.Completed new = new ≡ sending.Completed (Ok tt)
   TakesSend (SendNext.Done (Err (SendTimeoutError.Disconnected back))) next.Completed new =
       new ≡ sending.Completed (Err back)
@@ -66,7 +65,8 @@ module _ {T : Type 0} where
 
   -- where a step takes a receive arm
   abbrev pub TakesReceive : RecvNext T → ArmNext → ReceiveState T → Type 0
-  TakesReceive (RecvNext.Park ticket) next.Parked new = new ≡ receiving.Parked ticket
+  TakesReceive (RecvNext.Park ticket) next.Waits new = new ≡ receiving.Parked ticket
+  TakesReceive RecvNext.NeedSignal next.Waits new = new ≡ receiving.Unstarted
   TakesReceive (RecvNext.Done (Ok message)) next.Completed new =
       new ≡ receiving.Completed (Some message)
   TakesReceive (RecvNext.Done (Err RecvTimeoutError.Disconnected)) next.Completed new =

@@ -1,11 +1,15 @@
 -- Iterators over received messages, and drains.
-use Rattle.std.specs.Prelude.{◌≡◌, ℕ, ◌+◌, ◌-◌, ◌^◌, Bool, true, false, List}
-use Rattle.std.specs.Prelude.{Option, None, Result, Ok, Err}
+use Rattle.std.specs.Prelude.{◌≡◌, ◌≢◌, ◌↔◌, ℕ, ◌+◌, ◌-◌, ◌^◌, Bool, true, false, List}
+use Rattle.std.specs.Prelude.{Option, Some, None, IsSome, IsNone, Result, Ok, Err}
+use Rattle.flume_deadline.specs.declared.Deadline.{Deadline}
+use Rattle.flume_deadline.specs.declared.Deadline.TheVariants.{Never}
 use Rattle.flume_model.specs.declared.step.Reply.{Reply}
 use Rattle.flume_model.specs.declared.step.Reply.TheVariants.{Drained}
 use Rattle.flume_model.specs.declared.step.Reply.TheVariants as reply
 use Rattle.flume_core.specs.declared.error.RecvError.{RecvError}
 use Rattle.flume_core.specs.declared.error.RecvError.TheVariants as recv_error
+use Rattle.flume_core.specs.declared.error.RecvTimeoutError.{RecvTimeoutError}
+use Rattle.flume_core.specs.declared.error.RecvTimeoutError.TheVariants as timeout
 use Rattle.flume_core.specs.declared.error.NoMemory.{NoMemory}
 
 -- what a contract sees of an iterator over received messages
@@ -27,6 +31,32 @@ pub record GoesOn {T : Type 0} (old : Receiving) (item : Option T) (new : Receiv
   pub left : old.left ≡ new.left + 1
   -- it may have ended because memory ran out only where it gave nothing
   pub fault : new.fault ≡ true → item ≡ None
+
+-- what a contract sees of an iterator over received messages that ends at a deadline
+pub record ReceivingUntil : Type 0 where
+  -- the number of its channel
+  pub channel : ℕ
+  pub deadline : Deadline
+  -- why the last `next` gave nothing, where it gave nothing
+  pub end : Option RecvTimeoutError
+  -- how often `next` may still be called; no run uses that up
+  pub left : ℕ
+
+-- the iterator over a channel's messages up to a deadline as it begins
+abbrev pub receiving_until : ℕ → Deadline → ReceivingUntil
+receiving_until channel deadline =
+    record { channel = channel; deadline = deadline; end = None; left = 2 ^ 64 - 1 }
+
+-- one `next` of it, which gave this
+pub record GoesOnInTime {T : Type 0} (old : ReceivingUntil) (item : Option T)
+    (new : ReceivingUntil) : Type 0 where
+  pub channel : new.channel ≡ old.channel
+  pub deadline : new.deadline ≡ old.deadline
+  pub left : old.left ≡ new.left + 1
+  -- why it gave nothing is known exactly where it gave nothing
+  pub end : IsSome new.end ↔ IsNone item
+  -- one without a deadline is never late
+  pub late : new.end ≡ Some timeout.Timeout → old.deadline ≢ Never
 
 module _ {T : Type 0} where
   -- whether a receive was refused because memory ran out

@@ -3,6 +3,8 @@ pub mod ArmTurns
 pub mod Endings
 pub mod Ends
 pub mod Iterators
+pub mod ManyCalls
+pub mod ManySendCalls
 pub mod Openings
 pub mod Polling
 pub mod Turning

@@ -1,5 +1,6 @@
 //! What an end answers where its call has ended: tables of values, which know of no lock.
-ghost use Rattle.std.specs.Prelude.{◌≡◌, ◌≢◌, ◌↔◌, Ok, Err};
+ghost use Rattle.std.specs.Prelude.{◌≡◌, ◌≢◌, ◌↔◌, ℕ, Vec, Ok, Err};
+ghost use Rattle.std.specs.declared.collections.VecDeque.{VecDeque};
 ghost use Rattle.flume_calls.specs.ReceiveTurns as receive;
 ghost use Rattle.flume.specs.Endings.{NeverParks};
 
@@ -7,6 +8,8 @@ use flume_calls::calls::{RecvNext, SendNext};
 use flume_core::error::{
     RecvError, RecvTimeoutError, SendError, SendTimeoutError, TryRecvError, TrySendError,
 };
+use std::alloc::Allocator;
+use std::collections::VecDeque;
 
 /// What a tried send answers, by its one turn.
 #[inline(always)]
@@ -31,6 +34,30 @@ pub(crate) fn tried_send<T: Drop>(turn: SendNext<T>) -> Result<(), TrySendError<
         }
         SendNext::NeedSignal(message) => Err(TrySendError::Full(message)),
         SendNext::Done(Err(SendTimeoutError::Timeout(_))) | SendNext::Park(_) => unreachable!(),
+    }
+}
+
+/// What a tried send of many answers, by its batch. What is left goes to the front of the list that
+/// it was taken from.
+pub(crate) fn tried_sends<T: Drop, A: Allocator>(
+    batch: Result<(), TrySendError<VecDeque<T, A>>>,
+) -> Result<(), TrySendError<Vec<T, A>>>
+    ensures sent { (batch ≡ Ok tt) ↔ (result ≡ Ok tt) }
+    ensures full { (rest : Vec T A) → result ≡ Err (TrySendError.Full rest)
+        → (left : VecDeque T A) × (batch ≡ Err (TrySendError.Full left))
+        × (rest.items ≡ left.items) }
+    ensures disconnected { (rest : Vec T A) → result ≡ Err (TrySendError.Disconnected rest)
+        → (left : VecDeque T A) × (batch ≡ Err (TrySendError.Disconnected left))
+        × (rest.items ≡ left.items) }
+    ensures no_memory { (rest : Vec T A) → result ≡ Err (TrySendError.NoMemory rest)
+        → (left : VecDeque T A) × (batch ≡ Err (TrySendError.NoMemory left))
+        × (rest.items ≡ left.items) }
+{
+    match batch {
+        Ok(()) => Ok(()),
+        Err(TrySendError::Full(left)) => Err(TrySendError::Full(left.into_vec())),
+        Err(TrySendError::Disconnected(left)) => Err(TrySendError::Disconnected(left.into_vec())),
+        Err(TrySendError::NoMemory(left)) => Err(TrySendError::NoMemory(left.into_vec())),
     }
 }
 
@@ -72,6 +99,26 @@ pub(crate) fn tried_receive<T: Drop>(turn: RecvNext<T>) -> Result<T, TryRecvErro
         RecvNext::Done(Err(RecvTimeoutError::Timeout | RecvTimeoutError::NoMemory))
         | RecvNext::Park(_)
         | RecvNext::Refused(_) => unreachable!(),
+    }
+}
+
+/// What a tried receive of many answers, by its one turn.
+pub(crate) fn tried_receives(turn: RecvNext<usize>) -> Result<usize, TryRecvError>
+    requires first { receive.IsFirst turn }
+    ensures came { (count : ℕ) → (turn ≡ RecvNext.Done (Ok count)) ↔ (result ≡ Ok count) }
+    ensures empty { (turn ≡ RecvNext.NeedSignal) ↔ (result ≡ Err TryRecvError.Empty) }
+    ensures disconnected { (turn ≡ RecvNext.Done (Err RecvTimeoutError.Disconnected))
+        ↔ (result ≡ Err TryRecvError.Disconnected) }
+    ensures no_memory { (turn ≡ RecvNext.Done (Err RecvTimeoutError.NoMemory))
+        ↔ (result ≡ Err TryRecvError.NoMemory) }
+{
+    match turn {
+        RecvNext::Done(Ok(count)) => Ok(count),
+        RecvNext::Done(Err(RecvTimeoutError::Disconnected)) => Err(TryRecvError::Disconnected),
+        RecvNext::Done(Err(RecvTimeoutError::NoMemory)) => Err(TryRecvError::NoMemory),
+        RecvNext::NeedSignal => Err(TryRecvError::Empty),
+        RecvNext::Done(Err(RecvTimeoutError::Timeout)) | RecvNext::Park(_) | RecvNext::Refused(_) =>
+            unreachable!(),
     }
 }
 

@@ -18,8 +18,8 @@
 //!
 //! # Bounded channels
 //!
-//! `bounded(n)` opens a channel that holds at most `n` messages. When it is full, `send` waits for
-//! room, and `try_send` hands its message back.
+//! `flume::on(rt).bounded(n)` opens a channel that holds at most `n` messages. When it is full,
+//! `send` waits for room, and `try_send` hands its message back.
 //!
 //! ```
 //! let (tx, _rx) = flume::on(rt).bounded(1)?;
@@ -29,7 +29,8 @@
 //!
 //! # Rendezvous channels
 //!
-//! `bounded(0)` opens a channel in which `send` waits until a receiver takes its message.
+//! `flume::on(rt).bounded(0)` opens a channel in which `send` waits until a receiver takes its
+//! message.
 //!
 //! ```
 //! let (tx, rx) = flume::on(rt).bounded(0)?;
@@ -82,6 +83,7 @@
 
 mod answers;
 mod builder;
+mod deadline_iter;
 mod drain;
 mod gate;
 mod into_iter;
@@ -89,9 +91,11 @@ mod iterators;
 mod opening;
 pub mod polled;
 mod progress;
+mod receive_many;
 mod receiver;
 mod runtime;
 pub mod select;
+mod send_many;
 mod sender;
 mod shared;
 pub mod signal;
@@ -99,6 +103,7 @@ mod task;
 mod weak;
 
 pub use builder::{Builder, on};
+pub use deadline_iter::DeadlineIter;
 pub use drain::Drain;
 pub use flume_audit::{audit, book, closed, differs, receipt, seat, weigh};
 pub use flume_calls::{calls, due, gates};

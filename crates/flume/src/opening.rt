@@ -8,8 +8,9 @@ use flume_core::error::NoMemory;
 use std::alloc::Allocator;
 use std::sync::Arc;
 
-/// Opens a channel without a capacity. The number `id` names it: ends of channels with one number
-/// count as ends of the same. `NoMemory`: there was no memory for what the ends share.
+/// A program writes `flume::on(rt).unbounded()?`, which calls this: it opens a channel without a
+/// capacity. The number `id` names it: ends of channels with one number count as ends of the same.
+/// `NoMemory`: there was no memory for what the ends share.
 ///
 /// A channel holds at most 4,294,967,295 messages, as many parked receivers and as many live sends.
 /// Past that a call answers `NoMemory`, though no allocation was refused.
@@ -30,9 +31,9 @@ pub fn unbounded<T: Drop, R: Waits, A: Allocator + Copy>(
     ends(rt, alloc, id, None)
 }
 
-/// Opens a channel that holds at most `capacity` messages, apart from those sent while a receiver
-/// waits. At capacity 0 a send waits until a receiver takes its message. `id` and `NoMemory` as of
-/// `unbounded`.
+/// A program writes `flume::on(rt).bounded(4)?`, which calls this: it opens a channel that holds at
+/// most `capacity` messages, apart from those sent while a receiver waits. At capacity 0 a send
+/// waits until a receiver takes its message. `id` and `NoMemory` as of `unbounded`.
 ///
 /// Whatever the capacity, a channel holds at most 4,294,967,295 messages, as many parked receivers
 /// and as many live sends. Past that a call answers `NoMemory`, though no allocation was refused.

@@ -225,6 +225,32 @@ impl<T: Drop, R: Waits, A: Allocator + Copy> Receiver<T, R, A> {
     {
         self.shared.id == other.shared.id
     }
+
+    /// How many sends are blocked in the channel now: calls that wait, polled futures and sinks, and
+    /// arms of selections. One whose message was taken in isn't counted, though it hasn't gone on
+    /// yet; one whose channel closed is, until it has its message back. Takes no memory.
+    ///
+    /// ```
+    /// let (tx, rx) = flume::on(rt).bounded::<u64>(0)?;
+    /// let sender = thread::spawn(&rt, move || tx.send(7))?;
+    /// for _ in rt.forever() {
+    ///     if rx.blocked_senders() == 1 {
+    ///         break;
+    ///     }
+    ///     thread::yield_now();
+    /// }
+    /// assert_eq!(rt; rx.try_recv(), Ok(7));
+    /// assert_eq!(rt; rx.blocked_senders(), 0);
+    /// assert_eq!(rt; sender.join(&rt), Ok(()));
+    /// ```
+    pub fn blocked_senders(&self) -> usize {
+        self.shared.blocked_len()
+    }
+
+    /// How many receives wait in the channel now, as `Sender::waiting_receivers` counts them.
+    pub fn waiting_receivers(&self) -> usize {
+        self.shared.waiting_len()
+    }
 }
 
 impl<T: Drop, R: Waits, A: Allocator + Copy> Clone for Receiver<T, R, A> {

@@ -1,5 +1,5 @@
 //! Waiting for the first of several sends and receives, on channels of whatever messages.
-ghost use Rattle.std.specs.Prelude.{◌≡◌, ◌≢◌, ◌<◌, ℕ, IfOk, Err, true};
+ghost use Rattle.std.specs.Prelude.{◌≡◌, ◌≢◌, ◌<◌, ℕ, IfOk, IfSome, Err, true};
 ghost use Rattle.flume_core.specs.declared.error.SelectError.{SelectError};
 ghost use Rattle.flume.specs.Selecting.{IsValue, first_arm};
 ghost use Rattle.flume_deadline.specs.declared.Deadline.TheVariants.{Never};
@@ -13,7 +13,7 @@ use crate::sender::Sender;
 use crate::shared::Waits;
 use crate::signal::Parker;
 pub use arms::{Arm, Arms, AtLeastOneArm};
-use flume_calls::gates::{ArmNext, SelectGate, select_over};
+use flume_calls::gates::{ArmNext, SelectGate, select_over, try_select_over};
 pub use flume_core::error::SelectError;
 use flume_core::error::{NoMemory, RecvError, SendError};
 use flume_deadline::Deadline;
@@ -171,6 +171,35 @@ impl<'a, V, L: AtLeastOneArm<V, A> + Drop, A: Allocator + Copy> Selector<'a, V, 
         self.select(deadline)
     }
 
+    /// Tries each arm once, and doesn't wait: what the mapper of the first arm that can go on makes
+    /// of its result. The arms are tried in the order of `wait`. `None`: none can go on; no mapper
+    /// was called. `NoMemory`: there was none for an arm's message; no mapper was called, and the
+    /// arms behind it weren't tried. Nothing is left in a channel, and nothing is made to wait on.
+    ///
+    /// The message of a send arm that isn't taken in is dropped, as it is where `wait` ends by
+    /// another arm: `Sender::try_send` hands it back. A send arm and a receive arm of one channel
+    /// don't meet each other, since neither waits.
+    ///
+    /// ```
+    /// let (jobs, work) = flume::on(rt).unbounded::<u64>()?;
+    /// let (_stop, stopped) = flume::on(rt).bounded::<u64>(1)?;
+    /// let arms = Selector::new().recv(&stopped, Result::ok).recv(&work, Result::ok);
+    /// assert_eq!(rt; arms.try_wait()?, None);
+    /// jobs.send(7)?;
+    /// let arms = Selector::new().recv(&stopped, Result::ok).recv(&work, Result::ok);
+    /// assert_eq!(rt; arms.try_wait()?, Some(Some(7)));
+    /// ```
+    pub fn try_wait(mut self) -> Result<Option<V>, NoMemory>
+        requires can_map { L.can_map (L.mappers self.arms) }
+        ensures value { IfOk result (λ value. IfSome value
+            (IsValue L.count L.maps (L.mappers self.entry.arms))) }
+    {
+        match try_select_over(&mut self)? {
+            Some(arm) => Ok(self.arms.value(arm)),
+            None => Ok(None),
+        }
+    }
+
     // What the mapper of the first arm that completes makes of its result.
     fn select(mut self, deadline: Deadline) -> Result<V, SelectError>
         requires can_map { L.can_map (L.mappers self.arms) }
@@ -204,7 +233,7 @@ impl<'a, V, L: AtLeastOneArm<V, A>, A: Allocator + Copy> SelectGate for Selector
 
     ghost makes = { λ old new _. new ≡ old };
 
-    ghost turns = { λ old arm new next. L.turns old.arms arm next new.arms };
+    ghost turns = { λ parks old arm new next. L.turns parks old.arms arm next new.arms };
 
     ghost waits = { λ old new late. (new ≡ old) × (late ≡ true → old.deadline ≢ Never) };
 
@@ -224,14 +253,14 @@ impl<'a, V, L: AtLeastOneArm<V, A>, A: Allocator + Copy> SelectGate for Selector
 
     // One parker for all arms, made before an arm is started: so a selection that is refused it has
     // touched no channel. One that is ready at once has made and freed it for nothing. To try the
-    // arms first, without parking, would need two turns of each, and between the two an arm before
-    // it may have become ready.
+    // arms first, as `try_wait` does, would need two turns of each, and between the two an arm
+    // before it may have become ready.
     fn make_waiter(&mut self) -> Option<Arc<Parker, A>> {
         let parker = Parker::new(self.arms.checks());
         Arc::new(self.arms.alloc(), parker).ok()
     }
 
-    fn turn(&mut self, arm: usize, parker: &Arc<Parker, A>) -> ArmNext {
+    fn turn(&mut self, arm: usize, parker: Option<&Arc<Parker, A>>) -> ArmNext {
         self.arms.turn(arm, parker)
     }
 

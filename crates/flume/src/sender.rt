@@ -198,6 +198,32 @@ impl<T: Drop, R: Waits, A: Allocator + Copy> Sender<T, R, A> {
     {
         self.shared.id == other.shared.id
     }
+
+    /// How many sends are blocked in the channel now, as `Receiver::blocked_senders` counts them.
+    pub fn blocked_senders(&self) -> usize {
+        self.shared.blocked_len()
+    }
+
+    /// How many receives wait in the channel now: calls, polled futures and streams, and arms of
+    /// selections. One that was woken, or was handed its message, isn't counted, though it hasn't
+    /// gone on yet. Takes no memory.
+    ///
+    /// ```
+    /// let (tx, rx) = flume::on(rt).unbounded::<u64>()?;
+    /// let receiver = thread::spawn(&rt, move || rx.recv())?;
+    /// for _ in rt.forever() {
+    ///     if tx.waiting_receivers() == 1 {
+    ///         break;
+    ///     }
+    ///     thread::yield_now();
+    /// }
+    /// assert_eq!(rt; tx.try_send(7), Ok(()));
+    /// assert_eq!(rt; tx.waiting_receivers(), 0);
+    /// assert_eq!(rt; receiver.join(&rt), Ok(7));
+    /// ```
+    pub fn waiting_receivers(&self) -> usize {
+        self.shared.waiting_len()
+    }
 }
 
 impl<T: Drop, R: Waits, A: Allocator + Copy> Clone for Sender<T, R, A> {

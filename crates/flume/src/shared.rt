@@ -1,17 +1,20 @@
 //! What all ends of a channel share.
-ghost use Rattle.std.specs.Prelude.{◌≡◌, None};
+ghost use Rattle.std.specs.Prelude.{◌≡◌, ◌+◌, ◌<◌, None, vec_len, vec_capacity};
 ghost use Rattle.futures.specs.Task.{Covers, Keeps};
+ghost use Rattle.flume.specs.ManyCalls.{PollGrows};
 ghost use Rattle.flume.specs.Polling.{HasPolled};
-ghost use Rattle.flume.specs.Turning.{HasMade};
+ghost use Rattle.flume.specs.Turning.{HasMade, HasMadeAll};
 
 use crate::signal::{Parker, Signal};
 use crate::task::Task;
+use flume_calls::batch::Batch;
+use flume_calls::calls::MoreReceives;
 use flume_calls::due::Bell;
 use flume_calls::locked::Locked;
-use flume_calls::polled::Polled;
+use flume_calls::polled::{Polled, PolledReceive};
 use flume_calls::single::SetCapacity;
 use flume_calls::turn::Turn;
-use flume_core::error::CapacityError;
+use flume_core::error::{CapacityError, RecvError};
 use futures::task::Context;
 use std::alloc::{Allocator, Global};
 use std::hint::spin_loop;
@@ -197,6 +200,18 @@ impl<T: Drop, R: Waits, A: Allocator + Copy> Shared<T, R, A> {
         locked.make(turn, &mut SignalBell { rt: self.rt })
     }
 
+    /// How many sends are blocked. It looks under the lock, and makes no turn.
+    #[inline(never)]
+    pub(crate) fn blocked_len(&self) -> usize {
+        self.lock().blocked_len()
+    }
+
+    /// How many parked receivers wait. It looks under the lock, and makes no turn.
+    #[inline(never)]
+    pub(crate) fn waiting_len(&self) -> usize {
+        self.lock().waiting_len()
+    }
+
     /// Makes the turn under the lock, in code of its own: so a turn that is seldom made costs the
     /// other turns of its caller nothing.
     #[cold]
@@ -206,6 +221,18 @@ impl<T: Drop, R: Waits, A: Allocator + Copy> Shared<T, R, A> {
         ensures made { HasMade (C.step turn) (C.table turn) result }
     {
         self.call(turn)
+    }
+
+    /// Makes the steps of the batch under one lock, and then fires what they made due.
+    #[inline(never)]
+    pub(crate) fn call_all<C: Batch<T, Signal<A>, A>>(&self, batch: C) -> C::Answer
+        ensures answers { C.answers batch result }
+        ensures made { HasMadeAll (C.table batch) result }
+    {
+        let mut guard = self.lock();
+        let locked = &mut *guard;
+        locked.facts();
+        locked.make_all(batch, &mut SignalBell { rt: self.rt })
     }
 
     /// Polls the call under the lock, and fires what that made due. Where it has to wait, the
@@ -222,7 +249,23 @@ impl<T: Drop, R: Waits, A: Allocator + Copy> Shared<T, R, A> {
         ensures registered { result ≡ None → Covers cx.new (λ s. s ≡ task.now.source.id) }
         ensures kept { Keeps cx.old cx.new }
     {
-        let mut locked = self.lock();
+        let mut guard = self.lock();
+        self.poll_locked(&mut *guard, call, task, cx)
+    }
+
+    // Polls the call, as `poll` does, of a channel whose lock was taken.
+    #[inline(always)]
+    fn poll_locked<P: Polled<T, Signal<A>, A>>(
+        &self,
+        locked: &mut Locked<T, Signal<A>, A>,
+        call: &mut P,
+        task: &Task,
+        cx: &mut Context<'_>,
+    ) -> Option<P::Answer>
+        ensures row { HasPolled P.polls call.old call.new result }
+        ensures registered { result ≡ None → Covers cx.new (λ s. s ≡ task.now.source.id) }
+        ensures kept { Keeps cx.old cx.new }
+    {
         let mut signal = None;
         if locked.would_wait(call) {
             if let Some(waker) = task.waker(locked.parked_signal(call), cx) {
@@ -230,5 +273,36 @@ impl<T: Drop, R: Waits, A: Allocator + Copy> Shared<T, R, A> {
             }
         }
         locked.poll(call, &mut signal, &mut SignalBell { rt: self.rt })
+    }
+
+    /// Polls the receive as `poll` does. Where that gives a message it takes what else is there,
+    /// at most so many more, under the same lock. All go into the list, which has room for one;
+    /// where there is no memory for more room it takes as many as there is room for.
+    #[inline(never)]
+    pub(crate) fn poll_many(
+        &self,
+        call: &mut PolledReceive,
+        task: &Task,
+        cx: &mut Context<'_>,
+        mut into: Vec<T, A>,
+        more: usize,
+    ) -> (Vec<T, A>, Option<Result<usize, RecvError>>)
+        requires room { vec_len into < vec_capacity into }
+        ensures grows { PollGrows (more + 1) into.items result.0.items result.1 }
+        ensures registered { result.1 ≡ None → Covers cx.new (λ s. s ≡ task.now.source.id) }
+        ensures kept { Keeps cx.old cx.new }
+    {
+        let mut guard = self.lock();
+        let locked = &mut *guard;
+        match self.poll_locked(locked, call, task, cx) {
+            Some(Ok(message)) => {
+                into.push_reserved(message);
+                let batch = MoreReceives { into, most: more };
+                let (into, taken) = locked.make_all(batch, &mut SignalBell { rt: self.rt });
+                (into, Some(Ok(taken + 1)))
+            }
+            Some(Err(error)) => (into, Some(Err(error))),
+            None => (into, None),
+        }
     }
 }

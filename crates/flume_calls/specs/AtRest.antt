@@ -1,5 +1,5 @@
 -- A channel between two calls of its ends, and what a call leaves.
-use Rattle.std.specs.Prelude.{ℕ}
+use Rattle.std.specs.Prelude.{ℕ, List}
 use Rattle.flume_model.specs.declared.step.Step.{Step}
 use Rattle.flume_model.specs.declared.step.Reply.{Reply}
 use Rattle.flume_state.specs.Sends.{NoDueSend}
@@ -7,6 +7,7 @@ use Rattle.flume_state.specs.Receivers.{NoDueReceiver}
 use Rattle.flume_state.specs.State.{State}
 use Rattle.flume_core.specs.Represents.{IsReachable, SameLogs}
 use Rattle.flume_calls.specs.Turns.{Turned}
+use Rattle.flume_calls.specs.Batches.{Batched}
 use Rattle.flume_calls.specs.Rings.{Rings}
 
 module _ {T S : Type 0} where
@@ -24,6 +25,18 @@ module _ {T S A N B : Type 0} (rings : B → ℕ → S → B → Type 0) where
       (new : State T S) (rung : B) (answer : N) : Type 0 where
     pub between : State T S
     pub turn : Turned step table old between answer
+    pub outcome : outcomes old between answer
+    pub rang : Rings rings between bell new rung
+    -- the rings are no steps
+    pub stands : SameLogs A between new
+
+  -- One batch of steps, and then one ring of the bell for each ticket that they made due: from the
+  -- channel and the bell before to both after, and the batch's answer.
+  pub record IsBatchCall (table : List (Step T × Reply T A) → N → Type 0)
+      (outcomes : State T S → State T S → N → Type 0) (old : State T S) (bell : B)
+      (new : State T S) (rung : B) (answer : N) : Type 0 where
+    pub between : State T S
+    pub batch : Batched table old between answer
     pub outcome : outcomes old between answer
     pub rang : Rings rings between bell new rung
     -- the rings are no steps

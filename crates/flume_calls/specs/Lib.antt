@@ -1,9 +1,12 @@
 pub mod Turns
+pub mod Batches
+pub mod ManySends
 pub mod Singles
 pub mod SendTurns
 pub mod SendOutcomes
 pub mod ReceiveTurns
 pub mod ReceiveOutcomes
+pub mod ManyReceives
 pub mod SendGates
 pub mod ReceiveGates
 pub mod SelectGates

@@ -3,6 +3,7 @@ use Rattle.std.specs.Prelude.{◌≡◌, ◌≢◌, ◌<◌, ◌==◌, ◌+◌, 
 use Rattle.std.specs.Prelude.{Option, None, Some, Result, Ok, Err}
 use Rattle.flume_core.specs.declared.error.SelectError.{SelectError}
 use Rattle.flume_core.specs.declared.error.SelectError.TheVariants.{Timeout, NoMemory}
+use Rattle.flume_core.specs.declared.error.NoMemory.{NoMemory as Refusal}
 use Rattle.flume_calls.specs.declared.gates.select.ArmNext.{ArmNext}
 use Rattle.flume_calls.specs.declared.gates.select.RoundEnd.{RoundEnd}
 
@@ -16,7 +17,7 @@ module _ {G : Type 0} (turns : G → ℕ → G → ArmNext → Type 0) (count st
   pub data Waiting : G → (made next : ℕ) → G → Type 0 where
     NoTurn : {gate : G} → Waiting gate 0 start gate
     OneMore : {old between new : G} {made arm : ℕ} → Waiting old made arm between
-        → turns between arm new ArmNext.Parked
+        → turns between arm new ArmNext.Waits
         → Waiting old (made + 1) (next_arm count arm) new
 
   -- a round, from its gate to the gate after it, by how it ends: one turn of each arm, in cyclic
@@ -100,3 +101,13 @@ module _ {G : Type 0} (makes : G → G → Bool → Type 0) (turns : G → ℕ �
         → IsRound turns count start made started RoundEnd.AllWait
         → StartedSelection turns waits withdraws count start started new result
         → WholeSelection old new result
+
+module _ {G : Type 0} (turns : G → ℕ → G → ArmNext → Type 0) (count start : ℕ) where
+  -- a selection that only tries its arms, from its gate to the gate at the end and the result: one
+  -- round of turns that may not park, and nothing is withdrawn
+  pub data TriedSelection (old new : G) : Result (Option ℕ) Refusal → Type 0 where
+    NoneCan : IsRound turns count start old new RoundEnd.AllWait → TriedSelection old new (Ok None)
+    Won : {before arm : ℕ} → IsRound turns count start old new (RoundEnd.Completed before arm)
+        → TriedSelection old new (Ok (Some arm))
+    Refused : {before : ℕ} → IsRound turns count start old new (RoundEnd.NoMemory before)
+        → TriedSelection old new (Err (record {}))

@@ -6,5 +6,5 @@ mod select;
 mod send;
 
 pub use receive::{RecvGate, recv_over};
-pub use select::{ArmNext, SelectGate, select_over};
+pub use select::{ArmNext, SelectGate, select_over, try_select_over};
 pub use send::{SendGate, send_over};

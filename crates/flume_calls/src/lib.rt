@@ -15,10 +15,12 @@
 //! - `locked`: the channel that a mutex holds. It makes a turn, and rings a bell for each ticket
 //!   that became due.
 //! - `turn`, `calls`, `single`: the turns of sends, of receives, and of calls of one turn.
+//! - `batch`: several steps under one lock.
 //! - `gates`: the loops of calls that wait. The caller's *gate* makes the turns and waits.
 //! - `polled`: calls that are polled, as futures are. `due`: the bell.
 #![tactic(auto)]
 
+pub mod batch;
 pub mod calls;
 pub mod due;
 pub mod gates;

@@ -1,16 +1,18 @@
 //! What stands behind a channel's lock.
-ghost use Rattle.std.specs.Prelude.{◌≡◌, ◌↔◌, IsTrue, IsSome, None};
+ghost use Rattle.std.specs.Prelude.{◌≡◌, ◌↔◌, IsTrue, IsSome, None, length};
 ghost use Rattle.std.specs.Option.{option_copied, option_and_then};
 ghost use Rattle.flume_model.specs.Log.{opens};
+ghost use Rattle.flume_model.specs.Entries.{waiting_count};
 ghost use Rattle.flume_state.specs.Sends.{NoDueSend};
 ghost use Rattle.flume_state.specs.Receivers.{NoDueReceiver};
 ghost use Rattle.flume_state.specs.State.{State, new_state};
 ghost use Rattle.flume_state.specs.Signals.{signal_of};
 ghost use Rattle.flume_core.specs.Represents.{IsReachable};
 ghost use Rattle.flume_core.specs.StateFacts.{ChannelFacts};
-ghost use Rattle.flume_calls.specs.AtRest.{IsAtRest, IsCall};
+ghost use Rattle.flume_calls.specs.AtRest.{IsAtRest, IsCall, IsBatchCall};
 ghost use Rattle.flume_calls.specs.Polls.{IsPollCall};
 
+use crate::batch::Batch;
 use crate::due::{Bell, fire_due};
 use crate::polled::Polled;
 use crate::turn::Turn;
@@ -85,12 +87,38 @@ impl<T: Drop, S: Drop, A: Allocator + Copy> Locked<T, S, A> {
         answer
     }
 
+    /// Makes the steps of the batch, and then rings once for each ticket that is due then.
+    #[inline(always)]
+    pub fn make_all<C: Batch<T, S, A>, B: Bell<S>>(&mut self, batch: C, bell: &mut B) -> C::Answer
+        ensures call { IsBatchCall {A = A} B.rings (C.table batch) (C.outcome batch)
+            self.old bell.old self.new bell.new result }
+        ensures answers { C.answers batch result }
+    {
+        let answer = batch.apply(&mut self.chan);
+        fire_due(&mut self.chan, bell);
+        answer
+    }
+
     /// Whether a poll of the call would have to wait now. It changes nothing, and is no step.
     #[inline(always)]
     pub fn would_wait<P: Polled<T, S, A>>(&self, polled: &P) -> bool
         ensures waits { IsTrue result ↔ P.waits polled.now self.now }
     {
         polled.would_wait(&self.chan)
+    }
+
+    /// How many sends are blocked: `Chan::blocked_len`. It changes nothing, and is no step.
+    pub fn blocked_len(&self) -> usize
+        ensures blocked { result ≡ length self.now.blocked }
+    {
+        self.chan.blocked_len()
+    }
+
+    /// How many parked receivers wait: `Chan::waiting_len`. It changes nothing, and is no step.
+    pub fn waiting_len(&self) -> usize
+        ensures waiting { result ≡ waiting_count self.now.entries }
+    {
+        self.chan.waiting_len()
     }
 
     /// The signal that the call left last, where it is parked. It changes nothing, and is no step.

@@ -2,6 +2,7 @@
 use Rattle.std.proofs.Common.{◌≡◌, ◌≢◌, Option, ℕ, ◌==◌, List, [], ◌∷◌, ◌++◌, Some, None, map, length, refl, sym, ap, ap₂, subst, ◌∙◌, arith, length-append, if◌then◌else◌, eq-eqb}
 use Rattle.std.specs.Vec.{vec_len}
 use Rattle.flume_chain.specs.declared.chain.links.Links.{Links}
+use Rattle.flume_chain.specs.declared.labelled.Labelled.{Labelled}
 use Rattle.flume_chain.specs.Links.{end, with, next_at, previous_at, element_at, Linked, HasNode}
 use Rattle.flume_chain.specs.Chained.{once, Placed, Chained, Table, Holds, IsChain, places, found, listed, moved_back, walk, table_of, chain_of}
 use Rattle.flume_chain.proofs.Rings.{once_same, with_same}
@@ -10,17 +11,17 @@ use Rattle.flume_chain.proofs.Steps.{linked_table, emptied, bypassed, filled, la
 use Rattle.flume_chain.proofs.Kept.{found_split, taken_items, walked, kept_items}
 use Rattle.flume_chain.proofs.Puts.{with_twice}
 
-module _ {E Z : Type 0} where
+module _ {L E Z : Type 0} where
   -- the element at the first place, and those behind it
-  pub record Begun (s : Links E Z) (items : List (Placed E)) : Type 0 where
-    pub element : E
-    pub rest : List (Placed E)
+  pub record Begun (s : Links L E Z) (items : List (Placed (Labelled L E))) : Type 0 where
+    pub element : (Labelled L E)
+    pub rest : List (Placed (Labelled L E))
     pub is : items ≡ item s.first element ∷ rest
     pub stands : element_at s s.first ≡ Some element
     pub before : previous_at s s.first ≡ end
 
   -- where a place is the first, an element stands there
-  pub begun : (s : Links E Z) (items : List (Placed E)) (frees : List ℕ) → Holds (table_of s) items frees → s.first ≢ end → Begun s items
+  pub begun : (s : Links L E Z) (items : List (Placed (Labelled L E))) (frees : List ℕ) → Holds (table_of s) items frees → s.first ≢ end → Begun s items
   begun s [] frees h ne =
       let f : s.first ∷ [] ≡ end ∷ [] = h.forward in
       absurd (ne cc)
@@ -39,7 +40,7 @@ module _ {E Z : Type 0} where
       }
 
   -- where no place is the first, no element stands
-  pub none_begun : (s : Links E Z) (items : List (Placed E)) (frees : List ℕ) → Holds (table_of s) items frees → s.first ≡ end → items ≡ []
+  pub none_begun : (s : Links L E Z) (items : List (Placed (Labelled L E))) (frees : List ℕ) → Holds (table_of s) items frees → s.first ≡ end → items ≡ []
   none_begun s [] frees h is = refl
   none_begun s (x ∷ xs) frees h is =
       let f : s.first ∷ map (next_at s) (x.place ∷ places xs) ≡ x.place ∷ (places xs ++ end ∷ []) = h.forward in
@@ -50,22 +51,22 @@ module _ {E Z : Type 0} where
       absurd (omega arith)
 
   -- the first element stands ahead of those behind it
-  pub begun_split : (s : Links E Z) (items : List (Placed E)) (b : Begun s items) → Split items s.first b.element
+  pub begun_split : (s : Links L E Z) (items : List (Placed (Labelled L E))) (b : Begun s items) → Split items s.first b.element
   begun_split s items b = record { before = []; after = b.rest; is = b.is }
 
   -- what is written to take the first element out of its node, and then that node out of the links
-  abbrev pub FirstTaken : Links E Z → Links E Z → Type 0
+  abbrev pub FirstTaken : Links L E Z → Links L E Z → Type 0
   FirstTaken old new = Linked old new
       (with (with (next_at old) end (next_at old old.first)) old.first old.free)
       (with (previous_at old) (next_at old old.first) end)
       (with (element_at old) old.first None) old.first
 
   -- links with the first element taken out hold those behind it
-  pub first_taken : (old new : Links E Z) (items : List (Placed E)) (frees : List ℕ) (b : Begun old items)
+  pub first_taken : (old new : Links L E Z) (items : List (Placed (Labelled L E))) (frees : List ℕ) (b : Begun old items)
       → Holds (table_of old) items frees → FirstTaken old new → Holds (table_of new) b.rest (old.first ∷ frees)
   first_taken old new items frees b h t =
       let held : Holds (table_of old) (item old.first b.element ∷ b.rest) frees =
-      subst (λ (l : List (Placed E)). Holds (table_of old) l frees) b.is h in
+      subst (λ (l : List (Placed (Labelled L E))). Holds (table_of old) l frees) b.is h in
       let is : table_of new ≡ bypassed (emptied (table_of old) old.first) old.first =
       linked_table old new _ _ _ _ t ∙ ap (λ (p : ℕ). record {
         size = vec_len old.nodes;
@@ -111,7 +112,7 @@ module _ {E : Type 0} where
       }
 
 -- links of which the place of an element was linked out, and then linked behind all others
-module _ {E Z : Type 0} (old mid : Links E Z) (n c : ℕ) (e : E) (k : IsChain old n) (is : Some e ≡ element_at old c)
+module _ {L E Z : Type 0} (old mid : Links L E Z) (n c : ℕ) (e : (Labelled L E)) (k : IsChain old n) (is : Some e ≡ element_at old c)
     (out : Linked old mid
     (with (next_at old) (previous_at old c) (next_at old c))
     (with (previous_at old) (next_at old c) (previous_at old c))
@@ -123,7 +124,7 @@ module _ {E Z : Type 0} (old mid : Links E Z) (n c : ℕ) (e : E) (k : IsChain o
   -- the table with the element taken out
   left : Holds (bypassed (emptied (table_of old) c) c) (split.before ++ split.after) (c ∷ k.frees)
   left = takes (table_of old) split.before split.after c e k.frees
-      (subst (λ (l : List (Placed E)). Holds (table_of old) l k.frees) split.is k.holds)
+      (subst (λ (l : List (Placed (Labelled L E))). Holds (table_of old) l k.frees) split.is k.holds)
 
   -- the last place is the end or below the size
   pub last_stands : HasNode mid mid.last
@@ -135,14 +136,14 @@ module _ {E Z : Type 0} (old mid : Links E Z) (n c : ℕ) (e : E) (k : IsChain o
       omega arith
 
   -- what is written to link the place behind all others
-  abbrev pub LinkedLast : Links E Z → Type 0
+  abbrev pub LinkedLast : Links L E Z → Type 0
   LinkedLast new = Linked mid new
       (with (with (next_at mid) c end) mid.last c)
       (with (with (previous_at mid) c mid.last) end c)
       (element_at mid) mid.free
 
   -- the links are of the elements with that one behind all others
-  pub moved_kept : (new : Links E Z) → LinkedLast new → IsChain new n
+  pub moved_kept : (new : Links L E Z) → LinkedLast new → IsChain new n
   moved_kept new last =
       let one : table_of mid ≡ unlinked (table_of old) c = linked_table old mid _ _ _ _ out in
       let two : table_of new ≡ appended (table_of mid) c = linked_table mid new _ _ _ _ last in
@@ -162,11 +163,11 @@ module _ {E Z : Type 0} (old mid : Links E Z) (n c : ℕ) (e : E) (k : IsChain o
       }
 
   -- and so the chain has that element behind all others
-  pub moved_items : (v : Chained E) → chain_of old n ≡ v → (new : Links E Z) → LinkedLast new → walk (table_of new) new.first n ≡ moved_back v.items c
+  pub moved_items : (v : Chained (Labelled L E)) → chain_of old n ≡ v → (new : Links L E Z) → LinkedLast new → walk (table_of new) new.first n ≡ moved_back v.items c
   unfolding moved_kept
   moved_items v view new last =
       let m = moved_kept new last in
       walked new n m.items m.frees m.holds m.count
-      ∙ sym (ap₂ (λ (l : List (Placed E)) (o : Option E). l ++ listed c o [])
+      ∙ sym (ap₂ (λ (l : List (Placed (Labelled L E))) (o : Option (Labelled L E)). l ++ listed c o [])
       (taken_items old k.items k.frees c e split k.holds) (sym (k.holds.elements c) ∙ sym is))
       ∙ ap (λ l. moved_back l c) (kept_items old n v k view)

@@ -1,11 +1,12 @@
 -- What is known of the links of a chain, and what each call leaves of them.
-use Rattle.std.proofs.Common.{◌≡◌, ◌≢◌, ℕ, ◌-◌, ◌<◌, ◌≤◌, ◌==◌, min, List, [], ◌∷◌, ◌++◌, Some, None, map, length, refl, sym, ap, subst, ◌∙◌, inl, inr, arith, if◌then◌else◌}
+use Rattle.std.proofs.Common.{◌≡◌, ◌≢◌, ℕ, ◌-◌, ◌<◌, ◌≤◌, ◌==◌, min, List, [], ◌∷◌, ◌++◌, Option, Some, None, map, length, refl, sym, ap, subst, ◌∙◌, inl, inr, arith, if◌then◌else◌}
 use Rattle.std.proofs.lemmas.Bool.{cases_Bool, cases_lt, eqb-true}
+use Rattle.std.specs.Option.{option_map}
 use Rattle.std.specs.Vec.{vec_len}
 use Rattle.std.proofs.lemmas.List.{map-append, get_or_past}
-use Rattle.flume_chain.specs.declared.chain.links.Node.{Node}
 use Rattle.flume_chain.specs.declared.chain.links.Links.{Links}
-use Rattle.flume_chain.specs.Links.{end, no_node, with, next_at, previous_at, element_at, Linked, Same}
+use Rattle.flume_chain.specs.declared.labelled.Labelled.{Labelled}
+use Rattle.flume_chain.specs.Links.{end, no_node, element_of, with, next_at, previous_at, element_at, Linked, Same}
 use Rattle.flume_chain.specs.Chained.{once, times, Placed, Chained, Table, Holds, IsChain, places, without, put_before, walk, table_of, chain_of, first_place, behind_first, place_after}
 use Rattle.flume_chain.proofs.Rings.{Ring, times-append, once_same}
 use Rattle.flume_chain.proofs.Splices.{around}
@@ -19,6 +20,22 @@ module _ {X : Type 0} where
     | inl e ↦ ap (λ t. if t then v else f k) e ∙ sym h ∙ ap f (sym (eqb-true k a e))
     | inr e ↦ ap (λ t. if t then v else f k) e
   ]
+
+-- what is there, where something is
+pub record Standing {X : Type 0} (o : Option X) : Type 0 where
+  pub element : X
+  pub is : Some element ≡ o
+
+module _ {X Y : Type 0} where
+  -- where a part is read of it, it is there
+  pub standing : (f : X → Y) (y : Y) (o : Option X) → Some y ≡ option_map f o → Standing o
+  standing f y None h = absurd (let no : ⊥ = cc in no)
+  standing f y (Some x) h = record { element = x; is = refl }
+
+  -- where no part is read, nothing is there
+  pub missing : (f : X → Y) (o : Option X) → None ≡ option_map f o → None ≡ o
+  missing f None h = refl
+  missing f (Some x) h = absurd (let no : ⊥ = cc in no)
 
 module _ {E : Type 0} where
   -- the place after `end` is that of the first element
@@ -83,9 +100,9 @@ module _ {E : Type 0} where
         some = λ q. ap Some r.from ∙ heads_are.some (λ p. q (r.from ∙ p)) ∙ after;
       }
 
-module _ {E Z : Type 0} where
+module _ {L E Z : Type 0} where
   -- where there was none, to take an element changes nothing
-  pub none_taken : (old new : Links E Z) (c : ℕ)
+  pub none_taken : (old new : Links L E Z) (c : ℕ)
       → Linked old new (next_at old) (previous_at old) (with (element_at old) c None) old.free → None ≡ element_at old c → Same old new
   none_taken old new c h none = record {
     size = h.size;
@@ -97,11 +114,11 @@ module _ {E Z : Type 0} where
   }
 
   -- the same links have the same table
-  pub same_table : (old new : Links E Z) → Same old new → table_of new ≡ table_of old
+  pub same_table : (old new : Links L E Z) → Same old new → table_of new ≡ table_of old
   same_table old new h = linked_table old new (next_at old) (previous_at old) (element_at old) old.free h
 
   -- the same links are of as many elements
-  pub same_kept : (old new : Links E Z) (n : ℕ) → Same old new → IsChain old n → IsChain new n
+  pub same_kept : (old new : Links L E Z) (n : ℕ) → Same old new → IsChain old n → IsChain new n
   same_kept old new n h k = record {
     items = k.items;
     frees = k.frees;
@@ -110,7 +127,7 @@ module _ {E Z : Type 0} where
   }
 
   -- the same links are the same chain
-  pub same_chain : (old new : Links E Z) (n : ℕ) (v : Chained E) → Same old new → chain_of old n ≡ v → chain_of new n ≡ v
+  pub same_chain : (old new : Links L E Z) (n : ℕ) (v : Chained (Labelled L E)) → Same old new → chain_of old n ≡ v → chain_of new n ≡ v
   same_chain old new n v h is =
       (λ i. record {
         items = walk ((same_table old new h) i) (((same_table old new h) i).next end) n;
@@ -118,75 +135,75 @@ module _ {E Z : Type 0} where
       }) ∙ is
 
   -- the elements that the links hold are those of the chain
-  pub walked : (s : Links E Z) (n : ℕ) (items : List (Placed E)) (frees : List ℕ) → Holds (table_of s) items frees → n ≡ length items
+  pub walked : (s : Links L E Z) (n : ℕ) (items : List (Placed (Labelled L E))) (frees : List ℕ) → Holds (table_of s) items frees → n ≡ length items
       → walk (table_of s) s.first n ≡ items
   walked s n items frees h e = ap (λ m. walk (table_of s) s.first m) e ∙ walk_is (table_of s) items frees h
 
   -- the elements that are kept are those of the chain
-  pub kept_items : (s : Links E Z) (n : ℕ) (v : Chained E) (k : IsChain s n) → chain_of s n ≡ v → k.items ≡ v.items
-  kept_items s n v k is = sym (walked s n k.items k.frees k.holds k.count) ∙ ap (λ (x : Chained E). x.items) is
+  pub kept_items : (s : Links L E Z) (n : ℕ) (v : Chained (Labelled L E)) (k : IsChain s n) → chain_of s n ≡ v → k.items ≡ v.items
+  kept_items s n v k is = sym (walked s n k.items k.frees k.holds k.count) ∙ ap (λ (x : Chained (Labelled L E)). x.items) is
 
   -- how many more elements may stand where no place is free
-  pub full_room : (s : Links E Z) (items : List (Placed E)) (frees : List ℕ) → s.free ≡ end → Holds (table_of s) items frees
+  pub full_room : (s : Links L E Z) (items : List (Placed (Labelled L E))) (frees : List ℕ) → s.free ≡ end → Holds (table_of s) items frees
       → vec_len s.nodes ≡ length items
   full_room s items frees e h = let n = none_free (table_of s) items frees h e in let w = h.total in omega arith
 
   -- with one more before a place, the elements are those ahead of it, it, and those behind it
-  pub put_items : (s : Links E Z) (items : List (Placed E)) (frees : List ℕ) (c : ℕ) (x : E) (y : Placed E) (r : Split items c x)
+  pub put_items : (s : Links L E Z) (items : List (Placed (Labelled L E))) (frees : List ℕ) (c : ℕ) (x : (Labelled L E)) (y : Placed (Labelled L E)) (r : Split items c x)
       → Holds (table_of s) items frees → put_before items c y ≡ r.before ++ y ∷ item c x ∷ r.after
   put_items s items frees c x y r h =
       let ring = ring_of (table_of s) items frees h in
       let most = ring.apart c in
       let names : places items ≡ places r.before ++ c ∷ places r.after =
-      ap places r.is ∙ map-append (λ (z : Placed E). z.place) r.before (item c x ∷ r.after) in
+      ap places r.is ∙ map-append (λ (z : Placed (Labelled L E)). z.place) r.before (item c x ∷ r.after) in
       let n = ap (times c) names in
       let a = times-append c (places r.before) (c ∷ places r.after) in
       let o = once_same c in
-      ap (λ (l : List (Placed E)). put_before l c y) r.is ∙ put_before_at r.before r.after c x y (omega arith)
+      ap (λ (l : List (Placed (Labelled L E))). put_before l c y) r.is ∙ put_before_at r.before r.after c x y (omega arith)
 
   -- what is written to take the element at a place out of its node, and then that place out of the links
-  abbrev pub Bypassed : Links E Z → Links E Z → ℕ → Type 0
+  abbrev pub Bypassed : Links L E Z → Links L E Z → ℕ → Type 0
   Bypassed old new c = Linked old new
       (with (with (next_at old) (previous_at old c) (next_at old c)) c old.free)
       (with (previous_at old) (next_at old c) (previous_at old c))
       (element_at old) c
 
   -- what a place is found in: those ahead of it and those behind it
-  pub found_split : (s : Links E Z) (items : List (Placed E)) (frees : List ℕ) (c : ℕ) (e : E) → Holds (table_of s) items frees
+  pub found_split : (s : Links L E Z) (items : List (Placed (Labelled L E))) (frees : List ℕ) (c : ℕ) (e : (Labelled L E)) → Holds (table_of s) items frees
       → Some e ≡ element_at s c → Split items c e
   found_split s items frees c e h is = found_some items c e (sym (h.elements c) ∙ sym is)
 
   -- links with the element at a place taken out
-  pub take_holds : (old mid new : Links E Z) (items : List (Placed E)) (frees : List ℕ) (c : ℕ) (e : E) (r : Split items c e)
+  pub take_holds : (old mid new : Links L E Z) (items : List (Placed (Labelled L E))) (frees : List ℕ) (c : ℕ) (e : (Labelled L E)) (r : Split items c e)
       → Holds (table_of old) items frees
       → Linked old mid (next_at old) (previous_at old) (with (element_at old) c None) old.free → Bypassed mid new c
       → Holds (table_of new) (r.before ++ r.after) (c ∷ frees)
   take_holds old mid new items frees c e r h emptied_is bypassed_is =
       let t : table_of mid ≡ emptied (table_of old) c = linked_table old mid _ _ _ _ emptied_is in
       let u : table_of new ≡ bypassed (table_of mid) c = linked_table mid new _ _ _ _ bypassed_is in
-      let held : Holds (table_of old) (r.before ++ item c e ∷ r.after) frees = subst (λ (l : List (Placed E)). Holds (table_of old) l frees) r.is h in
+      let held : Holds (table_of old) (r.before ++ item c e ∷ r.after) frees = subst (λ (l : List (Placed (Labelled L E))). Holds (table_of old) l frees) r.is h in
       subst (λ x. Holds x (r.before ++ r.after) (c ∷ frees)) (sym (u ∙ ap (λ x. bypassed x c) t))
       (takes (table_of old) r.before r.after c e frees held)
 
   -- the elements without that at a place are those ahead of it and those behind it
-  pub taken_items : (s : Links E Z) (items : List (Placed E)) (frees : List ℕ) (c : ℕ) (e : E) (r : Split items c e)
+  pub taken_items : (s : Links L E Z) (items : List (Placed (Labelled L E))) (frees : List ℕ) (c : ℕ) (e : (Labelled L E)) (r : Split items c e)
       → Holds (table_of s) items frees → without items c ≡ r.before ++ r.after
   taken_items s items frees c e r h =
       let ring = ring_of (table_of s) items frees h in
       let most = ring.apart c in
       let names : places items ≡ places r.before ++ c ∷ places r.after =
-      ap places r.is ∙ map-append (λ (x : Placed E). x.place) r.before (item c e ∷ r.after) in
+      ap places r.is ∙ map-append (λ (x : Placed (Labelled L E)). x.place) r.before (item c e ∷ r.after) in
       let n = ap (times c) names in
       let a = times-append c (places r.before) (c ∷ places r.after) in
       let o = once_same c in
-      ap (λ (l : List (Placed E)). without l c) r.is ∙ without_at r.before r.after c e (omega arith) (omega arith)
+      ap (λ (l : List (Placed (Labelled L E))). without l c) r.is ∙ without_at r.before r.after c e (omega arith) (omega arith)
 
   -- the first place of the links is that of the first element
-  pub first_kept : (s : Links E Z) (n : ℕ) (k : IsChain s n) → n ≢ 0 → Some s.first ≡ first_place k.items
+  pub first_kept : (s : Links L E Z) (n : ℕ) (k : IsChain s n) → n ≢ 0 → Some s.first ≡ first_place k.items
   first_kept s n k ne = first_of (next_at s) k.items (λ e. ne (k.count ∙ ap length e)) k.holds.forward
 
   -- links with no nodes are of no elements
-  pub new_kept : (s : Links E Z) → vec_len s.nodes ≡ 0 → s.first ≡ end → s.last ≡ end → s.free ≡ end → IsChain s 0
+  pub new_kept : (s : Links L E Z) → vec_len s.nodes ≡ 0 → s.first ≡ end → s.last ≡ end → s.free ≡ end → IsChain s 0
   new_kept s size first last free = record {
     items = [];
     frees = [];
@@ -194,7 +211,7 @@ module _ {E Z : Type 0} where
       forward = ap (λ (k : ℕ). k ∷ []) first;
       backward = ap (λ (k : ℕ). k ∷ []) last;
       freed = ap (λ (k : ℕ). k ∷ []) free;
-      elements = λ k. ap (λ (x : Node E). x.element) (get_or_past s.nodes.items k no_node (omega (arith, s.nodes.ok.0)));
+      elements = λ k. ap element_of (get_or_past s.nodes.items k no_node (omega (arith, s.nodes.ok.0)));
       within = λ k l. absurd (omega arith);
       beyond = λ k l. refl;
       total = sym size;
@@ -204,23 +221,23 @@ module _ {E Z : Type 0} where
   }
 
   -- the places beside that of an element, once it was taken out of its node
-  pub beside_taken : (old mid : Links E Z) (items : List (Placed E)) (frees : List ℕ) (c : ℕ) (e : E) (r : Split items c e)
+  pub beside_taken : (old mid : Links L E Z) (items : List (Placed (Labelled L E))) (frees : List ℕ) (c : ℕ) (e : (Labelled L E)) (r : Split items c e)
       → Holds (table_of old) items frees
       → Linked old mid (next_at old) (previous_at old) (with (element_at old) c None) old.free → Neighbours (table_of mid) c
   beside_taken old mid items frees c e r h emptied_is =
-      let n = neighbours (table_of old) r.before r.after c e frees (subst (λ (l : List (Placed E)). Holds (table_of old) l frees) r.is h) in
+      let n = neighbours (table_of old) r.before r.after c e frees (subst (λ (l : List (Placed (Labelled L E))). Holds (table_of old) l frees) r.is h) in
       let again : Neighbours (emptied (table_of old) c) c = record { next = n.next; previous = n.previous } in
       subst (λ t. Neighbours t c) (sym (linked_table old mid _ _ _ _ emptied_is)) again
 
   -- where an element stands, its place is below the size
-  pub place_below : (s : Links E Z) (items : List (Placed E)) (frees : List ℕ) (c : ℕ) (e : E) (r : Split items c e)
+  pub place_below : (s : Links L E Z) (items : List (Placed (Labelled L E))) (frees : List ℕ) (c : ℕ) (e : (Labelled L E)) (r : Split items c e)
       → Holds (table_of s) items frees → c < vec_len s.nodes
   place_below s items frees c e r h = elim (cases_lt c (vec_len s.nodes)) [
     | inl lt ↦ lt
     | inr ge ↦ (
         let none = h.beyond c ge in
         let names : places items ≡ places r.before ++ c ∷ places r.after =
-        ap places r.is ∙ map-append (λ (x : Placed E). x.place) r.before (item c e ∷ r.after) in
+        ap places r.is ∙ map-append (λ (x : Placed (Labelled L E)). x.place) r.before (item c e ∷ r.after) in
         let n = ap (times c) names in
         let a = times-append c (places r.before) (c ∷ places r.after) in
         let o = once_same c in
@@ -229,7 +246,7 @@ module _ {E Z : Type 0} where
   ]
 
   -- without the first place of the links those behind the first element are left
-  pub first_behind : (s : Links E Z) (n : ℕ) (k : IsChain s n) → n ≢ 0 → without k.items s.first ≡ behind_first k.items
+  pub first_behind : (s : Links L E Z) (n : ℕ) (k : IsChain s n) → n ≢ 0 → without k.items s.first ≡ behind_first k.items
   first_behind s n k ne =
       let ring = ring_of (table_of s) k.items k.frees k.holds in
       without_first k.items s.first (λ x. let a = ring.apart x in omega arith) (first_kept s n k ne)

@@ -5,6 +5,7 @@ use Rattle.std.proofs.lemmas.List.{map-append}
 use Rattle.std.specs.Prelude.{Result, Ok, Err, OnErr}
 use Rattle.std.specs.Vec.{vec_len}
 use Rattle.flume_chain.specs.declared.chain.links.Links.{Links}
+use Rattle.flume_chain.specs.declared.labelled.Labelled.{Labelled}
 use Rattle.flume_chain.specs.Links.{end, with, next_at, previous_at, element_at, HasNode, Put, Full}
 use Rattle.flume_chain.specs.Chained.{once, times, Placed, Holds, places, found, table_of, room_of}
 use Rattle.flume_chain.proofs.Rings.{times-append, once_same, with_same, with_other}
@@ -27,28 +28,28 @@ module _ {V X : Type 0} where
   on_err (Ok v) P p = tt
   on_err (Err x) P p = p
 
-module _ {E Z : Type 0} where
+module _ {L E Z : Type 0} where
   -- what is written to put an element at a place, before another
-  abbrev pub PutBefore : Links E Z → Links E Z → ℕ → ℕ → E → Type 0
+  abbrev pub PutBefore : Links L E Z → Links L E Z → ℕ → ℕ → (Labelled L E) → Type 0
   PutBefore old new place c e = Put old new place
       (with (with (next_at old) place c) (previous_at old c) place)
       (with (with (previous_at old) place (previous_at old c)) c place)
       (with (element_at old) place (Some e))
 
   -- the links hold an element at a place of its own, between others
-  pub record Holding (new : Links E Z) (xs ys : List (Placed E)) (place : ℕ) (e : E) : Type 0 where
+  pub record Holding (new : Links L E Z) (xs ys : List (Placed (Labelled L E))) (place : ℕ) (e : (Labelled L E)) : Type 0 where
     pub frees : List ℕ
     pub holds : Holds (table_of new) (xs ++ item place e ∷ ys) frees
     pub fresh : found (xs ++ ys) place ≡ None
 
   -- the free place is below the size, or the end
-  pub free_stands : (s : Links E Z) (items : List (Placed E)) (frees : List ℕ) → Holds (table_of s) items frees → HasNode s s.free
+  pub free_stands : (s : Links L E Z) (items : List (Placed (Labelled L E))) (frees : List ℕ) → Holds (table_of s) items frees → HasNode s s.free
   free_stands s items frees h ne =
       let r = first_free (table_of s) items frees h ne in
       free_below (table_of s) items s.free r.rest (subst (λ (l : List ℕ). Holds (table_of s) items l) r.is h)
 
 -- links of elements xs and ys, with one put between them
-module _ {E Z : Type 0} (old new : Links E Z) (xs ys : List (Placed E)) (frees : List ℕ) (place c : ℕ) (e : E) (later : List ℕ)
+module _ {L E Z : Type 0} (old new : Links L E Z) (xs ys : List (Placed (Labelled L E))) (frees : List ℕ) (place c : ℕ) (e : (Labelled L E)) (later : List ℕ)
     (h : Holds (table_of old) (xs ++ ys) frees) (before : places ys ++ end ∷ [] ≡ c ∷ later) (p : PutBefore old new place c e) where
   -- where a node was free they hold it there
   put_reused : old.free ≢ end → Holding new xs ys place e
@@ -79,7 +80,7 @@ module _ {E Z : Type 0} (old new : Links E Z) (xs ys : List (Placed E)) (frees :
   made_other is =
       let m = p.made is in
       let none = h.beyond (vec_len old.nodes) (omega arith) in
-      let names = ap (times (vec_len old.nodes)) (map-append (λ (x : Placed E). x.place) xs ys) in
+      let names = ap (times (vec_len old.nodes)) (map-append (λ (x : Placed (Labelled L E)). x.place) xs ys) in
       let both = times-append (vec_len old.nodes) (places xs) (places ys) in
       let ended = times-append (vec_len old.nodes) (places ys) (end ∷ []) in
       let at_end : once end (vec_len old.nodes) ≡ 0 =
@@ -121,23 +122,23 @@ module _ {E Z : Type 0} (old new : Links E Z) (xs ys : List (Placed E)) (frees :
     | inr ne ↦ put_reused ne
   ]
 
-module _ {E Z : Type 0} where
+module _ {L E Z : Type 0} where
   -- links with an element put behind all others
-  pub push_holds : (old new : Links E Z) (items : List (Placed E)) (frees : List ℕ) (place : ℕ) (e : E)
+  pub push_holds : (old new : Links L E Z) (items : List (Placed (Labelled L E))) (frees : List ℕ) (place : ℕ) (e : (Labelled L E))
       → Holds (table_of old) items frees → PutBefore old new place end e → Holding new items [] place e
   push_holds old new items frees place e h p =
       put_holds old new items [] frees place end e []
-      (subst (λ (l : List (Placed E)). Holds (table_of old) l frees) (sym (append-nil items)) h) refl p
+      (subst (λ (l : List (Placed (Labelled L E))). Holds (table_of old) l frees) (sym (append-nil items)) h) refl p
 
   -- links with an element put before that at a place
-  pub insert_holds : (old new : Links E Z) (items : List (Placed E)) (frees : List ℕ) (c : ℕ) (x : E) (place : ℕ) (e : E) (r : Split items c x)
+  pub insert_holds : (old new : Links L E Z) (items : List (Placed (Labelled L E))) (frees : List ℕ) (c : ℕ) (x : (Labelled L E)) (place : ℕ) (e : (Labelled L E)) (r : Split items c x)
       → Holds (table_of old) items frees → PutBefore old new place c e → Holding new r.before (item c x ∷ r.after) place e
   insert_holds old new items frees c x place e r h p =
       put_holds old new r.before (item c x ∷ r.after) frees place c e (places r.after ++ end ∷ [])
-      (subst (λ (l : List (Placed E)). Holds (table_of old) l frees) r.is h) refl p
+      (subst (λ (l : List (Placed (Labelled L E))). Holds (table_of old) l frees) r.is h) refl p
 
   -- with one more element there is room for one less, where there was room
-  pub put_room : (old new : Links E Z) (items : List (Placed E)) (frees : List ℕ) (n place : ℕ) (f g : ℕ → ℕ) (v : ℕ → Option E)
+  pub put_room : (old new : Links L E Z) (items : List (Placed (Labelled L E))) (frees : List ℕ) (n place : ℕ) (f g : ℕ → ℕ) (v : ℕ → Option (Labelled L E))
       → Holds (table_of old) items frees → n ≡ length items → Put old new place f g v → 0 < room_of old n
       → room_of new (n + 1) + 1 ≡ room_of old n
   put_room old new items frees n place f g v h count p some = elim (cases_eq old.free end) [
@@ -151,7 +152,7 @@ module _ {E Z : Type 0} where
   ]
 
   -- where there is room, no element is refused
-  pub not_full : (s : Links E Z) (items : List (Placed E)) (frees : List ℕ) (n : ℕ) (P : Type 0)
+  pub not_full : (s : Links L E Z) (items : List (Placed (Labelled L E))) (frees : List ℕ) (n : ℕ) (P : Type 0)
       → Holds (table_of s) items frees → n ≡ length items → Full s → 0 < room_of s n → P
   not_full s items frees n P h count f some =
       let full = full_room s items frees f.frees h in

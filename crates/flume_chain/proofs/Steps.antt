@@ -4,15 +4,16 @@ use Rattle.std.proofs.lemmas.Bool.{cases_Bool, cases_eq, cases_lt, eqb-true}
 use Rattle.std.proofs.lemmas.List.{map-append}
 use Rattle.std.specs.Vec.{vec_len}
 use Rattle.flume_chain.specs.declared.chain.links.Links.{Links}
+use Rattle.flume_chain.specs.declared.labelled.Labelled.{Labelled}
 use Rattle.flume_chain.specs.Links.{end, with, Linked}
 use Rattle.flume_chain.specs.Chained.{once, times, Placed, Table, Holds, places, found, table_of}
 use Rattle.flume_chain.proofs.Rings.{Ring, times-append, once_same, once_back, with_same, map_with}
 use Rattle.flume_chain.proofs.Splices.{between, inserted, around, removed}
 use Rattle.flume_chain.proofs.Tables.{ring_of, item, found_none, found_put, with_again}
 
-module _ {E Z : Type 0} where
+module _ {L E Z : Type 0} where
   -- the table of links that were written
-  pub linked_table : (old new : Links E Z) (n p : ℕ → ℕ) (e : ℕ → Option E) (f : ℕ) → Linked old new n p e f
+  pub linked_table : (old new : Links L E Z) (n p : ℕ → ℕ) (e : ℕ → Option (Labelled L E)) (f : ℕ) → Linked old new n p e f
       → table_of new ≡ record { size = vec_len old.nodes; next = n; previous = p; element = e; free = f }
   linked_table old new n p e f h = λ i. record {
     size = h.size i;

@@ -1,152 +1,185 @@
--- What a chain is once an element was written at the place where another stood.
-use Rattle.std.proofs.Common.{◌≡◌, ℕ, ◌+◌, ◌<◌, ◌==◌, List, [], ◌∷◌, ◌++◌, false, Some, IsSome, map, length, refl, sym, ap, subst, ◌∙◌, inl, inr, arith, if◌then◌else◌, ne_eqb}
+-- What a chain is once a value or a label was written at a place.
+use Rattle.std.proofs.Common.{◌≡◌, ℕ, ◌+◌, ◌<◌, ◌==◌, List, [], ◌∷◌, ◌++◌, true, false, Option, Some, IsSome, map, length, refl, sym, ap, subst, ◌∙◌, inl, inr, arith, if◌then◌else◌, ne_eqb}
 use Rattle.std.proofs.lemmas.Bool.{cases_Bool, cases_lt, eqb-true, eqb-false}
 use Rattle.std.proofs.lemmas.List.{get_or_past, get_or-set_same, get_or-set_other}
+use Rattle.std.specs.Option.{option_map}
 use Rattle.std.specs.Vec.{vec_len}
-use Rattle.flume_chain.specs.declared.chain.links.Node.{Node}
+use Rattle.flume_chain.specs.declared.chain.node.Node.{Node}
+use Rattle.flume_chain.specs.declared.chain.node.Node.TheVariants.{Free, Stands}
 use Rattle.flume_chain.specs.declared.chain.links.Links.{Links}
-use Rattle.flume_chain.specs.Links.{end, no_node, with, node_at, with_element, next_at, previous_at, element_at, Linked}
-use Rattle.flume_chain.specs.Chained.{times, Placed, Chained, Table, Holds, IsChain, places, found, put_at, table_of, chain_of}
+use Rattle.flume_chain.specs.declared.labelled.Labelled.{Labelled}
+use Rattle.flume_chain.specs.Links.{end, no_node, with, node_at, next_of, previous_of, element_of, with_value_of, with_value, revalued, next_at, previous_at, element_at, Linked}
+use Rattle.flume_chain.specs.Chained.{times, Placed, Chained, Table, Holds, IsChain, places, found, table_of, chain_of}
+use Rattle.flume_chain.specs.Edited.{edited}
 use Rattle.flume_chain.proofs.Steps.{linked_table}
-use Rattle.flume_chain.proofs.Kept.{kept_items, walked}
+use Rattle.flume_chain.proofs.Kept.{kept_items, walked, with_self}
 
-module _ {E : Type 0} where
+module _ {E : Type 0} (f : E → E) where
   -- the places stay
-  pub places-put_at : (xs : List (Placed E)) (k : ℕ) (e : E) → places (put_at xs k e) ≡ places xs
-  places-put_at [] k e = refl
-  places-put_at (x ∷ xs) k e = ap (λ (l : List ℕ). x.place ∷ l) (places-put_at xs k e)
+  pub places-edited : (xs : List (Placed E)) (k : ℕ) → places (edited f k xs) ≡ places xs
+  places-edited [] k = refl
+  places-edited (x ∷ xs) k = elim (cases_Bool (k == x.place)) [
+    | inl t ↦ ap (λ b. places ((if b then record x { element = f x.element } else x) ∷ edited f k xs)) t
+        ∙ ap (λ (l : List ℕ). x.place ∷ l) (places-edited xs k)
+    | inr t ↦ ap (λ b. places ((if b then record x { element = f x.element } else x) ∷ edited f k xs)) t
+        ∙ ap (λ (l : List ℕ). x.place ∷ l) (places-edited xs k)
+  ]
 
   -- as many elements stand
-  pub length-put_at : (xs : List (Placed E)) (k : ℕ) (e : E) → length (put_at xs k e) ≡ length xs
-  length-put_at [] k e = refl
-  length-put_at (x ∷ xs) k e = let n = length-put_at xs k e in omega arith
+  pub length-edited : (xs : List (Placed E)) (k : ℕ) → length (edited f k xs) ≡ length xs
+  length-edited [] k = refl
+  length-edited (x ∷ xs) k = let n = length-edited xs k in omega arith
 
-  -- where an element stood, the one that was put there is found
-  pub found-put_at_same : (xs : List (Placed E)) (k : ℕ) (w e : E) → found xs k ≡ Some e → found (put_at xs k w) k ≡ Some w
-  found-put_at_same [] k w e h = absurd cc
-  found-put_at_same (x ∷ xs) k w e h = elim (cases_Bool (k == x.place)) [
-    | inl t ↦ ap (λ b. if b then Some (if b then w else x.element) else found (put_at xs k w) k) t
-    | inr t ↦ ap (λ b. if b then Some (if b then w else x.element) else found (put_at xs k w) k) t
-        ∙ found-put_at_same xs k w e (sym (ap (λ b. if b then Some x.element else found xs k) t) ∙ h)
+  -- what is found once the element at a place was changed
+  pub found-edited : (xs : List (Placed E)) (k j : ℕ) → found (edited f k xs) j ≡ with (found xs) k (option_map f (found xs k)) j
+  found-edited [] k j = elim (cases_Bool (j == k)) [
+    | inl t ↦ sym (ap (λ b. if b then option_map f (found [] k) else found [] j) t)
+    | inr t ↦ sym (ap (λ b. if b then option_map f (found [] k) else found [] j) t)
+  ]
+  found-edited (x ∷ xs) k j = elim (cases_Bool (j == k)) [
+    | inl t ↦ ap (found (edited f k (x ∷ xs))) (eqb-true j k t)
+        ∙ elim (cases_Bool (k == x.place)) [
+          | inl s ↦ ap (λ b. found ((if b then record x { element = f x.element } else x) ∷ edited f k xs) k) s
+              ∙ ap (λ b. if b then Some (f x.element) else found (edited f k xs) k) s
+              ∙ sym (ap (λ b. option_map f (if b then Some x.element else found xs k)) s)
+          | inr s ↦ ap (λ b. found ((if b then record x { element = f x.element } else x) ∷ edited f k xs) k) s
+              ∙ ap (λ b. if b then Some x.element else found (edited f k xs) k) s
+              ∙ sym (ap (found (edited f k xs)) (eqb-true j k t)) ∙ found-edited xs k j
+              ∙ ap (λ b. if b then option_map f (found xs k) else found xs j) t
+              ∙ sym (ap (λ b. option_map f (if b then Some x.element else found xs k)) s)
+        ]
+        ∙ sym (ap (λ b. if b then option_map f (found (x ∷ xs) k) else found (x ∷ xs) j) t)
+    | inr t ↦ elim (cases_Bool (j == x.place)) [
+      | inl s ↦ (
+          let other : (k == x.place) ≡ false = ne_eqb k x.place (λ e. eqb-false j k t (eqb-true j x.place s ∙ sym e)) in
+          ap (λ b. found ((if b then record x { element = f x.element } else x) ∷ edited f k xs) j) other
+          ∙ ap (λ b. if b then Some x.element else found (edited f k xs) j) s
+          ∙ sym (ap (λ b. if b then Some x.element else found xs j) s)
+          )
+      | inr s ↦ elim (cases_Bool (k == x.place)) [
+        | inl q ↦ ap (λ b. found ((if b then record x { element = f x.element } else x) ∷ edited f k xs) j) q
+            ∙ ap (λ b. if b then Some (f x.element) else found (edited f k xs) j) s
+        | inr q ↦ ap (λ b. found ((if b then record x { element = f x.element } else x) ∷ edited f k xs) j) q
+            ∙ ap (λ b. if b then Some x.element else found (edited f k xs) j) s
+      ]
+          ∙ found-edited xs k j
+          ∙ ap (λ b. if b then option_map f (found xs k) else found xs j) t
+          ∙ sym (ap (λ b. if b then Some x.element else found xs j) s)
+    ]
+        ∙ sym (ap (λ b. if b then option_map f (found (x ∷ xs) k) else found (x ∷ xs) j) t)
   ]
 
-  -- at another place the same element is found
-  pub found-put_at_other : (xs : List (Placed E)) (k j : ℕ) (w : E) → (j == k) ≡ false → found (put_at xs k w) j ≡ found xs j
-  found-put_at_other [] k j w ne = refl
-  found-put_at_other (x ∷ xs) k j w ne = elim (cases_Bool (j == x.place)) [
-    | inl t ↦ (
-        let other : (k == x.place) ≡ false = ne_eqb k x.place (λ e. eqb-false j k ne (eqb-true j x.place t ∙ sym e)) in
-        ap (λ b. if b then Some (if k == x.place then w else x.element) else found (put_at xs k w) j) t
-        ∙ ap (λ b. Some (if b then w else x.element)) other
-        ∙ sym (ap (λ b. if b then Some x.element else found xs j) t)
-        )
-    | inr t ↦ ap (λ b. if b then Some (if k == x.place then w else x.element) else found (put_at xs k w) j) t
-        ∙ found-put_at_other xs k j w ne
-        ∙ sym (ap (λ b. if b then Some x.element else found xs j) t)
-  ]
-
-  -- what is found once another element was put where one stood
-  pub found-put_at : (xs : List (Placed E)) (k j : ℕ) (w e : E) → found xs k ≡ Some e → found (put_at xs k w) j ≡ with (found xs) k (Some w) j
-  found-put_at xs k j w e h = elim (cases_Bool (j == k)) [
-    | inl t ↦ ap (found (put_at xs k w)) (eqb-true j k t) ∙ found-put_at_same xs k w e h
-        ∙ sym (ap (λ b. if b then Some w else found xs j) t)
-    | inr t ↦ found-put_at_other xs k j w t ∙ sym (ap (λ b. if b then Some w else found xs j) t)
-  ]
-
-  -- a table with an element at a place
-  abbrev pub written : Table E → ℕ → E → Table E
-  written t k w = record {
+  -- a table with f of the element at a place
+  abbrev pub written : Table E → ℕ → Table E
+  written t k = record {
     size = t.size;
     next = t.next;
     previous = t.previous;
-    element = with t.element k (Some w);
+    element = with t.element k (option_map f (t.element k));
     free = t.free;
   }
 
-  -- where an element stood, the table holds the elements with the other one
-  pub writes : (t : Table E) (items : List (Placed E)) (frees : List ℕ) (k : ℕ) (w e : E) → Holds t items frees → found items k ≡ Some e
-      → Holds (written t k w) (put_at items k w) frees
-  writes t items frees k w e h is =
-      let names = places-put_at items k w in
-      let count = length-put_at items k w in
+  -- it holds the elements with f of that at the place
+  pub writes : (t : Table E) (items : List (Placed E)) (frees : List ℕ) (k : ℕ) → Holds t items frees → Holds (written t k) (edited f k items) frees
+  writes t items frees k h =
+      let names = places-edited items k in
+      let count = length-edited items k in
       record {
         forward = subst (λ (l : List ℕ). map t.next (end ∷ l) ≡ l ++ end ∷ []) (sym names) h.forward;
         backward = subst (λ (l : List ℕ). map t.previous (l ++ end ∷ []) ≡ end ∷ l) (sym names) h.backward;
         freed = h.freed;
-        elements = λ j. ap (λ o. if j == k then Some w else o) (h.elements j) ∙ sym (found-put_at items k j w e is);
+        elements = λ j.
+            ap (λ o. if j == k then option_map f o else t.element j) (h.elements k)
+            ∙ ap (λ o. if j == k then option_map f (found items k) else o) (h.elements j)
+            ∙ sym (found-edited items k j);
         within = λ j l. ap (λ (p : List ℕ). times j p + times j frees) names ∙ h.within j l;
         beyond = λ j l. ap (λ (p : List ℕ). times j p + times j frees) names ∙ h.beyond j l;
         total = let n = h.total in omega arith;
         fits = h.fits;
       }
 
-module _ {E Z : Type 0} where
+module _ {L E : Type 0} (v : E) where
+  -- with another value a node has the same places beside it, and the element with this value
+  next_left : (x : Node L E) → next_of (with_value_of x v) ≡ next_of x
+  next_left (Free p n) = refl
+  next_left (Stands p n l w) = refl
+
+  previous_left : (x : Node L E) → previous_of (with_value_of x v) ≡ previous_of x
+  previous_left (Free p n) = refl
+  previous_left (Stands p n l w) = refl
+
+  element_left : (x : Node L E) → element_of (with_value_of x v) ≡ option_map (revalued v) (element_of x)
+  element_left (Free p n) = refl
+  element_left (Stands p n l w) = refl
+
+module _ {L E Z : Type 0} where
   -- where a node has an element, its place is below the size
-  pub node_below : (s : Links E Z) (k : ℕ) → IsSome (element_at s k) → k < vec_len s.nodes
+  pub node_below : (s : Links L E Z) (k : ℕ) → IsSome (element_at s k) → k < vec_len s.nodes
   node_below s k some = elim (cases_lt k (vec_len s.nodes)) [
     | inl lt ↦ lt
     | inr ge ↦ (
         let past = get_or_past s.nodes.items k no_node (omega (arith, s.nodes.ok.0)) in
-        absurd (let no = subst (λ (x : Node E). IsSome x.element) past some in cc)
+        absurd (let no = subst (λ (x : Node L E). IsSome (element_of x)) past some in cc)
         )
   ]
 
-  -- with an element written into a node, each node is as it was but that
-  nodes_written : (s : Links E Z) (k j : ℕ) (w : E) → k < vec_len s.nodes
-      → node_at (with_element s k w) j ≡ with (node_at s) k (record (node_at s k) { element = Some w }) j
-  nodes_written s k j w lt = elim (cases_Bool (j == k)) [
-    | inl t ↦ ap (node_at (with_element s k w)) (eqb-true j k t)
-        ∙ get_or-set_same s.nodes.items k (record (node_at s k) { element = Some w }) no_node (omega (arith, s.nodes.ok.0))
-        ∙ sym (ap (λ b. if b then record (node_at s k) { element = Some w } else node_at s j) t)
-    | inr t ↦ get_or-set_other s.nodes.items k j (record (node_at s k) { element = Some w }) no_node (eqb-false j k t)
-        ∙ sym (ap (λ b. if b then record (node_at s k) { element = Some w } else node_at s j) t)
+  -- what is seen of each node once a value was written into one
+  seen : {X : Type 0} (s : Links L E Z) (k j : ℕ) (v : E) (f : Node L E → X) → k < vec_len s.nodes
+      → f (node_at (with_value s k v) j) ≡ with (λ i. f (node_at s i)) k (f (with_value_of (node_at s k) v)) j
+  seen s k j v f lt = elim (cases_Bool (j == k)) [
+    | inl t ↦ ap (λ i. f (node_at (with_value s k v) i)) (eqb-true j k t)
+        ∙ ap f (get_or-set_same s.nodes.items k (with_value_of (node_at s k) v) no_node (omega (arith, s.nodes.ok.0)))
+        ∙ sym (ap (λ b. if b then f (with_value_of (node_at s k) v) else f (node_at s j)) t)
+    | inr t ↦ ap f (get_or-set_other s.nodes.items k j (with_value_of (node_at s k) v) no_node (eqb-false j k t))
+        ∙ sym (ap (λ b. if b then f (with_value_of (node_at s k) v) else f (node_at s j)) t)
   ]
 
-  -- what the writing of an element leaves as it was
-  left : {X : Type 0} (s : Links E Z) (k j : ℕ) (w : E) (f : Node E → X) → k < vec_len s.nodes
-      → f (record (node_at s k) { element = Some w }) ≡ f (node_at s k) → f (node_at (with_element s k w) j) ≡ f (node_at s j)
-  left s k j w f lt same = ap f (nodes_written s k j w lt) ∙ elim (cases_Bool (j == k)) [
-    | inl t ↦ ap (λ b. f (if b then record (node_at s k) { element = Some w } else node_at s j)) t ∙ same ∙ ap (λ i. f (node_at s i)) (sym (eqb-true j k t))
-    | inr t ↦ ap (λ b. f (if b then record (node_at s k) { element = Some w } else node_at s j)) t
-  ]
+  -- what the writing of a value leaves as it was
+  left : {X : Type 0} (s : Links L E Z) (k j : ℕ) (v : E) (f : Node L E → X) → k < vec_len s.nodes
+      → f (with_value_of (node_at s k) v) ≡ f (node_at s k) → f (node_at (with_value s k v) j) ≡ f (node_at s j)
+  left s k j v f lt same = seen s k j v f lt ∙ with_self (λ i. f (node_at s i)) k (f (with_value_of (node_at s k) v)) j (sym same)
 
-  -- links with an element written into a node
-  pub element_written : (s : Links E Z) (k : ℕ) (w : E) → k < vec_len s.nodes
-      → Linked s (with_element s k w) (next_at s) (previous_at s) (with (element_at s) k (Some w)) s.free
-  element_written s k w lt = record {
+  -- links with a value written into a node
+  pub value_written : (s : Links L E Z) (k : ℕ) (v : E) → k < vec_len s.nodes
+      → Linked s (with_value s k v) (next_at s) (previous_at s)
+      (with (element_at s) k (option_map (revalued v) (element_at s k))) s.free
+  value_written s k v lt = record {
     size = refl;
     capacity = refl;
-    nexts = λ j. ap (λ v. if j == end then s.first else v) (left s k j w (λ x. x.next) lt refl);
-    previouses = λ j. ap (λ v. if j == end then s.last else v) (left s k j w (λ x. x.previous) lt refl);
-    elements = λ j. ap (λ (x : Node E). x.element) (nodes_written s k j w lt) ∙ elim (cases_Bool (j == k)) [
-      | inl t ↦ ap (λ b. (if b then record (node_at s k) { element = Some w } else node_at s j).element) t
-          ∙ sym (ap (λ b. if b then Some w else element_at s j) t)
-      | inr t ↦ ap (λ b. (if b then record (node_at s k) { element = Some w } else node_at s j).element) t
-          ∙ sym (ap (λ b. if b then Some w else element_at s j) t)
-    ];
+    nexts = λ j. ap (λ p. if j == end then s.first else p) (left s k j v next_of lt (next_left v (node_at s k)));
+    previouses = λ j. ap (λ p. if j == end then s.last else p) (left s k j v previous_of lt (previous_left v (node_at s k)));
+    elements = λ j. seen s k j v element_of lt ∙ ap (λ o. with (element_at s) k o j) (element_left v (node_at s k));
     frees = refl;
   }
 
--- links with an element written where one stood
-module _ {E Z : Type 0} (s : Links E Z) (n c : ℕ) (w e : E) (k : IsChain s n) (is : element_at s c ≡ Some e) where
+-- links with f of the element at a place
+module _ {L E Z : Type 0} (f : Labelled L E → Labelled L E) (old new : Links L E Z) (n c : ℕ) (k : IsChain old n)
+    (is : Linked old new (next_at old) (previous_at old) (with (element_at old) c (option_map f (element_at old c))) old.free) where
+  -- they are of the elements with f of that at the place
+  pub edited_kept : IsChain new n
+  edited_kept = record {
+    items = edited f c k.items;
+    frees = k.frees;
+    holds = subst (λ t. Holds t (edited f c k.items) k.frees) (sym (linked_table old new _ _ _ _ is))
+        (writes f (table_of old) k.items k.frees c k.holds);
+    count = k.count ∙ sym (length-edited f k.items c);
+  }
+
+  -- and so the chain has f of the element at the place
+  pub edited_items : (v : Chained (Labelled L E)) → chain_of old n ≡ v → (chain_of new n).items ≡ edited f c v.items
+  unfolding edited_kept
+  edited_items v view =
+      let m = edited_kept in
+      walked new n m.items m.frees m.holds m.count ∙ ap (edited f c) (kept_items old n v k view)
+
+-- links with a value written where one stood
+module _ {L E Z : Type 0} (s : Links L E Z) (n c : ℕ) (w : E) (k : IsChain s n) (some : IsSome (element_at s c)) where
   -- they are of the elements with the other one
-  pub written_kept : IsChain (with_element s c w) n
-  written_kept =
-      let below = node_below s c (subst IsSome (sym is) refl) in
-      record {
-        items = put_at k.items c w;
-        frees = k.frees;
-        holds = subst (λ t. Holds t (put_at k.items c w) k.frees)
-            (sym (linked_table s (with_element s c w) _ _ _ _ (element_written s c w below)))
-            (writes (table_of s) k.items k.frees c w e k.holds (sym (k.holds.elements c) ∙ is));
-        count = k.count ∙ sym (length-put_at k.items c w);
-      }
+  pub written_kept : IsChain (with_value s c w) n
+  written_kept = edited_kept (revalued w) s (with_value s c w) n c k (value_written s c w (node_below s c some))
 
   -- and so the chain has the other one at the place
-  pub written_chain : (v : Chained E) → chain_of s n ≡ v → chain_of (with_element s c w) n ≡ record v { items = put_at v.items c w }
-  unfolding written_kept
+  pub written_chain : (v : Chained (Labelled L E)) → chain_of s n ≡ v → chain_of (with_value s c w) n ≡ record v { items = edited (revalued w) c v.items }
   written_chain v view =
-      let m = written_kept in
-      let there = walked (with_element s c w) n m.items m.frees m.holds m.count
-      ∙ ap (λ l. put_at l c w) (kept_items s n v k view) in
-      λ i. record { items = there i; room = (ap (λ (x : Chained E). x.room) view) i }
+      let there = edited_items (revalued w) s (with_value s c w) n c k (value_written s c w (node_below s c some)) v view in
+      λ i. record { items = there i; room = (ap (λ (x : Chained (Labelled L E)). x.room) view) i }

@@ -4,6 +4,7 @@ use Rattle.std.specs.Prelude.{◌≡◌, ℕ, zero, suc, ◌+◌, ◌-◌, ◌<�
 use Rattle.std.specs.Prelude.{Option, Some, None, if◌then◌else◌, map, length}
 use Rattle.std.specs.Vec.{vec_len, vec_capacity}
 use Rattle.flume_chain.specs.declared.chain.links.Links.{Links}
+use Rattle.flume_chain.specs.declared.labelled.Labelled.{Labelled}
 use Rattle.flume_chain.specs.Links.{end, next_at, previous_at, element_at}
 
 -- an element, with the place that names it while it stands
@@ -54,12 +55,6 @@ module _ {E : Type 0} where
   abbrev pub put_before : List (Placed E) → ℕ → Placed E → List (Placed E)
   put_before [] k x = x ∷ []
   put_before (y ∷ ys) k x = if k == y.place then x ∷ y ∷ ys else y ∷ put_before ys k x
-
-  -- the elements with another at a place where one stands
-  abbrev pub put_at : List (Placed E) → ℕ → E → List (Placed E)
-  put_at [] k e = []
-  put_at (x ∷ xs) k e =
-      record { place = x.place; element = if k == x.place then e else x.element } ∷ put_at xs k e
 
   -- the place of the first element
   abbrev pub first_place : List (Placed E) → Option ℕ
@@ -117,9 +112,9 @@ module _ {E : Type 0} where
     pub total : length items + length frees ≡ t.size
     pub fits : t.size ≤ end
 
-module _ {E Z : Type 0} where
+module _ {L E Z : Type 0} where
   -- what these links say
-  abbrev pub table_of : Links E Z → Table E
+  abbrev pub table_of : Links L E Z → Table (Labelled L E)
   table_of s = record {
     size = vec_len s.nodes;
     next = next_at s;
@@ -129,16 +124,16 @@ module _ {E Z : Type 0} where
   }
 
   -- how many more elements may stand in these links, in which n do
-  abbrev pub room_of : Links E Z → ℕ → ℕ
+  abbrev pub room_of : Links L E Z → ℕ → ℕ
   room_of s n = min (vec_capacity s.nodes) end - n
 
   -- the chain of n elements in these links
-  abbrev pub chain_of : Links E Z → ℕ → Chained E
+  abbrev pub chain_of : Links L E Z → ℕ → Chained (Labelled L E)
   chain_of s n = record { items = walk (table_of s) s.first n; room = room_of s n }
 
   -- these links are of n elements and of the free places
-  pub record IsChain (s : Links E Z) (n : ℕ) : Type 0 where
-    pub items : List (Placed E)
+  pub record IsChain (s : Links L E Z) (n : ℕ) : Type 0 where
+    pub items : List (Placed (Labelled L E))
     pub frees : List ℕ
     pub holds : Holds (table_of s) items frees
     pub count : n ≡ length items

@@ -1,20 +1,22 @@
--- For every contract of a chain: what it ends as, once a `&mut` to one of its elements has ended.
+-- For every contract of a chain: what it ends as, once a `&mut` to one of its values has ended.
 use Rattle.std.specs.Prelude.{ℕ, Option}
 use Rattle.std.specs.Borrow.{Lends, LendsIf, Fml, RattleType, MutBor}
 use Rattle.std.specs.declared.alloc.Allocator.{Ghosts}
-use Rattle.flume_chain.specs.Chained.{Chained, put_at}
+use Rattle.flume_chain.specs.declared.labelled.Labelled.{Labelled}
+use Rattle.flume_chain.specs.Chained.{Chained}
+use Rattle.flume_chain.specs.Edited.{with_value_at}
 use Rattle.flume_chain.specs.contracts.chain.Chain.{the_row}
 
-module _ (E A : RattleType) (alloc : Ghosts A.Denot)
-    (s : MutBor (Chained E.Denot)) (place : ℕ) where
-  -- the chain with this element at the place
-  abbrev pub with_value : E.Denot → Chained E.Denot
-  with_value w = record s.now { items = put_at s.now.items place w }
+module _ (L E A : RattleType) (alloc : Ghosts A.Denot)
+    (s : MutBor (Chained (Labelled L.Denot E.Denot))) (place : ℕ) where
+  -- the chain with this value at the place
+  abbrev pub with_value : E.Denot → Chained (Labelled L.Denot E.Denot)
+  with_value v = record s.now { items = with_value_at place s.now.items v }
 
   -- once the borrow r ends, the place has the last value written through r
-  abbrev pub lends_element : MutBor E.Denot → Fml
-  lends_element r = Lends (the_row E A alloc) E s r with_value
+  abbrev pub lends_value : MutBor E.Denot → Fml
+  lends_value r = Lends (the_row L E A alloc) E s r with_value
 
   -- at a reference r it is so; at `None` the chain stays as it is
   abbrev pub lends_get : Option (MutBor E.Denot) → Fml
-  lends_get r = LendsIf (the_row E A alloc) E s r with_value s.now
+  lends_get r = LendsIf (the_row L E A alloc) E s r with_value s.now

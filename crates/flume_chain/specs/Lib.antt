@@ -1,3 +1,4 @@
 pub mod Links
 pub mod Chained
+pub mod Edited
 pub mod Lends

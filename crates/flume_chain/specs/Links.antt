@@ -2,7 +2,9 @@
 use Rattle.std.specs.Prelude.{◌≡◌, ◌≢◌, ℕ, suc, ◌<◌, ◌≤◌, ◌==◌, Option, Some, None, if◌then◌else◌}
 use Rattle.std.specs.Prelude.{slice_index_or}
 use Rattle.std.specs.Vec.{vec_len, vec_capacity, with_item}
-use Rattle.flume_chain.specs.declared.chain.links.Node.{Node}
+use Rattle.flume_chain.specs.declared.chain.node.Node.{Node}
+use Rattle.flume_chain.specs.declared.chain.node.Node.TheVariants.{Free, Stands}
+use Rattle.flume_chain.specs.declared.labelled.Labelled.{Labelled}
 use Rattle.flume_chain.specs.declared.chain.links.Links.{Links}
 
 -- the place that no element has: it is before the first and after the last
@@ -13,38 +15,66 @@ end = 4294967295
 abbrev pub with : {X : Type 0} → (ℕ → X) → ℕ → X → ℕ → X
 with f k v x = if x == k then v else f x
 
--- what is read where there is no node
-abbrev pub no_node : {E : Type 0} → Node E
-no_node = record { element = None; previous = end; next = end }
+module _ {L E : Type 0} where
+  -- what is read where there is no node
+  abbrev pub no_node : Node L E
+  no_node = Free end end
 
-module _ {E Z : Type 0} where
+  -- the place after a node
+  abbrev pub next_of : Node L E → ℕ
+  next_of (Free previous next) = next
+  next_of (Stands previous next label value) = next
+
+  -- the place before a node
+  abbrev pub previous_of : Node L E → ℕ
+  previous_of (Free previous next) = previous
+  previous_of (Stands previous next label value) = previous
+
+  -- the element of a node
+  abbrev pub element_of : Node L E → Option (Labelled L E)
+  element_of (Free previous next) = None
+  element_of (Stands previous next label value) = Some (record { label = label; value = value })
+
+  -- an element with another label
+  abbrev pub relabelled : L → Labelled L E → Labelled L E
+  relabelled l e = record e { label = l }
+
+  -- an element with another value
+  abbrev pub revalued : E → Labelled L E → Labelled L E
+  revalued v e = record e { value = v }
+
+  -- a node with this value, where it has one
+  abbrev pub with_value_of : Node L E → E → Node L E
+  with_value_of (Free previous next) v = Free previous next
+  with_value_of (Stands previous next label value) v = Stands previous next label v
+
+module _ {L E Z : Type 0} where
   -- the node at a place
-  abbrev pub node_at : Links E Z → ℕ → Node E
+  abbrev pub node_at : Links L E Z → ℕ → Node L E
   node_at s k = slice_index_or s.nodes.items k no_node
 
   -- the place after a place; after `end` the first
-  abbrev pub next_at : Links E Z → ℕ → ℕ
-  next_at s k = if k == end then s.first else (node_at s k).next
+  abbrev pub next_at : Links L E Z → ℕ → ℕ
+  next_at s k = if k == end then s.first else next_of (node_at s k)
 
   -- the place before a place; before `end` the last
-  abbrev pub previous_at : Links E Z → ℕ → ℕ
-  previous_at s k = if k == end then s.last else (node_at s k).previous
+  abbrev pub previous_at : Links L E Z → ℕ → ℕ
+  previous_at s k = if k == end then s.last else previous_of (node_at s k)
 
   -- the element at a place
-  abbrev pub element_at : Links E Z → ℕ → Option E
-  element_at s k = (node_at s k).element
+  abbrev pub element_at : Links L E Z → ℕ → Option (Labelled L E)
+  element_at s k = element_of (node_at s k)
 
-  -- s with an element in the node at a place
-  abbrev pub with_element : Links E Z → ℕ → E → Links E Z
-  with_element s k e =
-      record s { nodes = with_item s.nodes k (record (node_at s k) { element = Some e }) }
+  -- s with a value in the node at a place
+  abbrev pub with_value : Links L E Z → ℕ → E → Links L E Z
+  with_value s k v = record s { nodes = with_item s.nodes k (with_value_of (node_at s k) v) }
 
   -- a node has this place, or it is `end`
-  abbrev pub HasNode : Links E Z → ℕ → Type 0
+  abbrev pub HasNode : Links L E Z → ℕ → Type 0
   HasNode s k = k ≢ end → k < vec_len s.nodes
 
   -- new has the size and the capacity of old, and at each place what these say
-  pub record Linked (old new : Links E Z) (next previous : ℕ → ℕ) (element : ℕ → Option E)
+  pub record Linked (old new : Links L E Z) (next previous : ℕ → ℕ) (element : ℕ → Option (Labelled L E))
       (free : ℕ) : Type 0 where
     pub size : vec_len new.nodes ≡ vec_len old.nodes
     pub capacity : vec_capacity new.nodes ≡ vec_capacity old.nodes
@@ -54,18 +84,18 @@ module _ {E Z : Type 0} where
     pub frees : new.free ≡ free
 
   -- new is as old was
-  abbrev pub Same : Links E Z → Links E Z → Type 0
+  abbrev pub Same : Links L E Z → Links L E Z → Type 0
   Same old new = Linked old new (next_at old) (previous_at old) (element_at old) old.free
 
   -- the place is the free one of old, and the one after it is free in new
-  pub record Reused (old new : Links E Z) (place : ℕ) : Type 0 where
+  pub record Reused (old new : Links L E Z) (place : ℕ) : Type 0 where
     pub at : place ≡ old.free
     pub size : vec_len new.nodes ≡ vec_len old.nodes
     pub capacity : vec_capacity new.nodes ≡ vec_capacity old.nodes
     pub frees : new.free ≡ next_at old old.free
 
   -- the place is that of one more node, and none is free in new
-  pub record Made (old new : Links E Z) (place : ℕ) : Type 0 where
+  pub record Made (old new : Links L E Z) (place : ℕ) : Type 0 where
     pub at : place ≡ vec_len old.nodes
     pub below : vec_len old.nodes < end
     pub size : vec_len new.nodes ≡ suc (vec_len old.nodes)
@@ -74,8 +104,8 @@ module _ {E Z : Type 0} where
     pub frees : new.free ≡ end
 
   -- new has the place, which in old was free or of no node, and at each place what these say
-  pub record Put (old new : Links E Z) (place : ℕ) (next previous : ℕ → ℕ)
-      (element : ℕ → Option E) : Type 0 where
+  pub record Put (old new : Links L E Z) (place : ℕ) (next previous : ℕ → ℕ)
+      (element : ℕ → Option (Labelled L E)) : Type 0 where
     pub nexts : (k : ℕ) → next_at new k ≡ next k
     pub previouses : (k : ℕ) → previous_at new k ≡ previous k
     pub elements : (k : ℕ) → element_at new k ≡ element k
@@ -83,6 +113,6 @@ module _ {E Z : Type 0} where
     pub made : old.free ≡ end → Made old new place
 
   -- no node is free, and none is made with no more memory
-  pub record Full (s : Links E Z) : Type 0 where
+  pub record Full (s : Links L E Z) : Type 0 where
     pub frees : s.free ≡ end
     pub size : vec_len s.nodes < vec_capacity s.nodes → end ≤ vec_len s.nodes

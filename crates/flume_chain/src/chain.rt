@@ -1,48 +1,55 @@
-//! Elements in order, of which each can be taken out at the same cost wherever it stands.
+//! Elements in order, of which each can be taken out at the same cost wherever it stands. An element is
+//! a value and a label.
 ghost use Rattle.std.specs.Prelude.{◌≡◌, ◌≢◌, ◌<◌, ◌≤◌, ◌+◌, ◌++◌, ◌∷◌, [], Some, None, length};
 ghost use Rattle.std.specs.Prelude.{ℕ, true, false};
 ghost use Rattle.std.specs.Prelude.{IsOk, IfOk, IfErr, OnOk, OnErr, IfSome, IfNone, OnSome, IsSome};
 ghost use Rattle.std.specs.Prelude.{option_copied, ◌↔◌};
-ghost use Rattle.std.specs.Option.{option_copied_mut};
+ghost use Rattle.std.specs.Option.{option_map, option_copied_mut};
 ghost use Rattle.std.specs.Borrow.{sem};
 ghost use Rattle.flume_chain.specs.Chained.{found, without, put_before, first_place, place_after};
 ghost use Rattle.flume_chain.specs.Chained.{first_element, behind_first, last_place, moved_back};
 ghost use Rattle.flume_chain.specs.Chained.{times, places};
+ghost use Rattle.flume_chain.specs.Edited.{with_label_at};
 
 mod links;
+mod node;
 
+use crate::labelled::Labelled;
 use links::{END, Links};
 use std::alloc::Allocator;
 use std::marker::Model;
 
-/// Elements in order. Each has a place, a number that names it while it stands.
+/// Elements in order, each a value with a label. Each has a place, a number that names it while it
+/// stands.
 #[derive(Drop)]
-pub struct Chain<E, A: Allocator> {
-    links: Links<E, A>,
+pub struct Chain<L, E, A: Allocator> {
+    links: Links<L, E, A>,
     len: usize,
 }
 
-impl<E, A: Allocator> Model for Chain<E, A> {
+impl<L, E, A: Allocator> Model for Chain<L, E, A> {
     ghost use Rattle.flume_chain.specs.Chained.{Chained, chain_of, IsChain};
+    ghost use Rattle.flume_chain.specs.declared.labelled.Labelled.{Labelled};
 
-    ghost Value = { Chained E };
+    ghost Value = { Chained (Labelled L E) };
 
     ghost view = { λ c. chain_of c.links c.len };
 
     ghost invariant = { λ c. IsChain c.links c.len };
 }
 
-impl<E: Drop, A: Allocator> Chain<E, A> {
-    ghost use Rattle.flume_chain.specs.Lends.{lends_element, lends_get};
+impl<L: Drop, E: Drop, A: Allocator> Chain<L, E, A> {
+    ghost use Rattle.flume_chain.specs.Lends.{lends_value, lends_get};
 
     /// No elements. Takes no memory.
     ///
     /// ```
     /// let mut chain = Chain::new(alloc);
-    /// let _ = chain.push_back('a');      // Ok(0)
-    /// let _ = chain.push_back('b');      // Ok(1)
-    /// chain.remove(0);                   // Some('a')
-    /// chain.first();                     // Some(1)
+    /// chain.push_back(Labelled { label: 7, value: 'a' }).ok(); // Some(0)
+    /// chain.push_back(Labelled { label: 8, value: 'b' }).ok(); // Some(1)
+    /// chain.get(0).copied();             // Some('a')
+    /// chain.label(1).copied();           // Some(8)
+    /// chain.first();                     // Some(0)
     /// ```
     #[inline(always)]
     pub fn new(alloc: A) -> Self
@@ -90,40 +97,62 @@ impl<E: Drop, A: Allocator> Chain<E, A> {
         self.links.allocator()
     }
 
-    /// The element at a place, which no other has. `None` where none stands there.
+    /// The value at a place, which no other has. `None` where none stands there.
     // What the links have there is said of the list of elements here, and of no node.
     #[inline(always)]
     pub fn get(&self, place: u32) -> Option<&E>
-        ensures found { option_copied result ≡ found self.now.items place }
+        ensures found { option_copied result
+            ≡ option_map (λ e. e.value) (found self.now.items place) }
         ensures apart { (k : ℕ) → times k (places self.now.items) ≤ 1 }
     {
         self.links.get(place)
     }
 
-    /// The element at a place, for writing: it keeps its place. `None` where none stands there, and
-    /// then nothing changes. Takes no memory.
+    /// The label at a place. `None` where none stands there.
+    #[inline(always)]
+    pub fn label(&self, place: u32) -> Option<&L>
+        ensures found { option_copied result
+            ≡ option_map (λ e. e.label) (found self.now.items place) }
+    {
+        self.links.label(place)
+    }
+
+    /// The value at a place, for writing: it keeps its place and its label. `None` where none
+    /// stands there, and then nothing changes. Takes no memory.
     #[inline(always)]
     pub fn get_mut(&mut self, place: u32) -> Option<&mut E>
-        ensures* writes_back { sem 𝓛 (lends_get E.row A.row A.Allocator self.entry place result) }
-        ensures value { option_copied_mut result ≡ found self.old.items place }
+        ensures* writes_back { sem 𝓛
+            (lends_get L.row E.row A.row A.Allocator self.entry place result) }
+        ensures value { option_copied_mut result
+            ≡ option_map (λ e. e.value) (found self.old.items place) }
     {
         if self.get(place).is_some() {
-            Some(self.element_mut(place))
+            Some(self.value_mut(place))
         } else {
             None
         }
     }
 
-    // The element at a place where one stands, for writing. By itself, so that what it lends is
-    // said of the list of elements, where `Links::element_mut` says it of nodes.
+    // The value at a place where one stands, for writing. By itself, so that what it lends is said
+    // of the list of elements, where `Links::value_mut` says it of nodes.
     #[inline(always)]
-    fn element_mut(&mut self, place: u32) -> &mut E
+    fn value_mut(&mut self, place: u32) -> &mut E
         requires stands { IsSome (found self.old.items place) }
         ensures* writes_back { sem 𝓛
-            (lends_element E.row A.row A.Allocator self.entry place result) }
-        ensures value { found self.old.items place ≡ Some result.now }
+            (lends_value L.row E.row A.row A.Allocator self.entry place result) }
+        ensures value { option_map (λ e. e.value) (found self.old.items place) ≡ Some result.now }
     {
-        self.links.element_mut(place)
+        self.links.value_mut(place)
+    }
+
+    /// Writes the label at a place, and drops the one that was there. Nothing changes where no
+    /// element stands there. Takes no memory.
+    #[inline(always)]
+    pub fn set_label(&mut self, place: u32, label: L)
+        ensures labelled { self.new.items ≡ with_label_at place self.old.items label }
+        ensures room { self.new.room ≡ self.old.room }
+    {
+        self.links.set_label(place, label);
     }
 
     /// The place of the first element. `None` where none stands. Without that place those behind
@@ -171,7 +200,7 @@ impl<E: Drop, A: Allocator> Chain<E, A> {
     /// left, or 4,294,967,295 elements standing, the element comes back, and the chain stays as it
     /// was.
     #[inline(always)]
-    pub fn push_back(&mut self, element: E) -> Result<u32, E>
+    pub fn push_back(&mut self, element: Labelled<L, E>) -> Result<u32, Labelled<L, E>>
         ensures pushed { IfOk result (λ place. self.new.items
             ≡ self.old.items ++ record { place = place; element = element } ∷ []) }
         ensures fresh { IfOk result (λ place. found self.old.items place ≡ None) }
@@ -190,7 +219,11 @@ impl<E: Drop, A: Allocator> Chain<E, A> {
     /// returns its own place, which no other has. With no memory left, or 4,294,967,295 elements
     /// standing, the element comes back, and the chain stays as it was.
     #[inline(always)]
-    pub fn insert_before(&mut self, next: u32, element: E) -> Result<u32, E>
+    pub fn insert_before(
+        &mut self,
+        next: u32,
+        element: Labelled<L, E>,
+    ) -> Result<u32, Labelled<L, E>>
         ensures inserted { IfOk result (λ place. self.new.items
             ≡ put_before self.old.items next (record { place = place; element = element })) }
         ensures fresh { IfOk result (λ place. found self.old.items place ≡ None) }
@@ -229,7 +262,7 @@ impl<E: Drop, A: Allocator> Chain<E, A> {
     /// Takes out the element at a place, which then names none. The others keep their order and
     /// their places. `None` where none stands there, and then nothing changes. Takes no memory.
     #[inline(always)]
-    pub fn remove(&mut self, place: u32) -> Option<E>
+    pub fn remove(&mut self, place: u32) -> Option<Labelled<L, E>>
         ensures found { result ≡ found self.old.items place }
         ensures taken { OnSome result (self.new.items ≡ without self.old.items place) }
         ensures room { OnSome result (self.new.room ≡ self.old.room + 1) }
@@ -246,7 +279,7 @@ impl<E: Drop, A: Allocator> Chain<E, A> {
     /// Takes out the first element. The others keep their order and their places. `None` where
     /// none stands, and then nothing changes. Takes no memory.
     #[inline(always)]
-    pub fn pop_front(&mut self) -> Option<E>
+    pub fn pop_front(&mut self) -> Option<Labelled<L, E>>
         ensures first { result ≡ first_element self.old.items }
         ensures taken { self.new.items ≡ behind_first self.old.items }
         ensures room { OnSome result (self.new.room ≡ self.old.room + 1) }

@@ -3,10 +3,11 @@
 //!
 //! ```
 //! let mut chain = Chain::new(alloc);
-//! let _ = chain.push_back('a');      // Ok(0)
-//! let _ = chain.push_back('b');      // Ok(1)
-//! chain.remove(0);                   // Some('a')
-//! chain.first();                     // Some(1)
+//! chain.push_back(Labelled { label: 7, value: 'a' }).ok(); // Some(0)
+//! chain.push_back(Labelled { label: 8, value: 'b' }).ok(); // Some(1)
+//! chain.get(0).copied();             // Some('a')
+//! chain.label(1).copied();           // Some(8)
+//! chain.first();                     // Some(0)
 //! ```
 //!
 //! A chain holds at most 4,294,967,295 elements. It knows nothing of channels: a channel keeps its
@@ -14,3 +15,4 @@
 #![tactic(auto)]
 
 pub mod chain;
+pub mod labelled;

@@ -2,7 +2,6 @@
 use Rattle.std.proofs.Common.{◌≡◌, ℕ, ◌+◌, ◌≤◌, Bool, true, false, ◌⊎◌, inl, inr, ⊎_elim, List, [], ◌∷◌, ◌++◌}
 use Rattle.std.proofs.Common.{length, map, Option, Some, None, refl, sym, ◌∙◌, ap, ap₂, arith, append_assoc, append-nil, length-append}
 use Rattle.std.proofs.Math.Bool.{and-true}
-use Rattle.std.proofs.lemmas.Bool.{lt-leb}
 use Rattle.std.proofs.lemmas.List.{map-append, length-map, length_push}
 use Rattle.flume_model.specs.declared.step.Step.{Step}
 use Rattle.flume_model.specs.declared.step.Reply.{Reply}
@@ -33,11 +32,6 @@ IsInCapacity (Some c) n = n ≤ c
 in_capacity_more : (cap_ : Option ℕ) (n : ℕ) → HasRoom cap_ n → IsInCapacity cap_ (n + 1)
 in_capacity_more None n room = tt
 in_capacity_more (Some c) n room = omega arith
-
--- a queue with room isn't known as full
-room_known : (cap_ : Option ℕ) (n : ℕ) → HasRoom cap_ n → is_full cap_ n ≡ false
-room_known None n room = refl
-room_known (Some c) n room = lt-leb c n room
 
 -- as many as the line has and the capacity says
 capped_is : (cap_ : Option ℕ) (n more : ℕ) → IsInCapacity cap_ n → IsAtCapacity cap_ n ⊎ (more ≡ 0) → n ≡ capped cap_ (n + more)

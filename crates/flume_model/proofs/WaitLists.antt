@@ -1,14 +1,10 @@
 -- What a change of the entries does to whether some receiver waits.
 use Rattle.flume_model.proofs.Common.{◌≡◌, ℕ, Bool, true, false, List, [], ◌∷◌, Option, Some, None, refl, sym, ◌∙◌, ◌⊎◌, inl, inr, ap}
-use Rattle.flume_model.proofs.Common.{or_right, is_waiting, is_woken, some_wait, round_fills, round_for_fills, entry_of, without, again_as}
+use Rattle.flume_model.proofs.Common.{is_woken, some_wait, round_fills, round_for_fills, entry_of, without, again_as}
 use Rattle.flume_model.proofs.Common.{again, leave_fills, Entry, arith, common_steps}
 use Rattle.flume_model.proofs.WaitingCounts.{wait_without}
 
 module _ {T N : Type 0} where
-  -- one of these waits if one of those further on does
-  pub wait_later : (e : Entry T N) (es : List (Entry T N)) → some_wait es ≡ true → some_wait (e ∷ es) ≡ true
-  wait_later e es h = or_right (is_waiting e.mark) (some_wait es) h
-
   -- a round fills only where one waits
   pub fills_waiting : (es : List (Entry T N)) (u : ℕ) → round_fills es ≡ Some u → some_wait es ≡ true
   fills_waiting [] u h = absurd (let none : ⊥ = cc in none)

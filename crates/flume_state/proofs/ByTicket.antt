@@ -9,9 +9,10 @@ use Rattle.std.specs.Ordering.{nat_cmp}
 use Rattle.flume_chain.specs.Chained.{Placed, once, times, places, found, without}
 use Rattle.flume_chain.proofs.Rings.{once_same, once_none, once_back, with_same, with_other}
 use Rattle.flume_chain.proofs.Tables.{item, found_put, without_at}
-use Rattle.flume_state.specs.declared.ticketed.Ticketed.{Ticketed}
+use Rattle.flume_state.specs.layout.Ticketed.{Ticketed}
 use Rattle.flume_state.specs.Sends.{changed}
-use Rattle.flume_state.specs.layout.Ticketed.{place_of, ticket_times, with_value_at}
+use Rattle.flume_chain.specs.Edited.{with_value_at}
+use Rattle.flume_state.specs.layout.Ticketed.{place_of, ticket_times}
 use Rattle.flume_model.specs.Log.{is_ticket}
 use Rattle.flume_state.specs.layout.SendLayout.{put_under, by_ticket}
 use Rattle.flume_state.proofs.SendsLaws.{same_by, get-insert_same, get-insert_other, changed-insert, remove-insert}
@@ -31,12 +32,12 @@ ticket_there t (Some u) e = ap Some (eqb-true u t e)
 module _ {X : Type 0} where
   -- a value with its ticket
   abbrev pub under : ℕ → X → Ticketed X
-  under t v = record { ticket = Some t; value = v }
+  under t v = record { label = Some t; value = v }
 
   -- the value of the first element with a ticket
   abbrev pub value_of : ℕ → List (Placed (Ticketed X)) → Option X
   value_of t [] = None
-  value_of t (x ∷ items) = if is_ticket t x.element.ticket then Some x.element.value else value_of t items
+  value_of t (x ∷ items) = if is_ticket t x.element.label then Some x.element.value else value_of t items
 
   -- what is found in a map with one more value
   get_under : (m : FinMap nat_cmp X) (o : Option ℕ) (v : X) (q : ℕ) → get (put_under m o v) q ≡ (if is_ticket q o then Some v else get m q)
@@ -48,13 +49,13 @@ module _ {X : Type 0} where
   pub get_by_ticket : (items : List (Placed (Ticketed X))) (q : ℕ) → get (by_ticket items) q ≡ value_of q items
   get_by_ticket [] q = get-empty nat_cmp q
   get_by_ticket (x ∷ items) q =
-      get_under (by_ticket items) x.element.ticket x.element.value q
-      ∙ ap (λ o. if is_ticket q x.element.ticket then Some x.element.value else o) (get_by_ticket items q)
+      get_under (by_ticket items) x.element.label x.element.value q
+      ∙ ap (λ o. if is_ticket q x.element.label then Some x.element.value else o) (get_by_ticket items q)
 
   -- behind elements of which none has the ticket the value is that of the others
   pub value_past : (q : ℕ) (xs ys : List (Placed (Ticketed X))) → value_of q xs ≡ None → value_of q (xs ++ ys) ≡ value_of q ys
   value_past q [] ys none = refl
-  value_past q (x ∷ xs) ys none = elim (cases_Bool (is_ticket q x.element.ticket)) [
+  value_past q (x ∷ xs) ys none = elim (cases_Bool (is_ticket q x.element.label)) [
     | inl e ↦ (
         let some : Some x.element.value ≡ None = sym (ap (λ b. if b then Some x.element.value else value_of q xs) e) ∙ none in
         absurd (let no : ⊥ = cc in no)
@@ -67,7 +68,7 @@ module _ {X : Type 0} where
   -- none of the first elements has a ticket that none of all has
   pub value_ahead : (q : ℕ) (xs ys : List (Placed (Ticketed X))) → value_of q (xs ++ ys) ≡ None → value_of q xs ≡ None
   value_ahead q [] ys none = refl
-  value_ahead q (x ∷ xs) ys none = elim (cases_Bool (is_ticket q x.element.ticket)) [
+  value_ahead q (x ∷ xs) ys none = elim (cases_Bool (is_ticket q x.element.label)) [
     | inl e ↦ (
         let some : Some x.element.value ≡ None = sym (ap (λ b. if b then Some x.element.value else value_of q (xs ++ ys)) e) ∙ none in
         absurd (let no : ⊥ = cc in no)
@@ -78,11 +79,11 @@ module _ {X : Type 0} where
   ]
 
   -- an element with another ticket may be left out
-  value_around : (q : ℕ) (xs ys : List (Placed (Ticketed X))) (x : Placed (Ticketed X)) → is_ticket q x.element.ticket ≡ false
+  value_around : (q : ℕ) (xs ys : List (Placed (Ticketed X))) (x : Placed (Ticketed X)) → is_ticket q x.element.label ≡ false
       → value_of q (xs ++ x ∷ ys) ≡ value_of q (xs ++ ys)
   value_around q [] ys x e = ap (λ b. if b then Some x.element.value else value_of q ys) e
   value_around q (y ∷ xs) ys x e =
-      ap (λ o. if is_ticket q y.element.ticket then Some y.element.value else o) (value_around q xs ys x e)
+      ap (λ o. if is_ticket q y.element.label then Some y.element.value else o) (value_around q xs ys x e)
 
   -- the value of an element behind others of which none has its ticket
   pub value_at : (t p : ℕ) (v : X) (xs ys : List (Placed (Ticketed X))) → value_of t xs ≡ None → value_of t (xs ++ item p (under t v) ∷ ys) ≡ Some v
@@ -129,7 +130,7 @@ module _ {X : Type 0} where
   -- a ticket that no element has finds no value
   pub value_none : (t : ℕ) (xs : List (Placed (Ticketed X))) → ticket_times t xs ≡ 0 → value_of t xs ≡ None
   value_none t [] none = refl
-  value_none t (x ∷ xs) none = elim (cases_Bool (is_ticket t x.element.ticket)) [
+  value_none t (x ∷ xs) none = elim (cases_Bool (is_ticket t x.element.label)) [
     | inl e ↦ absurd (let one = ap (λ b. (if b then 1 else 0) + ticket_times t xs) e in omega arith)
     | inr e ↦ (
         let rest = ap (λ b. (if b then 1 else 0) + ticket_times t xs) e in
@@ -140,7 +141,7 @@ module _ {X : Type 0} where
   -- nor does one that stands nowhere
   pub value_nowhere : (t : ℕ) (xs : List (Placed (Ticketed X))) → place_of t xs ≡ None → value_of t xs ≡ None
   value_nowhere t [] none = refl
-  value_nowhere t (x ∷ xs) none = elim (cases_Bool (is_ticket t x.element.ticket)) [
+  value_nowhere t (x ∷ xs) none = elim (cases_Bool (is_ticket t x.element.label)) [
     | inl e ↦ (
         let some : Some x.place ≡ None = sym (ap (λ b. if b then Some x.place else place_of t xs) e) ∙ none in
         absurd (let no : ⊥ = cc in no)
@@ -153,7 +154,7 @@ module _ {X : Type 0} where
   -- where a ticket stands an element has the place
   placed_once : (t p : ℕ) (xs : List (Placed (Ticketed X))) → place_of t xs ≡ Some p → 1 ≤ times p (places xs)
   placed_once t p [] is = absurd (let no : ⊥ = cc in no)
-  placed_once t p (x ∷ xs) is = elim (cases_Bool (is_ticket t x.element.ticket)) [
+  placed_once t p (x ∷ xs) is = elim (cases_Bool (is_ticket t x.element.label)) [
     | inl e ↦ (
         let same : Some x.place ≡ Some p = sym (ap (λ b. if b then Some x.place else place_of t xs) e) ∙ is in
         let name : x.place ≡ p = cc in
@@ -175,7 +176,7 @@ module _ {X : Type 0} where
         let some : None ≡ Some x.element.value = none ∙ ap (λ b. option_map (λ e. e.value) (if b then Some x.element else found xs p)) here in
         let no : ⊥ = cc in no
         )
-    | inr there ↦ elim (cases_Bool (is_ticket t x.element.ticket)) [
+    | inr there ↦ elim (cases_Bool (is_ticket t x.element.label)) [
       | inl e ↦ (
           let same : Some x.place ≡ Some p = sym (ap (λ b. if b then Some x.place else place_of t xs) e) ∙ is in
           let name : p ≡ x.place = cc in
@@ -204,7 +205,7 @@ module _ {X : Type 0} where
       → ((k : ℕ) → times k (places items) ≤ 1) → ((u : ℕ) → ticket_times u items ≤ 1)
       → Some v ≡ option_map (λ e. e.value) (found items p) → Stands t p v items
   stands t p v [] is apart single at = absurd (let no : ⊥ = cc in no)
-  stands t p v (x ∷ xs) is apart single at = elim (cases_Bool (is_ticket t x.element.ticket)) [
+  stands t p v (x ∷ xs) is apart single at = elim (cases_Bool (is_ticket t x.element.label)) [
     | inl e ↦ (
         let same : Some x.place ≡ Some p = sym (ap (λ b. if b then Some x.place else place_of t xs) e) ∙ is in
         let name : x.place ≡ p = cc in
@@ -219,7 +220,7 @@ module _ {X : Type 0} where
           before = [];
           after = xs;
           is = ap₂ (λ (k : ℕ) (y : Ticketed X). item k y ∷ xs) name
-              (ap₂ (λ (o : Option ℕ) (w : X). record { ticket = o; value = w }) (ticket_there t x.element.ticket e) value_is);
+              (ap₂ (λ (o : Option ℕ) (w : X). record { label = o; value = w }) (ticket_there t x.element.label e) value_is);
           ahead = refl;
           behind = omega arith;
           none_ahead = refl;

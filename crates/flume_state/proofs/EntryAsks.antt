@@ -11,10 +11,10 @@ use Rattle.flume_model.specs.declared.entry.Mark.{Mark}
 use Rattle.flume_model.specs.declared.entry.Mark.TheVariants.{Waiting, Woken, Filled}
 use Rattle.flume_state.specs.layout.EntryLayout.{Each, EntryLayout, after_asking, entries_in, entry_in, boundary_without}
 use Rattle.flume_state.specs.Receivers.{Entries, noticed_receiver, waits_on}
-use Rattle.flume_state.specs.layout.Ticketed.{with_value_at}
+use Rattle.flume_chain.specs.Edited.{with_value_at}
 use Rattle.flume_state.specs.declared.entries.Parked.{Parked}
 use Rattle.flume_state.specs.declared.notice.Notice.{Notice}
-use Rattle.flume_state.specs.declared.ticketed.Ticketed.{Ticketed}
+use Rattle.flume_state.specs.layout.Ticketed.{Ticketed}
 use Rattle.flume_state.proofs.EntryDues.{revalued_entries}
 use Rattle.flume_state.proofs.EntryListLemmas.{count-append, weight}
 use Rattle.flume_state.proofs.EntryParts.{gone, length-revalued, places-revalued, revalued-append, revalued_at, revalued_none, seat_found, with_value, without_revalued}

@@ -6,11 +6,11 @@ use Rattle.flume_model.specs.Entries.{is_waiting, waiting_count}
 use Rattle.flume_model.specs.declared.entry.Mark.{Mark}
 use Rattle.flume_state.specs.Notices.{due_now}
 use Rattle.flume_state.specs.layout.EntryLayout.{Each, EntryLayout, entries_in, entry_in, with_first_marked, first_waiting}
-use Rattle.flume_state.specs.layout.Ticketed.{with_value_at}
+use Rattle.flume_chain.specs.Edited.{with_value_at}
 use Rattle.flume_state.specs.Receivers.{Entries}
 use Rattle.flume_state.specs.declared.entries.Parked.{Parked}
 use Rattle.flume_state.specs.declared.notice.Notice.{Notice}
-use Rattle.flume_state.specs.declared.ticketed.Ticketed.{Ticketed}
+use Rattle.flume_state.specs.layout.Ticketed.{Ticketed}
 use Rattle.flume_state.proofs.EntryListLemmas.{weight}
 use Rattle.flume_state.proofs.EntryParts.{Apart, alone, first_same, front_at, length-revalued, places-revalued, revalued_at, seat_found, with_value}
 use Rattle.flume_state.proofs.EntrySorted.{Is, Items, each-push, entries-append, waits-append}

@@ -7,8 +7,8 @@ use Rattle.flume_chain.specs.Chained.{once, times, Placed, places, found, withou
 use Rattle.flume_chain.proofs.Rings.{times-append, once_same, once_none, once_back, with_same}
 use Rattle.flume_chain.proofs.Tables.{item, found_put, found_some, without_none, after_at}
 use Rattle.flume_state.specs.layout.EntryLayout.{boundary_without}
-use Rattle.flume_state.specs.layout.Ticketed.{with_value_at}
-use Rattle.flume_state.specs.declared.ticketed.Ticketed.{Ticketed}
+use Rattle.flume_chain.specs.Edited.{with_value_at}
+use Rattle.flume_state.specs.layout.Ticketed.{Ticketed}
 
 module _ {E : Type 0} where
   -- each place is of one element at most

@@ -14,7 +14,7 @@ use Rattle.flume_model.specs.Log.{is_ticket}
 use Rattle.flume_state.specs.Receivers.{Entries, noticed_receiver}
 use Rattle.flume_state.specs.declared.entries.Parked.{Parked}
 use Rattle.flume_state.specs.declared.notice.Notice.{Notice}
-use Rattle.flume_state.specs.declared.ticketed.Ticketed.{Ticketed}
+use Rattle.flume_state.specs.layout.Ticketed.{Ticketed}
 use Rattle.flume_state.proofs.EntryParts.{Apart, alone, seat_found}
 use Rattle.flume_state.proofs.EntrySorted.{Items, entries-append}
 
@@ -66,7 +66,7 @@ module _ {T S : Type 0} where
   -- each element has a ticket
   abbrev Held : Items T S → Type 0
   Held [] = ⊤
-  Held (x ∷ items) = (x.element.ticket ≡ Some (unwrap_or x.element.ticket 0)) × Held items
+  Held (x ∷ items) = (x.element.label ≡ Some (unwrap_or x.element.label 0)) × Held items
 
   held-each : (w d : Bool) (xs : Items T S) → Each w d xs → Held xs
   held-each w d [] all = all
@@ -84,12 +84,12 @@ module _ {T S : Type 0} where
   -- where no place is a ticket's, no entry is
   absent : (t : ℕ) (items : Items T S) → Held items → place_of t items ≡ None → entry_of t (entries_in items) ≡ None
   absent t [] held h = refl
-  absent t (x ∷ items) held h = elim (cases_Bool (is_ticket t x.element.ticket)) [
+  absent t (x ∷ items) held h = elim (cases_Bool (is_ticket t x.element.label)) [
     | inl m ↦ (
         let none : Some x.place ≡ None = sym (ap (λ b. if b then Some x.place else place_of t items) m) ∙ h in
         absurd cc
         )
-    | inr m ↦ rw (ticket_same t x.element.ticket held.0 ∙ m)
+    | inr m ↦ rw (ticket_same t x.element.label held.0 ∙ m)
         (absent t items held.1 (sym (ap (λ b. if b then Some x.place else place_of t items) m) ∙ h))
   ]
 
@@ -99,12 +99,12 @@ module _ {T S : Type 0} where
     pub element : Ticketed (Parked T S)
     pub after : Items T S
     pub is : items ≡ before ++ item k element ∷ after
-    pub ticket : element.ticket ≡ Some t
+    pub ticket : element.label ≡ Some t
     pub ahead : entry_of t (entries_in before) ≡ None
 
   owner : (items : Items T S) (t k : ℕ) → Held items → place_of t items ≡ Some k → Owner items t k
   owner [] t k held h = absurd (let none : ⊥ = cc in none)
-  owner (x ∷ items) t k held h = elim (cases_Bool (is_ticket t x.element.ticket)) [
+  owner (x ∷ items) t k held h = elim (cases_Bool (is_ticket t x.element.label)) [
     | inl m ↦ (
         let it : Some x.place ≡ Some k = sym (ap (λ b. if b then Some x.place else place_of t items) m) ∙ h in
         let same : x.place ≡ k = cc in
@@ -113,7 +113,7 @@ module _ {T S : Type 0} where
           element = x.element;
           after = items;
           is = ap (λ (p : ℕ). item p x.element ∷ items) same;
-          ticket = ticket_is t x.element.ticket m;
+          ticket = ticket_is t x.element.label m;
           ahead = refl;
         }
         )
@@ -125,7 +125,7 @@ module _ {T S : Type 0} where
           after = r.after;
           is = ap (λ l. x ∷ l) r.is;
           ticket = r.ticket;
-          ahead = rw (ticket_same t x.element.ticket held.0 ∙ m) r.ahead;
+          ahead = rw (ticket_same t x.element.label held.0 ∙ m) r.ahead;
         }
         )
   ]
@@ -136,8 +136,8 @@ module _ {T S : Type 0} where
     pub element : Ticketed (Parked T S)
     pub after : Items T S
     pub is : items ≡ before ++ item k element ∷ after
-    pub ticket : element.ticket ≡ Some t
-    pub number : unwrap_or element.ticket 0 ≡ t
+    pub ticket : element.label ≡ Some t
+    pub number : unwrap_or element.label 0 ≡ t
     pub ahead : entry_of t (entries_in before) ≡ None
     pub clear : times k (places before) ≡ 0
     pub behind : times k (places after) ≡ 0
@@ -151,7 +151,7 @@ module _ {T S : Type 0} where
   seated items due waits n t k s h =
       let o = owner items t k (held-sorted items due waits n s) h in
       let a = alone o.before o.after k o.element (subst Apart o.is s.apart) in
-      let number : unwrap_or o.element.ticket 0 ≡ t = ap (λ o. unwrap_or o 0) o.ticket in
+      let number : unwrap_or o.element.label 0 ≡ t = ap (λ o. unwrap_or o 0) o.ticket in
       let all = ap entries_in o.is ∙ entries-append o.before (item k o.element ∷ o.after) in
       record {
         before = o.before;

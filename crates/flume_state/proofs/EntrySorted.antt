@@ -1,5 +1,5 @@
 -- The three parts of the parked receivers' chain, and their boundaries, under each step.
-use Rattle.std.proofs.Common.{◌≡◌, ℕ, suc, ◌+◌, ◌≤◌, ◌==◌, ◌⊎◌, Bool, List, [], ◌∷◌, ◌++◌, Option, Some, None, length, refl, sym, ap, ap₂, ◌∙◌, inl, inr, arith, true, false, cond, if◌then◌else◌, append_assoc, subst}
+use Rattle.std.proofs.Common.{◌≡◌, ℕ, suc, ◌+◌, ◌≤◌, ◌==◌, Bool, List, [], ◌∷◌, ◌++◌, Option, Some, None, length, refl, sym, ap, ap₂, ◌∙◌, inl, inr, arith, true, false, cond, append_assoc, subst}
 use Rattle.std.proofs.lemmas.Bool.{cases_Bool}
 use Rattle.std.specs.Option.{unwrap_or, option_or}
 use Rattle.flume_chain.specs.Chained.{times, Placed, places, found, without, first_place, place_after}
@@ -8,7 +8,7 @@ use Rattle.flume_chain.proofs.Tables.{item, without_at}
 use Rattle.flume_model.specs.Entries.{is_waiting, waiting_count}
 use Rattle.flume_state.specs.layout.EntryLayout.{Each, EntryLayout, entries_in, entry_in, boundary_without}
 use Rattle.flume_state.specs.declared.entries.Parked.{Parked}
-use Rattle.flume_state.specs.declared.ticketed.Ticketed.{Ticketed}
+use Rattle.flume_state.specs.layout.Ticketed.{Ticketed}
 use Rattle.flume_state.proofs.EntryListLemmas.{count-append, count-le, weight}
 use Rattle.flume_state.proofs.EntryParts.{Apart, counted, first-push, length-without, none_found, off_first, seat, times-without, without-append}
 
@@ -19,7 +19,7 @@ Items T S = List (Placed (Ticketed (Parked T S)))
 module _ {T S : Type 0} where
   -- an element is of the part where these say whether it waits, and whether it is due
   abbrev pub Is : Bool → Bool → Ticketed (Parked T S) → Type 0
-  Is waits due e = (e.ticket ≡ Some (unwrap_or e.ticket 0)) × (is_waiting e.value.mark ≡ waits) × (e.value.notice.due ≡ due)
+  Is waits due e = (e.label ≡ Some (unwrap_or e.label 0)) × (is_waiting e.value.mark ≡ waits) × (e.value.notice.due ≡ due)
 
   -- the entries of two lists joined
   pub entries-append : (xs ys : Items T S) → entries_in (xs ++ ys) ≡ entries_in xs ++ entries_in ys
@@ -113,36 +113,6 @@ module _ {T S : Type 0} where
   -- fewer wait than a number of 64 bits can count
   pub waits_few : (items : Items T S) (due waits : Option ℕ) (n : ℕ) → EntryLayout items due waits n → n ≤ 4294967295
   waits_few items due waits n s = omega (arith, s.count, s.fits, count-le (entries_in items), length-entries items)
-
-  -- one that is found is of one of the three parts
-  pub found_class : (items : Items T S) (due waits : Option ℕ) (n : ℕ) (k : ℕ) (e : Ticketed (Parked T S)) → EntryLayout items due waits n
-      → found items k ≡ Some e → Is false false e ⊎ Is false true e ⊎ Is true false e
-  found_class items due waits n k e s h = elim (found_part s.quiet (s.dues ++ s.last) k e (ap (λ l. found l k) (sym s.is) ∙ h)) [
-    | inl q ↦ inl (each_found false false s.quiet k e s.are_quiet q)
-    | inr r ↦ elim (found_part s.dues s.last k e r) [
-      | inl d ↦ inr (inl (each_found false true s.dues k e s.are_due d))
-      | inr l ↦ inr (inr (each_found true false s.last k e s.wait l))
-    ]
-  ]
-    where
-      found_part : (xs ys : Items T S) (k : ℕ) (e : Ticketed (Parked T S)) → found (xs ++ ys) k ≡ Some e
-          → (found xs k ≡ Some e) ⊎ (found ys k ≡ Some e)
-      found_part [] ys k e h = inr h
-      found_part (x ∷ xs) ys k e h = elim (cases_Bool (k == x.place)) [
-        | inl t ↦ rw t (inl (sym (ap (λ b. if b then Some x.element else found (xs ++ ys) k) t) ∙ h))
-        | inr t ↦ rw t (found_part xs ys k e (sym (ap (λ b. if b then Some x.element else found (xs ++ ys) k) t) ∙ h))
-      ]
-
-      each_found : (w d : Bool) (xs : Items T S) (k : ℕ) (e : Ticketed (Parked T S)) → Each w d xs → found xs k ≡ Some e → Is w d e
-      each_found w d [] k e all h = absurd (let none : ⊥ = cc in none)
-      each_found w d (x ∷ xs) k e all h = elim (cases_Bool (k == x.place)) [
-        | inl t ↦ (
-            let it : Some x.element ≡ Some e = sym (ap (λ b. if b then Some x.element else found xs k) t) ∙ h in
-            let same : x.element ≡ e = cc in
-            subst (Is w d) same (all.0, all.1, all.2)
-            )
-        | inr t ↦ each_found w d xs k e all.3 (sym (ap (λ b. if b then Some x.element else found xs k) t) ∙ h)
-      ]
 
   -- some wait where one that is found does
   pub one_waits : (items : Items T S) (due waits : Option ℕ) (n : ℕ) (k : ℕ) (e : Ticketed (Parked T S)) → EntryLayout items due waits n

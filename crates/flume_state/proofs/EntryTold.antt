@@ -10,11 +10,11 @@ use Rattle.flume_model.specs.Entries.{waiting_count}
 use Rattle.flume_model.specs.declared.entry.Entry.{Entry}
 use Rattle.flume_state.specs.Notices.{no_longer_due}
 use Rattle.flume_state.specs.layout.EntryLayout.{Each, EntryLayout, entries_in, entry_in}
-use Rattle.flume_state.specs.layout.Ticketed.{with_value_at}
+use Rattle.flume_chain.specs.Edited.{with_value_at}
 use Rattle.flume_state.specs.Receivers.{Entries, NoDueReceiver, NamesReceiver}
 use Rattle.flume_state.specs.declared.entries.Parked.{Parked}
 use Rattle.flume_state.specs.declared.notice.Notice.{Notice}
-use Rattle.flume_state.specs.declared.ticketed.Ticketed.{Ticketed}
+use Rattle.flume_state.specs.layout.Ticketed.{Ticketed}
 use Rattle.flume_state.proofs.EntryParts.{Apart, Front, alone, counted, front_at, length-revalued, places-revalued, revalued_at, seat_found, with_value}
 use Rattle.flume_state.proofs.EntrySorted.{Is, Items, each-push, entries-append, waits-append}
 use Rattle.flume_state.proofs.EntryDues.{revalued_entries}
@@ -102,14 +102,6 @@ module _ {T S : Type 0} where
         due_too = all.3;
       }
 
-  -- where no boundary is named none is due
-  pub no_boundary : (items : Items T S) (due waits : Option ℕ) (n : ℕ) → EntryLayout items due waits n → due ≡ None → due ≡ waits
-  no_boundary items due waits n s none = none ∙ sym (empty s.dues s.last (sym none ∙ s.first_due)) ∙ sym s.first_waits
-    where
-      empty : (xs ys : Items T S) → None ≡ first_place (xs ++ ys) → first_place ys ≡ None
-      empty [] ys h = sym h
-      empty (x ∷ xs) ys h = absurd (let some : ⊥ = cc in some)
-
   -- the value of one that was named
   abbrev pub told_value : Parked T S → Parked T S
   told_value p = record p { notice = no_longer_due p.notice }
@@ -142,7 +134,7 @@ module _ {T S : Type 0} where
 
   -- and it was told
   pub tells : (items : Items T S) (due waits : Option ℕ) (n : ℕ) (k t : ℕ) (es : Entries T S) (s : EntryLayout items due waits n)
-      (d : Dues items due waits n k s) → entries_in items ≡ es → d.element.ticket ≡ Some t
+      (d : Dues items due waits n k s) → entries_in items ≡ es → d.element.label ≡ Some t
       → NamesReceiver es (entries_in (with_value_at k items (told_value d.element.value))) t
   tells items due waits n k t es s d view ticket = record {
     before = entries_in s.quiet;

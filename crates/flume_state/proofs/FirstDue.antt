@@ -8,10 +8,11 @@ use Rattle.flume_chain.specs.Chained.{once, times, places, found, first_place, p
 use Rattle.flume_chain.proofs.Rings.{once_same, with_same}
 use Rattle.flume_chain.proofs.Tables.{item, found_put, after_at}
 use Rattle.flume_state.specs.declared.sends.LiveSend.{LiveSend}
-use Rattle.flume_state.specs.declared.ticketed.Ticketed.{Ticketed}
+use Rattle.flume_state.specs.layout.Ticketed.{Ticketed}
 use Rattle.flume_state.specs.Sends.{SendMap, send_due_in, is_due_send}
 use Rattle.flume_state.specs.layout.SendLayout.{Element, by_ticket, EachDueIs, SendLayout}
-use Rattle.flume_state.specs.layout.Ticketed.{ticket_times, with_value_at, ticket_in}
+use Rattle.flume_chain.specs.Edited.{with_value_at}
+use Rattle.flume_state.specs.layout.Ticketed.{ticket_times, ticket_in}
 use Rattle.flume_model.specs.Log.{is_ticket}
 use Rattle.flume_state.proofs.ByTicket.{under, value_none, Stands, stands_value, stands_written}
 use Rattle.flume_state.proofs.SendLines.{times_both, tickets_both, lined_append}
@@ -36,7 +37,7 @@ module _ {S : Type 0} where
       let at : found (quiet ++ y ∷ late) p ≡ Some y.element =
       ap (λ k. found (quiet ++ item k y.element ∷ late) p) name
       ∙ found_put quiet late p y.element p (omega arith) ∙ with_same (found (quiet ++ late)) p (Some y.element) in
-      let ticket_is : y.element.ticket ≡ Some t = sym (ticket ∙ ap ticket_in at) in
+      let ticket_is : y.element.label ≡ Some t = sym (ticket ∙ ap ticket_in at) in
       let some : Some v ≡ Some y.element.value = value ∙ ap (option_map (λ e. e.value)) at in
       let value_is : y.element.value ≡ v = cc in
       let here : ticket_times t (y ∷ late) ≡ 1 + ticket_times t late =
@@ -49,7 +50,7 @@ module _ {S : Type 0} where
           before = quiet;
           after = late;
           is = ap₂ (λ (k : ℕ) (e : Ticketed (LiveSend S)). quiet ++ item k e ∷ late) name
-              (ap₂ (λ (o : Option ℕ) (w : LiveSend S). record { ticket = o; value = w }) ticket_is value_is);
+              (ap₂ (λ (o : Option ℕ) (w : LiveSend S). record { label = o; value = w }) ticket_is value_is);
           ahead = omega arith;
           behind = omega arith;
           none_ahead = value_none t quiet (omega arith);
@@ -100,8 +101,8 @@ module _ {S : Type 0} where
       let at : found (quiet ++ y ∷ late) p ≡ Some y.element =
       ap (λ k. found (quiet ++ item k y.element ∷ late) p) name
       ∙ found_put quiet late p y.element p (omega arith) ∙ with_same (found (quiet ++ late)) p (Some y.element) in
-      let none : is_some y.element.ticket ≡ false = ap is_some (sym (ticket ∙ ap ticket_in at)) in
-      let some : is_some y.element.ticket ≡ true = all.0 in
+      let none : is_some y.element.label ≡ false = ap is_some (sym (ticket ∙ ap ticket_in at)) in
+      let some : is_some y.element.label ≡ true = all.0 in
       let no : ⊥ = cc in no
 
   -- the first that is due has a ticket

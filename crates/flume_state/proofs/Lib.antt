@@ -20,7 +20,6 @@ pub mod PlaceLemmas
 pub mod TicketLemmas
 pub mod TicketMaps
 pub mod TicketEdits
-pub mod TicketWrites
 pub mod ByTicket
 pub mod SendLines
 pub mod SendSteps

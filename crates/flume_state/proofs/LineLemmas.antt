@@ -3,7 +3,7 @@ use Rattle.std.proofs.Common.{◌≡◌, ℕ, suc, ◌-◌, List, [], ◌∷◌,
 use Rattle.std.specs.Result.{OnErr}
 use Rattle.std.proofs.lemmas.List.{append-nil}
 use Rattle.flume_chain.specs.Chained.{Placed}
-use Rattle.flume_state.specs.declared.ticketed.Ticketed.{Ticketed}
+use Rattle.flume_state.specs.layout.Ticketed.{Ticketed}
 use Rattle.flume_state.specs.Messages.{Blocked, Messages}
 use Rattle.flume_state.specs.layout.LineLayout.{queued_ahead, blocked_ahead, queued_of, blocked_of, line_of, LineLayout}
 
@@ -20,7 +20,7 @@ module _ {T : Type 0} where
 
   pub queued_append : (xs ys : List (Placed (Ticketed T))) → queued_of (xs ++ ys) ≡ queued_of xs ++ queued_of ys
   queued_append [] ys = refl
-  queued_append (x ∷ xs) ys = queued_ahead_append x.element.ticket x.element.value _ _ _ (queued_append xs ys)
+  queued_append (x ∷ xs) ys = queued_ahead_append x.element.label x.element.value _ _ _ (queued_append xs ys)
 
   -- two rows of blocked messages are joined
   blocked_ahead_append : (o : Option ℕ) (m : T) (ls ms ns : List (Blocked T)) → ls ≡ ms ++ ns → blocked_ahead o m ls ≡ blocked_ahead o m ms ++ ns
@@ -29,7 +29,7 @@ module _ {T : Type 0} where
 
   pub blocked_append : (xs ys : List (Placed (Ticketed T))) → blocked_of (xs ++ ys) ≡ blocked_of xs ++ blocked_of ys
   blocked_append [] ys = refl
-  blocked_append (x ∷ xs) ys = blocked_ahead_append x.element.ticket x.element.value _ _ _ (blocked_append xs ys)
+  blocked_append (x ∷ xs) ys = blocked_ahead_append x.element.label x.element.value _ _ _ (blocked_append xs ys)
 
   -- where none is blocked, the first isn't, and it is queued
   pub unblocked : (o : Option ℕ) (m : T) (ms : List T) (bs : List (Blocked T)) → blocked_ahead o m bs ≡ []
@@ -41,7 +41,7 @@ module _ {T : Type 0} where
   queued_count : (xs : List (Placed (Ticketed T))) → blocked_of xs ≡ [] → length (queued_of xs) ≡ length xs
   queued_count [] h = refl
   queued_count (x ∷ xs) h =
-      let first = unblocked x.element.ticket x.element.value (queued_of xs) (blocked_of xs) h in
+      let first = unblocked x.element.label x.element.value (queued_of xs) (blocked_of xs) h in
       ap length first.2 ∙ ap suc (queued_count xs first.1)
 
   -- where none is queued, all are blocked
@@ -53,14 +53,14 @@ module _ {T : Type 0} where
   blocked_count : (xs : List (Placed (Ticketed T))) → queued_of xs ≡ [] → length (blocked_of xs) ≡ length xs
   blocked_count [] h = refl
   blocked_count (x ∷ xs) h =
-      let first = blocked_ahead_count x.element.ticket x.element.value (queued_of xs) (blocked_of xs) h in
+      let first = blocked_ahead_count x.element.label x.element.value (queued_of xs) (blocked_of xs) h in
       first.1 ∙ ap suc (blocked_count xs first.0)
 
   -- what of two rows joined isn't queued isn't in either of them
   pub none_queued_append : (xs ys : List (Placed (Ticketed T))) → queued_of (xs ++ ys) ≡ [] → (queued_of xs ≡ []) × (queued_of ys ≡ [])
   none_queued_append [] ys h = (refl, h)
   none_queued_append (x ∷ xs) ys h =
-      let both : queued_ahead x.element.ticket x.element.value (queued_of xs) ++ queued_of ys ≡ [] = sym (queued_append (x ∷ xs) ys) ∙ h in
+      let both : queued_ahead x.element.label x.element.value (queued_of xs) ++ queued_of ys ≡ [] = sym (queued_append (x ∷ xs) ys) ∙ h in
       nothing _ _ both
     where
       nothing : (ls ms : List T) → ls ++ ms ≡ [] → (ls ≡ []) × (ms ≡ [])

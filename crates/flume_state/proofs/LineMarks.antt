@@ -3,7 +3,7 @@ use Rattle.std.proofs.Common.{◌≡◌, ℕ, suc, ◌<◌, ◌==◌, List, [], 
 use Rattle.std.proofs.lemmas.List.{append_assoc}
 use Rattle.flume_chain.specs.Chained.{Placed, times, places, first_place, found, place_after}
 use Rattle.flume_chain.proofs.Rings.{once_none, once_back}
-use Rattle.flume_state.specs.declared.ticketed.Ticketed.{Ticketed}
+use Rattle.flume_state.specs.layout.Ticketed.{Ticketed}
 use Rattle.flume_state.specs.layout.Ticketed.{ticket_in}
 use Rattle.flume_state.specs.Messages.{Messages}
 use Rattle.flume_state.specs.Notices.{due_now}
@@ -70,9 +70,9 @@ module _ {T S : Type 0} where
 
   -- one ahead of others is marked before them
   one_marked : (x : Placed (Ticketed T)) (xs : List (Placed (Ticketed T))) (sends : SendMap S)
-      → with_all_due (blocked_of (x ∷ xs)) sends ≡ with_all_due (blocked_of xs) (marked_at x.element.ticket sends)
-  one_marked x xs sends = elim x.element.ticket as (λ t.
-      with_all_due (blocked_of (record { place = x.place; element = record { ticket = t; value = x.element.value } } ∷ xs)) sends
+      → with_all_due (blocked_of (x ∷ xs)) sends ≡ with_all_due (blocked_of xs) (marked_at x.element.label sends)
+  one_marked x xs sends = elim x.element.label as (λ t.
+      with_all_due (blocked_of (record { place = x.place; element = record { label = t; value = x.element.value } } ∷ xs)) sends
       ≡ with_all_due (blocked_of xs) (marked_at t sends)) [
         | None ↦ refl
         | Some t ↦ refl
@@ -89,7 +89,7 @@ module _ {T S : Type 0} where
       let h = headed w.rest place (sym some ∙ w.here) in
       let split : items ≡ w.before ++ h.head ∷ h.tail = w.is ∙ ap (λ r. w.before ++ r) h.is in
       let apart_split : Apart (w.before ++ h.head ∷ h.tail) = subst Apart split apart in
-      let ticket : ticket_in (found items place) ≡ h.head.element.ticket =
+      let ticket : ticket_in (found items place) ≡ h.head.element.label =
       ap (λ k. ticket_in (found items k)) (sym h.here) ∙ ap (λ l. ticket_in (found l h.head.place)) split
       ∙ ap ticket_in (found_here w.before h.tail h.head apart_split) in
       let after : place_after items place ≡ first_place h.tail =

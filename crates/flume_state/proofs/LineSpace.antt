@@ -4,7 +4,7 @@ use Rattle.std.specs.Prelude.{OnSome}
 use Rattle.std.specs.Option.{option_map}
 use Rattle.flume_chain.specs.Chained.{Chained, Placed, found, without, behind_first, first_element, times, places}
 use Rattle.flume_chain.proofs.ChainLaws.{length-put_before, length-without}
-use Rattle.flume_state.specs.declared.ticketed.Ticketed.{Ticketed}
+use Rattle.flume_state.specs.layout.Ticketed.{Ticketed}
 use Rattle.flume_state.specs.layout.Ticketed.{put_ahead, without_ticket_at}
 use Rattle.flume_state.specs.Messages.{Messages, count}
 use Rattle.flume_state.specs.layout.LineLayout.{line_of, space_of, LineLayout}

@@ -4,7 +4,7 @@ use Rattle.std.specs.Prelude.{OnSome}
 use Rattle.std.specs.Option.{option_or, option_map}
 use Rattle.std.proofs.lemmas.List.{append_assoc}
 use Rattle.flume_chain.specs.Chained.{Placed, first_place, found, without, behind_first, first_element, place_after}
-use Rattle.flume_state.specs.declared.ticketed.Ticketed.{Ticketed}
+use Rattle.flume_state.specs.layout.Ticketed.{Ticketed}
 use Rattle.flume_state.specs.layout.Ticketed.{put_ahead, without_ticket_at, ticket_in}
 use Rattle.flume_state.specs.Messages.{Blocked, Messages, Admits}
 use Rattle.flume_state.specs.layout.LineLayout.{blocked_ahead, queued_of, blocked_of, line_of, LineLayout}
@@ -19,11 +19,11 @@ pub record Lays {T : Type 0} (items : List (Placed (Ticketed T))) (first : Optio
 module _ {T : Type 0} where
   -- a message without a ticket, at its place
   abbrev pub queued_at : ℕ → T → Placed (Ticketed T)
-  queued_at place m = record { place = place; element = record { ticket = None; value = m } }
+  queued_at place m = record { place = place; element = record { label = None; value = m } }
 
   -- a message with a ticket, at its place
   abbrev pub blocked_at : ℕ → ℕ → T → Placed (Ticketed T)
-  blocked_at place t m = record { place = place; element = record { ticket = Some t; value = m } }
+  blocked_at place t m = record { place = place; element = record { label = Some t; value = m } }
 
   -- a message that joins the queue stands between both parts
   pub queues : (items new : List (Placed (Ticketed T))) (first : Option ℕ) (count place space more : ℕ) (m : T) (line : Messages T)
@@ -100,7 +100,7 @@ module _ {T : Type 0} where
   takes_from [] back items new first count space line is none_blocked none_queued boundary counted view some rest =
       absurd (some (ap (λ (m : Messages T). length m.queued) (sym view ∙ ap (λ l. line_of l space) is) ∙ ap length none_queued))
   takes_from (x ∷ front) back items new first count space line is none_blocked none_queued boundary counted view some rest =
-      let head = unblocked x.element.ticket x.element.value (queued_of (front ++ back)) (blocked_of front) none_blocked in
+      let head = unblocked x.element.label x.element.value (queued_of (front ++ back)) (blocked_of front) none_blocked in
       let same : blocked_of (x ∷ (front ++ back)) ≡ blocked_of (front ++ back) =
       ap (λ o. blocked_ahead o x.element.value (blocked_of (front ++ back))) head.0 in
       let left : new ≡ front ++ back = rest ∙ ap behind_first is in
@@ -132,7 +132,7 @@ module _ {T : Type 0} where
       (x : Placed (Ticketed T)) : Type 0 where
     pub among : items ≡ front ++ before ++ x ∷ after
     pub ticket : ℕ
-    pub has : x.element.ticket ≡ Some ticket
+    pub has : x.element.label ≡ Some ticket
     pub all : line.blocked ≡ blocked_of before ++ record { ticket = ticket; message = x.element.value } ∷ blocked_of after
     pub others : queued_of (before ++ after) ≡ []
 
@@ -140,7 +140,7 @@ module _ {T : Type 0} where
       → (w : LineLayout items first count) → line_of items space ≡ line → w.back ≡ before ++ x ∷ after → Stands items line w.front before after x
   stands items before after first count space x line w view split =
       let none = none_queued_append before (x ∷ after) (ap queued_of (sym split) ∙ w.none_queued) in
-      let own = unqueued x.element.ticket x.element.value (queued_of after) none.1 in
+      let own = unqueued x.element.label x.element.value (queued_of after) none.1 in
       record {
         among = w.is ∙ ap (λ (l : List (Placed (Ticketed T))). w.front ++ l) split ∙ sym (append_assoc w.front before (x ∷ after));
         ticket = own.0;

@@ -5,7 +5,7 @@ use Rattle.std.proofs.lemmas.List.{map-append, append-nil}
 use Rattle.flume_chain.specs.Chained.{once, times, Placed, places, found, without, first_place, place_after}
 use Rattle.flume_chain.proofs.Rings.{times-append, once_same, once_none, once_back, with_same}
 use Rattle.flume_chain.proofs.Tables.{without_at, put_before_at, after_at, found_put}
-use Rattle.flume_state.specs.declared.ticketed.Ticketed.{Ticketed}
+use Rattle.flume_state.specs.layout.Ticketed.{Ticketed}
 use Rattle.flume_state.specs.layout.Ticketed.{place_of, put_ahead, without_ticket_at}
 use Rattle.flume_model.specs.Log.{is_ticket}
 
@@ -60,7 +60,7 @@ module _ {E : Type 0} where
 
   -- an element whose ticket is lost
   abbrev pub unticketed : Placed (Ticketed E) → Placed (Ticketed E)
-  unticketed x = record x { element = record x.element { ticket = None } }
+  unticketed x = record x { element = record x.element { label = None } }
 
   -- where none stands at the place, no ticket is lost
   released_none : (xs : List (Placed (Ticketed E))) (k : ℕ) → times k (places xs) ≡ 0 → without_ticket_at k xs ≡ xs
@@ -90,15 +90,15 @@ module _ {E : Type 0} where
     pub after : List (Placed (Ticketed E))
     pub is : items ≡ before ++ holder ∷ after
     pub here : holder.place ≡ place
-    pub ticket : holder.element.ticket ≡ Some t
+    pub ticket : holder.element.label ≡ Some t
     pub first : place_of t before ≡ None
 
   pub holder_of : (items : List (Placed (Ticketed E))) (t place : ℕ) → place_of t items ≡ Some place → Holder items t place
   holder_of [] t place h = absurd cc
-  holder_of (x ∷ items) t place h = elim (cases_Bool (is_ticket t x.element.ticket)) [
+  holder_of (x ∷ items) t place h = elim (cases_Bool (is_ticket t x.element.label)) [
     | inl is ↦ (
         let same : Some x.place ≡ Some place = sym (ap (λ b. if b then Some x.place else place_of t items) is) ∙ h in
-        record { before = []; holder = x; after = items; is = refl; here = cc; ticket = has_ticket t x.element.ticket is; first = refl }
+        record { before = []; holder = x; after = items; is = refl; here = cc; ticket = has_ticket t x.element.label is; first = refl }
         )
     | inr other ↦ (
         let r = holder_of items t place (sym (ap (λ b. if b then Some x.place else place_of t items) other) ∙ h) in

@@ -7,7 +7,7 @@ use Rattle.flume_chain.specs.Chained.{times, places, without, first_place}
 use Rattle.flume_chain.proofs.Rings.{times-append, once_same}
 use Rattle.flume_chain.proofs.Tables.{item, put_before_at}
 use Rattle.flume_state.specs.declared.sends.LiveSend.{LiveSend}
-use Rattle.flume_state.specs.declared.ticketed.Ticketed.{Ticketed}
+use Rattle.flume_state.specs.layout.Ticketed.{Ticketed}
 use Rattle.flume_state.specs.layout.SendLayout.{Element, EachDueIs, SendLayout}
 use Rattle.flume_state.specs.layout.Ticketed.{ticket_times, put_ahead}
 use Rattle.flume_state.proofs.ByTicket.{under}

@@ -9,10 +9,11 @@ use Rattle.flume_chain.specs.Chained.{Chained, times, places, found, without, fi
 use Rattle.flume_chain.proofs.Rings.{once_same}
 use Rattle.flume_chain.proofs.Tables.{item, after_at, without_none}
 use Rattle.flume_state.specs.declared.sends.LiveSend.{LiveSend}
-use Rattle.flume_state.specs.declared.ticketed.Ticketed.{Ticketed}
+use Rattle.flume_state.specs.layout.Ticketed.{Ticketed}
 use Rattle.flume_state.specs.Sends.{SendMap, changed, send_due_in, NoDueSend}
 use Rattle.flume_state.specs.layout.SendLayout.{Element, by_ticket, EachDueIs, SendLayout}
-use Rattle.flume_state.specs.layout.Ticketed.{place_of, ticket_times, put_ahead, with_value_at}
+use Rattle.flume_chain.specs.Edited.{with_value_at}
+use Rattle.flume_state.specs.layout.Ticketed.{place_of, ticket_times, put_ahead}
 use Rattle.flume_model.specs.Log.{is_ticket}
 use Rattle.flume_state.proofs.SendsLaws.{changed_none, remove_absent}
 use Rattle.flume_state.proofs.ByTicket.{under, value_of, get_by_ticket, value_ahead, value_nowhere, found_somewhere, by_ticket_insert, by_ticket_changed}
@@ -160,7 +161,7 @@ module _ {S : Type 0} where
   quiet_value : (t : ℕ) (xs : List (Element S)) → EachDueIs false xs → send_due_in (value_of t xs) ≡ false
   quiet_value t [] h = refl
   quiet_value t (x ∷ xs) h =
-      elim (is_ticket t x.element.ticket) as (λ b. send_due_in (if b then Some x.element.value else value_of t xs) ≡ false) [
+      elim (is_ticket t x.element.label) as (λ b. send_due_in (if b then Some x.element.value else value_of t xs) ≡ false) [
         | true ↦ h.1
         | false ↦ quiet_value t xs h.2
       ]

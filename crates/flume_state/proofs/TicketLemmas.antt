@@ -7,7 +7,7 @@ use Rattle.std.proofs.lemmas.List.{map-append}
 use Rattle.flume_chain.specs.Chained.{Placed, once, times, places, found, without, put_before}
 use Rattle.flume_chain.proofs.Rings.{times-append, once_same, once_more}
 use Rattle.flume_chain.proofs.Tables.{item, found_some, without_at}
-use Rattle.flume_state.specs.declared.ticketed.Ticketed.{Ticketed}
+use Rattle.flume_state.specs.layout.Ticketed.{Ticketed}
 use Rattle.flume_state.specs.layout.Places.{PlaceMap}
 use Rattle.flume_state.specs.layout.Ticketed.{place_of, ticket_times, put_ahead, Agrees}
 use Rattle.flume_model.specs.Log.{is_ticket}
@@ -37,18 +37,18 @@ none_first false n h = refl
 module _ {E : Type 0} where
   -- an element among others adds its own ticket
   pub times_amid : (t : ℕ) (xs ys : List (Placed (Ticketed E))) (x : Placed (Ticketed E))
-      → ticket_times t (xs ++ x ∷ ys) ≡ one_of t x.element.ticket + ticket_times t (xs ++ ys)
+      → ticket_times t (xs ++ x ∷ ys) ≡ one_of t x.element.label + ticket_times t (xs ++ ys)
   times_amid t [] ys x = refl
   times_amid t (y ∷ xs) ys x = omega (arith, times_amid t xs ys x)
 
   -- an element among others changes the place of no ticket but its own
-  pub place_amid : (t : ℕ) (xs ys : List (Placed (Ticketed E))) (x : Placed (Ticketed E)) → is_ticket t x.element.ticket ≡ false
+  pub place_amid : (t : ℕ) (xs ys : List (Placed (Ticketed E))) (x : Placed (Ticketed E)) → is_ticket t x.element.label ≡ false
       → place_of t (xs ++ x ∷ ys) ≡ place_of t (xs ++ ys)
   place_amid t [] ys x other = ap (λ b. cond b (Some x.place) (place_of t ys)) other
-  place_amid t (y ∷ xs) ys x other = ap (cond (is_ticket t y.element.ticket) (Some y.place)) (place_amid t xs ys x other)
+  place_amid t (y ∷ xs) ys x other = ap (cond (is_ticket t y.element.label) (Some y.place)) (place_amid t xs ys x other)
 
   -- an element has the place of its ticket, where none beside it has that
-  pub place_own : (t : ℕ) (xs ys : List (Placed (Ticketed E))) (x : Placed (Ticketed E)) → is_ticket t x.element.ticket ≡ true
+  pub place_own : (t : ℕ) (xs ys : List (Placed (Ticketed E))) (x : Placed (Ticketed E)) → is_ticket t x.element.label ≡ true
       → ticket_times t (xs ++ ys) ≡ 0 → place_of t (xs ++ x ∷ ys) ≡ Some x.place
   place_own t [] ys x own none = ap (λ b. cond b (Some x.place) (place_of t ys)) own
   place_own t (y ∷ xs) ys x own none =
@@ -65,14 +65,14 @@ module _ {E : Type 0} where
   pub times_none : (t : ℕ) (xs : List (Placed (Ticketed E))) → place_of t xs ≡ None → ticket_times t xs ≡ 0
   times_none t [] none = refl
   times_none t (y ∷ xs) none =
-      elim (cases_Bool (is_ticket t y.element.ticket)) [
+      elim (cases_Bool (is_ticket t y.element.label)) [
         | inl own ↦ (
             let some : Some y.place ≡ None = sym (ap (λ b. cond b (Some y.place) (place_of t xs)) own) ∙ none in
             absurd (let no : ⊥ = cc in no)
             )
         | inr other ↦ (
             let rest = times_none t xs (sym (ap (λ b. cond b (Some y.place) (place_of t xs)) other) ∙ none) in
-            let here : one_of t y.element.ticket ≡ 0 = ap (λ b. cond b 1 0) other in
+            let here : one_of t y.element.label ≡ 0 = ap (λ b. cond b 1 0) other in
             omega arith
             )
       ]
@@ -91,16 +91,16 @@ module _ {E : Type 0} where
     pub others : rest ≡ before ++ after
 
 module _ {E : Type 0} (items rest : List (Placed (Ticketed E))) (x : Placed (Ticketed E)) (m : PlaceMap) (at : Amid items rest x) where
-  counts : (t : ℕ) → ticket_times t items ≡ one_of t x.element.ticket + ticket_times t rest
+  counts : (t : ℕ) → ticket_times t items ≡ one_of t x.element.label + ticket_times t rest
   counts t = rw at.whole (rw at.others (times_amid t at.before at.after x))
 
   names : (k : ℕ) → times k (places items) ≡ once x.place k + times k (places rest)
   names k = rw at.whole (rw at.others (once_amid k at.before at.after x))
 
-  same : (t : ℕ) → is_ticket t x.element.ticket ≡ false → place_of t items ≡ place_of t rest
+  same : (t : ℕ) → is_ticket t x.element.label ≡ false → place_of t items ≡ place_of t rest
   same t other = rw at.whole (rw at.others (place_amid t at.before at.after x other))
 
-  pub own : (t : ℕ) → is_ticket t x.element.ticket ≡ true → ticket_times t rest ≡ 0 → place_of t items ≡ Some x.place
+  pub own : (t : ℕ) → is_ticket t x.element.label ≡ true → ticket_times t rest ≡ 0 → place_of t items ≡ Some x.place
   own t is none = rw at.whole (place_own t at.before at.after x is (ap (ticket_times t) (sym at.others) ∙ none))
 
   kept_apart : ((k : ℕ) → times k (places items) ≤ 1) → (k : ℕ) → times k (places rest) ≤ 1
@@ -112,11 +112,11 @@ module _ {E : Type 0} (items rest : List (Placed (Ticketed E))) (x : Placed (Tic
       let most = once_more (λ j. times j (places rest)) x.place k fresh (apart k) in
       omega arith
 
-  other_of : (t : ℕ) → x.element.ticket ≡ None → is_ticket t x.element.ticket ≡ false
+  other_of : (t : ℕ) → x.element.label ≡ None → is_ticket t x.element.label ≡ false
   other_of t plain = ap (is_ticket t) plain
 
   -- the map is that of the others once an element without a ticket is taken out
-  pub plain_out : x.element.ticket ≡ None → Agrees items m → Agrees rest m
+  pub plain_out : x.element.label ≡ None → Agrees items m → Agrees rest m
   plain_out plain a = record {
     found = λ t. a.found t ∙ same t (other_of t plain);
     single = λ t. let most = a.single t in let sum = counts t in omega arith;
@@ -124,23 +124,23 @@ module _ {E : Type 0} (items rest : List (Placed (Ticketed E))) (x : Placed (Tic
   }
 
   -- and of all once it is put in
-  pub plain_in : x.element.ticket ≡ None → times x.place (places rest) ≡ 0 → Agrees rest m → Agrees items m
+  pub plain_in : x.element.label ≡ None → times x.place (places rest) ≡ 0 → Agrees rest m → Agrees items m
   plain_in plain fresh a = record {
     found = λ t. a.found t ∙ sym (same t (other_of t plain));
     single = λ t.
         let most = a.single t in
         let sum = counts t in
-        let none : one_of t x.element.ticket ≡ 0 = ap (one_of t) plain in
+        let none : one_of t x.element.label ≡ 0 = ap (one_of t) plain in
         omega arith;
     apart = put_apart fresh a.apart;
   }
 
   -- once an element is taken out and its ticket removed, the map is that of the others
-  pub ticketed_out : (t : ℕ) → x.element.ticket ≡ Some t → Agrees items m → Agrees rest (remove m t)
+  pub ticketed_out : (t : ℕ) → x.element.label ≡ Some t → Agrees items m → Agrees rest (remove m t)
   ticketed_out t has a = record {
     found = λ u. ⊎_elim
         (λ e.
-        let one : one_of t x.element.ticket ≡ 1 = ap (one_of t) has ∙ ap (λ b. cond b 1 0) (ticket_same t) in
+        let one : one_of t x.element.label ≡ 1 = ap (one_of t) has ∙ ap (λ b. cond b 1 0) (ticket_same t) in
         let sum = counts t in
         let most = a.single t in
         subst (λ v. get (remove m t) v ≡ place_of v rest) (sym e)
@@ -151,11 +151,11 @@ module _ {E : Type 0} (items rest : List (Placed (Ticketed E))) (x : Placed (Tic
   }
 
   -- once an element is put in with a new ticket, and that into the map, the map is that of all
-  pub ticketed_in : (t : ℕ) → x.element.ticket ≡ Some t → place_of t rest ≡ None → times x.place (places rest) ≡ 0
+  pub ticketed_in : (t : ℕ) → x.element.label ≡ Some t → place_of t rest ≡ None → times x.place (places rest) ≡ 0
       → Agrees rest m → Agrees items (insert m t x.place)
   ticketed_in t has new fresh a =
       let none = times_none t rest new in
-      let is : is_ticket t x.element.ticket ≡ true = ap (is_ticket t) has ∙ ticket_same t in
+      let is : is_ticket t x.element.label ≡ true = ap (is_ticket t) has ∙ ticket_same t in
       record {
         found = λ u. ⊎_elim
             (λ e. subst (λ v. get (insert m t x.place) v ≡ place_of v items) (sym e)
@@ -164,11 +164,11 @@ module _ {E : Type 0} (items rest : List (Placed (Ticketed E))) (x : Placed (Tic
             (cases_eq u t);
         single = λ u. ⊎_elim
             (λ e. subst (λ v. ticket_times v items ≤ 1) (sym e)
-            (let sum = counts t in let one : one_of t x.element.ticket ≡ 1 = ap (λ b. cond b 1 0) is in omega arith))
+            (let sum = counts t in let one : one_of t x.element.label ≡ 1 = ap (λ b. cond b 1 0) is in omega arith))
             (λ ne.
             let sum = counts u in
             let most = a.single u in
-            let no : one_of u x.element.ticket ≡ 0 = ap (λ b. cond b 1 0) (ap (is_ticket u) has ∙ ticket_other u t ne) in
+            let no : one_of u x.element.label ≡ 0 = ap (λ b. cond b 1 0) (ap (is_ticket u) has ∙ ticket_other u t ne) in
             omega arith)
             (cases_eq u t);
         apart = put_apart fresh a.apart;

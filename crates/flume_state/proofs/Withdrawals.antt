@@ -4,7 +4,7 @@ use Rattle.std.specs.List.{All}
 use Rattle.std.proofs.lemmas.Bool.{cases_Bool, eqb-false}
 use Rattle.std.proofs.lemmas.List.Elements.{All-nil, All-cons}
 use Rattle.flume_chain.specs.Chained.{Placed}
-use Rattle.flume_state.specs.declared.ticketed.Ticketed.{Ticketed}
+use Rattle.flume_state.specs.layout.Ticketed.{Ticketed}
 use Rattle.flume_state.specs.layout.Ticketed.{place_of}
 use Rattle.flume_model.specs.Log.{is_ticket}
 use Rattle.flume_state.specs.Messages.{Blocked, Messages, TakesBack}
@@ -23,12 +23,12 @@ module _ {T : Type 0} where
   -- where no element has the ticket, no blocked message has it
   none_has : (t : ℕ) (xs : List (Placed (Ticketed T))) → place_of t xs ≡ None → All (λ b. b.ticket ≢ t) (blocked_of xs)
   none_has t [] none = All-nil _
-  none_has t (x ∷ xs) none = elim (cases_Bool (is_ticket t x.element.ticket)) [
+  none_has t (x ∷ xs) none = elim (cases_Bool (is_ticket t x.element.label)) [
     | inl here ↦ (
         let both : Some x.place ≡ None = sym (ap (λ b. if b then Some x.place else place_of t xs) here) ∙ none in
         absurd (let no : ⊥ = cc in no)
         )
-    | inr other ↦ others_ahead t x.element.ticket x.element.value (blocked_of xs) other
+    | inr other ↦ others_ahead t x.element.label x.element.value (blocked_of xs) other
         (none_has t xs (sym (ap (λ b. if b then Some x.place else place_of t xs) other) ∙ none))
   ]
 
@@ -36,7 +36,7 @@ module _ {T : Type 0} where
   place_behind : (t : ℕ) (xs ys : List (Placed (Ticketed T))) → blocked_of xs ≡ [] → place_of t (xs ++ ys) ≡ place_of t ys
   place_behind t [] ys none = refl
   place_behind t (x ∷ xs) ys none =
-      let first = unblocked x.element.ticket x.element.value [] (blocked_of xs) none in
+      let first = unblocked x.element.label x.element.value [] (blocked_of xs) none in
       ap (λ o. if is_ticket t o then Some x.place else place_of t (xs ++ ys)) first.0 ∙ place_behind t xs ys first.1
 
   -- the first element with a ticket is the first blocked message with it

@@ -59,15 +59,4 @@ impl MaybeTicket {
         }
         Some(self.number)
     }
-
-    /// Takes the ticket out, and leaves none. `None` where there was none.
-    #[inline(always)]
-    pub fn take(&mut self) -> Option<u64>
-        ensures value { result ≡ self.old }
-        ensures after { self.new ≡ None }
-    {
-        let ticket = self.get();
-        self.number = NO_TICKET;
-        ticket
-    }
 }

@@ -9,37 +9,28 @@ ghost use Rattle.flume_chain.specs.Chained.{place_after, first_element, behind_f
 ghost use Rattle.flume_chain.specs.Chained.{times, places};
 ghost use Rattle.flume_state.specs.layout.Ticketed.{place_of, ticket_times, put_ahead};
 ghost use Rattle.flume_state.specs.layout.Ticketed.{without_ticket_at, ticket_in};
-ghost use Rattle.flume_state.specs.declared.ticketed.Ticketed.{Ticketed};
+ghost use Rattle.flume_state.specs.layout.Ticketed.{Ticketed};
 ghost use Rattle.std.specs.Borrow.{sem};
 ghost use Rattle.flume_state.specs.layout.TicketedLends.{lends_value};
 
 use crate::maybe_ticket::MaybeTicket;
 use crate::places::Places;
 use flume_chain::chain::Chain;
+use flume_chain::labelled::Labelled;
 use std::alloc::Allocator;
 use std::marker::Model;
-
-/// A value, and the ticket by which it is found, if it has one.
-#[derive(Drop)]
-pub struct Ticketed<E> {
-    /// The ticket: no two elements of a chain have the same.
-    pub ticket: MaybeTicket,
-    /// What stands under it.
-    pub value: E,
-}
 
 /// Elements in order. Each has a place, and some have a ticket.
 #[derive(Drop)]
 pub struct TicketChain<E, A: Allocator> {
-    chain: Chain<Ticketed<E>, A>,
+    chain: Chain<MaybeTicket, E, A>,
     // Where each ticket stands.
     places: Places<A>,
 }
 
 impl<E, A: Allocator> Model for TicketChain<E, A> {
     ghost use Rattle.flume_chain.specs.Chained.{Chained};
-    ghost use Rattle.flume_state.specs.declared.ticketed.Ticketed.{Ticketed};
-    ghost use Rattle.flume_state.specs.layout.Ticketed.{Agrees};
+    ghost use Rattle.flume_state.specs.layout.Ticketed.{Ticketed, Agrees};
 
     ghost Value = { Chained (Ticketed E) };
 
@@ -117,7 +108,7 @@ impl<E: Drop, A: Allocator + Copy> TicketChain<E, A> {
         ensures found { option_copied result
             ≡ option_map (λ e. e.value) (found self.now.items place) }
     {
-        Some(&self.chain.get(place)?.value)
+        self.chain.get(place)
     }
 
     /// The ticket of the element at a place. `None` where none stands there, or it has none.
@@ -125,7 +116,7 @@ impl<E: Drop, A: Allocator + Copy> TicketChain<E, A> {
     pub fn ticket(&self, place: u32) -> Option<u64>
         ensures ticket { result ≡ ticket_in (found self.now.items place) }
     {
-        self.chain.get(place)?.ticket.get()
+        self.chain.label(place)?.get()
     }
 
     /// The value at a place, to be written. `None` where none stands there.
@@ -136,7 +127,7 @@ impl<E: Drop, A: Allocator + Copy> TicketChain<E, A> {
             ≡ option_map (λ e. e.value) (found self.old.items place) }
     {
         match self.chain.get_mut(place) {
-            Some(element) => Some(&mut element.value),
+            Some(value) => Some(value),
             None => None,
         }
     }
@@ -157,15 +148,15 @@ impl<E: Drop, A: Allocator + Copy> TicketChain<E, A> {
     #[inline(always)]
     pub fn insert_before(&mut self, next: Option<u32>, value: E) -> Result<u32, E>
         ensures inserted { IfOk result (λ place. self.new.items ≡ put_ahead self.old.items next
-            (record { place = place; element = record { ticket = None; value = value } })) }
+            (record { place = place; element = record { label = None; value = value } })) }
         ensures fresh { IfOk result (λ place. found self.old.items place ≡ None) }
         ensures room { OnOk result (0 < self.old.room → self.new.room + 1 ≡ self.old.room) }
         ensures succeeds { 0 < self.old.room → IsOk result }
         ensures returned { IfErr result (λ back. back ≡ value) }
         ensures unchanged { OnErr result (self.new ≡ self.old) }
     {
-        let element = Ticketed {
-            ticket: MaybeTicket::none(),
+        let element = Labelled {
+            label: MaybeTicket::none(),
             value,
         };
         match push(&mut self.chain, next, element) {
@@ -180,7 +171,7 @@ impl<E: Drop, A: Allocator + Copy> TicketChain<E, A> {
     /// 4,294,967,295 elements standing, the value comes back, and the chain stays as it was.
     pub fn insert_ticket(&mut self, next: Option<u32>, ticket: u64, value: E) -> Result<u32, E>
         ensures inserted { IfOk result (λ place. self.new.items ≡ put_ahead self.old.items next
-            (record { place = place; element = record { ticket = Some ticket; value = value } })) }
+            (record { place = place; element = record { label = Some ticket; value = value } })) }
         ensures fresh { IfOk result (λ place. found self.old.items place ≡ None) }
         ensures new_ticket { OnOk result (place_of ticket self.old.items ≡ None) }
         ensures fits { OnOk result (length self.new.items ≤ 4294967295) }
@@ -197,10 +188,7 @@ impl<E: Drop, A: Allocator + Copy> TicketChain<E, A> {
         if self.places.insert(ticket, 0).is_err() {
             return Err(value);
         }
-        let element = Ticketed {
-            ticket: held,
-            value,
-        };
+        let element = Labelled { label: held, value };
         match push(&mut self.chain, next, element) {
             Ok(place) => {
                 let _ = self.places.insert(ticket, place);
@@ -232,12 +220,12 @@ impl<E: Drop, A: Allocator + Copy> TicketChain<E, A> {
     #[inline(always)]
     pub fn release(&mut self, place: u32) -> Option<u64>
         ensures ticket { result ≡ ticket_in (found self.old.items place) }
-        ensures released { self.new.items ≡ without_ticket_at place self.old.items }
+        ensures released { OnSome result (self.new.items ≡ without_ticket_at place self.old.items) }
         ensures room { self.new.room ≡ self.old.room }
         ensures unchanged { IfNone result (self.new ≡ self.old) }
     {
-        let element = self.chain.get_mut(place)?;
-        let ticket = element.ticket.take()?;
+        let ticket = self.chain.label(place)?.get()?;
+        self.chain.set_label(place, MaybeTicket::none());
         self.places.remove(ticket);
         Some(ticket)
     }
@@ -253,7 +241,7 @@ impl<E: Drop, A: Allocator + Copy> TicketChain<E, A> {
         ensures unchanged { IfNone result (self.new ≡ self.old) }
     {
         let element = self.chain.remove(place)?;
-        if let Some(ticket) = element.ticket.get() {
+        if let Some(ticket) = element.label.get() {
             self.places.remove(ticket);
         }
         Some(element.value)
@@ -269,7 +257,7 @@ impl<E: Drop, A: Allocator + Copy> TicketChain<E, A> {
         ensures unchanged { IfNone result (self.new ≡ self.old) }
     {
         let element = self.chain.pop_front()?;
-        if let Some(ticket) = element.ticket.get() {
+        if let Some(ticket) = element.label.get() {
             self.places.remove(ticket);
         }
         Some(element.value)
@@ -289,10 +277,10 @@ impl<E: Drop, A: Allocator + Copy> TicketChain<E, A> {
 // stands there.
 #[inline(always)]
 fn push<E: Drop, A: Allocator>(
-    chain: &mut Chain<Ticketed<E>, A>,
+    chain: &mut Chain<MaybeTicket, E, A>,
     next: Option<u32>,
-    element: Ticketed<E>,
-) -> Result<u32, Ticketed<E>>
+    element: Labelled<MaybeTicket, E>,
+) -> Result<u32, Labelled<MaybeTicket, E>>
     ensures inserted { IfOk result (λ place. chain.new.items
         ≡ put_ahead chain.old.items next (record { place = place; element = element })) }
     ensures fresh { IfOk result (λ place. found chain.old.items place ≡ None) }

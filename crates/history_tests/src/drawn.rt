@@ -1,7 +1,7 @@
 //! Drawn histories of a channel's own answers are runs, by the check and by the slow judge. With
 //! one reply altered both judge them alike.
 use crate::altered::Chance;
-use crate::fixtures::{Told, had, holds, is, seeded};
+use crate::fixtures::{Told, had, holds, is};
 use crate::slow::judged;
 use core_tests::draws::Draws;
 use flume_core::chan::Chan;
@@ -48,7 +48,7 @@ fn checked(rt: &impl Abort, alloc: Global, told: &Told<Global>) -> Checked {
 
 #[test]
 fn the_answers_of_a_channel_are_runs(rt: HostRuntime) {
-    let mut draws = seeded(20_261_126);
+    let mut draws = Draws::seeded(20_261_126);
     for _ in 0..HISTORIES {
         let told = draw(&rt, rt.alloc(), &mut draws);
         let checked = checked(&rt, rt.alloc(), &told);
@@ -85,7 +85,7 @@ fn has_line(text: &str, word: &str) -> bool {
 
 #[test]
 fn a_history_breaks_at_a_reply_that_is_changed_to_another_of_its_kind(rt: HostRuntime) {
-    let mut draws = seeded(20_261_126);
+    let mut draws = Draws::seeded(20_261_126);
     let mut chance = Chance { state: 20_261_127 };
     let mut text = String::new(rt.alloc());
     for _ in 0..HISTORIES {
@@ -96,50 +96,27 @@ fn a_history_breaks_at_a_reply_that_is_changed_to_another_of_its_kind(rt: HostRu
     holds(&rt, "a kind of replies wasn't changed", is_each);
 }
 
-// How many histories in which memory is said to have been wanted were runs, broke there, and broke
-// later. No other answer is counted.
-#[derive(Clone, Copy, Drop)]
-struct Tally {
-    runs: u64,
-    there: u64,
-    later: u64,
-}
-
-impl Tally {
-    // Counts a history that was answered so, where memory is said to have been wanted at the place.
-    fn count(&mut self, place: usize, checked: Checked) {
-        match checked {
-            Checked::Run => self.runs = self.runs.saturating_add(1),
-            Checked::Breaks(broken) if broken == place => {
-                self.there = self.there.saturating_add(1);
-            }
-            Checked::Breaks(broken) if broken > place => self.later = self.later.saturating_add(1),
-            _ => {}
-        }
-    }
-}
-
 #[test]
 fn want_of_memory_in_place_of_a_reply_is_judged_alike(rt: HostRuntime) {
-    let mut draws = seeded(20_261_126);
+    let mut draws = Draws::seeded(20_261_126);
     let mut chance = Chance { state: 20_261_128 };
-    let mut tally = Tally {
-        runs: 0,
-        there: 0,
-        later: 0,
-    };
+    // How many histories were runs, broke at the reply, and broke later.
+    let (mut runs, mut there, mut later) = (0u64, 0u64, 0u64);
     for _ in 0..HISTORIES {
         let mut told = draw(&rt, rt.alloc(), &mut draws);
         let place = chance.below(STEPS) as usize;
         let (step, reply) = told.history.get_mut(place).expect(&rt, "a step");
         *reply = chance.want_of_memory(step);
-        tally.count(place, checked(&rt, rt.alloc(), &told));
+        let count = match checked(&rt, rt.alloc(), &told) {
+            Checked::Run => &mut runs,
+            Checked::Breaks(broken) if broken > place => &mut later,
+            checked => {
+                is(&rt, "another answer", checked, Checked::Breaks(place));
+                &mut there
+            }
+        };
+        *count = count.saturating_add(1);
     }
-    let is_some = tally.runs > 0 && tally.later > 0 && tally.there > 1000;
+    let is_some = runs > 0 && later > 0 && there > 1000;
     holds(&rt, "too few of one answer", is_some);
-    let all = tally
-        .runs
-        .saturating_add(tally.there)
-        .saturating_add(tally.later);
-    holds(&rt, "another answer", all == HISTORIES);
 }

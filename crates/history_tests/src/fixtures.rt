@@ -1,7 +1,6 @@
 //! What several tests use: answers compared in one place, and histories that are written as text.
 //! What can't be had fails the test here: a `?` in a test costs the prover a second, and an abort
 //! none.
-use core_tests::draws::Draws;
 use flume_history::check::Checked;
 use flume_model::step::{Reply, Step};
 use flume_script::reading::{opening_of, step_of};
@@ -19,17 +18,23 @@ pub(crate) struct Told<A: Allocator> {
     pub(crate) history: Vec<Pair<A>, A>,
 }
 
-// The reply that a text stands for, of those that are written here. Nothing is filled by `sent`.
+// The reply that a text stands for, of those that are written here.
 fn reply_of<A: Allocator + Copy>(rt: &impl Abort, alloc: A, text: &str) -> Reply<u64, A> {
     let (word, rest) = text.split_once(" ").unwrap_or((text, ""));
     let mut numbers = Vec::new(alloc);
-    for number in rest.split_whitespace() {
+    for number in rest
+        .strip_prefix("filled ")
+        .unwrap_or(rest)
+        .split_whitespace()
+    {
         had(rt, numbers.push(number.parse().expect(rt, "a number")));
     }
     let number = numbers.first().copied();
     match word {
-        "sent" => Reply::Sent { filled: None },
+        "sent" => Reply::Sent { filled: number },
         "accepted" => Reply::Accepted,
+        "ended" => Reply::Ended,
+        "noticket" => Reply::NoTicket,
         "empty" => Reply::Empty,
         "done" => Reply::Done,
         "0" => Reply::Number(0),
@@ -54,15 +59,6 @@ pub(crate) fn told_by<A: Allocator + Copy>(rt: &impl Abort, alloc: A, text: &str
         had(rt, history.push((step, reply_of(rt, alloc, told))));
     }
     Told { capacity, history }
-}
-
-/// Draws from this seed.
-pub(crate) fn seeded(state: u64) -> Draws {
-    Draws {
-        state,
-        message: 0,
-        issued: 0,
-    }
 }
 
 /// The check answers so, of what has this title.

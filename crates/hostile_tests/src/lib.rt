@@ -1,10 +1,7 @@
-//! Tests of hostile use: each growth of a list and of a script refused in turn, drawn steps over an
-//! allocator that counts, ends that go at each place of a script, and threads on a channel whose
-//! allocator refuses now and then.
+//! Tests of hostile use: each growth of a list and of a script refused in turn, ends that go at each
+//! place of a script, and threads on a channel whose allocator refuses now and then.
 #![tactic(auto)]
 
-#[cfg(test)]
-mod alike;
 #[cfg(test)]
 mod fixtures;
 #[cfg(test)]

@@ -1,6 +1,6 @@
 //! Tests of what executors poll: many futures and streams of one channel, long orders, a sink that
 //! is forwarded into, and a task beside a thread. Single polled calls are scripts: those of one
-//! thread in `end_scripts`, those that meet other threads in `threads_tests`.
+//! thread in `end_scripts`, those that meet other threads in `thread_scripts`.
 #![tactic(auto)]
 
 #[cfg(test)]

@@ -2,8 +2,8 @@
 //! thread.
 use crate::fixtures::{begun, had, is, opened, ran, receive_was, watching};
 use crate::numbers::Numbers;
-use crate::works::{ChangeCapacity, Runs, SendUpTo};
-use ends_tests::changes::wait_for_change;
+use crate::works::{Runs, SendUpTo};
+use ends_tests::changes::{ChangeCapacity, wait_for_change};
 use flume::error::RecvError;
 use flume::polled::SendFut;
 use flume::{Receiver, Sender, Waits};

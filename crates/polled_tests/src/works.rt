@@ -1,7 +1,6 @@
 //! What a thread does, as a value: a closure costs the prover several times as much in each test.
-use ends_tests::changes::change_capacity;
 use ends_tests::works::Work;
-use flume::{Receiver, Sender, Waits};
+use flume::{Sender, Waits};
 use std::alloc::AllocGlobal;
 use std::process::Abort;
 use std::random::RandomSource;
@@ -34,21 +33,5 @@ impl<R: Waits> Work for SendUpTo<R> {
         for message in 0..end {
             let _ = tx.send(message);
         }
-    }
-}
-
-/// Sets one capacity after another, until all senders have been dropped. How often it did.
-#[derive(Drop)]
-pub(crate) struct ChangeCapacity<R: Waits> {
-    pub(crate) rt: R,
-    pub(crate) rx: Receiver<u64, R>,
-}
-
-impl<R: Waits> Work for ChangeCapacity<R> {
-    type Answer = u64;
-
-    fn work(self) -> u64 {
-        let ChangeCapacity { rt, rx } = self;
-        change_capacity(&rt, &rx)
     }
 }

@@ -1,90 +1,25 @@
 //! Drawn scripts: right ones, and what a few changes make of them.
 use std::alloc::{AllocError, Global};
 
-// Words that a number follows.
-const NUMBERED: &[&str] = &[
-    "try_send ",
-    "send ",
-    "poll_send ",
-    "withdraw_send ",
-    "poll ",
-    "withdraw ",
-    "set_capacity ",
-];
+// Words that a number follows. Here and below, texts are parted by bars.
+const NUMBERED: &str = "try_send |send |poll_send |withdraw_send |poll |withdraw |set_capacity ";
 
 // Lines with no number.
-const PLAIN: &[&str] = &[
-    "try_recv",
-    "recv block",
-    "recv plain",
-    "recv stream",
-    "recv arm",
-    "drain",
-    "clone_sender",
-    "clone_receiver",
-    "drop_sender",
-    "drop_receiver",
-    "len",
-    "is_empty",
-    "is_full",
-    "capacity",
-    "sender_count",
-    "receiver_count",
-    "is_disconnected",
-];
+const PLAIN: &str = "try_recv|recv block|recv plain|recv stream|recv arm|drain|clone_sender|\
+    clone_receiver|drop_sender|drop_receiver|len|is_empty|is_full|capacity|sender_count|\
+    receiver_count|is_disconnected";
 
 // Right numbers.
-const NUMBERS: &[&str] = &[
-    "0",
-    "1",
-    "2",
-    "3",
-    "4",
-    "10",
-    "007",
-    "9223372036854775808",
-    "18446744073709551615",
-    "00018446744073709551615",
-];
+const NUMBERS: &str = "0|1|2|3|4|10|007|9223372036854775808|18446744073709551615|\
+    00018446744073709551615";
 
 // What is put into a script. Each may make a line wrong; some leave it right where they stand well.
-const PIECES: &[&str] = &[
-    "\n",
-    "\r",
-    "\r\n",
-    "\n\r",
-    " ",
-    "  ",
-    "\t",
-    "\0",
-    "\u{b}",
-    "\u{85}",
-    "\u{660}",
-    "\u{2028}",
-    "+",
-    "-",
-    "_",
-    ".",
-    "0",
-    "9",
-    "a",
-    "e",
-    "S",
-    "s",
-    "18446744073709551615",
-    "18446744073709551616",
-    "99999999999999999999",
-    "340282366920938463463374607431768211456",
-    "unbounded\n",
-    "bounded 1\n",
-    "recv ",
-    "len\n",
-    "send 5\n",
-    " block",
-];
+const PIECES: &str = "\n|\r|\r\n|\n\r| |  |\t|\0|\u{b}|\u{85}|\u{660}|\u{2028}|+|-|_|.|0|9|a|e|S|s|\
+    18446744073709551615|18446744073709551616|99999999999999999999|\
+    340282366920938463463374607431768211456|unbounded\n|bounded 1\n|recv |len\n|send 5\n| block";
 
 // Texts of the table, of which a long run is made.
-const RUNS: &[&str] = &["0", "9", "a", " ", "\r", "\n", "\0", "len\n"];
+const RUNS: &str = "0|9|a| |\r|\n|\0|len\n";
 
 // Least number of pieces that no long run reaches.
 const LONGEST: usize = 5000;
@@ -108,12 +43,9 @@ impl Draws {
     }
 
     // One of these texts.
-    fn one_of(&mut self, texts: &'static [&'static str]) -> &'static str {
-        let place = self.below(texts.len());
-        match texts.get(place) {
-            Some(text) => text,
-            None => "",
-        }
+    fn one_of(&mut self, texts: &'static str) -> &'static str {
+        let place = self.below(texts.split("|").count());
+        texts.split("|").nth(place).unwrap_or("")
     }
 
     // Adds a right line: the first of a script, or a step.

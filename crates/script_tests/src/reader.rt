@@ -8,45 +8,19 @@
 //! first line is `unbounded` or `bounded N`, each other one a step. A script without any line is
 //! wrong in line 1.
 
-// Steps of one word.
-const ALONE: &[&str] = &[
-    "try_recv",
-    "drain",
-    "clone_sender",
-    "clone_receiver",
-    "drop_sender",
-    "drop_receiver",
-    "len",
-    "is_empty",
-    "is_full",
-    "capacity",
-    "sender_count",
-    "receiver_count",
-    "is_disconnected",
-];
+// Steps of one word, parted by spaces.
+const ALONE: &str = "try_recv drain clone_sender clone_receiver drop_sender drop_receiver len \
+    is_empty is_full capacity sender_count receiver_count is_disconnected";
 
 // Steps of a word and a number.
-const WITH_NUMBER: &[&str] = &[
-    "try_send",
-    "send",
-    "poll_send",
-    "withdraw_send",
-    "poll",
-    "withdraw",
-    "set_capacity",
-];
+const WITH_NUMBER: &str = "try_send send poll_send withdraw_send poll withdraw set_capacity";
 
 // What follows `recv`.
-const KINDS: &[&str] = &["block", "plain", "stream", "arm"];
+const KINDS: &str = "block plain stream arm";
 
 // Whether the word is one of these.
-fn is_one_of(word: &[u8], words: &[&str]) -> bool {
-    for other in words {
-        if word == other.as_bytes() {
-            return true;
-        }
-    }
-    false
+fn is_one_of(word: &[u8], words: &str) -> bool {
+    words.split(" ").any(|other| word == other.as_bytes())
 }
 
 // Whether the word is a number. A value past 2^128 counts as 2^128 - 1, which is too great as well.
@@ -78,10 +52,10 @@ fn parted(line: &[u8]) -> (&[u8], Option<&[u8]>) {
 fn is_right(line: &[u8], is_first: bool) -> bool {
     let (word, rest) = parted(line);
     match (is_first, rest) {
-        (true, None) => is_one_of(word, &["unbounded"]),
-        (true, Some(rest)) => is_one_of(word, &["bounded"]) && is_number(rest),
+        (true, None) => is_one_of(word, "unbounded"),
+        (true, Some(rest)) => is_one_of(word, "bounded") && is_number(rest),
         (false, None) => is_one_of(word, ALONE),
-        (false, Some(rest)) if is_one_of(word, &["recv"]) => is_one_of(rest, KINDS),
+        (false, Some(rest)) if is_one_of(word, "recv") => is_one_of(rest, KINDS),
         (false, Some(rest)) => is_one_of(word, WITH_NUMBER) && is_number(rest),
     }
 }

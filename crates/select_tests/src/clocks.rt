@@ -1,35 +1,15 @@
-//! Selections by clocks of the tests' own: one that can't be read, and one that is read at each 299
-//! milliseconds.
+//! Selections by clocks of the tests' own: one that can't be read, and ones that go on as they are
+//! read. By these a call that waits takes its time.
 use crate::fixtures::{had, is, later, offered, selected};
+use ends_tests::ends::long;
+use ends_tests::ticking::{Ticking, Unreadable};
 use flume::error::{RecvTimeoutError, SelectError, SendTimeoutError};
 use flume::{Receiver, Sender, Waits, bounded};
-use std::io;
-use std::io::ErrorKind;
+use selections::arms::How;
+use selections::shapes::{Won, receive, send};
 use std::process::Abort;
-use std::sync::Wait;
 use std::sync::atomic::{AtomicU64, Ordering};
-use std::time::{Clock, Duration};
-use threads_player::arms::How;
-use threads_player::calls::long;
-use threads_player::selections::{Won, receive, send};
-
-// A runtime whose clock can't be read.
-#[derive(Clone, Copy)]
-struct Unreadable<R> {
-    rt: R,
-}
-
-impl<R: Wait> Wait for Unreadable<R> {}
-
-impl<R> Clock for Unreadable<R> {
-    fn monotonic(&self) -> io::Result<Duration> {
-        Err(io::Error::from(ErrorKind::Unsupported))
-    }
-
-    fn since_1970(&self) -> io::Result<Duration> {
-        self.monotonic()
-    }
-}
+use std::time::{Duration, Instant};
 
 #[test]
 fn a_selection_is_late_where_the_clock_cannot_be_read(rt: HostRuntime) {
@@ -45,66 +25,55 @@ fn a_selection_is_late_where_the_clock_cannot_be_read(rt: HostRuntime) {
     offered(&rt, tx.try_send(4), Ok(()));
 }
 
-// A runtime whose clock goes on by 299 milliseconds as it is read.
-#[derive(Clone, Copy)]
-struct Slow<'a, R> {
-    rt: R,
-    readings: &'a AtomicU64,
+// The clock was read at least so often: the first reading is 0. The next count begins at 0.
+fn took_its_time(rt: &impl Abort, readings: &AtomicU64, least: u64) {
+    is(rt, readings.swap(0, Ordering::SeqCst) >= least, true);
 }
 
-impl<R: Wait> Wait for Slow<'_, R> {}
-
-impl<R> Clock for Slow<'_, R> {
-    fn monotonic(&self) -> io::Result<Duration> {
-        let earlier = self.readings.fetch_add(1, Ordering::SeqCst);
-        Ok(Duration::from_millis(earlier.saturating_mul(299)))
-    }
-
-    fn since_1970(&self) -> io::Result<Duration> {
-        self.monotonic()
-    }
-}
-
-// The time is up no sooner than by the third reading: the first is 0, and the second a millisecond
-// before it is. The next count begins at 0.
-fn took_its_time(rt: &impl Abort, readings: &AtomicU64) {
-    is(rt, readings.swap(0, Ordering::SeqCst) >= 3, true);
-}
-
-// Each call that waits up to 300 milliseconds does, on a channel that neither gives nor takes.
+// Each call that waits so long, or up to that time, does, on a channel that neither gives nor takes.
 fn each_takes_its_time<R: Waits>(
     host: &impl Abort,
     (tx, rx): (&Sender<u64, R>, &Receiver<u64, R>),
-    readings: &AtomicU64,
+    (readings, least): (&AtomicU64, u64),
+    (timeout, deadline): (Duration, Instant),
 ) {
-    let timeout = Duration::from_millis(300);
-    selected(
-        host,
-        receive(rx, How::Timeout(timeout)),
-        Err(SelectError::Timeout),
-    );
-    took_its_time(host, readings);
-    selected(
-        host,
-        send(tx, 1, How::Timeout(timeout)),
-        Err(SelectError::Timeout),
-    );
-    took_its_time(host, readings);
-    is(
-        host,
-        rx.recv_timeout(timeout),
-        Err(RecvTimeoutError::Timeout),
-    );
-    took_its_time(host, readings);
+    let late = Err(SelectError::Timeout);
+    selected(host, receive(rx, How::Timeout(timeout)), late);
+    took_its_time(host, readings, least);
+    let late = Err(SelectError::Timeout);
+    selected(host, send(tx, 1, How::Timeout(timeout)), late);
+    took_its_time(host, readings, least);
+    let late = rx.recv_timeout(timeout);
+    is(host, late, Err(RecvTimeoutError::Timeout));
+    took_its_time(host, readings, least);
     let late = tx.send_timeout(1, timeout);
     is(host, late, Err(SendTimeoutError::Timeout(1)));
-    took_its_time(host, readings);
+    took_its_time(host, readings, least);
+    let late = rx.recv_deadline(deadline);
+    is(host, late, Err(RecvTimeoutError::Timeout));
+    took_its_time(host, readings, least);
 }
 
+// How many microseconds a clock goes on by as it is read, how many a call waits, and how often its
+// clock is read then. A timeout of 300 milliseconds isn't taken as whole seconds, and one of 40
+// microseconds not as whole milliseconds.
+const CLOCKS: &[(u64, u64, u64)] = &[(299_000, 300_000, 3), (1, 40, 41)];
+
 #[test]
-fn a_timeout_below_a_second_is_not_taken_as_whole_seconds(rt: HostRuntime) {
-    let readings = AtomicU64::new(0);
-    let readings = &readings;
-    let (tx, rx) = had(&rt, bounded(Slow { rt, readings }, rt.alloc(), 1, 0));
-    each_takes_its_time(&rt, (&tx, &rx), readings);
+fn a_timeout_comes_no_sooner_than_the_clock_shows_it(rt: HostRuntime) {
+    for &(micros, waits, least) in CLOCKS {
+        let readings = AtomicU64::new(0);
+        let readings = &readings;
+        let ticking = Ticking {
+            rt,
+            readings,
+            micros,
+        };
+        let (tx, rx) = had(&rt, bounded(ticking, rt.alloc(), 1, 0));
+        let timeout = Duration::from_micros(waits);
+        let began = Instant::now(&ticking).expect(&rt, "this clock can be read");
+        let deadline = began.checked_add(timeout).expect(&rt, "it has a sum");
+        readings.store(0, Ordering::SeqCst);
+        each_takes_its_time(&rt, (&tx, &rx), (readings, least), (timeout, deadline));
+    }
 }

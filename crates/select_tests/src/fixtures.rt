@@ -1,18 +1,18 @@
 //! What several tests use: answers compared in one place for each type, channels, threads and times.
 //! What can't be had fails the test here: a `?` in a test costs the prover a second, and an abort
 //! none.
+use ends_tests::ends::{long, open};
 use ends_tests::watch::{Watch, begin_watch};
 use ends_tests::works::Work;
 use flume::error::{SelectError, TrySendError};
-use flume::{Receiver, Sender, Waits, bounded, unbounded};
+use flume::{Receiver, Sender, Waits};
+use selections::shapes::Won;
 use std::alloc::{Allocator, Global};
 use std::fmt::Debug;
 use std::process::Abort;
 use std::thread;
 use std::thread::{JoinHandle, Threads};
 use std::time::{Clock, Instant};
-use threads_player::calls::long;
-use threads_player::selections::Won;
 
 /// The selection answered so.
 pub(crate) fn selected(
@@ -56,10 +56,7 @@ pub(crate) fn opened<T: Drop, R: Waits + Abort, A: Allocator + Copy>(
     alloc: A,
     capacity: Option<usize>,
 ) -> Ends<T, R, A> {
-    match capacity {
-        Some(capacity) => had(&rt, bounded(rt, alloc, 1, capacity)),
-        None => had(&rt, unbounded(rt, alloc, 1)),
-    }
+    had(&rt, open(rt, alloc, capacity))
 }
 
 /// A thread that does this.

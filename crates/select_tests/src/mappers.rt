@@ -2,11 +2,11 @@
 use crate::fixtures::{had, holds, is, offered, opened};
 use flume::error::{RecvError, TrySendError};
 use flume::{Receiver, Selector, Sender, Waits};
+use selections::arms::{How, last_recv};
+use selections::shapes::Won;
 use std::alloc::Global;
 use std::fmt::Debug;
 use std::process::Abort;
-use threads_player::arms::{How, last_recv};
-use threads_player::selections::Won;
 
 // What a mapper found in the channels: an offer to the arm that lost, and how many messages were
 // queued where its own came from.

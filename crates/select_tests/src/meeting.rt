@@ -1,14 +1,14 @@
 //! Two selectors against each other, in two threads.
 use crate::fixtures::{Ends, begun, had, holds, is, opened, watching};
-use ends_tests::changes::{change_capacity, wait_for_change};
+use ends_tests::changes::{ChangeCapacity, wait_for_change};
 use ends_tests::works::Work;
 use flume::error::SelectError;
 use flume::{Receiver, Sender, Waits};
+use selections::arms::How;
+use selections::shapes::{Won, receive_or_send, send_or_receive};
 use std::alloc::{AllocError, Global};
 use std::process::Abort;
 use std::thread::Threads;
-use threads_player::arms::How;
-use threads_player::selections::{Won, receive_or_send, send_or_receive};
 
 // How many selections each makes, where the other does as well.
 const ROUNDS: u64 = 10_000;
@@ -143,22 +143,6 @@ fn two_selectors_that_meet_lose_and_double_no_message(rt: HostRuntime) {
     let watch = watching(rt, rt.alloc());
     meet(rt, rt.alloc(), first, second);
     watch.end(&rt);
-}
-
-// Sets one capacity after another, until all senders have been dropped. How often it did.
-#[derive(Drop)]
-struct ChangeCapacity<R: Waits> {
-    rt: R,
-    rx: Receiver<u64, R>,
-}
-
-impl<R: Waits> Work for ChangeCapacity<R> {
-    type Answer = u64;
-
-    fn work(self) -> u64 {
-        let ChangeCapacity { rt, rx } = self;
-        change_capacity(&rt, &rx)
-    }
 }
 
 #[test]

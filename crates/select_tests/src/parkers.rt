@@ -1,9 +1,9 @@
-//! A wake that comes while a wait sleeps. Here one thread does both: a wait up to a deadline reads
-//! its clock once it has said that it sleeps and has let go of its lock, and again as its sleep
-//! ends, and there the clock of this test fires. At other moments it can't: a wait without a
-//! deadline reads no clock (`tools/idle` ends such sleeps from another thread), and a wait that
-//! looks for its wake after a sleep holds its lock, for which a fire waits. `ends_tests` has the
-//! wakes before the sleep.
+//! A wake that comes before a wait, before its sleep, or while it sleeps. Here one thread does both:
+//! a wait up to a deadline reads its clock as it has found no wake, once it has said that it sleeps
+//! and has let go of its lock, and again as its sleep ends, and there the clock of this test fires.
+//! At other moments it can't: a wait without a deadline reads no clock (`tools/idle` ends such
+//! sleeps from another thread), and a wait that looks for its wake after a sleep holds its lock, for
+//! which a fire waits. A spin that looked for another word would only be slow: no test shows it.
 use crate::fixtures::{is, watching};
 use flume::signal::Parker;
 use std::io;
@@ -37,6 +37,30 @@ const LATE: Nap = Nap {
     fires_at: NEVER,
     past_from: 4,
     readings: 5,
+};
+
+// It is woken before it begins: it takes the wake, and reads no clock.
+const BEFORE_IT_BEGINS: Nap = Nap {
+    left: HOUR,
+    fires_at: 0,
+    past_from: NEVER,
+    readings: 1,
+};
+
+// It is woken as it first reads its clock, by which the time is up: it leaves the wake.
+const TOO_LATE: Nap = Nap {
+    left: HOUR,
+    fires_at: 1,
+    past_from: 1,
+    readings: 2,
+};
+
+// It takes a wake that was left.
+const ALREADY_WOKEN: Nap = Nap {
+    left: HOUR,
+    fires_at: NEVER,
+    past_from: NEVER,
+    readings: 1,
 };
 
 // It is woken as it falls asleep, for an hour.
@@ -96,7 +120,19 @@ const NAPS: &[Nap] = &[
     AS_IT_FALLS_ASLEEP,
     AS_IT_FALLS_ASLEEP,
     LATE,
+    BEFORE_IT_BEGINS,
+    LATE,
+    TOO_LATE,
+    ALREADY_WOKEN,
+    LATE,
 ];
+
+// Wakes the parker, so often.
+fn fire<R: Wait>(rt: &R, parker: &Parker, wakes: u32) {
+    for _ in 0..wakes {
+        parker.fire(rt);
+    }
+}
 
 // A clock that counts its readings, and fires the parker at one of them, so often.
 #[derive(Clone, Copy)]
@@ -114,9 +150,7 @@ impl<R: Wait> Clock for Firing<'_, R> {
     fn monotonic(&self) -> io::Result<Duration> {
         let reading = self.readings.fetch_add(1, Ordering::SeqCst);
         if reading == self.nap.fires_at {
-            for _ in 0..self.fires {
-                self.parker.fire(self.rt);
-            }
+            fire(self.rt, self.parker, self.fires);
         }
         let now = if reading == 0 {
             0
@@ -156,7 +190,7 @@ const CHECKS: &[u32] = &[0, 100];
 const FIRES: &[u32] = &[1, 2];
 
 #[test]
-fn a_wake_that_comes_while_a_wait_sleeps_ends_it_and_no_other(rt: HostRuntime) {
+fn a_wake_before_or_in_a_wait_ends_it_and_no_other_and_two_count_as_one(rt: HostRuntime) {
     let watch = watching(rt, rt.alloc());
     for &checks in CHECKS {
         for &fires in FIRES {
@@ -164,6 +198,10 @@ fn a_wake_that_comes_while_a_wait_sleeps_ends_it_and_no_other(rt: HostRuntime) {
             for &nap in NAPS {
                 takes_a_nap(&rt, &parker, nap, fires);
             }
+            // A wait without a deadline takes a wake that came before.
+            fire(&rt, &parker, fires);
+            parker.wait(&rt);
+            takes_a_nap(&rt, &parker, LATE, fires);
         }
     }
     watch.end(&rt);

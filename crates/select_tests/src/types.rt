@@ -3,10 +3,10 @@ use crate::fixtures::{begun, holds, opened, watching};
 use ends_tests::works::{SendOne, Work};
 use flume::error::{RecvError, SelectError};
 use flume::{Receiver, Selector, Sender, Waits};
+use selections::arms::{How, last_recv};
 use std::alloc::Global;
 use std::process::Abort;
 use std::thread::Threads;
-use threads_player::arms::{How, last_recv};
 
 // What one of two arms of different types gave.
 #[derive(Drop)]

@@ -1,16 +1,16 @@
 //! What several tests use: answers compared in one place, channels of any capacity, threads, and
 //! a long time. What can't be had fails the test here: a `?` in a test costs the prover a second,
 //! and an abort none.
+use ends_tests::ends::{long, open};
 use ends_tests::watch::{Watch, begin_watch};
 use ends_tests::works::Work;
-use flume::{Receiver, Sender, Waits, bounded, unbounded};
+use flume::{Receiver, Sender, Waits};
 use std::alloc::{Allocator, Global};
 use std::fmt::Debug;
 use std::process::Abort;
 use std::thread;
 use std::thread::{JoinHandle, Threads};
 use std::time::{Clock, Instant};
-use threads_player::calls::long;
 
 /// The answer is the wanted one.
 pub(crate) fn is<T: Debug + PartialEq + Drop>(rt: &impl Abort, answer: T, wanted: T) {
@@ -28,10 +28,7 @@ pub(crate) fn opened<T: Drop, R: Waits, A: Allocator + Copy>(
     (rt, alloc): (R, A),
     capacity: Option<usize>,
 ) -> (Sender<T, R, A>, Receiver<T, R, A>) {
-    match capacity {
-        Some(capacity) => had(host, bounded(rt, alloc, 1, capacity)),
-        None => had(host, unbounded(rt, alloc, 1)),
-    }
+    had(host, open(rt, alloc, capacity))
 }
 
 /// A thread that does this.

@@ -1,11 +1,8 @@
-//! Tests of the ends of `flume` in several threads.
+//! Tests of messages that hold an end of another channel, in several threads. What threads do to
+//! channels of numbers is text, which `tools/thread_scripts` plays.
 #![tactic(auto)]
 
 #[cfg(test)]
 mod fixtures;
 #[cfg(test)]
 mod nested;
-#[cfg(test)]
-mod play;
-#[cfg(test)]
-mod scripts;

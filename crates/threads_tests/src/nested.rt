@@ -1,15 +1,14 @@
 //! Messages that hold an end of another channel.
 use crate::fixtures::{begun, had, is, later, opened, watching};
+use ends_tests::noted::{Noted, Notes};
 use ends_tests::works::Work;
 use flume::error::{RecvError, RecvTimeoutError, TryRecvError, TrySendError};
-use flume::{Receiver, Sender, Waits};
+use flume::{Receiver, Sender, Waits, WeakSender};
 use std::alloc::Global;
 use std::process::Abort;
 use std::thread;
 use std::thread::Threads;
 use std::time::Instant;
-use threads_player::calls::{receive_all, weak_send_all};
-use threads_player::shared::Shared;
 
 // The capacities at which two threads meet; `None` is unbounded.
 const MEETING: &[Option<usize>] = &[None, Some(0)];
@@ -106,6 +105,14 @@ where
     end
 }
 
+// Sends by way of a weak sender. Whether the message was taken.
+fn is_sent<R: Waits>(weak: &WeakSender<u64, R>, message: u64) -> bool {
+    match weak.upgrade() {
+        Ok(Some(tx)) => tx.send(message).is_ok(),
+        _ => false,
+    }
+}
+
 // A sender, a receiver and a weak sender that were handed over are of one channel as before.
 fn work_on<R: Waits + Threads + Abort + Send + Sync + 'static>(
     rt: R,
@@ -116,12 +123,12 @@ fn work_on<R: Waits + Threads + Abort + Send + Sync + 'static>(
     let weak = handed_over(rt, alloc, capacity, had(&rt, tx.downgrade()));
     let rx = handed_over(rt, alloc, capacity, rx);
     let tx = handed_over(rt, alloc, capacity, tx);
-    is(&rt, weak_send_all(&weak, 2), 2);
+    is(&rt, is_sent(&weak, 1), true);
     is(&rt, tx.send(2).is_ok(), true);
-    is(&rt, receive_all(&rx, 3), 3);
+    is(&rt, (rx.recv().ok(), rx.recv().ok()), (Some(1), Some(2)));
     drop(tx);
     is(&rt, rx.recv() == Err(RecvError::Disconnected), true);
-    is(&rt, weak_send_all(&weak, 2), 0);
+    is(&rt, is_sent(&weak, 3), false);
 }
 
 #[test]
@@ -180,7 +187,7 @@ fn an_end_left_in_a_channel_goes_with_it(rt: HostRuntime) {
 fn ends_with_a_channel<H, R>(
     host: &H,
     (rt, alloc): (R, Global),
-    (shared, later): (&Shared, Instant),
+    (notes, later): (&Notes, Instant),
     capacity: Option<usize>,
 )
 where
@@ -193,7 +200,7 @@ where
         let receive = move || rx.recv_deadline(later) == Err(RecvTimeoutError::Disconnected);
         let receiving = scope.spawn(receive);
         let receiving = receiving.expect(host, "a thread can be started");
-        let _ = shared.meet(host, ("clock", 1));
+        notes.wait_for(host, 1);
         drop(outer);
         receiving.join(host)
     });
@@ -205,15 +212,15 @@ fn a_parked_receive_ends_as_its_sender_goes_with_a_channel(rt: HostRuntime) {
     let watch = watching(rt, rt.alloc());
     let later = later(&rt);
     for &capacity in QUEUEING {
-        let shared = Shared::new(rt.alloc());
-        let noted = (shared.noted(rt), rt.alloc());
-        ends_with_a_channel(&rt, noted, (&shared, later), capacity);
+        let notes = Notes::new();
+        let noted = (Noted { rt, notes: &notes }, rt.alloc());
+        ends_with_a_channel(&rt, noted, (&notes, later), capacity);
     }
     watch.end(&rt);
 }
 
 // A sender whose send has blocked, in a thread, against the end of the receivers.
-fn goes_with_its_send<H, R>(host: &H, (rt, alloc): (R, Global), (shared, later): (&Shared, Instant))
+fn goes_with_its_send<H, R>(host: &H, (rt, alloc): (R, Global), (notes, later): (&Notes, Instant))
 where
     H: Waits + Threads + Sync + Abort,
     R: Waits + Send + Sync,
@@ -223,7 +230,7 @@ where
     let refused = thread::scope(thread::scope_env(), host, move |scope| {
         let sending = scope.spawn(move || outer.send_deadline(tx, later).is_err());
         let sending = sending.expect(host, "a thread can be started");
-        let _ = shared.meet(host, ("clock", 1));
+        notes.wait_for(host, 1);
         drop(outer_rx);
         sending.join(host)
     });
@@ -234,8 +241,8 @@ where
 #[test]
 fn a_blocked_sender_goes_with_its_send(rt: HostRuntime) {
     let watch = watching(rt, rt.alloc());
-    let shared = Shared::new(rt.alloc());
-    let noted = (shared.noted(rt), rt.alloc());
-    goes_with_its_send(&rt, noted, (&shared, later(&rt)));
+    let notes = Notes::new();
+    let noted = (Noted { rt, notes: &notes }, rt.alloc());
+    goes_with_its_send(&rt, noted, (&notes, later(&rt)));
     watch.end(&rt);
 }

@@ -3,6 +3,7 @@
 #![tactic(auto)]
 
 pub mod asked;
+pub mod chained;
 pub mod followed;
 pub mod lent;
 pub mod refused;

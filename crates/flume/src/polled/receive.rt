@@ -1,8 +1,10 @@
 //! A receive as a future.
-ghost use Rattle.std.specs.Prelude.{◌≡◌, ⊤, Result, Ok, Err, None, IsSome};
+ghost use Rattle.std.specs.Prelude.{◌≡◌, ◌+◌, ◌<◌, ⊤, Result, Ok, Err, None, IsSome};
+ghost use Rattle.std.specs.Prelude.{vec_len, vec_capacity};
 ghost use Rattle.futures.specs.Task.{Covers, Keeps};
 ghost use Rattle.futures.specs.Poll.{IfReady, OnPending};
 ghost use Rattle.flume.specs.Ends.{end_of};
+ghost use Rattle.flume.specs.ManyCalls.{PollGrows};
 
 use crate::polled::owned_or_ref::OwnedOrRef;
 use crate::receiver::Receiver;
@@ -84,6 +86,24 @@ impl<'a, T: Drop, R: Waits, A: Allocator + Copy> RecvFut<'a, T, R, A> {
         ensures held { result.now ≡ self.now.receiver }
     {
         &self.receiver
+    }
+
+    /// Polls it, and where it gives a message takes what else is there, at most so many more, into
+    /// a list that has room for one. `None`: it waits.
+    pub(crate) fn poll_many(
+        &mut self,
+        cx: &mut Context<'_>,
+        into: Vec<T, A>,
+        more: usize,
+    ) -> (Vec<T, A>, Option<Result<usize, RecvError>>)
+        requires room { vec_len into < vec_capacity into }
+        ensures grows { PollGrows (more + 1) into.items result.0.items result.1 }
+        ensures registered { result.1 ≡ None
+            → Covers cx.new (λ source. source ≡ self.new.task.source.id) }
+        ensures kept { Keeps cx.old cx.new }
+    {
+        let shared = self.receiver.get().shared();
+        shared.poll_many(&mut self.call, &self.task, cx, into, more)
     }
 
     /// Whether all senders, or all receivers, have been dropped.

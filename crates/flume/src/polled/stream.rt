@@ -1,11 +1,12 @@
 //! The messages of a receiver as a stream.
 ghost use Rattle.std.specs.Prelude.{◌≡◌, ◌==◌, ◌↔◌, ⊤, true, false, Ok, Some, None};
-ghost use Rattle.std.specs.Prelude.{IsErr, IfSome, OnSome};
+ghost use Rattle.std.specs.Prelude.{IsErr, IfOk, OnErr, IfSome, OnSome, Err, ◌⊎◌};
 ghost use Rattle.flume.specs.Iterators.{is_refused};
 ghost use Rattle.futures.specs.Task.{Covers, Keeps};
 ghost use Rattle.futures.specs.Poll.{IfReady, OnPending};
 ghost use Rattle.futures.specs.Runs.{After, Within};
 ghost use Rattle.flume.specs.Ends.{end_of};
+ghost use Rattle.flume.specs.ManyCalls.{Came};
 
 use crate::polled::owned_or_ref::OwnedOrRef;
 use crate::polled::receive::RecvFut;
@@ -17,6 +18,7 @@ use futures::task::{Context, Poll};
 use futures::{Future, Stream};
 use std::alloc::{AllocError, Allocator, Global};
 use std::fmt;
+use std::mem::replace;
 
 /// The messages of a receiver, one after the other, as a stream: `Receiver::stream` and
 /// `Receiver::into_stream`. `None`: none is there and all senders have been dropped, or, where
@@ -88,6 +90,60 @@ impl<'a, T: Drop, R: Waits, A: Allocator + Copy> RecvStream<'a, T, R, A> {
         ensures no_memory { IsErr result ↔ self.now.fault ≡ true }
     {
         if self.fault { Err(NoMemory) } else { Ok(()) }
+    }
+
+    /// Polls for the messages that are there, at most `most`, and puts them behind what `into`
+    /// holds, in order. Ready with how many. Pending: none is there, and the task is woken when one
+    /// may be. `most` of 0 is ready with 0.
+    ///
+    /// `Disconnected`: none is there, and all senders have been dropped. `NoMemory`: there was no
+    /// room for one message in `into`, or no memory to wait. Neither takes a message, and both leave
+    /// `into` as it was. Where there is no memory for more room it takes as many as there is room
+    /// for, one at least. `fault` says of it what it says of `poll_next`.
+    ///
+    /// ```
+    /// let (tx, rx) = flume::on(rt).unbounded()?;
+    /// tx.send(1)?;
+    /// tx.send(2)?;
+    /// let mut messages = Vec::new(rt.alloc());
+    /// let mut stream = rx.stream();
+    /// let task = MockTask::new(&rt)?;
+    /// let polled = task.enter(|cx| stream.poll_recv_many(cx, &mut messages, 64));
+    /// assert_eq!(rt; polled, Poll::Ready(Ok(2)));
+    /// assert_eq!(rt; messages.as_slice(), [1, 2].as_slice());
+    /// ```
+    pub fn poll_recv_many(
+        &mut self,
+        cx: &mut Context<'_>,
+        into: &mut Vec<T, A>,
+        most: usize,
+    ) -> Poll<Result<usize, RecvError>>
+        ensures came { IfReady result (λ answer.
+            IfOk answer (Came most into.old.items into.new.items)) }
+        ensures unchanged { IfReady result (λ answer.
+            OnErr answer (into.new.items ≡ into.old.items)) }
+        ensures waits { OnPending result (into.new.items ≡ into.old.items) }
+        ensures registered { OnPending result
+            (Covers cx.new (λ source. source ≡ self.new.next.task.source.id)) }
+        ensures kept { Keeps cx.old cx.new }
+        ensures fault { IfReady result (λ answer. self.new.fault ≡ true
+            → (answer ≡ Err RecvError.NoMemory) ⊎ (most ≡ 0)) }
+    {
+        if most == 0 {
+            return Poll::Ready(Ok(0));
+        }
+        if into.try_reserve(1).is_err() {
+            self.fault = true;
+            return Poll::Ready(Err(RecvError::NoMemory));
+        }
+        let list = replace(into, Vec::new(self.next.receiver().shared().alloc));
+        let (list, answer) = self.next.poll_many(cx, list, most - 1);
+        *into = list;
+        let Some(answer) = answer else {
+            return Poll::Pending;
+        };
+        self.fault = matches!(answer, Err(RecvError::NoMemory));
+        Poll::Ready(answer)
     }
 
     // The item that a receive's answer is, with a note of why there is none.

@@ -1,5 +1,5 @@
 //! The arms of a selector: one, and a list of them in a type.
-ghost use Rattle.std.specs.Prelude.{◌≡◌, ◌<◌, ◌↔◌, ℕ, IfSome, IsSome};
+ghost use Rattle.std.specs.Prelude.{◌≡◌, ◌<◌, ◌↔◌, ℕ, Bool, IfSome, IsSome, is_some};
 ghost use Rattle.flume_calls.specs.declared.gates.select.ArmNext.{ArmNext};
 
 use crate::shared::Waits;
@@ -32,8 +32,8 @@ pub trait Arm<V, A: Allocator + Copy> {
     // The value is what the mapper answers to the result that the arm holds.
     ghost answers: { Self → V → Type 0 };
 
-    // The arm before a turn, what that leads to, and the arm after.
-    ghost turns: { Self → ArmNext → Self → Type 0 };
+    // Whether the arm may park, the arm before a turn, what that leads to, and the arm after.
+    ghost turns: { Bool → Self → ArmNext → Self → Type 0 };
 
     // The arm before its withdrawal, and after.
     ghost withdraws: { Self → Self → Type 0 };
@@ -48,9 +48,10 @@ pub trait Arm<V, A: Allocator + Copy> {
     fn checks(&self) -> u32;
 
     /// Its turn, which is one step of its channel: it is started, or polled where it was started
-    /// before. Where it parks it leaves a copy of the parker, with its number.
-    fn turn(&mut self, number: usize, parker: &Arc<Parker, A>) -> ArmNext
-        ensures does { turns self.old result self.new }
+    /// before. Where it parks it leaves a copy of the parker, with its number. With no parker an arm
+    /// that isn't started is only tried: it stays so where it would have to wait.
+    fn turn(&mut self, number: usize, parker: Option<&Arc<Parker, A>>) -> ArmNext
+        ensures does { turns (is_some parker.entry) self.old result self.new }
         ensures completed { result ≡ ArmNext.Completed → has_completed self.new }
         ensures mapper { mapper self.new ≡ mapper self.old };
 
@@ -90,8 +91,9 @@ pub trait Arms<V, A: Allocator + Copy> {
     // The arm with this number has completed, and holds its result.
     ghost has_completed: { Self → ℕ → Type 0 };
 
-    // The arms before a turn of the arm with this number, what that leads to, and the arms after.
-    ghost turns: { Self → ℕ → ArmNext → Self → Type 0 };
+    // Whether the arm with this number may park, the arms before a turn of it, what that leads to,
+    // and the arms after.
+    ghost turns: { Bool → Self → ℕ → ArmNext → Self → Type 0 };
 
     // The arms before the withdrawal of the arm with this number, and after.
     ghost withdraws: { Self → ℕ → Self → Type 0 };
@@ -104,8 +106,8 @@ pub trait Arms<V, A: Allocator + Copy> {
     fn checks(&self) -> u32;
 
     /// The turn of the arm with this number. Where there is none, nothing is done.
-    fn turn(&mut self, arm: usize, parker: &Arc<Parker, A>) -> ArmNext
-        ensures does { turns self.old arm result self.new }
+    fn turn(&mut self, arm: usize, parker: Option<&Arc<Parker, A>>) -> ArmNext
+        ensures does { turns (is_some parker.entry) self.old arm result self.new }
         ensures completed { result ≡ ArmNext.Completed → has_completed self.new arm }
         ensures mappers { mappers self.new ≡ mappers self.old };
 
@@ -156,7 +158,7 @@ impl<V, A: Allocator + Copy> Arms<V, A> for () {
 
     ghost has_completed = { λ _ _. ⊥ };
 
-    ghost turns = { λ old _ next new. (next ≡ NoMemory) × (new ≡ old) };
+    ghost turns = { λ _ old _ next new. (next ≡ NoMemory) × (new ≡ old) };
 
     ghost withdraws = { λ old _ new. new ≡ old };
 
@@ -168,7 +170,7 @@ impl<V, A: Allocator + Copy> Arms<V, A> for () {
         0
     }
 
-    fn turn(&mut self, _arm: usize, _parker: &Arc<Parker, A>) -> ArmNext {
+    fn turn(&mut self, _arm: usize, _parker: Option<&Arc<Parker, A>>) -> ArmNext {
         ArmNext::NoMemory
     }
 
@@ -197,9 +199,9 @@ impl<V, A: Allocator + Copy, L: Arms<V, A> + Drop, C: Arm<V, A> + Drop> Arms<V, 
         ByNumber L.count (L.has_completed arms.0) (C.has_completed arms.1) };
 
     // The other arms are as they were.
-    ghost turns = { λ old arm next new.
-        ByNumber L.count (λ n. L.turns old.0 n next new.0 × (new.1 ≡ old.1))
-        (C.turns old.1 next new.1 × (new.0 ≡ old.0)) arm };
+    ghost turns = { λ parks old arm next new.
+        ByNumber L.count (λ n. L.turns parks old.0 n next new.0 × (new.1 ≡ old.1))
+        (C.turns parks old.1 next new.1 × (new.0 ≡ old.0)) arm };
 
     ghost withdraws = { λ old arm new.
         ByNumber L.count (λ n. L.withdraws old.0 n new.0 × (new.1 ≡ old.1))
@@ -213,7 +215,7 @@ impl<V, A: Allocator + Copy, L: Arms<V, A> + Drop, C: Arm<V, A> + Drop> Arms<V, 
         max(self.0.checks(), self.1.checks())
     }
 
-    fn turn(&mut self, arm: usize, parker: &Arc<Parker, A>) -> ArmNext {
+    fn turn(&mut self, arm: usize, parker: Option<&Arc<Parker, A>>) -> ArmNext {
         if arm == self.0.count() {
             self.1.turn(arm, parker)
         } else {

@@ -4,14 +4,14 @@ ghost use Rattle.flume_calls.specs.declared.gates.select.ArmNext.{ArmNext};
 ghost use Rattle.flume.specs.ArmTurns.{EndsReceive, receive_result};
 ghost use Rattle.flume.specs.ArmTurns.{IsArmReceive, TakesReceive};
 ghost use Rattle.flume.specs.ArmSteps.{ReceiveTurn, ReceiveEnd, StartsReceive, PollsReceive};
-ghost use Rattle.flume.specs.ArmSteps.{Leaves};
+ghost use Rattle.flume.specs.ArmSteps.{TriesReceive, Leaves};
 ghost use Rattle.flume.specs.Selecting.{CanMap, Maps, MapsResult};
 
 use crate::receiver::Receiver;
 use crate::select::arms::Arm;
 use crate::shared::Waits;
 use crate::signal::{ArmSignal, Parker, Signal};
-use flume_calls::calls::{AgainReceive, ParkReceive, RecvCall, RecvNext};
+use flume_calls::calls::{AgainReceive, FirstReceive, ParkReceive, RecvCall, RecvNext};
 use flume_calls::gates::ArmNext;
 use flume_core::error::RecvError;
 use flume_core::error::RecvTimeoutError::{Disconnected, NoMemory, Timeout};
@@ -69,6 +69,16 @@ impl<'a, T: Drop, F: Drop, R: Waits, A: Allocator + Copy> RecvArm<'a, T, F, R, A
         answer
     }
 
+    // Tries the arm, which isn't started, and doesn't park it.
+    fn attempt(&mut self) -> ArmNext
+        ensures does { TriesReceive A result self.new.state }
+        ensures mapper { self.new.mapper ≡ self.old.mapper }
+    {
+        let (state, answer) = after(self.receiver.shared().call_cold(FirstReceive));
+        self.state = state;
+        answer
+    }
+
     // Polls the arm, which is parked.
     fn poll(&mut self, call: RecvCall) -> ArmNext
         ensures does { PollsReceive A call result self.new.state }
@@ -100,15 +110,14 @@ fn after<T: Drop>(next: RecvNext<T>) -> (ReceiveState<T>, ArmNext)
     ensures does { TakesReceive next result.1 result.0 }
 {
     match next {
-        RecvNext::Park(call) => (ReceiveState::Parked(call), ArmNext::Parked),
+        RecvNext::Park(call) => (ReceiveState::Parked(call), ArmNext::Waits),
+        RecvNext::NeedSignal => (ReceiveState::Unstarted, ArmNext::Waits),
         RecvNext::Done(Ok(message)) => {
             (ReceiveState::Completed(Some(message)), ArmNext::Completed)
         }
         RecvNext::Done(Err(Disconnected)) => (ReceiveState::Completed(None), ArmNext::Completed),
         RecvNext::Done(Err(NoMemory)) => (ReceiveState::Over, ArmNext::NoMemory),
-        RecvNext::Done(Err(Timeout)) | RecvNext::NeedSignal | RecvNext::Refused(_) => {
-            unreachable!()
-        }
+        RecvNext::Done(Err(Timeout)) | RecvNext::Refused(_) => unreachable!(),
     }
 }
 
@@ -130,8 +139,8 @@ where
 
     ghost answers = { λ arm. MapsResult F.post arm.mapper (receive_result arm.state) };
 
-    ghost turns = { λ old next new.
-        ReceiveTurn A old.state next new.state × (new.mapper ≡ old.mapper) };
+    ghost turns = { λ parks old next new.
+        ReceiveTurn A parks old.state next new.state × (new.mapper ≡ old.mapper) };
 
     ghost withdraws = { λ old new. ReceiveEnd A old.state new.state × (new.mapper ≡ old.mapper) };
 
@@ -147,9 +156,12 @@ where
         self.receiver.shared().checks()
     }
 
-    fn turn(&mut self, number: usize, parker: &Arc<Parker, A>) -> ArmNext {
+    fn turn(&mut self, number: usize, parker: Option<&Arc<Parker, A>>) -> ArmNext {
         match replace(&mut self.state, ReceiveState::Over) {
-            ReceiveState::Unstarted => self.start(number, parker),
+            ReceiveState::Unstarted => match parker {
+                Some(parker) => self.start(number, parker),
+                None => self.attempt(),
+            },
             ReceiveState::Parked(call) => self.poll(call),
             ReceiveState::Completed(message) => {
                 self.state = ReceiveState::Completed(message);

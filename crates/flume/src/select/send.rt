@@ -4,13 +4,14 @@ ghost use Rattle.flume_calls.specs.declared.gates.select.ArmNext.{ArmNext};
 ghost use Rattle.flume.specs.ArmTurns.{EndsSend, send_result};
 ghost use Rattle.flume.specs.ArmTurns.{IsArmSend, TakesSend};
 ghost use Rattle.flume.specs.ArmSteps.{SendTurn, SendEnd, StartsSend, PollsSend, TakesBack};
+ghost use Rattle.flume.specs.ArmSteps.{TriesSend};
 ghost use Rattle.flume.specs.Selecting.{CanMap, Maps, MapsResult};
 
 use crate::select::arms::Arm;
 use crate::sender::Sender;
 use crate::shared::Waits;
 use crate::signal::{ArmSignal, Parker, Signal};
-use flume_calls::calls::{AgainSend, ParkSend, SendCall, SendNext};
+use flume_calls::calls::{AgainSend, FirstSend, ParkSend, SendCall, SendNext};
 use flume_calls::gates::ArmNext;
 use flume_core::error::SendError;
 use flume_core::error::SendTimeoutError::{Disconnected, NoMemory, Timeout};
@@ -67,6 +68,16 @@ impl<'a, T: Drop, F: Drop, R: Waits, A: Allocator + Copy> SendArm<'a, T, F, R, A
         answer
     }
 
+    // Tries the arm, which isn't started, and doesn't park it.
+    fn attempt(&mut self, message: T) -> ArmNext
+        ensures does { TriesSend A message result self.new.state }
+        ensures mapper { self.new.mapper ≡ self.old.mapper }
+    {
+        let (state, answer) = after(self.sender.shared().call_cold(FirstSend { message }));
+        self.state = state;
+        answer
+    }
+
     // Polls the arm, which is parked.
     fn poll(&mut self, call: SendCall) -> ArmNext
         ensures does { PollsSend A call result self.new.state }
@@ -98,13 +109,14 @@ fn after<T: Drop>(next: SendNext<T>) -> (SendState<T>, ArmNext)
     ensures does { TakesSend next result.1 result.0 }
 {
     match next {
-        SendNext::Park(call) => (SendState::Parked(call), ArmNext::Parked),
+        SendNext::Park(call) => (SendState::Parked(call), ArmNext::Waits),
+        SendNext::NeedSignal(back) => (SendState::Unstarted(back), ArmNext::Waits),
         SendNext::Done(Ok(())) => (SendState::Completed(Ok(())), ArmNext::Completed),
         SendNext::Done(Err(Disconnected(back))) => {
             (SendState::Completed(Err(back)), ArmNext::Completed)
         }
         SendNext::Done(Err(NoMemory(_))) => (SendState::Over, ArmNext::NoMemory),
-        SendNext::Done(Err(Timeout(_))) | SendNext::NeedSignal(_) => unreachable!(),
+        SendNext::Done(Err(Timeout(_))) => unreachable!(),
     }
 }
 
@@ -126,8 +138,8 @@ where
 
     ghost answers = { λ arm. MapsResult F.post arm.mapper (send_result arm.state) };
 
-    ghost turns = { λ old next new.
-        SendTurn A old.state next new.state × (new.mapper ≡ old.mapper) };
+    ghost turns = { λ parks old next new.
+        SendTurn A parks old.state next new.state × (new.mapper ≡ old.mapper) };
 
     ghost withdraws = { λ old new. SendEnd A old.state new.state × (new.mapper ≡ old.mapper) };
 
@@ -143,9 +155,12 @@ where
         self.sender.shared().checks()
     }
 
-    fn turn(&mut self, number: usize, parker: &Arc<Parker, A>) -> ArmNext {
+    fn turn(&mut self, number: usize, parker: Option<&Arc<Parker, A>>) -> ArmNext {
         match replace(&mut self.state, SendState::Over) {
-            SendState::Unstarted(message) => self.start(message, number, parker),
+            SendState::Unstarted(message) => match parker {
+                Some(parker) => self.start(message, number, parker),
+                None => self.attempt(message),
+            },
             SendState::Parked(call) => self.poll(call),
             SendState::Completed(result) => {
                 self.state = SendState::Completed(result);

@@ -1,13 +1,14 @@
 //! A selection through a gate: the first of several arms that completes.
-ghost use Rattle.std.specs.Prelude.{◌≡◌, ◌≢◌, ◌<◌, ◌↔◌, ℕ, Bool, Some, IfOk, IsTrue};
-ghost use Rattle.std.specs.Prelude.{Err, true, is_some};
+ghost use Rattle.std.specs.Prelude.{◌≡◌, ◌≢◌, ◌<◌, ◌↔◌, ℕ, Bool, Some, IfOk, IfSome, IsTrue};
+ghost use Rattle.std.specs.Prelude.{Err, true, false, is_some};
 ghost use Rattle.flume_core.specs.declared.error.SelectError.{SelectError};
 ghost use Rattle.flume_calls.specs.declared.gates.select.ArmNext.{ArmNext};
 ghost use Rattle.flume_calls.specs.SelectGates.{next_arm, IsRound, IfCompleted, Withdraws, Ends};
 ghost use Rattle.flume_calls.specs.SelectGates.{HasCompleted, StartedSelection, WholeSelection};
+ghost use Rattle.flume_calls.specs.SelectGates.{TriedSelection};
 ghost use Rattle.flume_calls.specs.declared.gates.select.RoundEnd.{RoundEnd};
 
-use flume_core::error::SelectError;
+use flume_core::error::{NoMemory, SelectError};
 use std::sync::Wait;
 
 /// What a turn of an arm leads to.
@@ -15,8 +16,8 @@ use std::sync::Wait;
 pub enum ArmNext {
     /// The arm has completed.
     Completed,
-    /// The arm is parked.
-    Parked,
+    /// The arm has to wait: it is parked, or wasn't started where it may not park.
+    Waits,
     /// Memory was wanted, and there was none.
     NoMemory,
 }
@@ -44,8 +45,8 @@ pub trait SelectGate {
     // The gate before, the gate after, and whether there is something to wait on.
     ghost makes: { Self → Self → Bool → Type 0 };
 
-    // The gate before, the arm, the gate after, and the answer.
-    ghost turns: { Self → ℕ → Self → ArmNext → Type 0 };
+    // Whether the arm may park, the gate before, the arm, the gate after, and the answer.
+    ghost turns: { Bool → Self → ℕ → Self → ArmNext → Type 0 };
 
     // The gate before, the gate after, and the answer.
     ghost waits: { Self → Self → Bool → Type 0 };
@@ -67,10 +68,11 @@ pub trait SelectGate {
         ensures does { makes self.old self.new (is_some result) }
         ensures kept { kept self.new ≡ kept self.old };
 
-    /// The arm's turn: its start where it isn't started yet, and else a poll.
-    fn turn(&mut self, arm: usize, waiter: &Self::Waiter) -> ArmNext
+    /// The arm's turn: its start where it isn't started yet, and else a poll. With nothing to wait
+    /// on it may not park: it is only tried, and stays as it was where it would have to wait.
+    fn turn(&mut self, arm: usize, waiter: Option<&Self::Waiter>) -> ArmNext
         requires within { arm < count (kept self.old) }
-        ensures does { turns self.old arm self.new result }
+        ensures does { turns (is_some waiter.entry) self.old arm self.new result }
         ensures completed { result ≡ ArmNext.Completed → holds self.new arm }
         ensures kept { kept self.new ≡ kept self.old };
 
@@ -112,7 +114,7 @@ enum RoundEnd {
 /// // the deadline is reached before either does:   Err(Timeout), and both were withdrawn
 /// ```
 pub fn select_over<R: Wait, G: SelectGate>(rt: &R, gate: &mut G) -> Result<usize, SelectError>
-    ensures run { WholeSelection G.makes G.turns G.waits G.withdraws (G.count (G.kept gate.old))
+    ensures run { WholeSelection G.makes (G.turns true) G.waits G.withdraws (G.count (G.kept gate.old))
         (G.start (G.kept gate.old)) gate.old gate.new result }
     ensures completed { IfOk result (HasCompleted G.holds (G.count (G.kept gate.old)) gate.new) }
     ensures in_time { ((old new : G) → G.kept old ≡ G.kept gate.old → ¬ (G.waits old new true))
@@ -122,7 +124,7 @@ pub fn select_over<R: Wait, G: SelectGate>(rt: &R, gate: &mut G) -> Result<usize
     let Some(waiter) = gate.make_waiter() else {
         return Err(SelectError::NoMemory);
     };
-    match round(gate, &waiter) {
+    match round(gate, Some(&waiter)) {
         RoundEnd::AllWait => started_selection(rt, gate, &waiter),
         RoundEnd::Completed { before, arm } => {
             withdraw(gate, before, Some(arm));
@@ -135,13 +137,39 @@ pub fn select_over<R: Wait, G: SelectGate>(rt: &R, gate: &mut G) -> Result<usize
     }
 }
 
+/// The first arm that needn't wait, by its number: each is tried once, in cyclic order from the
+/// start arm on. None is parked, and nothing is made to wait on. `None`: each would have to wait.
+/// `NoMemory`: memory ran out in an arm, and those after it weren't tried.
+///
+/// ```
+/// // The gate is of two arms, of which arm 0 starts.
+/// let ended = try_select_over(&mut gate);
+/// // arm 0 needn't wait:                           Ok(Some(0)), and arm 1 was never started
+/// // arm 0 would have to wait, and arm 1 needn't:  Ok(Some(1)), and both were tried
+/// // both would have to wait:                      Ok(None), and both were tried
+/// ```
+pub fn try_select_over<G: SelectGate>(gate: &mut G) -> Result<Option<usize>, NoMemory>
+    ensures run { TriedSelection (G.turns false) (G.count (G.kept gate.old))
+        (G.start (G.kept gate.old)) gate.old gate.new result }
+    ensures completed { IfOk result (λ arm. IfSome arm
+        (HasCompleted G.holds (G.count (G.kept gate.old)) gate.new)) }
+    ensures kept { G.kept gate.new ≡ G.kept gate.old }
+{
+    let nothing: Option<G::Waiter> = None;
+    match round(gate, nothing.as_ref()) {
+        RoundEnd::AllWait => Ok(None),
+        RoundEnd::Completed { arm, .. } => Ok(Some(arm)),
+        RoundEnd::NoMemory { .. } => Err(NoMemory),
+    }
+}
+
 // A selection whose arms are all started, to its end.
 fn started_selection<R: Wait, G: SelectGate>(
     rt: &R,
     gate: &mut G,
     waiter: &G::Waiter,
 ) -> Result<usize, SelectError>
-    ensures run { StartedSelection G.turns G.waits G.withdraws (G.count (G.kept gate.old))
+    ensures run { StartedSelection (G.turns true) G.waits G.withdraws (G.count (G.kept gate.old))
         (G.start (G.kept gate.old)) gate.old gate.new result }
     ensures completed { IfOk result (HasCompleted G.holds (G.count (G.kept gate.old)) gate.new) }
     ensures in_time { ((old new : G) → G.kept old ≡ G.kept gate.old → ¬ (G.waits old new true))
@@ -149,13 +177,13 @@ fn started_selection<R: Wait, G: SelectGate>(
     ensures kept { G.kept gate.new ≡ G.kept gate.old }
 {
     for _ in rt.forever() {
-        let polled = round(gate, waiter);
+        let polled = round(gate, Some(waiter));
         match polled {
             RoundEnd::AllWait => {}
             _ => return ended(gate, polled),
         }
         if gate.wait(waiter) {
-            let last = round(gate, waiter);
+            let last = round(gate, Some(waiter));
             return ended(gate, last);
         }
     }
@@ -193,8 +221,8 @@ fn ended<G: SelectGate>(gate: &mut G, round: RoundEnd) -> Result<usize, SelectEr
 // After a wake all arms have their turn again, whichever was woken: by then another receiver may
 // have taken the message, and a further arm may be ready too. So which arm completes depends on the
 // channels and the start arm alone.
-fn round<G: SelectGate>(gate: &mut G, waiter: &G::Waiter) -> RoundEnd
-    ensures round { IsRound G.turns (G.count (G.kept gate.old)) (G.start (G.kept gate.old))
+fn round<G: SelectGate>(gate: &mut G, waiter: Option<&G::Waiter>) -> RoundEnd
+    ensures round { IsRound (G.turns (is_some waiter.entry)) (G.count (G.kept gate.old)) (G.start (G.kept gate.old))
         gate.old gate.new result }
     ensures completed { IfCompleted (HasCompleted G.holds (G.count (G.kept gate.old)) gate.new)
         result }
@@ -204,7 +232,7 @@ fn round<G: SelectGate>(gate: &mut G, waiter: &G::Waiter) -> RoundEnd
     let mut arm = gate.start();
     for before in 0..count {
         match gate.turn(arm, waiter) {
-            ArmNext::Parked => arm = next_arm(count, arm),
+            ArmNext::Waits => arm = next_arm(count, arm),
             ArmNext::Completed => return RoundEnd::Completed { before, arm },
             ArmNext::NoMemory => return RoundEnd::NoMemory { before },
         }

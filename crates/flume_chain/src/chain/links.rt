@@ -4,63 +4,27 @@ ghost use Rattle.std.specs.Prelude.{IfOk, IfErr, OnErr, IfSome, IfNone, OnSome};
 ghost use Rattle.std.specs.Borrow.{Lends, sem};
 ghost use Rattle.std.specs.Vec.{vec_len, vec_capacity};
 ghost use Rattle.flume_chain.specs.Links.{end, with, next_at, previous_at, element_at};
-ghost use Rattle.flume_chain.specs.Links.{HasNode, Linked, Same, Put, Full, with_element};
+ghost use Rattle.flume_chain.specs.Links.{HasNode, Linked, Same, Put, Full, with_value};
+ghost use Rattle.flume_chain.specs.Links.{relabelled};
+ghost use Rattle.std.specs.Option.{option_map};
 
+use super::node::{Node, stands};
+use crate::labelled::Labelled;
 use std::alloc::Allocator;
 
 /// The place that no element has: it is before the first and after the last.
 pub(super) const END: u32 = u32::MAX;
 
-// An element, or none where the node is free, with the places before and after it. Of a free node
-// the place after it is the next free one's.
-#[derive(Drop)]
-struct Node<E> {
-    element: Option<E>,
-    previous: u32,
-    next: u32,
-}
-
-impl<E> Node<E> {
-    ghost use Rattle.flume_chain.specs.contracts.chain.links.Node.{the_row};
-
-    // The element of a node that has one, for writing.
-    #[inline(always)]
-    fn element_mut(&mut self) -> &mut E
-        requires stands { IsSome self.old.element }
-        ensures* writes_back { sem 𝓛 (Lends (the_row E.row) E.row self.entry result
-            (λ w. record self.old { element = Some w })) }
-        ensures value { self.old.element ≡ Some result.now }
-    {
-        match &mut self.element {
-            Some(element) => element,
-            None => unreachable!(),
-        }
-    }
-
-    // Takes out the element of a node that has one.
-    #[inline(always)]
-    fn take_element(&mut self) -> E
-        requires stands { IsSome self.old.element }
-        ensures element { self.old.element ≡ Some result }
-        ensures taken { self.new ≡ record self.old { element = None } }
-    {
-        match self.element.take() {
-            Some(element) => element,
-            None => unreachable!(),
-        }
-    }
-}
-
 /// Nodes, with the places of the first, the last and a free one.
 #[derive(Drop)]
-pub(super) struct Links<E, A: Allocator> {
-    nodes: Vec<Node<E>, A>,
+pub(super) struct Links<L, E, A: Allocator> {
+    nodes: Vec<Node<L, E>, A>,
     first: u32,
     last: u32,
     free: u32,
 }
 
-impl<E: Drop, A: Allocator> Links<E, A> {
+impl<L: Drop, E: Drop, A: Allocator> Links<L, E, A> {
     ghost use Rattle.flume_chain.specs.contracts.chain.links.Links.{the_row};
 
     /// No nodes. Takes no memory.
@@ -117,7 +81,7 @@ impl<E: Drop, A: Allocator> Links<E, A> {
             return self.first;
         }
         match self.nodes.get(place as usize) {
-            Some(node) => node.next,
+            Some(node) => node.next(),
             None => END,
         }
     }
@@ -131,39 +95,61 @@ impl<E: Drop, A: Allocator> Links<E, A> {
             return self.last;
         }
         match self.nodes.get(place as usize) {
-            Some(node) => node.previous,
+            Some(node) => node.previous(),
             None => END,
         }
     }
 
-    /// The element at a place.
+    /// The value at a place.
     #[inline(always)]
     pub fn get(&self, place: u32) -> Option<&E>
-        ensures element { option_copied result ≡ element_at self.now place }
+        ensures value { option_copied result
+            ≡ option_map (λ e. e.value) (element_at self.now place) }
     {
-        self.nodes.get(place as usize)?.element.as_ref()
+        self.nodes.get(place as usize)?.value()
     }
 
-    /// The element at a place where one stands, for writing.
+    /// The label at a place.
     #[inline(always)]
-    pub fn element_mut(&mut self, place: u32) -> &mut E
-        requires stands { IsSome (element_at self.old place) }
-        ensures* writes_back { sem 𝓛 (Lends (the_row E.row A.row A.Allocator) E.row self.entry
-            result (with_element self.old place)) }
-        ensures value { element_at self.old place ≡ Some result.now }
+    pub fn label(&self, place: u32) -> Option<&L>
+        ensures label { option_copied result
+            ≡ option_map (λ e. e.label) (element_at self.now place) }
     {
-        self.nodes[place as usize].element_mut()
+        self.nodes.get(place as usize)?.label()
+    }
+
+    /// The value at a place where one stands, for writing.
+    #[inline(always)]
+    pub fn value_mut(&mut self, place: u32) -> &mut E
+        requires stands { IsSome (element_at self.old place) }
+        ensures* writes_back { sem 𝓛 (Lends (the_row L.row E.row A.row A.Allocator) E.row self.entry
+            result (with_value self.old place)) }
+        ensures value { option_map (λ e. e.value) (element_at self.old place) ≡ Some result.now }
+    {
+        self.nodes[place as usize].value_mut()
+    }
+
+    /// Writes the label at a place. Nothing changes where no element stands there.
+    #[inline(always)]
+    pub fn set_label(&mut self, place: u32, label: L)
+        ensures written { Linked self.old self.new (next_at self.old) (previous_at self.old)
+            (with (element_at self.old) place
+            (option_map (relabelled label) (element_at self.old place))) self.old.free }
+    {
+        if let Some(node) = self.nodes.get_mut(place as usize) {
+            node.set_label(label);
+        }
     }
 
     /// Takes the element at a place out of its node.
     #[inline(always)]
-    pub fn take(&mut self, place: u32) -> Option<E>
+    pub fn take(&mut self, place: u32) -> Option<Labelled<L, E>>
         ensures element { result ≡ element_at self.old place }
         ensures taken { Linked self.old self.new (next_at self.old) (previous_at self.old)
             (with (element_at self.old) place None) self.old.free }
     {
         let node = self.nodes.get_mut(place as usize)?;
-        node.element.take()
+        node.take()
     }
 
     // Writes what is the place after a place.
@@ -178,7 +164,7 @@ impl<E: Drop, A: Allocator> Links<E, A> {
             self.first = next;
             return;
         }
-        self.nodes[place as usize].next = next;
+        self.nodes[place as usize].set_next(next);
     }
 
     // Writes what is the place before a place.
@@ -193,14 +179,19 @@ impl<E: Drop, A: Allocator> Links<E, A> {
             self.last = previous;
             return;
         }
-        self.nodes[place as usize].previous = previous;
+        self.nodes[place as usize].set_previous(previous);
     }
 
     // Puts an element into the free node, or where none is free into one more, with the places
     // before and after it, and returns its place. With no memory for one more, or where its place
     // would be `END`, the element comes back, and nothing changes.
     #[inline(always)]
-    fn put(&mut self, element: E, previous: u32, next: u32) -> Result<u32, E>
+    fn put(
+        &mut self,
+        element: Labelled<L, E>,
+        previous: u32,
+        next: u32,
+    ) -> Result<u32, Labelled<L, E>>
         requires free { HasNode self.old self.old.free }
         requires fits { vec_len self.old.nodes ≤ end }
         ensures put { IfOk result (λ place. Put self.old self.new place
@@ -213,12 +204,8 @@ impl<E: Drop, A: Allocator> Links<E, A> {
         let place = self.free;
         if place != END {
             let node = &mut self.nodes[place as usize];
-            self.free = node.next;
-            *node = Node {
-                element: Some(element),
-                previous,
-                next,
-            };
+            self.free = node.next();
+            *node = stands(element, previous, next);
             return Ok(place);
         }
         let place = self.nodes.len();
@@ -228,11 +215,7 @@ impl<E: Drop, A: Allocator> Links<E, A> {
         if place == self.nodes.capacity() && self.nodes.reserve(1).is_err() {
             return Err(element);
         }
-        self.nodes.push_reserved(Node {
-            element: Some(element),
-            previous,
-            next,
-        });
+        self.nodes.push_reserved(stands(element, previous, next));
         Ok(place as u32)
     }
 
@@ -240,7 +223,7 @@ impl<E: Drop, A: Allocator> Links<E, A> {
     /// returns its place. With no memory for one more, or where its place would be `END`, the
     /// element comes back, and nothing changes.
     #[inline(always)]
-    pub fn link_before(&mut self, next: u32, element: E) -> Result<u32, E>
+    pub fn link_before(&mut self, next: u32, element: Labelled<L, E>) -> Result<u32, Labelled<L, E>>
         requires free { HasNode self.old self.old.free }
         requires fits { vec_len self.old.nodes ≤ end }
         requires next { HasNode self.old next }
@@ -316,7 +299,7 @@ impl<E: Drop, A: Allocator> Links<E, A> {
     /// Takes the first element out of its node, makes the place after it the first one, and frees
     /// the node. `None` where no place is the first, and then nothing changes.
     #[inline(always)]
-    pub fn take_first(&mut self) -> Option<E>
+    pub fn take_first(&mut self) -> Option<Labelled<L, E>>
         requires first { HasNode self.old self.old.first }
         requires fits { vec_len self.old.nodes ≤ end }
         requires next { self.old.first ≢ end → HasNode self.old (next_at self.old self.old.first) }
@@ -337,8 +320,8 @@ impl<E: Drop, A: Allocator> Links<E, A> {
         }
         let node = &mut self.nodes[place as usize];
         let element = node.take_element();
-        let next = node.next;
-        node.next = self.free;
+        let next = node.next();
+        node.set_next(self.free);
         self.free = place;
         self.first = next;
         self.set_previous(next, END);

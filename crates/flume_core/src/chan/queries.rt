@@ -1,7 +1,8 @@
 //! The queries, each a step that changes nothing, and what is due.
-ghost use Rattle.std.specs.Prelude.{◌≡◌, ◌==◌, ◌+◌, length, IfNone, IfSome, false};
+ghost use Rattle.std.specs.Prelude.{◌≡◌, ◌==◌, ◌+◌, min, length, IfNone, IfSome, false};
 ghost use Rattle.std.specs.Option.{option_copied};
 ghost use Rattle.flume_model.specs.Limits.{is_closed, is_full};
+ghost use Rattle.flume_model.specs.Entries.{waiting_count};
 ghost use Rattle.flume_state.specs.Sends.{NoDueSend};
 ghost use Rattle.flume_state.specs.Receivers.{NoDueReceiver};
 ghost use Rattle.flume_state.specs.Signals.{Names, signal_of};
@@ -103,6 +104,60 @@ impl<T: Drop, S: Drop, A: Allocator + Copy> Chan<T, S, A> {
         ensures room { result + message_count self.now ≡ self.now.space }
     {
         self.line.room()
+    }
+
+    /// How many sends are blocked: each has its message in the channel, behind the queue. One whose
+    /// message moved into the queue isn't, though it hasn't asked since. As the channel closes they
+    /// stay blocked, until they take their messages back; where all ends have been dropped none is.
+    /// It reads a count, changes nothing, is no step, and takes no memory.
+    ///
+    /// ```
+    /// let mut chan: Chan<u64, ()> = Chan::new(alloc, Some(0));
+    /// chan.send(7, ());                  // Pending(1)
+    /// chan.blocked_len();                // 1
+    /// chan.try_recv();                   // Got(7)
+    /// chan.blocked_len();                // 0
+    /// ```
+    pub fn blocked_len(&self) -> usize
+        ensures blocked { result ≡ length self.now.blocked }
+    {
+        self.line.blocked_len()
+    }
+
+    /// How many parked receivers wait. One that was woken, or was filled with a message, doesn't,
+    /// though it hasn't asked since. In a closed channel none waits. It reads a count, changes
+    /// nothing, is no step, and takes no memory.
+    ///
+    /// ```
+    /// let mut chan: Chan<u64, ()> = Chan::new(alloc, None);
+    /// chan.recv(Kind::Block, ());        // Parked(1)
+    /// chan.waiting_len();                // 1
+    /// chan.try_send(7);                  // Sent { filled: Some(1) }
+    /// chan.waiting_len();                // 0
+    /// ```
+    pub fn waiting_len(&self) -> usize
+        ensures waiting { result ≡ waiting_count self.now.entries }
+    {
+        self.entries.waiting()
+    }
+
+    /// How many messages could be received now without waiting, and at most `most`: those that are
+    /// queued, and those that are blocked. It reads counts, whatever their number. No step of its
+    /// own, and no memory.
+    ///
+    /// ```
+    /// let mut chan: Chan<u64, u32> = Chan::new(alloc, Some(1));
+    /// chan.try_send(1);
+    /// chan.send(2, 10);                  // Pending(1)
+    /// chan.available(64);                // 2
+    /// chan.available(1);                 // 1
+    /// ```
+    #[inline(always)]
+    pub fn available(&self, most: usize) -> usize
+        ensures number { result ≡ min most (message_count self.now) }
+    {
+        let queued = self.line.queued_len().min(most);
+        queued + self.line.blocked_len().min(most - queued)
     }
 
     /// A ticket that is due: its send was accepted, or found blocked by the step that closed the

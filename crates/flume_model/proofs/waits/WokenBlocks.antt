@@ -1,10 +1,10 @@
 -- A receiver that blocks stands woken only in a closed channel, and only where no sender is blocked.
 use Rattle.flume_model.proofs.Common.{◌≡◌, ℕ, ◌≤◌, Bool, true, false, not, ◌&&◌, if◌then◌else◌, List, [], ◌∷◌, ◌++◌, length, Some, refl}
-use Rattle.flume_model.proofs.Common.{sym, ◌∙◌, ◌⊎◌, inl, inr, ap, arith, min, eqb-true, or_right, and_parts, list_any-append, Channel}
+use Rattle.flume_model.proofs.Common.{sym, ◌∙◌, ◌⊎◌, inl, inr, ap, arith, min, eqb-true, and_parts, list_any-append, Channel}
 use Rattle.flume_model.proofs.Common.{channel, senders, receivers, senders_after, receivers_after, is_over, is_woken, some_wait, all_woken}
 use Rattle.flume_model.proofs.Common.{without, round, IsClosed, is_closed, line, boundary, boundary_after, capacity_after, blocked, Log, Opening, Change}
 use Rattle.flume_model.proofs.Common.{Queues, Blocks, Takes, Parks, Asks, Collects, Leaves, SenderLeaves, ReceiverLeaves, Resizes, change, LogEntry}
-use Rattle.flume_model.proofs.Common.{same_notice, entries_after, entries, IsRun, is_block, block_woken, WokenBlockWhileClosed, Reply, Step}
+use Rattle.flume_model.proofs.Common.{same_notice, entries_after, entries, IsRun, block_woken, WokenBlockWhileClosed, Reply, Step}
 use Rattle.flume_model.proofs.Common.{common_steps}
 use Rattle.flume_model.proofs.Fits.{Fits}
 use Rattle.flume_model.proofs.EntryLists.{round_for_push, again_cases, leave_cases}
@@ -16,10 +16,6 @@ abbrev ClosedWhole : ℕ → ℕ → ℕ → ℕ → Type 0
 ClosedWhole s r long n = IsClosed s r × (long ≤ n)
 
 module _ {T : Type 0} where
-  -- one that blocks stands woken further on
-  block_later : (x : LogEntry T) (es : List (LogEntry T)) → block_woken es ≡ true → block_woken (x ∷ es) ≡ true
-  block_later x es h = or_right (is_block x.kind && is_woken x.mark) (block_woken es) h
-
   -- a round wakes none that blocks
   block_round : (front : T) (es : List (LogEntry T)) → block_woken (round same_notice front es) ≡ true → block_woken es ≡ true
   block_round front [] h = h

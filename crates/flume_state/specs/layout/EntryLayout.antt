@@ -10,7 +10,7 @@ use Rattle.flume_model.specs.declared.entry.Mark.{Mark}
 use Rattle.flume_model.specs.declared.entry.Mark.TheVariants.{Waiting, Filled}
 use Rattle.flume_state.specs.declared.entries.Parked.{Parked}
 use Rattle.flume_state.specs.declared.notice.Notice.{Notice}
-use Rattle.flume_state.specs.declared.ticketed.Ticketed.{Ticketed}
+use Rattle.flume_state.specs.layout.Ticketed.{Ticketed}
 use Rattle.flume_state.specs.Receivers.{Entries, waits_on}
 
 -- a boundary once the element at a place, which has this one behind it, has left
@@ -40,7 +40,7 @@ module _ {T S : Type 0} where
   -- an element of the chain as an entry
   abbrev pub entry_in : Placed (Ticketed (Parked T S)) → Entry T (Notice S)
   entry_in x = record {
-    ticket = unwrap_or x.element.ticket 0;
+    ticket = unwrap_or x.element.label 0;
     kind = x.element.value.kind;
     mark = x.element.value.mark;
     notice = x.element.value.notice;
@@ -55,7 +55,7 @@ module _ {T S : Type 0} where
   abbrev pub Each : Bool → Bool → List (Placed (Ticketed (Parked T S))) → Type 0
   Each waits due [] = ⊤
   Each waits due (x ∷ items) =
-      (x.element.ticket ≡ Some (unwrap_or x.element.ticket 0))
+      (x.element.label ≡ Some (unwrap_or x.element.label 0))
       × (is_waiting x.element.value.mark ≡ waits)
       × (x.element.value.notice.due ≡ due)
       × Each waits due items

@@ -2,7 +2,7 @@
 use Rattle.std.specs.Prelude.{◌≡◌, ◌+◌, ℕ, List, [], ◌∷◌, ◌++◌, Option, Some, None, length}
 use Rattle.flume_chain.specs.Chained.{Chained, Placed, first_place}
 use Rattle.flume_state.specs.Messages.{Messages, Blocked}
-use Rattle.flume_state.specs.declared.ticketed.Ticketed.{Ticketed}
+use Rattle.flume_state.specs.layout.Ticketed.{Ticketed}
 
 module _ {T : Type 0} where
   -- a message ahead of others, if it has no ticket
@@ -18,12 +18,12 @@ module _ {T : Type 0} where
   -- the messages without a ticket
   abbrev pub queued_of : List (Placed (Ticketed T)) → List T
   queued_of [] = []
-  queued_of (x ∷ items) = queued_ahead x.element.ticket x.element.value (queued_of items)
+  queued_of (x ∷ items) = queued_ahead x.element.label x.element.value (queued_of items)
 
   -- the messages with a ticket, under it
   abbrev pub blocked_of : List (Placed (Ticketed T)) → List (Blocked T)
   blocked_of [] = []
-  blocked_of (x ∷ items) = blocked_ahead x.element.ticket x.element.value (blocked_of items)
+  blocked_of (x ∷ items) = blocked_ahead x.element.label x.element.value (blocked_of items)
 
   -- the line of these elements, where so many may stand
   abbrev pub line_of : List (Placed (Ticketed T)) → ℕ → Messages T

@@ -4,7 +4,7 @@ use Rattle.std.specs.Prelude.{Option, Some, None, IsSome, ⊤}
 use Rattle.std.specs.Ordering.{nat_cmp}
 use Rattle.std.specs.FinMap.{FinMap, empty, insert}
 use Rattle.flume_chain.specs.Chained.{Placed, first_place}
-use Rattle.flume_state.specs.declared.ticketed.Ticketed.{Ticketed}
+use Rattle.flume_state.specs.layout.Ticketed.{Ticketed}
 use Rattle.flume_state.specs.Notices.{due_now}
 use Rattle.flume_state.specs.declared.sends.LiveSend.{LiveSend}
 
@@ -17,7 +17,7 @@ module _ {X : Type 0} where
   -- the values of the elements that have a ticket, each under its ticket
   abbrev pub by_ticket : List (Placed (Ticketed X)) → FinMap nat_cmp X
   by_ticket [] = empty
-  by_ticket (x ∷ items) = put_under (by_ticket items) x.element.ticket x.element.value
+  by_ticket (x ∷ items) = put_under (by_ticket items) x.element.label x.element.value
 
 -- an element of the chain of the live sends
 abbrev pub Element : Type 0 → Type 0
@@ -32,7 +32,7 @@ module _ {S : Type 0} where
   abbrev pub EachDueIs : Bool → List (Element S) → Type 0
   EachDueIs due [] = ⊤
   EachDueIs due (x ∷ xs) =
-      IsSome x.element.ticket × (x.element.value.notice.due ≡ due) × EachDueIs due xs
+      IsSome x.element.label × (x.element.value.notice.due ≡ due) × EachDueIs due xs
 
   -- the elements are those that aren't due, and then those that are, of which the first is at this
   -- place

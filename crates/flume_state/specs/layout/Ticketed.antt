@@ -4,26 +4,31 @@ use Rattle.std.specs.Prelude.{List, [], ◌∷◌, ◌++◌, Option, Some, None}
 use Rattle.std.specs.FinMap.{get}
 use Rattle.flume_model.specs.Log.{is_ticket}
 use Rattle.flume_chain.specs.Chained.{Placed, put_before, times, places}
-use Rattle.flume_state.specs.declared.ticketed.Ticketed.{Ticketed}
+use Rattle.flume_chain.specs.Edited.{with_label_at}
+use Rattle.flume_chain.specs.declared.labelled.Labelled.{Labelled}
 use Rattle.flume_state.specs.layout.Places.{PlaceMap}
+
+-- an element: its label is its ticket, if it has one
+abbrev pub Ticketed : Type 0 → Type 0
+Ticketed E = Labelled (Option ℕ) E
 
 module _ {E : Type 0} where
   -- the ticket of an element that may be there
   abbrev pub ticket_in : Option (Ticketed E) → Option ℕ
   ticket_in None = None
-  ticket_in (Some e) = e.ticket
+  ticket_in (Some e) = e.label
 
   -- the place of the first element with a ticket
   abbrev pub place_of : ℕ → List (Placed (Ticketed E)) → Option ℕ
   place_of t [] = None
   place_of t (x ∷ items) =
-      if is_ticket t x.element.ticket then Some x.place else place_of t items
+      if is_ticket t x.element.label then Some x.place else place_of t items
 
   -- how many elements have a ticket
   abbrev pub ticket_times : ℕ → List (Placed (Ticketed E)) → ℕ
   ticket_times t [] = 0
   ticket_times t (x ∷ items) =
-      (if is_ticket t x.element.ticket then 1 else 0) + ticket_times t items
+      (if is_ticket t x.element.label then 1 else 0) + ticket_times t items
 
   -- the elements with one more: ahead of that at a place, or behind all others where no place is
   -- given or none stands there
@@ -32,19 +37,9 @@ module _ {E : Type 0} where
   put_ahead items None x = items ++ x ∷ []
   put_ahead items (Some k) x = put_before items k x
 
-  -- the elements with another value at a place
-  abbrev pub with_value_at : ℕ → List (Placed (Ticketed E)) → E → List (Placed (Ticketed E))
-  with_value_at k [] v = []
-  with_value_at k (x ∷ items) v =
-      (if k == x.place then record x { element = record x.element { value = v } } else x)
-      ∷ with_value_at k items v
-
   -- the elements where that at a place has lost its ticket
   abbrev pub without_ticket_at : ℕ → List (Placed (Ticketed E)) → List (Placed (Ticketed E))
-  without_ticket_at k [] = []
-  without_ticket_at k (x ∷ items) =
-      (if k == x.place then record x { element = record x.element { ticket = None } } else x)
-      ∷ without_ticket_at k items
+  without_ticket_at k items = with_label_at k items None
 
   -- each ticket is of one element at most, and so is each place, and the map has the tickets'
   -- places

@@ -4,8 +4,8 @@ use Rattle.std.specs.Prelude.{ℕ, Option}
 use Rattle.std.specs.Borrow.{LendsIf, Fml, RattleType, MutBor}
 use Rattle.std.specs.declared.alloc.Allocator.{Ghosts}
 use Rattle.flume_chain.specs.Chained.{Chained}
-use Rattle.flume_state.specs.declared.ticketed.Ticketed.{Ticketed}
-use Rattle.flume_state.specs.layout.Ticketed.{with_value_at}
+use Rattle.flume_chain.specs.Edited.{with_value_at}
+use Rattle.flume_state.specs.layout.Ticketed.{Ticketed}
 use Rattle.flume_state.specs.contracts.ticketed.TicketChain.{the_row}
 
 module _ (E A : RattleType) (alloc : Ghosts A.Denot)

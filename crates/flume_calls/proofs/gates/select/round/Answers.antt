@@ -15,7 +15,7 @@ loop-before-preserved g c =
     let known = c.loop-before.invariant in record {
       within = rw c.count-count.ensures.count at c.next_arm-arm.ensures.within;
       waiting = rw (c.next_arm-arm.ensures.next, c.count-count.ensures.count)
-          (OneMore known.waiting c.in-Parked.ensures.does);
+          (OneMore known.waiting c.in-Waits.ensures.does);
       kept = cc;
     }
 

@@ -1,4 +1,4 @@
-use Rattle.std.proofs.Common.{◌≡◌, ◌<◌}
+use Rattle.std.proofs.Common.{◌≡◌, ◌<◌, is_some}
 use Rattle.flume_calls.specs.SelectGates.{Waiting}
 use Rattle.flume_calls.proofs.gates.select.round.Given as goal
 
@@ -8,6 +8,7 @@ invariant-loop-before g l =
     let count = g.G.SelectGate.count (g.G.SelectGate.kept l.fn.gate) in
     let start = g.G.SelectGate.start (g.G.SelectGate.kept l.fn.gate) in record {
       within : l.arm < count;
-      waiting : Waiting g.G.SelectGate.turns count start l.fn.gate l.before l.arm l.gate;
+      waiting : Waiting (g.G.SelectGate.turns (is_some l.waiter)) count start l.fn.gate l.before
+          l.arm l.gate;
       kept : g.G.SelectGate.kept l.gate ≡ g.G.SelectGate.kept l.fn.gate;
     }

@@ -1,4 +1,4 @@
-use Rattle.std.proofs.Common.{◌≡◌}
+use Rattle.std.proofs.Common.{◌≡◌, true}
 use Rattle.flume_calls.specs.SelectGates.{StartedSelection}
 use Rattle.flume_calls.proofs.gates.select.started_selection.Given as goal
 
@@ -8,9 +8,9 @@ invariant-loop g l =
     let count = g.G.SelectGate.count (g.G.SelectGate.kept l.fn.gate) in
     let start = g.G.SelectGate.start (g.G.SelectGate.kept l.fn.gate) in record {
       from_here : (new : _) (result : _)
-          → StartedSelection g.G.SelectGate.turns g.G.SelectGate.waits g.G.SelectGate.withdraws
+          → StartedSelection (g.G.SelectGate.turns true) g.G.SelectGate.waits g.G.SelectGate.withdraws
           count start l.gate new result
-          → StartedSelection g.G.SelectGate.turns g.G.SelectGate.waits g.G.SelectGate.withdraws
+          → StartedSelection (g.G.SelectGate.turns true) g.G.SelectGate.waits g.G.SelectGate.withdraws
           count start l.fn.gate new result;
       kept : g.G.SelectGate.kept l.gate ≡ g.G.SelectGate.kept l.fn.gate;
       on : (goal.iterator-loop g).can_next l.iterator' × (goal.iterator-loop g).is_finite l.iterator';

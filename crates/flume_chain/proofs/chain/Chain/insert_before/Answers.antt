@@ -2,7 +2,7 @@ use Rattle.std.proofs.Common.{◌+◌, ◌++◌, ◌∷◌, length, length-appen
 use Rattle.std.proofs.lemmas.Result.{IfOk-weaker}
 use Rattle.flume_chain.specs.Chained.{Holds, table_of, found, put_before}
 use Rattle.flume_chain.proofs.Tables.{item, put_before_none}
-use Rattle.flume_chain.proofs.Kept.{same_kept, same_chain, kept_items, found_split, neighbours, place_below, put_items, walked}
+use Rattle.flume_chain.proofs.Kept.{standing, missing, same_kept, same_chain, kept_items, found_split, neighbours, place_below, put_items, walked}
 use Rattle.flume_chain.proofs.Puts.{insert_holds, free_stands, put_room, not_full, on_err}
 use Rattle.flume_chain.proofs.ChainLaws.{length-put_before}
 use Rattle.flume_chain.proofs.chain.Chain.insert_before.Goals as goal
@@ -12,7 +12,7 @@ pub returns-in_default-clause-inserted : goal.returns-in_default-clause-inserted
 returns-in_default-clause-inserted g c =
     let k = c.self.invariant in
     let items = kept_items c.self.inside.links c.self.inside.len c.args.self.now k c.self.view_is in
-    let none = ap (λ l. found l c.args.next) (sym items) ∙ sym (c.in_default.ensures.element ∙ k.holds.elements c.args.next) in
+    let none = ap (λ l. found l c.args.next) (sym items) ∙ sym (missing _ _ c.in_default.ensures.value ∙ k.holds.elements c.args.next) in
     IfOk-weaker c.push_back.result _ _
     (λ place pushed. pushed ∙ sym (put_before_none c.args.self.now.items c.args.next (item place c.args.element) none))
     c.push_back.ensures.pushed
@@ -23,14 +23,16 @@ link_before-requires-clause-free g c = free_stands c.self.inside.links c.self.in
 pub link_before-requires-clause-next : goal.link_before-requires-clause-next
 link_before-requires-clause-next g c =
     let k = c.self.invariant in
-    let r = found_split c.self.inside.links k.items k.frees c.args.next c.in-Some.field-0.now k.holds c.in-Some.ensures.element in
-    λ stands. place_below c.self.inside.links k.items k.frees c.args.next c.in-Some.field-0.now r k.holds
+    let e = standing _ _ _ c.in-Some.ensures.value in
+    let r = found_split c.self.inside.links k.items k.frees c.args.next e.element k.holds e.is in
+    λ stands. place_below c.self.inside.links k.items k.frees c.args.next e.element r k.holds
 
 pub link_before-requires-clause-previous : goal.link_before-requires-clause-previous
 link_before-requires-clause-previous g c =
     let k = c.self.invariant in
-    let r = found_split c.self.inside.links k.items k.frees c.args.next c.in-Some.field-0.now k.holds c.in-Some.ensures.element in
-    (neighbours (table_of c.self.inside.links) r.before r.after c.args.next c.in-Some.field-0.now k.frees
+    let e = standing _ _ _ c.in-Some.ensures.value in
+    let r = found_split c.self.inside.links k.items k.frees c.args.next e.element k.holds e.is in
+    (neighbours (table_of c.self.inside.links) r.before r.after c.args.next e.element k.frees
     (subst (λ l. Holds (table_of c.self.inside.links) l k.frees) r.is k.holds)).previous
 
 pub invariant_of-self : goal.invariant_of-self
@@ -51,16 +53,17 @@ returns-in_err-place-clause-unchanged g c =
 pub invariant_of-self-2 : goal.invariant_of-self-2
 invariant_of-self-2 g c =
     let k = c.self.invariant in
-    let r = found_split c.self.inside.links k.items k.frees c.args.next c.in-Some.field-0.now k.holds c.in-Some.ensures.element in
-    let h = insert_holds c.self.inside.links c.link_before.new.self k.items k.frees c.args.next c.in-Some.field-0.now c.in_ok-place.place
+    let e = standing _ _ _ c.in-Some.ensures.value in
+    let r = found_split c.self.inside.links k.items k.frees c.args.next e.element k.holds e.is in
+    let h = insert_holds c.self.inside.links c.link_before.new.self k.items k.frees c.args.next e.element c.in_ok-place.place
     c.args.element r k.holds c.in_ok-place.ensures.put in
     record {
-      items = r.before ++ item c.in_ok-place.place c.args.element ∷ item c.args.next c.in-Some.field-0.now ∷ r.after;
+      items = r.before ++ item c.in_ok-place.place c.args.element ∷ item c.args.next e.element ∷ r.after;
       frees = h.frees;
       holds = h.holds;
       count =
-          let a = length-append r.before (item c.in_ok-place.place c.args.element ∷ item c.args.next c.in-Some.field-0.now ∷ r.after) in
-          let b = length-append r.before (item c.args.next c.in-Some.field-0.now ∷ r.after) in
+          let a = length-append r.before (item c.in_ok-place.place c.args.element ∷ item c.args.next e.element ∷ r.after) in
+          let b = length-append r.before (item c.args.next e.element ∷ r.after) in
           let n = ap length r.is in
           let m = k.count in
           omega arith;
@@ -70,23 +73,25 @@ invariant_of-self-2 g c =
 pub returns-clause-inserted : goal.returns-clause-inserted
 returns-clause-inserted g c =
     let k = c.self.invariant in
-    let r = found_split c.self.inside.links k.items k.frees c.args.next c.in-Some.field-0.now k.holds c.in-Some.ensures.element in
-    let h = insert_holds c.self.inside.links c.link_before.new.self k.items k.frees c.args.next c.in-Some.field-0.now c.in_ok-place.place
+    let e = standing _ _ _ c.in-Some.ensures.value in
+    let r = found_split c.self.inside.links k.items k.frees c.args.next e.element k.holds e.is in
+    let h = insert_holds c.self.inside.links c.link_before.new.self k.items k.frees c.args.next e.element c.in_ok-place.place
     c.args.element r k.holds c.in_ok-place.ensures.put in
-    let a = length-append r.before (item c.in_ok-place.place c.args.element ∷ item c.args.next c.in-Some.field-0.now ∷ r.after) in
-    let b = length-append r.before (item c.args.next c.in-Some.field-0.now ∷ r.after) in
+    let a = length-append r.before (item c.in_ok-place.place c.args.element ∷ item c.args.next e.element ∷ r.after) in
+    let b = length-append r.before (item c.args.next e.element ∷ r.after) in
     let n = ap length r.is in
     let m = k.count in
     walked c.link_before.new.self (c.self.inside.len + 1) _ h.frees h.holds (omega arith)
-    ∙ sym (put_items c.self.inside.links k.items k.frees c.args.next c.in-Some.field-0.now (item c.in_ok-place.place c.args.element) r k.holds)
+    ∙ sym (put_items c.self.inside.links k.items k.frees c.args.next e.element (item c.in_ok-place.place c.args.element) r k.holds)
     ∙ ap (λ l. put_before l c.args.next (item c.in_ok-place.place c.args.element))
     (kept_items c.self.inside.links c.self.inside.len c.args.self.now k c.self.view_is)
 
 pub returns-clause-fresh : goal.returns-clause-fresh
 returns-clause-fresh g c =
     let k = c.self.invariant in
-    let r = found_split c.self.inside.links k.items k.frees c.args.next c.in-Some.field-0.now k.holds c.in-Some.ensures.element in
-    let h = insert_holds c.self.inside.links c.link_before.new.self k.items k.frees c.args.next c.in-Some.field-0.now c.in_ok-place.place
+    let e = standing _ _ _ c.in-Some.ensures.value in
+    let r = found_split c.self.inside.links k.items k.frees c.args.next e.element k.holds e.is in
+    let h = insert_holds c.self.inside.links c.link_before.new.self k.items k.frees c.args.next e.element c.in_ok-place.place
     c.args.element r k.holds c.in_ok-place.ensures.put in
     ap (λ l. found l c.in_ok-place.place)
     (sym (kept_items c.self.inside.links c.self.inside.len c.args.self.now k c.self.view_is) ∙ r.is)
@@ -95,13 +100,14 @@ returns-clause-fresh g c =
 pub returns-clause-fits : goal.returns-clause-fits
 returns-clause-fits g c =
     let k = c.self.invariant in
-    let r = found_split c.self.inside.links k.items k.frees c.args.next c.in-Some.field-0.now k.holds c.in-Some.ensures.element in
-    let h = insert_holds c.self.inside.links c.link_before.new.self k.items k.frees c.args.next c.in-Some.field-0.now c.in_ok-place.place
+    let e = standing _ _ _ c.in-Some.ensures.value in
+    let r = found_split c.self.inside.links k.items k.frees c.args.next e.element k.holds e.is in
+    let h = insert_holds c.self.inside.links c.link_before.new.self k.items k.frees c.args.next e.element c.in_ok-place.place
     c.args.element r k.holds c.in_ok-place.ensures.put in
     let new = ap length (returns-clause-inserted g c) in
     let more = length-put_before c.args.self.now.items c.args.next (item c.in_ok-place.place c.args.element) in
-    let a = length-append r.before (item c.in_ok-place.place c.args.element ∷ item c.args.next c.in-Some.field-0.now ∷ r.after) in
-    let b = length-append r.before (item c.args.next c.in-Some.field-0.now ∷ r.after) in
+    let a = length-append r.before (item c.in_ok-place.place c.args.element ∷ item c.args.next e.element ∷ r.after) in
+    let b = length-append r.before (item c.args.next e.element ∷ r.after) in
     let n = ap length r.is in
     let old = ap length (kept_items c.self.inside.links c.self.inside.len c.args.self.now k c.self.view_is) in
     let total = h.holds.total in

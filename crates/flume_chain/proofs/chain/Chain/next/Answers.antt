@@ -1,19 +1,20 @@
 use Rattle.std.proofs.Common.{Some, ap, sym, ◌∙◌}
 use Rattle.flume_chain.specs.Chained.{table_of, place_after}
 use Rattle.flume_chain.proofs.Tables.{after_none}
-use Rattle.flume_chain.proofs.Kept.{kept_items, after_is}
+use Rattle.flume_chain.proofs.Kept.{standing, missing, kept_items, after_is}
 use Rattle.flume_chain.proofs.chain.Chain.next.Goals as goal
 
 pub returns-in_default : goal.returns-in_default
 returns-in_default g c = record {
-  next = sym (after_none c.self.invariant.items c.args.place (sym (c.in_default.ensures.element ∙ c.self.invariant.holds.elements c.args.place)))
+  next = sym (after_none c.self.invariant.items c.args.place (sym (missing _ _ c.in_default.ensures.value ∙ c.self.invariant.holds.elements c.args.place)))
       ∙ ap (λ l. place_after l c.args.place) (kept_items c.self.inside.links c.self.inside.len c.args.self.now c.self.invariant c.self.view_is);
 }
 
 pub returns-then-next : goal.returns-then-next
 returns-then-next g c =
     let k = c.self.invariant in
-    let a = after_is (table_of c.self.inside.links) k.items k.frees c.args.place c.in-Some.field-0.now k.holds c.in-Some.ensures.element in
+    let e = standing _ _ _ c.in-Some.ensures.value in
+    let a = after_is (table_of c.self.inside.links) k.items k.frees c.args.place e.element k.holds e.is in
     record {
       next = a.none (sym c.next-next.ensures.next ∙ c.if-next.true)
           ∙ ap (λ l. place_after l c.args.place) (kept_items c.self.inside.links c.self.inside.len c.args.self.now c.self.invariant c.self.view_is);
@@ -22,7 +23,8 @@ returns-then-next g c =
 pub returns : goal.returns
 returns g c =
     let k = c.self.invariant in
-    let a = after_is (table_of c.self.inside.links) k.items k.frees c.args.place c.in-Some.field-0.now k.holds c.in-Some.ensures.element in
+    let e = standing _ _ _ c.in-Some.ensures.value in
+    let a = after_is (table_of c.self.inside.links) k.items k.frees c.args.place e.element k.holds e.is in
     record {
       next = ap Some c.next-next.ensures.next ∙ a.some (λ e. c.if-next.false (c.next-next.ensures.next ∙ e))
           ∙ ap (λ l. place_after l c.args.place) (kept_items c.self.inside.links c.self.inside.len c.args.self.now c.self.invariant c.self.view_is);

@@ -15,7 +15,7 @@ returns-in_err-place g c = record {
 pub returns-in_err-ticket : goal.returns-in_err-ticket
 returns-in_err-ticket g c =
     let w = waits_at _ _ _ _ _ c.self.invariant c.in_ok-place.was in
-    let none : None ≡ Some (unwrap_or w.element.ticket 0) = c.in_err-ticket.ensures.ticket ∙ ap ticket_in w.here ∙ w.class.0 in
+    let none : None ≡ Some (unwrap_or w.element.label 0) = c.in_err-ticket.ensures.ticket ∙ ap ticket_in w.here ∙ w.class.0 in
     absurd cc
 
 pub returns-in_err-parked : goal.returns-in_err-parked
@@ -27,7 +27,7 @@ pub returns : goal.returns
 returns g c =
     let w = waits_at _ _ _ _ _ c.self.invariant c.in_ok-place.was in
     let value = read_value _ _ _ w.here c.in_ok-parked.ensures.found in
-    let ticket : Some c.in_ok-ticket.ticket ≡ w.element.ticket = c.in_ok-ticket.ensures.ticket ∙ ap ticket_in w.here in
+    let ticket : Some c.in_ok-ticket.ticket ≡ w.element.label = c.in_ok-ticket.ensures.ticket ∙ ap ticket_in w.here in
     record {
       first = ap₂ (λ t p. Some (t, p.kind)) (ap (λ o. unwrap_or o 0) ticket) value
           ∙ sym (ap (option_map (λ e. (e.ticket, e.kind))) (ap first_waiting (sym c.self.view_is) ∙ waits_first _ _ _ _ _ c.self.invariant w));

@@ -15,7 +15,7 @@ returns-then-eq-clause-none_due g c =
 pub returns-in_err-ticket-clause-none_due : goal.returns-in_err-ticket-clause-none_due
 returns-in_err-ticket-clause-none_due g c =
     let d = dues_at _ _ _ _ _ c.self.invariant (two_boundaries _ _ (sym c.if-eq.ensures)) c.in_ok-place.was in
-    let none : None ≡ Some (unwrap_or d.element.ticket 0) = c.in_err-ticket.ensures.ticket ∙ ap ticket_in d.here ∙ d.class.0 in
+    let none : None ≡ Some (unwrap_or d.element.label 0) = c.in_err-ticket.ensures.ticket ∙ ap ticket_in d.here ∙ d.class.0 in
     absurd cc
 
 pub invariant_of-self-2 : goal.invariant_of-self-2

@@ -1,0 +1,192 @@
+-- A receive of many through its gate: what it leaves of the list, and that it isn't late with no deadline.
+use Rattle.std.proofs.Common.{◌≡◌, ◌≢◌, ℕ, ◌+◌, Bool, true, false, List, [], ◌∷◌, ◌++◌, length, Result, Ok, Err, IfOk, OnErr, refl, sym, ap, ◌∙◌, ◌↔◌, subst, arith}
+use Rattle.std.proofs.lemmas.List.{append-nil}
+use Rattle.flume_model.specs.declared.step.Step.{Step}
+use Rattle.flume_model.specs.declared.step.Reply.{Reply}
+use Rattle.flume_core.specs.declared.error.RecvError.{RecvError}
+use Rattle.flume_core.specs.declared.error.TryRecvError.{TryRecvError}
+use Rattle.flume_core.specs.declared.error.RecvTimeoutError.{RecvTimeoutError}
+use Rattle.flume_core.specs.declared.error.RecvTimeoutError.TheVariants.{Timeout, Disconnected}
+use Rattle.flume_calls.specs.declared.calls.receive.RecvNext.{RecvNext}
+use Rattle.flume_calls.specs.declared.calls.receive.RecvNext.TheVariants.{Done, NeedSignal, Park, Refused}
+use Rattle.flume_deadline.specs.declared.Deadline.{Deadline}
+use Rattle.flume_deadline.specs.declared.Deadline.TheVariants.{Never}
+use Rattle.flume_calls.specs.ReceiveTurns as turn
+use Rattle.flume_calls.specs.ReceiveGates as gate
+use Rattle.flume_calls.specs.ManyReceives.{Gives, given, with_more, IsWithin, FirstTook, Some, None, NoRoom as FirstNoRoom}
+use Rattle.flume.specs.ManyCalls.{Came, GrowsBy, AnswersMany, Asked, NoRoom}
+
+-- a parked call that has ended answers so
+ended_again : (t : ℕ) (late : Bool) → turn.IsAgain {T = ℕ} t late (Done (Err Disconnected))
+ended_again t true = tt
+ended_again t false = tt
+
+module _ {T : Type 0} where
+  -- a turn and what was taken behind it leave this of the list
+  pub grown : (most more : ℕ) (before after taken : List T) (first : RecvNext T) (next : RecvNext ℕ) → more + 1 ≡ most
+      → Gives before more first taken after next → GrowsBy most before after next
+  grown most more before after taken first next is gives = subst (λ n. GrowsBy most before after n) (sym gives.next_is) (go first gives)
+    where
+      same : (first : RecvNext T) → given first ≡ [] → Gives before more first taken after next → after ≡ before
+      same first none gives = gives.items ∙ ap (λ l. before ++ (l ++ taken)) none ∙ ap (λ l. before ++ l) (gives.only_behind_one none) ∙ append-nil before
+
+      go : (first : RecvNext T) → Gives before more first taken after next → GrowsBy most before after (with_more (length taken) first)
+      go (Done (Ok m)) gives = record {
+        messages = m ∷ taken;
+        items = gives.items;
+        number = omega arith;
+        at_most = let most = gives.at_most in omega arith;
+        some = λ none. absurd (omega arith);
+      }
+      go (Done (Err e)) gives = same (Done (Err e)) refl gives
+      go NeedSignal gives = same NeedSignal refl gives
+      go (Park t) gives = same (Park t) refl gives
+      go (Refused t) gives = same (Refused t) refl gives
+
+  -- the same of a list that is equal
+  pub from_list : (most : ℕ) (a b after : List T) (next : RecvNext ℕ) → a ≡ b → GrowsBy most a after next → GrowsBy most b after next
+  from_list most a b after next e grows = subst (λ b. GrowsBy most b after next) e grows
+
+  none_grows : (most : ℕ) (before after : List T) (first : RecvNext T) → turn.IsNone first → after ≡ before → GrowsBy most before after (with_more 0 first)
+  none_grows most before after (Done (Ok m)) none same = absurd none
+  none_grows most before after (Done (Err e)) none same = same
+  none_grows most before after NeedSignal none same = same
+  none_grows most before after (Park t) none same = absurd none
+  none_grows most before after (Refused t) none same = absurd none
+
+  -- what a first receive of many leaves of the list
+  pub first_grows : {A : Type 0} {made : List (Step T × Reply T A)} (most : ℕ) (before after : List T) (next : RecvNext ℕ)
+      → FirstTook before made after next → IsWithin most next → GrowsBy most before after next
+  first_grows most before after next (Some count took is) within =
+      let within : IsWithin most (Done (Ok count)) = subst (λ n. IsWithin most n) is within in
+      subst (λ n. GrowsBy most before after n) (sym is) (record {
+        messages = took.taken;
+        items = took.items;
+        number = took.number;
+        at_most = within.0;
+        some = within.1;
+      })
+  first_grows most before after next (None reply first made answered none same is) within =
+      subst (λ n. GrowsBy most before after n) (sym is) (none_grows most before after first none same)
+  first_grows most before after next (FirstNoRoom made same is) within = subst (λ n. GrowsBy most before after n) (sym is) same
+
+  -- what a receive of many with no deadline says of the list
+  pub waited_came : (most : ℕ) (before after : List T) (ended : Result ℕ RecvTimeoutError) (result : Result ℕ RecvError)
+      → IfOk ended (λ count. Came most before after count) → ((count : ℕ) → (ended ≡ Ok count) ↔ (result ≡ Ok count))
+      → IfOk result (λ count. Came most before after count)
+  waited_came most before after ended (Ok count) came is =
+      subst (λ e. IfOk e (λ count. Came most before after count)) ((is count).1 refl) came
+  waited_came most before after ended (Err e) came is = tt
+
+  -- what a tried receive of many says of the list
+  pub tried_came : (most : ℕ) (before after : List T) (next : RecvNext ℕ) (result : Result ℕ TryRecvError) → GrowsBy most before after next
+      → ((count : ℕ) → (next ≡ Done (Ok count)) ↔ (result ≡ Ok count)) → IfOk result (λ count. Came most before after count)
+  tried_came most before after next (Ok count) grows is = subst (λ n. GrowsBy most before after n) ((is count).1 refl) grows
+  tried_came most before after next (Err e) grows is = tt
+
+  parking_more : (n : ℕ) (first : RecvNext T) → turn.IsParking first → turn.IsParking (with_more n first)
+  parking_more n (Done (Ok m)) is = tt
+  parking_more n (Done (Err e)) is = is
+  parking_more n NeedSignal is = is
+  parking_more n (Park t) is = is
+  parking_more n (Refused t) is = is
+
+  -- a turn that may park answers as one does
+  pub parks_many : (next : RecvNext ℕ) → AnswersMany {T = T} (λ first. turn.IsParking first) next → turn.IsParking next
+  parks_many next (Asked first more is same) = subst (λ n. turn.IsParking n) (sym same) (parking_more more first is)
+  parks_many next (NoRoom same) = subst (λ n. turn.IsParking n) (sym same) tt
+
+  again_more : (t : ℕ) (late : Bool) (n : ℕ) (first : RecvNext T) → turn.IsAgain t late first → turn.IsAgain t late (with_more n first)
+  again_more t false n (Done (Ok m)) is = tt
+  again_more t false n (Done (Err e)) is = is
+  again_more t false n NeedSignal is = is
+  again_more t false n (Park s) is = is
+  again_more t false n (Refused s) is = is
+  again_more t true n (Done (Ok m)) is = tt
+  again_more t true n (Done (Err e)) is = is
+  again_more t true n NeedSignal is = is
+  again_more t true n (Park s) is = is
+  again_more t true n (Refused s) is = is
+
+  served_more : (n : ℕ) (first : RecvNext T) → turn.IsntRefused first → turn.IsntRefused (with_more n first)
+  served_more n (Done (Ok m)) is = tt
+  served_more n (Done (Err e)) is = is
+  served_more n NeedSignal is = is
+  served_more n (Park t) is = is
+  served_more n (Refused t) is = is
+
+  -- a turn of a parked call answers as one does
+  pub asks_many : (t : ℕ) (late : Bool) (next : RecvNext ℕ) → AnswersMany {T = T} (λ first. turn.IsAgain t late first × turn.IsntRefused first) next
+      → turn.IsAgain t late next × turn.IsntRefused next
+  asks_many t late next (Asked first more is same) =
+      subst (λ n. turn.IsAgain t late n × turn.IsntRefused n) (sym same) (again_more t late more first is.0, served_more more first is.1)
+  asks_many t late next (NoRoom same) = subst (λ n. turn.IsAgain t late n × turn.IsntRefused n) (sym same) (ended_again t late, tt)
+
+  -- what an answer says of the list
+  pub came_of : (most : ℕ) (before after : List T) (result : Result ℕ RecvTimeoutError) → GrowsBy most before after (Done result)
+      → IfOk result (λ count. Came most before after count)
+  came_of most before after (Ok count) grows = grows
+  came_of most before after (Err e) grows = tt
+
+  -- where none came the list is as it was
+  pub same_of : (most : ℕ) (before after : List T) (result : Result ℕ RecvTimeoutError) → GrowsBy most before after (Done result)
+      → OnErr result (after ≡ before)
+  same_of most before after (Ok count) grows = tt
+  same_of most before after (Err e) grows = grows
+
+module _ {G T : Type 0} (deadline : G → Deadline) (most : G → ℕ) (items : G → List T) where
+  -- what the first turn of a receive of many does to its gate
+  abbrev Firsts : G → G → RecvNext ℕ → Type 0
+  Firsts old new next = (deadline new ≡ deadline old) × (most new ≡ most old) × turn.IsFirst next × GrowsBy (most old) (items old) (items new) next
+
+  -- what making its parker does to it
+  abbrev Arms : G → G → Bool → Type 0
+  Arms old new made = (deadline new ≡ deadline old) × (most new ≡ most old) × (items new ≡ items old)
+
+  -- what the turn that may park does to it
+  abbrev Parks : G → G → RecvNext ℕ → Type 0
+  Parks old new next = (deadline new ≡ deadline old) × (most new ≡ most old) × turn.IsParking next × GrowsBy (most old) (items old) (items new) next
+
+  -- what a turn of the parked call does to it
+  abbrev Agains : G → ℕ → Bool → G → RecvNext ℕ → Type 0
+  Agains old ticket late new next = (deadline new ≡ deadline old) × (most new ≡ most old) × turn.IsAgain ticket late next × turn.IsntRefused next
+      × GrowsBy (most old) (items old) (items new) next
+
+  -- what waiting does to it
+  abbrev Waits : G → G → Bool → Type 0
+  Waits old new late = (deadline new ≡ deadline old) × (most new ≡ most old) × (items new ≡ items old) × (late ≡ true → deadline old ≢ Never)
+
+  -- from a gate with the same list and number
+  from : (m n : ℕ) (a b after : List T) (next : RecvNext ℕ) → m ≡ n → a ≡ b → GrowsBy m a after next → GrowsBy n b after next
+  from m n a b after next e f grows = subst (λ n. GrowsBy n b after next) e (subst (λ b. GrowsBy m b after next) f grows)
+
+  -- what the parked call leaves of the list
+  parked : {old new : G} {ticket : ℕ} {result : Result ℕ RecvTimeoutError} → gate.ParkedReceive Agains Waits old ticket new result
+      → GrowsBy (most old) (items old) (items new) (Done result)
+  parked (gate.Asked a) = a.4
+  parked (gate.Withdrawn a b e) = absurd a.3
+  parked {old} {new} {ticket} {result} (gate.Late a w b) = from _ (most old) _ (items old) (items new) (Done result) (w.1 ∙ a.1) (w.2 ∙ a.4) b.4
+  parked {old} {new} {ticket} {result} (gate.Waited a w rest) = from _ (most old) _ (items old) (items new) (Done result) (w.1 ∙ a.1) (w.2 ∙ a.4) (parked rest)
+
+  -- what the whole call leaves of the list
+  pub whole : {old new : G} {result : Result ℕ RecvTimeoutError} → gate.WholeReceive Firsts Arms Parks Agains Waits old new result
+      → GrowsBy (most old) (items old) (items new) (Done result)
+  whole (gate.AtFirst f) = f.3
+  whole {old} {new} (gate.Unarmed f a e) = subst (λ r. GrowsBy (most old) (items old) (items new) (Done r)) (sym e) (a.2 ∙ f.3)
+  whole {old} {new} {result} (gate.AtPark f a p) = from _ (most old) _ (items old) (items new) (Done result) (a.1 ∙ f.1) (a.2 ∙ f.3) p.3
+  whole {old} {new} {result} (gate.Parked f a p rest) = from _ (most old) _ (items old) (items new) (Done result) (p.1 ∙ a.1 ∙ f.1) (p.3 ∙ a.2 ∙ f.3) (parked rest)
+
+  parked_in_time : {old new : G} {ticket : ℕ} {result : Result ℕ RecvTimeoutError} → gate.ParkedReceive Agains Waits old ticket new result
+      → deadline old ≡ Never → result ≢ Err Timeout
+  parked_in_time {ticket = ticket} (gate.Asked a) never late = subst (λ r. turn.IsLater ticket (Done r)) late a.2
+  parked_in_time (gate.Withdrawn a b e) never late = absurd a.3
+  parked_in_time (gate.Late a w b) never late = w.3 refl (a.0 ∙ never)
+  parked_in_time (gate.Waited a w rest) never late = parked_in_time rest (w.0 ∙ a.0 ∙ never) late
+
+  -- the whole call isn't late where it has no deadline
+  pub whole_in_time : {old new : G} {result : Result ℕ RecvTimeoutError} → gate.WholeReceive Firsts Arms Parks Agains Waits old new result
+      → deadline old ≡ Never → result ≢ Err Timeout
+  whole_in_time (gate.AtFirst f) never late = subst (λ r. turn.IsFirst (Done r)) late f.2
+  whole_in_time (gate.Unarmed f a e) never late = absurd (let none : ⊥ = cc in none)
+  whole_in_time (gate.AtPark f a p) never late = subst (λ r. turn.IsParking (Done r)) late p.2
+  whole_in_time (gate.Parked f a p rest) never late = parked_in_time rest (p.0 ∙ a.0 ∙ f.0 ∙ never) late

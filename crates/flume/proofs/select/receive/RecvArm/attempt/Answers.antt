@@ -1,0 +1,6 @@
+-- The step was made.
+use Rattle.flume.proofs.select.receive.RecvArm.attempt.Goals as goal
+
+pub returns-clause-does : goal.returns-clause-does
+returns-clause-does g c =
+    let step = c.call_cold.ensures in (_, step.made, step.answers.0, c.after-state.ensures.does)

@@ -1,0 +1,44 @@
+-- What is left of what was left is left of all.
+use Rattle.std.proofs.Common.{◌≡◌, Err, ap}
+use Rattle.flume_core.specs.declared.error.SendTimeoutError.TheVariants.{Timeout, Disconnected, NoMemory}
+use Rattle.flume.proofs.ManySendCalls.{rest_of_all, last_of_rest, behind_first, without_wait, waited_of_all}
+use Rattle.flume.proofs.sender.Sender.many_by.Goals as goal
+
+pub returns-in-Err-clause-timeout : goal.returns-in-Err-clause-timeout
+returns-in-Err-clause-timeout g c = λ rest said.
+    let same : c.in-Err.ended ≡ Timeout rest = cc in
+    let is = rw c.in-Err-Full.field-0-is at c.in-Err-Full.ensures.answers in
+    let last = last_of_rest _ _ (rest_of_all _ _ _ c.loop-deadline.invariant.last is) in
+    waited_of_all _ _ _ last (c.in-Err.ensures.timeout rest (ap Err same))
+
+pub returns-in-Err-clause-disconnected : goal.returns-in-Err-clause-disconnected
+returns-in-Err-clause-disconnected g c = λ rest said.
+    let same : c.in-Err.ended ≡ Disconnected rest = cc in
+    let is = rw c.in-Err-Full.field-0-is at c.in-Err-Full.ensures.answers in
+    let last = last_of_rest _ _ (rest_of_all _ _ _ c.loop-deadline.invariant.last is) in
+    waited_of_all _ _ _ last (c.in-Err.ensures.disconnected rest (ap Err same))
+
+pub returns-in-Err-clause-no_memory : goal.returns-in-Err-clause-no_memory
+returns-in-Err-clause-no_memory g c = λ rest said.
+    let same : c.in-Err.ended ≡ NoMemory rest = cc in
+    let is = rw c.in-Err-Full.field-0-is at c.in-Err-Full.ensures.answers in
+    rw (c.in-Err.ensures.no_memory rest (ap Err same)) (rest_of_all _ _ _ c.loop-deadline.invariant.last is)
+
+pub returns-in-Err-Disconnected-clause-disconnected : goal.returns-in-Err-Disconnected-clause-disconnected
+returns-in-Err-Disconnected-clause-disconnected g c = λ rest said.
+    let same : c.into_vec.result ≡ rest = cc in
+    let is = rw c.in-Err-Disconnected.field-0-is at c.in-Err-Disconnected.ensures.answers in
+    rw (← same) (rw c.into_vec.ensures.items (without_wait _ _ (rest_of_all _ _ _ c.loop-deadline.invariant.last is)))
+
+pub returns-in-Err-NoMemory-clause-no_memory : goal.returns-in-Err-NoMemory-clause-no_memory
+returns-in-Err-NoMemory-clause-no_memory g c = λ rest said.
+    let same : c.into_vec-in-Err-NoMemory.result ≡ rest = cc in
+    let is = rw c.in-Err-NoMemory.field-0-is at c.in-Err-NoMemory.ensures.answers in
+    rw (← same) (rw c.into_vec-in-Err-NoMemory.ensures.items (rest_of_all _ _ _ c.loop-deadline.invariant.last is))
+
+pub loop-deadline-preserved : goal.loop-deadline-preserved
+loop-deadline-preserved g c =
+    let is = rw c.in-Err-Full.field-0-is at c.in-Err-Full.ensures.answers in
+    let last = last_of_rest _ _ (rest_of_all _ _ _ c.loop-deadline.invariant.last is) in
+    let others = c.in-Ok-first_by.ensures.others in
+    record { last = behind_first _ _ _ others.0 last others.1 }

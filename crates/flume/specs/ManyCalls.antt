@@ -1,0 +1,36 @@
+-- Receives of many messages, as their callers see them.
+use Rattle.std.specs.Prelude.{◌≡◌, ℕ, ◌≤◌, List, ◌++◌, length, Option, Some, Result, Ok}
+use Rattle.std.specs.Prelude.{Err}
+use Rattle.flume_core.specs.declared.error.RecvError.{RecvError}
+use Rattle.flume_calls.specs.declared.calls.receive.RecvNext.{RecvNext}
+use Rattle.flume_core.specs.declared.error.RecvTimeoutError.TheVariants.{Disconnected}
+use Rattle.flume_calls.specs.declared.calls.receive.RecvNext.TheVariants.{Done}
+use Rattle.flume_calls.specs.ManyReceives.{with_more}
+
+module _ {T : Type 0} where
+  -- So many messages came, at most this many, and stand behind what the list held before. None came
+  -- only where none was to come.
+  pub record Came (most : ℕ) (before after : List T) (count : ℕ) : Type 0 where
+    pub messages : List T
+    pub items : after ≡ before ++ messages
+    pub number : length messages ≡ count
+    pub at_most : count ≤ most
+    pub some : count ≡ 0 → most ≡ 0
+
+  -- what a turn leaves of the list, by its answer: only where it ended with messages they are there
+  abbrev pub GrowsBy : ℕ → List T → List T → RecvNext ℕ → Type 0
+  GrowsBy most before after (Done (Ok count)) = Came most before after count
+  GrowsBy most before after _ = after ≡ before
+
+  -- what a turn of a call that waits answers
+  pub data AnswersMany (answers : RecvNext T → Type 0) (next : RecvNext ℕ) : Type 0 where
+    -- as a turn of this kind, with how many came where it got a message
+    Asked : (first : RecvNext T) → (more : ℕ) → answers first → next ≡ with_more more first
+        → AnswersMany answers next
+    -- the list has no room, so that no turn was made
+    NoRoom : next ≡ Done (Err Disconnected) → AnswersMany answers next
+
+  -- what a poll leaves of the list, by its answer
+  abbrev pub PollGrows : ℕ → List T → List T → Option (Result ℕ RecvError) → Type 0
+  PollGrows most before after (Some (Ok count)) = Came most before after count
+  PollGrows most before after _ = after ≡ before

@@ -1,0 +1,245 @@
+//! Receives of many messages: each call takes what is there, under one lock.
+ghost use Rattle.std.specs.Prelude.{◌≡◌, ◌≢◌, ◌<◌, true, Err, IfOk, OnErr};
+ghost use Rattle.flume_deadline.specs.declared.Deadline.TheVariants.{Never};
+ghost use Rattle.flume.specs.ManyCalls.{Came, GrowsBy, AnswersMany};
+
+use crate::answers::{tried_receives, waited_receive};
+use crate::receiver::Receiver;
+use crate::shared::{Shared, Waits};
+use crate::signal::{Parker, Signal};
+use flume_calls::calls::{
+    AgainReceive, FirstReceiveMany, ManyNext, ParkReceive, ReceiveAndMore, RecvCall, RecvNext,
+};
+use flume_calls::gates::{RecvGate, recv_over};
+use flume_calls::turn::Turn;
+use flume_core::error::{RecvError, RecvTimeoutError, TryRecvError};
+use flume_deadline::Deadline;
+use flume_model::step::Kind;
+use std::alloc::Allocator;
+use std::mem::replace;
+use std::sync::Arc;
+use std::time::{Duration, Instant};
+
+impl<T: Drop, R: Waits, A: Allocator + Copy> Receiver<T, R, A> {
+    /// Takes the messages that are there, at most `most`, and puts them behind what `into` holds,
+    /// in order. It answers how many. Doesn't wait for a sender. Blocked sends are let in as each
+    /// message leaves, as by so many single receives, so that it may take more than the channel
+    /// holds. `most` of 0 takes nothing and answers 0.
+    ///
+    /// `Empty`: none is there. `Disconnected`: none is, and all senders have been dropped.
+    /// `NoMemory`: some are there, and there was no room for them in `into`. Each leaves `into` as
+    /// it was, and takes nothing.
+    ///
+    /// ```
+    /// let (tx, rx) = flume::on(rt).unbounded()?;
+    /// tx.send(1)?;
+    /// tx.send(2)?;
+    /// tx.send(3)?;
+    /// let mut messages = Vec::new(rt.alloc());
+    /// assert_eq!(rt; rx.try_recv_many(&mut messages, 2), Ok(2));
+    /// assert_eq!(rt; rx.try_recv_many(&mut messages, 2), Ok(1));
+    /// assert_eq!(rt; messages.as_slice(), [1, 2, 3].as_slice());
+    /// assert_eq!(rt; rx.try_recv_many(&mut messages, 2), Err(TryRecvError::Empty));
+    /// ```
+    pub fn try_recv_many(&self, into: &mut Vec<T, A>, most: usize) -> Result<usize, TryRecvError>
+        ensures came { IfOk result (Came most into.old.items into.new.items) }
+        ensures unchanged { OnErr result (into.new.items ≡ into.old.items) }
+    {
+        let list = replace(into, Vec::new(self.shared().alloc));
+        let ManyNext { into: list, next } = self
+            .shared()
+            .call_all(FirstReceiveMany { into: list, most });
+        *into = list;
+        tried_receives(next)
+    }
+
+    /// Takes messages as `try_recv_many` does, and waits while none is there. Once one has come it
+    /// takes what else is there, at most `most` in all, and waits no longer. It answers how many;
+    /// that is 0 only where `most` is 0, and then it doesn't wait.
+    ///
+    /// `Disconnected`: none is there, and all senders have been dropped. `NoMemory`: there was no
+    /// room for what is there, or no memory for what a call waits on with room for one message.
+    /// Each leaves `into` as it was, and takes nothing. Where a call that waited finds more
+    /// messages than there is room for, it takes as many as there is room for, one at least.
+    ///
+    /// ```
+    /// let (tx, rx) = flume::on(rt).unbounded()?;
+    /// tx.send(1)?;
+    /// tx.send(2)?;
+    /// let mut messages = Vec::new(rt.alloc());
+    /// assert_eq!(rt; rx.recv_many(&mut messages, 64), Ok(2));
+    /// assert_eq!(rt; messages.as_slice(), [1, 2].as_slice());
+    /// drop(tx);
+    /// assert_eq!(rt; rx.recv_many(&mut messages, 64), Err(RecvError::Disconnected));
+    /// ```
+    pub fn recv_many(&self, into: &mut Vec<T, A>, most: usize) -> Result<usize, RecvError>
+        ensures came { IfOk result (Came most into.old.items into.new.items) }
+        ensures unchanged { OnErr result (into.new.items ≡ into.old.items) }
+    {
+        waited_receive(self.many_by(into, most, Deadline::Never))
+    }
+
+    /// Takes messages as `recv_many` does, and waits up to the deadline. `Timeout`: it is reached,
+    /// and no message came; `into` is as it was. The clock and a closed channel count as in
+    /// `recv_deadline`.
+    ///
+    /// ```
+    /// let (_tx, rx) = flume::on(rt).unbounded::<u64>()?;
+    /// let mut messages = Vec::new(rt.alloc());
+    /// let now = Instant::now(&rt)?;
+    /// let none = rx.recv_many_deadline(&mut messages, 64, now);
+    /// assert_eq!(rt; none, Err(RecvTimeoutError::Timeout));
+    /// ```
+    pub fn recv_many_deadline(
+        &self,
+        into: &mut Vec<T, A>,
+        most: usize,
+        deadline: Instant,
+    ) -> Result<usize, RecvTimeoutError>
+        ensures came { IfOk result (Came most into.old.items into.new.items) }
+        ensures unchanged { OnErr result (into.new.items ≡ into.old.items) }
+    {
+        self.many_by(into, most, Deadline::At(deadline))
+    }
+
+    /// Takes messages as `recv_many` does, and waits up to so long from now. The errors are those
+    /// of `recv_many_deadline`. Where no time is that late it waits as `recv_many` does.
+    ///
+    /// ```
+    /// let (tx, rx) = flume::on(rt).unbounded()?;
+    /// tx.send(42)?;
+    /// let mut messages = Vec::new(rt.alloc());
+    /// let wait = Duration::from_millis(100);
+    /// assert_eq!(rt; rx.recv_many_timeout(&mut messages, 64, wait), Ok(1));
+    /// ```
+    pub fn recv_many_timeout(
+        &self,
+        into: &mut Vec<T, A>,
+        most: usize,
+        timeout: Duration,
+    ) -> Result<usize, RecvTimeoutError>
+        ensures came { IfOk result (Came most into.old.items into.new.items) }
+        ensures unchanged { OnErr result (into.new.items ≡ into.old.items) }
+    {
+        let deadline = Deadline::after(self.runtime(), timeout);
+        self.many_by(into, most, deadline)
+    }
+
+    // A receive of many that waits up to the deadline.
+    fn many_by(
+        &self,
+        into: &mut Vec<T, A>,
+        most: usize,
+        deadline: Deadline,
+    ) -> Result<usize, RecvTimeoutError>
+        ensures came { IfOk result (Came most into.old.items into.new.items) }
+        ensures unchanged { OnErr result (into.new.items ≡ into.old.items) }
+        ensures in_time { deadline ≡ Never → result ≢ Err RecvTimeoutError.Timeout }
+    {
+        if most == 0 {
+            return Ok(0);
+        }
+        let list = replace(into, Vec::new(self.shared().alloc));
+        let mut gate = ManyGate {
+            shared: self.shared(),
+            deadline,
+            into: list,
+            most,
+        };
+        let answer = recv_over(self.runtime(), &mut gate);
+        let ManyGate { into: list, .. } = gate;
+        *into = list;
+        answer
+    }
+}
+
+/// What one receive of many that waits goes through. It has the list into which the messages go.
+#[derive(Drop)]
+struct ManyGate<'a, T, R: Waits, A: Allocator + Copy> {
+    shared: &'a Shared<T, R, A>,
+    deadline: Deadline,
+    into: Vec<T, A>,
+    most: usize,
+    ghost some: { 0 < most },
+}
+
+impl<T: Drop, R: Waits, A: Allocator + Copy> ManyGate<'_, T, R, A> {
+    // Makes the turn of a call that waits, and where that gives a message takes what else is there.
+    // While a call waits its list keeps the room that `arm` made. One whose list is full has ended.
+    #[cold]
+    #[inline(never)]
+    fn and_more<C>(&mut self, turn: C) -> RecvNext<usize>
+    where
+        C: Turn<T, Signal<A>, A, Answer = RecvNext<T>> + Drop,
+        ensures deadline { self.new.deadline ≡ self.old.deadline }
+        ensures most { self.new.most ≡ self.old.most }
+        ensures answers { AnswersMany (C.answers turn) result }
+        ensures grows { GrowsBy self.old.most self.old.into.items self.new.into.items result }
+    {
+        if self.into.len() == self.into.capacity() {
+            return RecvNext::Done(Err(RecvTimeoutError::Disconnected));
+        }
+        let into = replace(&mut self.into, Vec::new(self.shared.alloc));
+        let more = self.most - 1;
+        let ManyNext { into, next } = self.shared.call_all(ReceiveAndMore { turn, into, more });
+        self.into = into;
+        next
+    }
+}
+
+impl<T: Drop, R: Waits, A: Allocator + Copy> RecvGate<usize> for ManyGate<'_, T, R, A> {
+    ghost use Rattle.flume_calls.specs.ReceiveTurns as receive;
+
+    type Waiter = Arc<Parker, A>;
+
+    type Signal = Signal<A>;
+
+    ghost firsts = { λ old new next.
+        (new.deadline ≡ old.deadline) × (new.most ≡ old.most) × receive.IsFirst next
+        × GrowsBy old.most old.into.items new.into.items next };
+
+    ghost arms = { λ old new _. (new.deadline ≡ old.deadline) × (new.most ≡ old.most)
+        × (new.into.items ≡ old.into.items) };
+
+    ghost parks = { λ old new next.
+        (new.deadline ≡ old.deadline) × (new.most ≡ old.most) × receive.IsParking next
+        × GrowsBy old.most old.into.items new.into.items next };
+
+    ghost agains = { λ old ticket late new next.
+        (new.deadline ≡ old.deadline) × (new.most ≡ old.most)
+        × receive.IsAgain ticket late next × receive.IsntRefused next
+        × GrowsBy old.most old.into.items new.into.items next };
+
+    ghost waits = { λ old new late.
+        (new.deadline ≡ old.deadline) × (new.most ≡ old.most)
+        × (new.into.items ≡ old.into.items) × (late ≡ true → old.deadline ≢ Never) };
+
+    fn first(&mut self) -> RecvNext<usize> {
+        let into = replace(&mut self.into, Vec::new(self.shared.alloc));
+        let most = self.most;
+        let ManyNext { into, next } = self.shared.call_all(FirstReceiveMany { into, most });
+        self.into = into;
+        next
+    }
+
+    // Room for one message is made before the call parks, so that it can always take the message
+    // for which it is woken, or which is handed to it.
+    fn arm(&mut self) -> Option<(Arc<Parker, A>, Signal<A>)> {
+        self.into.try_reserve(1).ok()?;
+        self.shared.new_parker()
+    }
+
+    fn park(&mut self, signal: Signal<A>) -> RecvNext<usize> {
+        let kind = Kind::Block;
+        self.and_more(ParkReceive { kind, signal })
+    }
+
+    fn again(&mut self, call: RecvCall, late: bool) -> RecvNext<usize> {
+        let signal = None;
+        self.and_more(AgainReceive { call, late, signal })
+    }
+
+    fn wait(&mut self, parker: &Arc<Parker, A>) -> bool {
+        parker.wait_up_to(&self.shared.rt, self.deadline)
+    }
+}

@@ -1,0 +1,189 @@
+//! Sends of many messages: as many as the channel takes in are sent under one lock.
+ghost use Rattle.std.specs.Prelude.{◌≡◌, ◌≢◌, ◌∷◌, ◌<◌, Vec, IfOk, Err};
+ghost use Rattle.std.specs.VecDeque.{deque_len};
+ghost use Rattle.flume_deadline.specs.declared.Deadline.TheVariants.{Never};
+ghost use Rattle.flume_calls.specs.ManySends.{IsRest};
+ghost use Rattle.flume.specs.ManySendCalls.{IsRestAfterWait};
+
+use crate::answers::{tried_sends, waited_send};
+use crate::gate::Gate;
+use crate::sender::Sender;
+use crate::shared::Waits;
+use flume_calls::calls::SendMany;
+use flume_calls::gates::send_over;
+use flume_core::error::{SendError, SendTimeoutError, TrySendError};
+use flume_deadline::Deadline;
+use std::alloc::Allocator;
+use std::collections::VecDeque;
+use std::time::{Duration, Instant};
+
+impl<T: Drop, R: Waits, A: Allocator + Copy> Sender<T, R, A> {
+    /// Sends messages in order, as many as the channel takes in at once, under one lock. Doesn't
+    /// wait for a receiver. An error has all that weren't taken in, in order, in the list that was
+    /// given: the first of them is the one that was refused. `Full`: no receiver waits, and the
+    /// channel is full. `Disconnected` and `NoMemory` as of `try_send`. None of an empty list.
+    ///
+    /// ```
+    /// let (tx, rx) = flume::on(rt).bounded(2)?;
+    /// let full = tx.try_send_many(vec![in rt.alloc(); 1, 2, 3]?);
+    /// assert_eq!(rt; full, Err(TrySendError::Full(vec![in rt.alloc(); 3]?)));
+    /// assert_eq!(rt; rx.recv(), Ok(1));
+    /// ```
+    pub fn try_send_many(&self, messages: Vec<T, A>) -> Result<(), TrySendError<Vec<T, A>>>
+        ensures full { (rest : Vec T A) → result ≡ Err (TrySendError.Full rest)
+            → IsRest messages.items rest.items }
+        ensures disconnected { (rest : Vec T A) → result ≡ Err (TrySendError.Disconnected rest)
+            → IsRest messages.items rest.items }
+        ensures no_memory { (rest : Vec T A) → result ≡ Err (TrySendError.NoMemory rest)
+            → IsRest messages.items rest.items }
+    {
+        let messages = VecDeque::from_vec(messages);
+        tried_sends(self.shared().call_all(SendMany { messages }))
+    }
+
+    /// Sends messages in order, and waits while the channel is full. As many as the channel takes
+    /// in are sent under one lock. Where it is full the next message waits, as in `send`, and then
+    /// the others go on; messages of other senders may come between. An error has all that weren't
+    /// taken in, in order, in the list that was given: one that waited is the first. `Disconnected`
+    /// and `NoMemory` as of `send`. None of an empty list.
+    ///
+    /// ```
+    /// let (tx, rx) = flume::on(rt).unbounded()?;
+    /// tx.send_many(vec![in rt.alloc(); 1, 2, 3]?)?;
+    /// assert_eq!(rt; rx.len(), 3);
+    /// drop(rx);
+    /// let closed = tx.send_many(vec![in rt.alloc(); 4, 5]?);
+    /// assert_eq!(rt; closed, Err(SendError::Disconnected(vec![in rt.alloc(); 4, 5]?)));
+    /// ```
+    pub fn send_many(&self, messages: Vec<T, A>) -> Result<(), SendError<Vec<T, A>>>
+        ensures disconnected { (rest : Vec T A) → result ≡ Err (SendError.Disconnected rest)
+            → IsRestAfterWait messages.items rest.items }
+        ensures no_memory { (rest : Vec T A) → result ≡ Err (SendError.NoMemory rest)
+            → IsRest messages.items rest.items }
+    {
+        waited_send(self.many_by(messages, Deadline::Never))
+    }
+
+    /// Sends messages in order, and waits while the channel is full, up to the deadline, which is
+    /// one for all of them. What is sent by then stays sent. The errors are those of
+    /// `send_deadline`, and have all that weren't taken in, as those of `send_many`.
+    ///
+    /// ```
+    /// let (tx, _rx) = flume::on(rt).bounded(1)?;
+    /// let late = tx.send_many_deadline(vec![in rt.alloc(); 1, 2, 3]?, Instant::now(&rt)?);
+    /// assert_eq!(rt; late, Err(SendTimeoutError::Timeout(vec![in rt.alloc(); 2, 3]?)));
+    /// ```
+    pub fn send_many_deadline(
+        &self,
+        messages: Vec<T, A>,
+        deadline: Instant,
+    ) -> Result<(), SendTimeoutError<Vec<T, A>>>
+        ensures timeout { (rest : Vec T A) → result ≡ Err (SendTimeoutError.Timeout rest)
+            → IsRestAfterWait messages.items rest.items }
+        ensures disconnected { (rest : Vec T A) → result ≡ Err (SendTimeoutError.Disconnected rest)
+            → IsRestAfterWait messages.items rest.items }
+        ensures no_memory { (rest : Vec T A) → result ≡ Err (SendTimeoutError.NoMemory rest)
+            → IsRest messages.items rest.items }
+    {
+        self.many_by(messages, Deadline::At(deadline))
+    }
+
+    /// Sends messages in order, and waits while the channel is full, up to so long from now. The
+    /// errors are those of `send_many_deadline`. Where no time is that late it waits as `send_many`
+    /// does.
+    ///
+    /// ```
+    /// let (tx, rx) = flume::on(rt).bounded(2)?;
+    /// tx.send_many_timeout(vec![in rt.alloc(); 1, 2]?, Duration::from_millis(350))?;
+    /// assert_eq!(rt; rx.recv(), Ok(1));
+    /// ```
+    pub fn send_many_timeout(
+        &self,
+        messages: Vec<T, A>,
+        timeout: Duration,
+    ) -> Result<(), SendTimeoutError<Vec<T, A>>>
+        ensures timeout { (rest : Vec T A) → result ≡ Err (SendTimeoutError.Timeout rest)
+            → IsRestAfterWait messages.items rest.items }
+        ensures disconnected { (rest : Vec T A) → result ≡ Err (SendTimeoutError.Disconnected rest)
+            → IsRestAfterWait messages.items rest.items }
+        ensures no_memory { (rest : Vec T A) → result ≡ Err (SendTimeoutError.NoMemory rest)
+            → IsRest messages.items rest.items }
+    {
+        let deadline = Deadline::after(&self.shared().rt, timeout);
+        self.many_by(messages, deadline)
+    }
+
+    // A send of many that waits up to the deadline: what is left is offered under one lock, and
+    // where the channel is full the first of it waits by itself.
+    fn many_by(
+        &self,
+        messages: Vec<T, A>,
+        deadline: Deadline,
+    ) -> Result<(), SendTimeoutError<Vec<T, A>>>
+        ensures timeout { (rest : Vec T A) → result ≡ Err (SendTimeoutError.Timeout rest)
+            → IsRestAfterWait messages.items rest.items }
+        ensures disconnected { (rest : Vec T A) → result ≡ Err (SendTimeoutError.Disconnected rest)
+            → IsRestAfterWait messages.items rest.items }
+        ensures no_memory { (rest : Vec T A) → result ≡ Err (SendTimeoutError.NoMemory rest)
+            → IsRest messages.items rest.items }
+        ensures in_time { deadline ≡ Never → (rest : Vec T A)
+            → result ≢ Err (SendTimeoutError.Timeout rest) }
+    {
+        let mut left = VecDeque::from_vec(messages);
+        while !left.is_empty() {
+            left = match self.shared().call_all(SendMany { messages: left }) {
+                Ok(()) => return Ok(()),
+                Err(TrySendError::Full(full)) => match self.first_by(full, deadline) {
+                    Ok(behind) => behind,
+                    Err(ended) => return Err(ended),
+                },
+                Err(TrySendError::Disconnected(rest)) => {
+                    return Err(SendTimeoutError::Disconnected(rest.into_vec()));
+                }
+                Err(TrySendError::NoMemory(rest)) => {
+                    return Err(SendTimeoutError::NoMemory(rest.into_vec()));
+                }
+            };
+        }
+        Ok(())
+    }
+
+    // Sends the first of these messages, which may wait, and answers the others.
+    fn first_by(
+        &self,
+        mut messages: VecDeque<T, A>,
+        deadline: Deadline,
+    ) -> Result<VecDeque<T, A>, SendTimeoutError<Vec<T, A>>>
+        requires some { 0 < deque_len messages }
+        ensures others { IfOk result (λ behind. (first : T)
+            × (messages.items ≡ first ∷ behind.items)) }
+        ensures timeout { (rest : Vec T A) → result ≡ Err (SendTimeoutError.Timeout rest)
+            → IsRestAfterWait messages.items rest.items }
+        ensures disconnected { (rest : Vec T A) → result ≡ Err (SendTimeoutError.Disconnected rest)
+            → IsRestAfterWait messages.items rest.items }
+        ensures no_memory { (rest : Vec T A) → result ≡ Err (SendTimeoutError.NoMemory rest)
+            → rest.items ≡ messages.items }
+        ensures in_time { deadline ≡ Never → (rest : Vec T A)
+            → result ≢ Err (SendTimeoutError.Timeout rest) }
+    {
+        let Some(first) = messages.pop_front() else {
+            unreachable!();
+        };
+        let mut gate = Gate::new(self.shared(), deadline);
+        match send_over(&self.shared().rt, &mut gate, first) {
+            Ok(()) => Ok(messages),
+            Err(SendTimeoutError::Timeout(back)) => {
+                messages.push_front_reserved(back);
+                Err(SendTimeoutError::Timeout(messages.into_vec()))
+            }
+            Err(SendTimeoutError::Disconnected(back)) => {
+                messages.push_front_reserved(back);
+                Err(SendTimeoutError::Disconnected(messages.into_vec()))
+            }
+            Err(SendTimeoutError::NoMemory(back)) => {
+                messages.push_front_reserved(back);
+                Err(SendTimeoutError::NoMemory(messages.into_vec()))
+            }
+        }
+    }
+}

@@ -1,0 +1,13 @@
+use Rattle.std.proofs.Common.{◌≡◌, ◌+◌, vec_len, vec_capacity}
+use Rattle.flume_state.specs.State.{message_count}
+use Rattle.flume_calls.specs.ManyReceives.{Takes}
+use Rattle.flume_calls.proofs.calls.receive_many.take_each.Given as goal
+
+-- so many were taken so far, and the list has as many more
+abbrev pub invariant-loop-taken : goal.invariant-loop-taken
+invariant-loop-taken g l = record {
+  took : Takes g.row.A.Denot l.fn.chan l.fn.into.items l._taken l.chan l.into.items;
+  left : message_count l.chan + l._taken ≡ message_count l.fn.chan;
+  len : vec_len l.into ≡ vec_len l.fn.into + l._taken;
+  capacity : vec_capacity l.into ≡ vec_capacity l.fn.into;
+}

@@ -1,0 +1,69 @@
+-- Each message is taken in and the batch goes on, or it stops there.
+use Rattle.std.proofs.Common.{◌≡◌, [], rules}
+use Rattle.flume_calls.specs.ManySends.{NoneLeft, IsFull, IsClosed, IsRefused}
+use Rattle.flume_calls.specs.Batches.{NoSteps}
+use Rattle.flume_calls.proofs.ManySends.{taken_in, one_step, all_left, first_sent}
+use Rattle.flume_calls.proofs.calls.send_many.SendManyBatch.apply.Goals as goal
+
+pub loop-message-preserved : goal.loop-message-preserved
+loop-message-preserved g c =
+    let items = c.in-Some.ensures.items in
+    record {
+      from_here = λ new answer batch. c.loop-message.invariant.from_here new answer
+          (rw items (taken_in c.in-Sent.ensures.step c.in-Sent.ensures.dues batch));
+      rest = λ left is. c.loop-message.invariant.rest left (rw items (first_sent _ _ left is));
+    }
+
+pub returns-in-Full-clause-batch : goal.returns-in-Full-clause-batch
+returns-in-Full-clause-batch g c =
+    let items = c.in-Some.ensures.items in
+    let same : c.in-Full.back ≡ c.in-Some.message = c.in-Full.ensures.comes in
+    let left = rw same at c.put_back.ensures.items in
+    c.loop-message.invariant.from_here _ _
+    (rw items (one_step (rw same at c.in-Full.ensures.step) (rw same at c.in-Full.ensures.dues) (IsFull left)))
+
+pub returns-in-Full-clause-answers : goal.returns-in-Full-clause-answers
+returns-in-Full-clause-answers g c =
+    let items = c.in-Some.ensures.items in
+    let same : c.in-Full.back ≡ c.in-Some.message = c.in-Full.ensures.comes in
+    let left = rw same at c.put_back.ensures.items in
+    c.loop-message.invariant.rest _ (rw items (all_left _ _ _ left))
+
+pub returns-in-Closed-clause-batch : goal.returns-in-Closed-clause-batch
+returns-in-Closed-clause-batch g c =
+    let items = c.in-Some.ensures.items in
+    let same : c.in-Closed.back ≡ c.in-Some.message = c.in-Closed.ensures.comes in
+    let left = rw same at c.put_back-in-Closed.ensures.items in
+    c.loop-message.invariant.from_here _ _
+    (rw items (one_step (rw same at c.in-Closed.ensures.step) (rw same at c.in-Closed.ensures.dues) (IsClosed left)))
+
+pub returns-in-Closed-clause-answers : goal.returns-in-Closed-clause-answers
+returns-in-Closed-clause-answers g c =
+    let items = c.in-Some.ensures.items in
+    let same : c.in-Closed.back ≡ c.in-Some.message = c.in-Closed.ensures.comes in
+    let left = rw same at c.put_back-in-Closed.ensures.items in
+    c.loop-message.invariant.rest _ (rw items (all_left _ _ _ left))
+
+pub returns-in-NoMemory-Some-clause-batch : goal.returns-in-NoMemory-Some-clause-batch
+returns-in-NoMemory-Some-clause-batch g c =
+    let items = c.in-Some.ensures.items in
+    let comes = c.in-NoMemory-Some.ensures.comes in
+    let same : c.in-NoMemory-Some.back ≡ c.in-Some.message = cc in
+    let left = rw same at c.put_back-in-NoMemory-Some.ensures.items in
+    let step = rw c.in-NoMemory-Some.field-0-is at c.in-NoMemory-Some.ensures.step in
+    let dues = rw c.in-NoMemory-Some.field-0-is at c.in-NoMemory-Some.ensures.dues in
+    c.loop-message.invariant.from_here _ _
+    (rw items (one_step (rw same at step) (rw same at dues) (IsRefused left)))
+
+pub returns-in-NoMemory-Some-clause-answers : goal.returns-in-NoMemory-Some-clause-answers
+returns-in-NoMemory-Some-clause-answers g c =
+    let items = c.in-Some.ensures.items in
+    let comes = c.in-NoMemory-Some.ensures.comes in
+    let same : c.in-NoMemory-Some.back ≡ c.in-Some.message = cc in
+    let left = rw same at c.put_back-in-NoMemory-Some.ensures.items in
+    c.loop-message.invariant.rest _ (rw items (all_left _ _ _ left))
+
+pub returns-clause-batch : goal.returns-clause-batch
+returns-clause-batch g c =
+    let none : c.loop-message.messages.items ≡ [] = search rules in
+    c.loop-message.invariant.from_here _ _ (record { made = _; led = NoSteps; answered = rw none NoneLeft })

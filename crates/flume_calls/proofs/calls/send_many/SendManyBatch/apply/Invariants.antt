@@ -1,0 +1,15 @@
+use Rattle.std.specs.VecDeque.{deque_len}
+use Rattle.flume_calls.specs.Batches.{Batched}
+use Rattle.flume_calls.specs.ManySends.{SendsMany, IsRest}
+use Rattle.flume_calls.proofs.calls.send_many.SendManyBatch.apply.Given as goal
+
+-- every batch from here is the end of a batch of the call, and what it leaves is what the call leaves
+abbrev pub invariant-loop-message : goal.invariant-loop-message
+invariant-loop-message g l = record {
+  from_here : (new : _) (answer : _) → Batched {A = g.row.A.Denot} (SendsMany l.messages.items) l.chan new answer
+      → Batched {A = g.row.A.Denot} (SendsMany l.fn.self.messages.items) l.fn.chan new answer;
+  rest : (left : _) → IsRest l.messages.items left → IsRest l.fn.self.messages.items left;
+}
+
+abbrev pub decreases-loop-message : goal.decreases-loop-message
+decreases-loop-message g l = deque_len l.messages

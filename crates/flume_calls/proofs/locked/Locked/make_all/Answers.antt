@@ -1,0 +1,27 @@
+-- What a batch leaves, and what it is.
+use Rattle.flume_calls.specs.Batches.{goes_on}
+use Rattle.flume_calls.proofs.Leading.{led_log}
+use Rattle.flume_calls.proofs.locked.Locked.make_all.Goals as goal
+
+pub invariant_of-self : goal.invariant_of-self
+invariant_of-self g c =
+    let led = c.self.invariant.led in
+    let batch = c.apply-answer.ensures.batch in
+    record {
+      led = (
+        led.0,
+        goes_on led.1 batch.made,
+        c.fire_due.ensures.stands led.0 _ (led_log batch.led led.0 led.1 led.2),
+      );
+      sends = c.fire_due.ensures.sends;
+      receivers = c.fire_due.ensures.receivers;
+    }
+
+pub returns-clause-call : goal.returns-clause-call
+returns-clause-call g c = rw (← c.self.view_is) (record {
+  between = _;
+  batch = c.apply-answer.ensures.batch;
+  outcome = c.apply-answer.ensures.outcome;
+  rang = c.fire_due.ensures.rings;
+  stands = c.fire_due.ensures.stands;
+})

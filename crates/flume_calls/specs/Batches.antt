@@ -1,0 +1,36 @@
+-- Several steps of a channel, made one after the other with nothing between them.
+use Rattle.std.specs.Prelude.{List, [], ◌∷◌}
+use Rattle.flume_model.specs.declared.step.Step.{Step}
+use Rattle.flume_model.specs.declared.step.Reply.{Reply}
+use Rattle.flume_model.specs.Log.{Log}
+use Rattle.flume_state.specs.State.{State}
+use Rattle.flume_state.specs.Due.{BecomesDue}
+use Rattle.flume_core.specs.Represents.{Extends, IsReachable}
+
+module _ {T A : Type 0} where
+  -- the log, which goes on with these steps and their replies, the first first
+  abbrev pub goes_on : Log T A → List (Step T × Reply T A) → Log T A
+  goes_on log [] = log
+  goes_on log (made ∷ later) = goes_on (made ∷ log) later
+
+  module _ {S : Type 0} where
+    -- The steps lead from the state before to the state after, with these replies, the first first.
+    -- Each reply is one that the abstract channel gives there. Who is due at the end was due before
+    -- and still is, or became due by one of these steps and still is.
+    pub data Lead : State T S → List (Step T × Reply T A) → State T S → Type 0 where
+      -- there is no step
+      NoSteps : {s : State T S} → Lead s [] s
+      -- one step, and then the others
+      Stepped : {old between new : State T S} {step : Step T} {reply : Reply T A}
+          {later : List (Step T × Reply T A)} → Extends old step reply between
+          → (IsReachable A old → BecomesDue old step reply between)
+          → Lead between later new → Lead old ((step, reply) ∷ later) new
+
+  module _ {S N : Type 0} where
+    -- the channel made some steps, and the batch answered as its table says to them and their
+    -- replies
+    pub record Batched (table : List (Step T × Reply T A) → N → Type 0) (old new : State T S)
+        (answer : N) : Type 0 where
+      pub made : List (Step T × Reply T A)
+      pub led : Lead old made new
+      pub answered : table made answer

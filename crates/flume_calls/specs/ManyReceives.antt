@@ -1,0 +1,139 @@
+-- Receives of many messages with nothing between them: which steps each batch makes, and what it
+-- answers.
+use Rattle.std.specs.Prelude.{◌≡◌, ◌⊎◌, ℕ, ◌+◌, ◌<◌, ◌≤◌, ◌↔◌, min, List, [], ◌∷◌, ◌++◌, map}
+use Rattle.std.specs.Prelude.{length, Ok, Err, Vec, vec_len, vec_capacity}
+use Rattle.flume_model.specs.declared.step.Step.{Step}
+use Rattle.flume_model.specs.declared.step.Step.TheVariants.{TryRecv}
+use Rattle.flume_model.specs.declared.step.Reply.{Reply}
+use Rattle.flume_model.specs.declared.step.Reply.TheVariants.{Got}
+use Rattle.flume_model.specs.Limits.{IsOpen, IsClosed}
+use Rattle.flume_state.specs.State.{State, message_count}
+use Rattle.flume_core.specs.declared.error.RecvTimeoutError.TheVariants.{Disconnected, NoMemory}
+use Rattle.flume_calls.specs.declared.calls.receive.RecvNext.{RecvNext}
+use Rattle.flume_calls.specs.declared.calls.receive.RecvNext.TheVariants.{Done, NeedSignal, Park}
+use Rattle.flume_calls.specs.declared.calls.receive.RecvNext.TheVariants.{Refused}
+use Rattle.flume_calls.specs.Batches.{Lead}
+use Rattle.flume_calls.specs.ReceiveTurns.{after_try_recv, IsNone}
+
+-- how many messages a call took, where it took some: at most so many, and none only for a call
+-- that was to take none
+abbrev pub IsWithin : ℕ → RecvNext ℕ → Type 0
+IsWithin most (Done (Ok count)) = (count ≤ most) × (count ≡ 0 → most ≡ 0)
+IsWithin most _ = Unit {0}
+
+module _ {T A : Type 0} where
+  -- a `try_recv` for each of these messages, which got it
+  abbrev pub each_got : List T → List (Step T × Reply T A)
+  each_got taken = map (λ message. (TryRecv, Got message)) taken
+
+module _ {T S : Type 0} (A : Type 0) where
+  -- So many messages were taken, each by a `try_recv`, and put behind what was there before, in
+  -- order: from the channel and the list before to both after.
+  pub record Takes (old : State T S) (before : List T) (count : ℕ) (new : State T S)
+      (after : List T) : Type 0 where
+    pub taken : List T
+    pub led : Lead {A = A} old (each_got taken) new
+    pub items : after ≡ before ++ taken
+    pub number : length taken ≡ count
+
+module _ {T : Type 0} where
+  -- the message that a turn of a receive gave, if it gave one
+  abbrev pub given : RecvNext T → List T
+  given (Done (Ok message)) = message ∷ []
+  given _ = []
+
+  -- What is answered where a turn of a receive gave this and so many messages were taken after it:
+  -- how many came, if one did, and else what the turn answered.
+  abbrev pub with_more : ℕ → RecvNext T → RecvNext ℕ
+  with_more more (Done (Ok message)) = Done (Ok (more + 1))
+  with_more more (Done (Err error)) = Done (Err error)
+  with_more more NeedSignal = NeedSignal
+  with_more more (Park ticket) = Park ticket
+  with_more more (Refused ticket) = Refused ticket
+
+  -- A turn of a receive gave this, and then these were taken, at most so many: what the list holds
+  -- after it, and the answer. Where the turn gave no message none was taken.
+  pub record Gives (before : List T) (more : ℕ) (first : RecvNext T) (taken : List T)
+      (after : List T) (next : RecvNext ℕ) : Type 0 where
+    pub items : after ≡ before ++ (given first ++ taken)
+    pub next_is : next ≡ with_more (length taken) first
+    pub only_behind_one : given first ≡ [] → taken ≡ []
+    pub at_most : length taken ≤ more
+
+module _ {T A : Type 0} where
+  -- the table of a batch that takes what is there: so many were taken, and put behind
+  pub record Took (before : List T) (made : List (Step T × Reply T A)) (after : List T)
+      (count : ℕ) : Type 0 where
+    pub taken : List T
+    pub steps : made ≡ each_got taken
+    pub items : after ≡ before ++ taken
+    pub number : length taken ≡ count
+
+  -- the table of a first receive of many
+  pub data FirstTook (before : List T) (made : List (Step T × Reply T A)) (after : List T)
+      (next : RecvNext ℕ) : Type 0 where
+    -- it took what was there
+    Some : (count : ℕ) → Took before made after count → next ≡ Done (Ok count)
+        → FirstTook before made after next
+    -- there was none, as its one step says
+    None : (reply : Reply T A) → (first : RecvNext T) → made ≡ (TryRecv, reply) ∷ []
+        → after_try_recv reply first → IsNone first → after ≡ before → next ≡ with_more 0 first
+        → FirstTook before made after next
+    -- there was no memory for the room that they need, and it made no step
+    NoRoom : made ≡ [] → after ≡ before → next ≡ Done (Err NoMemory)
+        → FirstTook before made after next
+
+  -- the table of a batch that begins with a turn of this step and this table
+  pub record TookMore (step : Step T) (table : Reply T A → RecvNext T → Type 0) (before : List T)
+      (more : ℕ) (made : List (Step T × Reply T A)) (after : List T) (next : RecvNext ℕ)
+      : Type 0 where
+    pub reply : Reply T A
+    pub first : RecvNext T
+    pub taken : List T
+    pub answered : table reply first
+    pub steps : made ≡ (step, reply) ∷ each_got taken
+    pub gives : Gives before more first taken after next
+
+module _ {T A : Type 0} where
+  -- So many were taken of those that were there: all, at most so many, or as many as the list has
+  -- room for, where there was no memory for more room.
+  abbrev pub TakesAll : ℕ → ℕ → ℕ → Vec T A → Type 0
+  TakesAll most there count after =
+      (count ≡ min most there) ⊎ ((count < min most there) × (vec_len after ≡ vec_capacity after))
+
+  -- The answer of a turn of this kind, and of what was taken after it. Where the turn gave no message
+  -- the list is the very one that was given, its room included.
+  pub record AnswersMore (answers : RecvNext T → Type 0) (before : Vec T A) (more : ℕ)
+      (after : Vec T A) (next : RecvNext ℕ) : Type 0 where
+    pub first : RecvNext T
+    pub taken : List T
+    pub answered : answers first
+    pub gives : Gives before.items more first taken after.items next
+    pub none_given : given first ≡ [] → after ≡ before
+
+module _ {T S A : Type 0} where
+  -- a first receive of at most so many
+  pub record FirstManyOutcome (into : Vec T A) (most : ℕ) (old new : State T S)
+      (next : RecvNext ℕ) : Type 0 where
+    pub took : (count : ℕ) → next ≡ Done (Ok count)
+        → (count ≡ min most (message_count old)) × (message_count new + count ≡ message_count old)
+    pub need_signal : (next ≡ NeedSignal)
+        ↔ (0 < most) × (message_count old ≡ 0) × IsOpen old.senders old.receivers
+    pub disconnected : (next ≡ Done (Err Disconnected))
+        ↔ (0 < most) × (message_count old ≡ 0) × IsClosed old.senders old.receivers
+    pub no_memory : next ≡ Done (Err NoMemory)
+        → (0 < message_count old) × (vec_capacity into < vec_len into + min most (message_count old))
+    pub unchanged : IsNone next → new ≡ old
+
+  -- a turn with these outcomes, and then what else is there, at most so many
+  pub record MoreOutcome (outcomes : State T S → State T S → RecvNext T → Type 0)
+      (before : Vec T A) (more : ℕ) (old new : State T S) (after : Vec T A) (next : RecvNext ℕ)
+      : Type 0 where
+    pub between : State T S
+    pub first : RecvNext T
+    pub taken : List T
+    pub outcome : outcomes old between first
+    pub gives : Gives before.items more first taken after.items next
+    pub none_behind : given first ≡ [] → new ≡ between
+    pub all_behind : (message : T) → first ≡ Done (Ok message)
+        → TakesAll more (message_count between) (length taken) after

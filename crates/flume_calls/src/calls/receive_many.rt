@@ -1,0 +1,201 @@
+//! Receives of many messages: what is there is taken with nothing between.
+ghost use Rattle.std.specs.Prelude.{◌≡◌, [], ◌+◌, ◌<◌, ◌≤◌, Ok, IfOk, IfErr};
+ghost use Rattle.std.specs.Prelude.{vec_len, vec_capacity};
+ghost use Rattle.flume_model.specs.declared.step.Step.TheVariants.{TryRecv};
+ghost use Rattle.flume_state.specs.State.{message_count};
+ghost use Rattle.flume_calls.specs.ManyReceives.{Takes, TakesAll, Took, FirstTook, TookMore};
+ghost use Rattle.flume_calls.specs.ManyReceives.{AnswersMore, IsWithin, given, with_more};
+ghost use Rattle.flume_calls.specs.ManyReceives.{FirstManyOutcome, MoreOutcome};
+ghost use Rattle.flume_calls.specs.ReceiveTurns as receive;
+
+use super::receive::RecvNext;
+use crate::batch::Batch;
+use crate::turn::Turn;
+use flume_core::chan::Chan;
+use flume_core::error::RecvTimeoutError::{Disconnected, NoMemory};
+use flume_model::step::Reply;
+use std::alloc::Allocator;
+
+/// What a receive of many messages leads to.
+#[derive(Drop)]
+pub struct ManyNext<T, A: Allocator> {
+    /// What it was given, and behind it each message that it took, in order.
+    pub into: Vec<T, A>,
+    /// As of a receive of one message; `Done(Ok)` says how many came.
+    pub next: RecvNext<usize>,
+}
+
+/// A first receive of many: takes what is there, and doesn't park.
+#[derive(Drop)]
+pub struct FirstReceiveMany<T, A: Allocator> {
+    /// What the messages are put behind.
+    pub into: Vec<T, A>,
+    /// How many it takes at the most.
+    pub most: usize,
+}
+
+impl<T: Drop, S: Drop, A: Allocator + Copy> Batch<T, S, A> for FirstReceiveMany<T, A> {
+    type Answer = ManyNext<T, A>;
+
+    ghost table = { λ batch made answer.
+        FirstTook batch.into.items made answer.into.items answer.next };
+
+    ghost answers = { λ batch answer.
+        receive.IsFirst answer.next × IsWithin batch.most answer.next };
+
+    ghost outcome = { λ batch old new answer.
+        FirstManyOutcome batch.into batch.most old new answer.next };
+
+    fn apply(self, chan: &mut Chan<T, S, A>) -> ManyNext<T, A> {
+        let FirstReceiveMany { mut into, most } = self;
+        let count = chan.available(most);
+        if count == 0 && most > 0 {
+            let next = match chan.try_recv() {
+                Reply::Empty => RecvNext::NeedSignal,
+                Reply::Ended => RecvNext::Done(Err(Disconnected)),
+                _ => unreachable!(),
+            };
+            return ManyNext { into, next };
+        }
+        if into.try_reserve(count).is_err() {
+            let next = RecvNext::Done(Err(NoMemory));
+            return ManyNext { into, next };
+        }
+        take_each(chan, &mut into, count);
+        let next = RecvNext::Done(Ok(count));
+        ManyNext { into, next }
+    }
+}
+
+/// Takes what is there, and nothing where none is there: for a call that has a message already.
+#[derive(Drop)]
+pub struct MoreReceives<T, A: Allocator> {
+    /// What the messages are put behind.
+    pub into: Vec<T, A>,
+    /// How many it takes at the most.
+    pub most: usize,
+}
+
+impl<T: Drop, S: Drop, A: Allocator + Copy> Batch<T, S, A> for MoreReceives<T, A> {
+    type Answer = (Vec<T, A>, usize);
+
+    ghost table = { λ batch made answer.
+        Took batch.into.items made answer.0.items answer.1 };
+
+    ghost answers = { λ batch answer. (answer.1 ≤ batch.most)
+        × (vec_len answer.0 ≡ vec_len batch.into + answer.1) };
+
+    ghost outcome = { λ batch old _ answer.
+        TakesAll batch.most (message_count old) answer.1 answer.0 };
+
+    fn apply(self, chan: &mut Chan<T, S, A>) -> (Vec<T, A>, usize) {
+        let MoreReceives { mut into, most } = self;
+        let count = take_more(chan, &mut into, most);
+        (into, count)
+    }
+}
+
+/// A turn of a receive, and then, where it gave a message, what else is there.
+#[derive(Drop)]
+pub struct ReceiveAndMore<C, T, A: Allocator> {
+    /// The turn.
+    pub turn: C,
+    /// What the messages are put behind. It has room for one.
+    pub into: Vec<T, A>,
+    /// How many it takes at the most besides the one that the turn gives.
+    pub more: usize,
+    pub ghost room: { vec_len into < vec_capacity into },
+}
+
+impl<T, S, A, C> Batch<T, S, A> for ReceiveAndMore<C, T, A>
+where
+    T: Drop,
+    S: Drop,
+    A: Allocator + Copy,
+    C: Turn<T, S, A, Answer = RecvNext<T>>,
+{
+    type Answer = ManyNext<T, A>;
+
+    ghost table = { λ batch made answer. TookMore (C.step batch.turn) (C.table batch.turn)
+        batch.into.items batch.more made answer.into.items answer.next };
+
+    ghost answers = { λ batch answer. AnswersMore (C.answers batch.turn) batch.into
+        batch.more answer.into answer.next };
+
+    ghost outcome = { λ batch old new answer. MoreOutcome (C.outcome batch.turn)
+        batch.into batch.more old new answer.into answer.next };
+
+    fn apply(self, chan: &mut Chan<T, S, A>) -> ManyNext<T, A> {
+        let ReceiveAndMore {
+            turn,
+            mut into,
+            more,
+        } = self;
+        match message_of(turn.apply(chan)) {
+            Ok(message) => {
+                into.push_reserved(message);
+                let taken = take_more(chan, &mut into, more);
+                let next = RecvNext::Done(Ok(taken + 1));
+                ManyNext { into, next }
+            }
+            Err(next) => ManyNext { into, next },
+        }
+    }
+}
+
+// The message that a turn of a receive gave. `Err`: what the turn says where it gave none.
+fn message_of<T: Drop>(turn: RecvNext<T>) -> Result<T, RecvNext<usize>>
+    ensures message { IfOk result (λ message. turn ≡ RecvNext.Done (Ok message)) }
+    ensures none { IfErr result (λ next. (given turn ≡ []) × (next ≡ with_more 0 turn)) }
+{
+    match turn {
+        RecvNext::Done(Ok(message)) => Ok(message),
+        RecvNext::Done(Err(error)) => Err(RecvNext::Done(Err(error))),
+        RecvNext::NeedSignal => Err(RecvNext::NeedSignal),
+        RecvNext::Park(call) => Err(RecvNext::Park(call)),
+        RecvNext::Refused(call) => Err(RecvNext::Refused(call)),
+    }
+}
+
+// Takes what is there, at most so many: all of it where there is room in the list or memory for
+// more, and else as many as there is room for.
+fn take_more<T: Drop, S: Drop, A: Allocator + Copy>(
+    chan: &mut Chan<T, S, A>,
+    into: &mut Vec<T, A>,
+    most: usize,
+) -> usize
+    ensures took { Takes A chan.old into.old.items result chan.new into.new.items }
+    ensures all { TakesAll most (message_count chan.old) result into.new }
+    ensures at_most { result ≤ most }
+    ensures len { vec_len into.new ≡ vec_len into.old + result }
+{
+    let there = chan.available(most);
+    let count = if into.try_reserve(there).is_ok() {
+        there
+    } else {
+        into.capacity() - into.len()
+    };
+    take_each(chan, into, count);
+    count
+}
+
+// Takes so many messages, which are there, into a list that has room for them.
+fn take_each<T: Drop, S: Drop, A: Allocator + Copy>(
+    chan: &mut Chan<T, S, A>,
+    into: &mut Vec<T, A>,
+    count: usize,
+)
+    requires there { count ≤ message_count chan.old }
+    requires room { vec_len into.old + count ≤ vec_capacity into.old }
+    ensures took { Takes A chan.old into.old.items count chan.new into.new.items }
+    ensures left { message_count chan.new + count ≡ message_count chan.old }
+    ensures len { vec_len into.new ≡ vec_len into.old + count }
+    ensures capacity { vec_capacity into.new ≡ vec_capacity into.old }
+{
+    for _taken in 0..count {
+        match chan.try_recv() {
+            Reply::Got(message) => into.push_reserved(message),
+            _ => unreachable!(),
+        }
+    }
+}

@@ -1,0 +1,68 @@
+//! The sends of a list of messages, one after another.
+ghost use Rattle.std.specs.Prelude.{◌≡◌, ◌∷◌, ◌<◌};
+ghost use Rattle.std.specs.VecDeque.{deque_len, deque_capacity};
+
+use crate::batch::Batch;
+use flume_core::chan::Chan;
+use flume_core::error::TrySendError;
+use flume_model::step::Reply;
+use std::alloc::Allocator;
+use std::collections::VecDeque;
+
+/// The first turns of the sends of these messages, in order, up to the first that isn't taken in.
+/// Each step is `Chan::try_send`. `Ok`: all were taken in. `Full`, `Disconnected`, `NoMemory`: the
+/// last step was answered so, and left the channel as it was. The error has the messages that
+/// weren't taken in, in their order, the refused one first. Of an empty list it makes no step. No
+/// memory but the channel's.
+///
+/// ```
+/// let messages = VecDeque::from_vec(vec![in alloc; 1, 2, 3]?);
+/// let mut chan: Chan<u64, u32> = Chan::new(alloc, Some(2));
+/// SendMany { messages }.apply(&mut chan);     // Err(Full([3]))
+/// ```
+#[derive(Drop)]
+pub struct SendMany<T, A: Allocator> {
+    /// What is offered, the first one first.
+    pub messages: VecDeque<T, A>,
+}
+
+impl<T: Drop, S: Drop, A: Allocator + Copy> Batch<T, S, A> for SendMany<T, A> {
+    ghost use Rattle.std.specs.Prelude.{⊤};
+    ghost use Rattle.flume_calls.specs.ManySends.{SendsMany, LeavesRest};
+
+    type Answer = Result<(), TrySendError<VecDeque<T, A>>>;
+
+    ghost table = { λ batch. SendsMany batch.messages.items };
+
+    ghost answers = { λ batch. LeavesRest batch.messages.items };
+
+    ghost outcome = { λ _ _ _ _. ⊤ };
+
+    #[inline(always)]
+    fn apply(self, chan: &mut Chan<T, S, A>) -> Result<(), TrySendError<VecDeque<T, A>>> {
+        let mut messages = self.messages;
+        while let Some(message) = messages.pop_front() {
+            match chan.try_send(message) {
+                Reply::Sent { .. } => {}
+                Reply::Full(back) => return Err(TrySendError::Full(put_back(messages, back))),
+                Reply::Closed(back) => {
+                    return Err(TrySendError::Disconnected(put_back(messages, back)));
+                }
+                Reply::NoMemory(Some(back)) => {
+                    return Err(TrySendError::NoMemory(put_back(messages, back)));
+                }
+                _ => unreachable!(),
+            }
+        }
+        Ok(())
+    }
+}
+
+// The list with this message at its front again, from which it was taken.
+fn put_back<T, A: Allocator>(mut rest: VecDeque<T, A>, message: T) -> VecDeque<T, A>
+    requires room { deque_len rest < deque_capacity rest }
+    ensures items { result.items ≡ message ∷ rest.items }
+{
+    rest.push_front_reserved(message);
+    rest
+}

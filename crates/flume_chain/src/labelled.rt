@@ -1,0 +1,11 @@
+//! A value of a chain, and what its caller keeps beside it.
+
+/// A value, and what its caller keeps beside it.
+#[derive(Drop)]
+pub struct Labelled<L, E> {
+    /// What the caller keeps beside it. A small one lies beside the links, and takes no memory of
+    /// its own.
+    pub label: L,
+    /// The value.
+    pub value: E,
+}
