@@ -31,16 +31,17 @@ module _ {T S : Type 0} where
       ∙ either _ _ _ (admits_none (record s { queue = rest }) none)
 
   -- the front of the queue goes out, and leaves what a take leaves
-  pub takes_alone : (s : State T S) (l : Messages T) (r : Option T) → length s.blocked ≡ 0
-      → IfSome r (λ m. record { queued = s.queue; blocked = s.blocked; space = s.space } ≡ record l { queued = m ∷ l.queued })
+  pub takes_alone : (s : State T S) (l : Messages T S) (r : Option T) → length s.blocked ≡ 0
+      → IfSome r (λ m. record { queued = s.queue; blocked = s.blocked; space = s.space; sends = s.sends } ≡ record l { queued = m ∷ l.queued })
       → IfSome r (λ m. (rest : List T) × ((with_front s).queue ≡ m ∷ rest)
-      × (record s { queue = l.queued; blocked = l.blocked; space = l.space } ≡ after_take rest s))
+      × (record s { queue = l.queued; blocked = l.blocked; space = l.space; sends = l.sends } ≡ after_take rest s))
   takes_alone s l None none h = tt
   takes_alone s l (Some m) none h =
       let empty_ = nil_by s.blocked (λ more. omega arith) in
       let same_blocked = ap (λ k. k.blocked) h in
-      let same_space = ap (λ k. k.space) h in (
+      let same_space = ap (λ k. k.space) h in
+      let same_sends = ap (λ k. k.sends) h in (
         l.queued,
         ap (λ f. f.queue) (fronted_alone s empty_) ∙ ap (λ k. k.queued) h,
-        rw (← same_blocked, ← same_space) (sym (taken_alone l.queued s empty_)),
+        rw (← same_blocked, ← same_space, ← same_sends) (sym (taken_alone l.queued s empty_)),
       )

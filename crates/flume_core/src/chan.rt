@@ -20,7 +20,6 @@ mod wanting;
 use flume_model::step::{Reply, Step};
 use flume_state::entries::Entries;
 use flume_state::line::Line;
-use flume_state::sends::Sends;
 use std::alloc::{Allocator, Global};
 use std::marker::Model;
 
@@ -34,8 +33,7 @@ pub struct Chan<T, S, A: Allocator = Global> {
     // The greatest capacity so far, and below the most receivers that waited at once: these two
     // bound the queue, since the capacity in force may have been lowered under it.
     greatest: Option<usize>,
-    line: Line<T, A>,
-    sends: Sends<S, A>,
+    line: Line<T, S, A>,
     entries: Entries<T, S, A>,
     next: u64,
     peak: usize,
@@ -56,7 +54,7 @@ impl<T, S, A: Allocator> Model for Chan<T, S, A> {
       queue = chan.line.queued;
       blocked = chan.line.blocked;
       space = chan.line.space;
-      sends = chan.sends;
+      sends = chan.line.sends;
       entries = chan.entries;
       next = chan.next;
       peak = chan.peak;
@@ -100,7 +98,6 @@ impl<T: Drop, S: Drop, A: Allocator + Copy> Chan<T, S, A> {
             capacity,
             greatest: capacity,
             line: Line::new(alloc),
-            sends: Sends::new(alloc),
             entries: Entries::new(alloc),
             next: ticket,
             peak: 0,

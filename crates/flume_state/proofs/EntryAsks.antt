@@ -2,22 +2,19 @@
 use Rattle.std.proofs.Common.{◌≡◌, ℕ, ◌+◌, ◌==◌, Bool, [], ◌∷◌, ◌++◌, Option, Some, None, OnSome, IsSome, ◌↔◌, length, length-append, refl, sym, ap, ap₂, ◌∙◌, inl, inr, arith, true, false, if◌then◌else◌}
 use Rattle.std.proofs.lemmas.Bool.{cases_Bool}
 use Rattle.std.specs.Option.{option_or}
-use Rattle.flume_chain.specs.Chained.{times, places, found, without, first_place, place_after}
-use Rattle.flume_chain.proofs.Rings.{once_back}
-use Rattle.flume_chain.proofs.Tables.{item, found_none, without_at}
+use Rattle.flume_state.proofs.Chains.{times, places, found, without, first_place, place_after, once_back, item, found_none, without_at, with_value_at, revalued, length-edited, places-edited, edited-append, edited_missing}
 use Rattle.flume_model.specs.Entries.{is_waiting, is_woken, waiting_count, again, again_as, entry_of, held_by, held_in, without as without_ticket}
 use Rattle.flume_model.specs.declared.entry.Entry.{Entry}
 use Rattle.flume_model.specs.declared.entry.Mark.{Mark}
 use Rattle.flume_model.specs.declared.entry.Mark.TheVariants.{Waiting, Woken, Filled}
 use Rattle.flume_state.specs.layout.EntryLayout.{Each, EntryLayout, after_asking, entries_in, entry_in, boundary_without}
 use Rattle.flume_state.specs.Receivers.{Entries, noticed_receiver, waits_on}
-use Rattle.flume_chain.specs.Edited.{with_value_at}
 use Rattle.flume_state.specs.declared.entries.Parked.{Parked}
 use Rattle.flume_state.specs.declared.notice.Notice.{Notice}
 use Rattle.flume_state.specs.layout.Ticketed.{Ticketed}
 use Rattle.flume_state.proofs.EntryDues.{revalued_entries}
 use Rattle.flume_state.proofs.EntryListLemmas.{count-append, weight}
-use Rattle.flume_state.proofs.EntryParts.{gone, length-revalued, places-revalued, revalued-append, revalued_at, revalued_none, seat_found, with_value, without_revalued}
+use Rattle.flume_state.proofs.EntryParts.{edited_at, gone, seat_found, with_value}
 use Rattle.flume_state.proofs.EntrySeats.{Seated, entry_at, noticed_at, noticed_none_of, without_entry}
 use Rattle.flume_state.proofs.EntrySorted.{Items, entries-append, sorted_push, sorted_without}
 
@@ -76,24 +73,24 @@ module _ {T S : Type 0} where
         quiet = s.quiet;
         dues = s.dues;
         last = with_value_at k s.last v;
-        is = ap (λ l. with_value_at k l v) s.is ∙ revalued-append k s.quiet (s.dues ++ s.last) v
-            ∙ ap₂ (λ a b. a ++ b) (revalued_none k s.quiet v p.0)
-            (revalued-append k s.dues s.last v ∙ ap (λ l. l ++ with_value_at k s.last v) (revalued_none k s.dues v r.0));
+        is = ap (λ l. with_value_at k l v) s.is ∙ edited-append (revalued v) s.quiet (s.dues ++ s.last) k
+            ∙ ap₂ (λ a b. a ++ b) (edited_missing (revalued v) s.quiet k (found_none s.quiet k p.0))
+            (edited-append (revalued v) s.dues s.last k ∙ ap (λ l. l ++ with_value_at k s.last v) (edited_missing (revalued v) s.dues k (found_none s.dues k r.0)));
         are_quiet = s.are_quiet;
         are_due = s.are_due;
         wait = each-revalued s.last k v s.wait does quiet;
         first_due = s.first_due ∙ first-revalued s.dues s.last k v;
         first_waits = s.first_waits ∙ first-revalued [] s.last k v;
         count = omega (arith, s.count, one, still, before, later);
-        apart = λ j. let same = ap (times j) (places-revalued k items v) in let most = s.apart j in omega arith;
-        fits = omega (arith, s.fits, length-revalued k items v);
+        apart = λ j. let same = ap (times j) (places-edited (revalued v) items k) in let most = s.apart j in omega arith;
+        fits = omega (arith, s.fits, length-edited (revalued v) items k);
       }
 
   -- the value that an element has changes nothing
   revalued_same : (items : Items T S) (t k : ℕ) (q : Seated items t k) → with_value_at k items q.element.value ≡ items
   revalued_same items t k q =
       ap (λ l. with_value_at k l q.element.value) q.is
-      ∙ revalued_at k q.before q.after q.element q.element.value q.clear q.behind ∙ sym q.is
+      ∙ edited_at (revalued q.element.value) k q.before q.after q.element q.clear q.behind ∙ sym q.is
 
   -- one that wasn't woken asks again: the parts stand as before
   pub asks_sorted : (items : Items T S) (due waits : Option ℕ) (n t k : ℕ) (signal : Option S) (m : Mark T) → EntryLayout items due waits n
@@ -173,10 +170,14 @@ module _ {T S : Type 0} where
   moved items new t k v done q stood moves =
       let here : found (with_value_at k items v) k ≡ Some (with_value q.element v) =
       ap (λ l. found (with_value_at k l v) k) q.is
-      ∙ ap (λ l. found l k) (revalued_at k q.before q.after q.element v q.clear q.behind)
+      ∙ ap (λ l. found l k) (edited_at (revalued v) k q.before q.after q.element q.clear q.behind)
       ∙ seat_found q.before q.after k (with_value q.element v) q.clear in
       moves (stood.1 (rw here refl)) (with_value q.element v) here
-      ∙ ap (λ l. l ++ item k (with_value q.element v) ∷ []) (without_revalued k items v)
+      ∙ ap (λ l. l ++ item k (with_value q.element v) ∷ [])
+      (ap (λ l. without (with_value_at k l v) k) q.is
+      ∙ ap (λ l. without l k) (edited_at (revalued v) k q.before q.after q.element q.clear q.behind)
+      ∙ without_at q.before q.after k (with_value q.element v) q.clear q.behind
+      ∙ sym (ap (λ l. without l k) q.is ∙ without_at q.before q.after k q.element q.clear q.behind))
 
   -- as many stand after one moved behind all others
   length-behind : (items : Items T S) (t k : ℕ) (e : Ticketed (Parked T S)) (q : Seated items t k)

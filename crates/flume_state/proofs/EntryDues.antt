@@ -1,18 +1,16 @@
 -- The first that waits and the first that is due, and what becomes of them.
 use Rattle.std.proofs.Common.{◌≡◌, ℕ, ◌-◌, ◌≤◌, Bool, [], ◌∷◌, ◌++◌, Option, Some, None, refl, sym, ap, ◌∙◌, arith, true, false, subst, append_assoc}
-use Rattle.flume_chain.specs.Chained.{times, places, found, first_place, place_after}
-use Rattle.flume_chain.proofs.Tables.{item, after_at}
+use Rattle.flume_state.proofs.Chains.{times, places, found, first_place, place_after, item, after_at, with_value_at, revalued, length-edited, places-edited}
 use Rattle.flume_model.specs.Entries.{is_waiting, waiting_count}
 use Rattle.flume_model.specs.declared.entry.Mark.{Mark}
 use Rattle.flume_state.specs.Notices.{due_now}
 use Rattle.flume_state.specs.layout.EntryLayout.{Each, EntryLayout, entries_in, entry_in, with_first_marked, first_waiting}
-use Rattle.flume_chain.specs.Edited.{with_value_at}
 use Rattle.flume_state.specs.Receivers.{Entries}
 use Rattle.flume_state.specs.declared.entries.Parked.{Parked}
 use Rattle.flume_state.specs.declared.notice.Notice.{Notice}
 use Rattle.flume_state.specs.layout.Ticketed.{Ticketed}
 use Rattle.flume_state.proofs.EntryListLemmas.{weight}
-use Rattle.flume_state.proofs.EntryParts.{Apart, alone, first_same, front_at, length-revalued, places-revalued, revalued_at, seat_found, with_value}
+use Rattle.flume_state.proofs.EntryParts.{Apart, alone, edited_at, first_same, front_at, seat_found, with_value, no_first}
 use Rattle.flume_state.proofs.EntrySorted.{Is, Items, each-push, entries-append, waits-append}
 
 module _ {T S : Type 0} where
@@ -21,7 +19,7 @@ module _ {T S : Type 0} where
       → items ≡ before ++ item k e ∷ after → times k (places before) ≡ 0 → times k (places after) ≡ 0
       → entries_in (with_value_at k items v) ≡ entries_in before ++ entry_in (item k (with_value e v)) ∷ entries_in after
   revalued_entries items before after k e v is clear behind =
-      ap (λ l. entries_in (with_value_at k l v)) is ∙ ap entries_in (revalued_at k before after e v clear behind)
+      ap (λ l. entries_in (with_value_at k l v)) is ∙ ap entries_in (edited_at (revalued v) k before after e clear behind)
       ∙ entries-append before (item k (with_value e v) ∷ after)
 
   -- where the first ones don't wait, another is the first that waits
@@ -58,11 +56,7 @@ module _ {T S : Type 0} where
 
   -- where the boundary names no place, nobody waits
   none_last : (items : Items T S) (due waits : Option ℕ) (n : ℕ) (s : EntryLayout items due waits n) → waits ≡ None → s.last ≡ []
-  none_last items due waits n s none = empty s.last (sym none ∙ s.first_waits)
-    where
-      empty : (xs : Items T S) → None ≡ first_place xs → xs ≡ []
-      empty [] h = refl
-      empty (x ∷ xs) h = absurd (let some : ⊥ = cc in some)
+  none_last items due waits n s none = no_first s.last (sym none ∙ s.first_waits)
 
   pub nobody_waits : (items : Items T S) (due waits : Option ℕ) (n : ℕ) → EntryLayout items due waits n → waits ≡ None
       → first_waiting (entries_in items) ≡ None
@@ -126,7 +120,7 @@ module _ {T S : Type 0} where
       let x = item k w.element in
       let y = item k (with_value w.element v) in
       let now : with_value_at k items v ≡ (s.quiet ++ s.dues) ++ y ∷ w.after =
-      ap (λ l. with_value_at k l v) w.is ∙ revalued_at k (s.quiet ++ s.dues) w.after w.element v w.clear w.behind in
+      ap (λ l. with_value_at k l v) w.is ∙ edited_at (revalued v) k (s.quiet ++ s.dues) w.after w.element w.clear w.behind in
       let joined : s.dues ++ y ∷ w.after ≡ (s.dues ++ y ∷ []) ++ w.after = sym (append_assoc s.dues (y ∷ []) w.after) in
       let one : weight (entry_in x) ≡ 1 = rw w.class.1 refl in
       let zero_weight : weight (entry_in y) ≡ 0 = rw awake refl in
@@ -144,8 +138,8 @@ module _ {T S : Type 0} where
             ∙ first_same s.dues w.after k w.element (with_value w.element v) ∙ ap first_place joined;
         first_waits = ap (λ l. place_after l k) w.is ∙ after_at (s.quiet ++ s.dues) w.after k w.element w.clear;
         count = omega (arith, s.count, one, zero_weight, before, later);
-        apart = λ j. let same = ap (times j) (places-revalued k items v) in let most = s.apart j in omega arith;
-        fits = omega (arith, s.fits, length-revalued k items v);
+        apart = λ j. let same = ap (times j) (places-edited (revalued v) items k) in let most = s.apart j in omega arith;
+        fits = omega (arith, s.fits, length-edited (revalued v) items k);
       }
 
   -- and is marked among the entries

@@ -1,7 +1,6 @@
 -- The list of parked receivers under single changes: how many wait, who is to be told, and who has a ticket.
-use Rattle.std.proofs.Common.{◌≡◌, ◌≢◌, ℕ, ◌+◌, ◌≤◌, Bool, true, false, cond, ltb, ◌||◌, List, [], ◌∷◌, ◌++◌, length, refl, ap, ◌∙◌, arith}
-use Rattle.std.proofs.lemmas.Bool.{lt-ltb}
-use Rattle.flume_model.specs.Entries.{is_waiting, is_woken, waiting_count, some_wait}
+use Rattle.std.proofs.Common.{◌≡◌, ◌≢◌, ℕ, ◌+◌, ◌≤◌, Bool, true, false, cond, ltb, ◌||◌, List, [], ◌∷◌, ◌++◌, length, refl, ap, ◌∙◌, arith, lt-ltb}
+use Rattle.flume_model.specs.Entries.{is_waiting, waiting_count, some_wait}
 use Rattle.flume_model.specs.declared.entry.Entry.{Entry}
 use Rattle.flume_model.specs.declared.entry.Mark.{Mark}
 use Rattle.flume_model.specs.declared.entry.Mark.TheVariants.{Waiting, Woken, Filled}
@@ -22,12 +21,6 @@ module _ {T : Type 0} where
   not_waiting Waiting other = absurd (other refl)
   not_waiting Woken other = refl
   not_waiting (Filled message) other = refl
-
-  -- a mark that isn't a woken one's
-  pub not_woken : (mark : Mark T) → mark ≢ Woken → false ≡ is_woken mark
-  not_woken Waiting other = refl
-  not_woken Woken other = absurd (other refl)
-  not_woken (Filled message) other = refl
 
 module _ {T N : Type 0} where
   -- what an entry adds to the number of those that wait

@@ -1,14 +1,16 @@
 -- The elements of a chain under single changes: what is at their places, and in which order they stand.
-use Rattle.std.proofs.Common.{◌≡◌, ℕ, suc, ◌+◌, ◌≤◌, ◌==◌, List, [], ◌∷◌, ◌++◌, Option, Some, None, option_map, length, refl, sym, ap, ◌∙◌, inl, inr, arith, true, if◌then◌else◌, eq-eqb, subst}
+use Rattle.std.proofs.Common.{◌≡◌, ℕ, ◌+◌, ◌≤◌, ◌==◌, Bool, true, false, List, [], ◌∷◌, ◌++◌, Option, Some, None, option_map, length, refl, sym, ap, ◌∙◌, inl, inr, arith, if◌then◌else◌, eq-eqb, subst}
 use Rattle.std.proofs.lemmas.Bool.{cases_Bool, eqb-true}
 use Rattle.std.proofs.lemmas.List.{map-append}
 use Rattle.std.specs.Option.{option_or}
-use Rattle.flume_chain.specs.Chained.{once, times, Placed, places, found, without, first_place, place_after}
-use Rattle.flume_chain.proofs.Rings.{times-append, once_same, once_none, once_back, with_same}
-use Rattle.flume_chain.proofs.Tables.{item, found_put, found_some, without_none, after_at}
+use Rattle.flume_state.proofs.Chains.{once, times, Placed, places, found, without, first_place, place_after, times-append, once_same, once_none, once_back, with_same, item, found_none, found_put, found_some, without_none, after_at, edited_missing, edited}
 use Rattle.flume_state.specs.layout.EntryLayout.{boundary_without}
-use Rattle.flume_chain.specs.Edited.{with_value_at}
 use Rattle.flume_state.specs.layout.Ticketed.{Ticketed}
+
+-- a function of a choice is the choice of its values
+pub passes : {X Y : Type 0} (f : X → Y) (b : Bool) (x y : X) → f (if b then x else y) ≡ (if b then f x else f y)
+passes f true x y = refl
+passes f false x y = refl
 
 module _ {E : Type 0} where
   -- each place is of one element at most
@@ -18,22 +20,6 @@ module _ {E : Type 0} where
   -- a place is as often in two lists of elements joined as in both
   pub counted : (k : ℕ) (xs ys : List (Placed E)) → times k (places (xs ++ ys)) ≡ times k (places xs) + times k (places ys)
   counted k xs ys = ap (times k) (map-append (λ (x : Placed E). x.place) xs ys) ∙ times-append k (places xs) (places ys)
-
-  -- where none is found at a place, no element has it
-  pub none_found : (xs : List (Placed E)) (k : ℕ) → found xs k ≡ None → times k (places xs) ≡ 0
-  none_found [] k h = refl
-  none_found (x ∷ xs) k h = elim (cases_Bool (k == x.place)) [
-    | inl t ↦ (
-        let none : Some x.element ≡ None = sym (ap (λ b. if b then Some x.element else found xs k) t) ∙ h in
-        absurd cc
-        )
-    | inr t ↦ (
-        let zero_here : once k x.place ≡ 0 = ap (λ b. if b then 1 else 0) t in
-        let back = once_back k x.place zero_here in
-        let more = none_found xs k (sym (ap (λ b. if b then Some x.element else found xs k) t) ∙ h) in
-        omega arith
-        )
-  ]
 
   -- an element at its place, those ahead of it and those behind it, of which none has the place
   pub record Seat (items : List (Placed E)) (k : ℕ) (e : E) : Type 0 where
@@ -64,14 +50,6 @@ module _ {E : Type 0} where
       → found (before ++ item k e ∷ after) k ≡ Some e
   seat_found before after k e h = found_put before after k e k h ∙ with_same (found (before ++ after)) k (Some e)
 
-  -- two lists without a place
-  pub without-append : (xs ys : List (Placed E)) (k : ℕ) → without (xs ++ ys) k ≡ without xs k ++ without ys k
-  without-append [] ys k = refl
-  without-append (x ∷ xs) ys k = elim (cases_Bool (x.place == k)) [
-    | inl t ↦ rw t (without-append xs ys k)
-    | inr t ↦ rw t (ap (λ l. x ∷ l) (without-append xs ys k))
-  ]
-
   -- a place is no more often in a list without another
   pub times-without : (j k : ℕ) (xs : List (Placed E)) → times j (places (without xs k)) ≤ times j (places xs)
   times-without j k [] = omega arith
@@ -96,10 +74,23 @@ module _ {E : Type 0} where
     | inr t ↦ rw t (let more = length-without k xs in omega arith)
   ]
 
+  -- a change of an element at its place leaves the others
+  pub edited_at : (f : E → E) (k : ℕ) (xs ys : List (Placed E)) (e : E) → times k (places xs) ≡ 0 → times k (places ys) ≡ 0
+      → edited f k (xs ++ item k e ∷ ys) ≡ xs ++ item k (f e) ∷ ys
+  edited_at f k [] ys e h g = rw (eq-eqb k k refl) (ap (λ l. item k (f e) ∷ l) (edited_missing f ys k (found_none ys k g)))
+  edited_at f k (x ∷ xs) ys e h g =
+      let other = once_none k x.place (once_back x.place k (omega arith)) in
+      rw other (ap (λ l. x ∷ l) (edited_at f k xs ys e (omega arith) g))
+
   -- the first place of a list with one more behind it
   pub first-push : (xs : List (Placed E)) (x : Placed E) → first_place (xs ++ x ∷ []) ≡ option_or (first_place xs) (Some x.place)
   first-push [] x = refl
   first-push (y ∷ ys) x = refl
+
+  -- a list without a first place is empty
+  pub no_first : (xs : List (Placed E)) → None ≡ first_place xs → xs ≡ []
+  no_first [] none = refl
+  no_first (x ∷ xs) none = absurd (let no : ⊥ = cc in no)
 
   -- the first place of a list with another element at the same place
   pub first_same : (xs ys : List (Placed E)) (k : ℕ) (e f : E) → first_place (xs ++ item k e ∷ ys) ≡ first_place (xs ++ item k f ∷ ys)
@@ -145,54 +136,3 @@ module _ {E : Type 0} where
   -- and one is read
   pub read_some : (o : Option (Ticketed E)) (e : Ticketed E) → o ≡ Some e → None ≡ option_map (λ x. x.value) o → ⊥
   read_some o e is read = let same : None ≡ Some e.value = read ∙ ap (option_map (λ x. x.value)) is in cc
-
-  -- an element, with another value if it is at a place
-  abbrev revalue : ℕ → E → Placed (Ticketed E) → Placed (Ticketed E)
-  revalue k v x = if k == x.place then record x { element = with_value x.element v } else x
-
-  -- two lists with another value at a place
-  pub revalued-append : (k : ℕ) (xs ys : List (Placed (Ticketed E))) (v : E) → with_value_at k (xs ++ ys) v ≡ with_value_at k xs v ++ with_value_at k ys v
-  revalued-append k [] ys v = refl
-  revalued-append k (x ∷ xs) ys v = ap (λ l. revalue k v x ∷ l) (revalued-append k xs ys v)
-
-  -- another value at a place where no element stands changes nothing
-  pub revalued_none : (k : ℕ) (xs : List (Placed (Ticketed E))) (v : E) → times k (places xs) ≡ 0 → with_value_at k xs v ≡ xs
-  revalued_none k [] v h = refl
-  revalued_none k (x ∷ xs) v h =
-      let other = once_none k x.place (once_back x.place k (omega arith)) in
-      rw other (ap (λ l. x ∷ l) (revalued_none k xs v (omega arith)))
-
-  -- another value changes the element at its place alone
-  pub revalued_at : (k : ℕ) (xs ys : List (Placed (Ticketed E))) (e : Ticketed E) (v : E) → times k (places xs) ≡ 0
-      → times k (places ys) ≡ 0 → with_value_at k (xs ++ item k e ∷ ys) v ≡ xs ++ item k (with_value e v) ∷ ys
-  revalued_at k [] ys e v h g = rw (eq-eqb k k refl) (ap (λ l. item k (with_value e v) ∷ l) (revalued_none k ys v g))
-  revalued_at k (x ∷ xs) ys e v h g =
-      let other = once_none k x.place (once_back x.place k (omega arith)) in
-      rw other (ap (λ l. x ∷ l) (revalued_at k xs ys e v (omega arith) g))
-
-  -- another value leaves each element in its place
-  pub places-revalued : (k : ℕ) (xs : List (Placed (Ticketed E))) (v : E) → places (with_value_at k xs v) ≡ places xs
-  places-revalued k [] v = refl
-  places-revalued k (x ∷ xs) v = elim (cases_Bool (k == x.place)) [
-    | inl t ↦ rw t (ap (λ l. x.place ∷ l) (places-revalued k xs v))
-    | inr t ↦ rw t (ap (λ l. x.place ∷ l) (places-revalued k xs v))
-  ]
-
-  -- there are as many elements after one has another value
-  pub length-revalued : (k : ℕ) (xs : List (Placed (Ticketed E))) (v : E) → length (with_value_at k xs v) ≡ length xs
-  length-revalued k [] v = refl
-  length-revalued k (x ∷ xs) v = ap suc (length-revalued k xs v)
-
-  -- what has another value leaves those that it leaves
-  pub without_revalued : (k : ℕ) (xs : List (Placed (Ticketed E))) (v : E) → without (with_value_at k xs v) k ≡ without xs k
-  without_revalued k [] v = refl
-  without_revalued k (x ∷ xs) v = elim (cases_Bool (x.place == k)) [
-    | inl t ↦ (
-        let same : (k == x.place) ≡ true = eq-eqb k x.place (sym (eqb-true x.place k t)) in
-        rw same (rw t (without_revalued k xs v))
-        )
-    | inr t ↦ (
-        let other = once_none k x.place (once_back x.place k (ap (λ b. if b then 1 else 0) t)) in
-        rw other (rw t (ap (λ l. x ∷ l) (without_revalued k xs v)))
-        )
-  ]

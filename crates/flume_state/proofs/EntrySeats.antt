@@ -1,32 +1,25 @@
 -- The parked receiver that a ticket finds, in the chain and among the entries.
-use Rattle.std.proofs.Common.{◌≡◌, ℕ, ◌==◌, Bool, List, [], ◌∷◌, ◌++◌, Option, Some, None, refl, sym, ap, ◌∙◌, inl, inr, true, false, if◌then◌else◌, eq-eqb, subst}
-use Rattle.std.specs.Option.{unwrap_or}
-use Rattle.std.proofs.lemmas.Bool.{cases_Bool, eqb-true}
+use Rattle.std.proofs.Common.{◌≡◌, ℕ, ◌==◌, Bool, List, [], ◌∷◌, ◌++◌, Option, Some, None, refl, sym, ap, ◌∙◌, inl, inr, true, false, if◌then◌else◌, eq-eqb, subst, unwrap_or}
+use Rattle.std.proofs.lemmas.Bool.{cases_Bool}
 use Rattle.std.specs.Prelude.{⊤}
-use Rattle.flume_chain.specs.Chained.{times, places, found, without}
-use Rattle.flume_chain.proofs.Tables.{item, without_at}
+use Rattle.flume_state.proofs.Chains.{times, places, found, without, item, without_at}
 use Rattle.flume_model.specs.Entries.{entry_of, without as without_ticket}
 use Rattle.flume_model.specs.declared.entry.Entry.{Entry}
 use Rattle.flume_model.proofs.EntryLists.{none_parts}
 use Rattle.flume_state.specs.layout.EntryLayout.{Each, EntryLayout, entries_in, entry_in}
-use Rattle.flume_state.specs.layout.Ticketed.{place_of}
+use Rattle.flume_state.specs.layout.Ticketed.{place_of, Ticketed}
 use Rattle.flume_model.specs.Log.{is_ticket}
 use Rattle.flume_state.specs.Receivers.{Entries, noticed_receiver}
 use Rattle.flume_state.specs.declared.entries.Parked.{Parked}
 use Rattle.flume_state.specs.declared.notice.Notice.{Notice}
-use Rattle.flume_state.specs.layout.Ticketed.{Ticketed}
 use Rattle.flume_state.proofs.EntryParts.{Apart, alone, seat_found}
+use Rattle.flume_state.proofs.TicketLemmas.{neither, ticket_is}
 use Rattle.flume_state.proofs.EntrySorted.{Items, entries-append}
 
 -- a ticket that is there is another's or not as its number is
 ticket_same : (t : ℕ) (o : Option ℕ) → o ≡ Some (unwrap_or o 0) → (unwrap_or o 0 == t) ≡ is_ticket t o
 ticket_same t None h = absurd (let none : ⊥ = cc in none)
 ticket_same t (Some u) h = refl
-
--- which ticket is there
-ticket_is : (t : ℕ) (o : Option ℕ) → is_ticket t o ≡ true → o ≡ Some t
-ticket_is t None h = absurd (let none : ⊥ = cc in none)
-ticket_is t (Some u) h = ap Some (eqb-true u t h)
 
 module _ {T N : Type 0} where
   -- the first entry with a ticket is the ticket's
@@ -84,14 +77,9 @@ module _ {T S : Type 0} where
   -- where no place is a ticket's, no entry is
   absent : (t : ℕ) (items : Items T S) → Held items → place_of t items ≡ None → entry_of t (entries_in items) ≡ None
   absent t [] held h = refl
-  absent t (x ∷ items) held h = elim (cases_Bool (is_ticket t x.element.label)) [
-    | inl m ↦ (
-        let none : Some x.place ≡ None = sym (ap (λ b. if b then Some x.place else place_of t items) m) ∙ h in
-        absurd cc
-        )
-    | inr m ↦ rw (ticket_same t x.element.label held.0 ∙ m)
-        (absent t items held.1 (sym (ap (λ b. if b then Some x.place else place_of t items) m) ∙ h))
-  ]
+  absent t (x ∷ items) held h =
+      let both = neither (is_ticket t x.element.label) x.place (place_of t items) h in
+      rw (ticket_same t x.element.label held.0 ∙ both.0) (absent t items held.1 both.1)
 
   -- the first element with a ticket
   record Owner (items : Items T S) (t k : ℕ) : Type 0 where

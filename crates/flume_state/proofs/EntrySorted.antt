@@ -2,15 +2,13 @@
 use Rattle.std.proofs.Common.{◌≡◌, ℕ, suc, ◌+◌, ◌≤◌, ◌==◌, Bool, List, [], ◌∷◌, ◌++◌, Option, Some, None, length, refl, sym, ap, ap₂, ◌∙◌, inl, inr, arith, true, false, cond, append_assoc, subst}
 use Rattle.std.proofs.lemmas.Bool.{cases_Bool}
 use Rattle.std.specs.Option.{unwrap_or, option_or}
-use Rattle.flume_chain.specs.Chained.{times, Placed, places, found, without, first_place, place_after}
-use Rattle.flume_chain.proofs.Rings.{once_more}
-use Rattle.flume_chain.proofs.Tables.{item, without_at}
+use Rattle.flume_state.proofs.Chains.{times, Placed, places, found, without, first_place, place_after, once_more, item, without_at, none_placed, without-append}
 use Rattle.flume_model.specs.Entries.{is_waiting, waiting_count}
 use Rattle.flume_state.specs.layout.EntryLayout.{Each, EntryLayout, entries_in, entry_in, boundary_without}
 use Rattle.flume_state.specs.declared.entries.Parked.{Parked}
 use Rattle.flume_state.specs.layout.Ticketed.{Ticketed}
 use Rattle.flume_state.proofs.EntryListLemmas.{count-append, count-le, weight}
-use Rattle.flume_state.proofs.EntryParts.{Apart, counted, first-push, length-without, none_found, off_first, seat, times-without, without-append}
+use Rattle.flume_state.proofs.EntryParts.{Apart, counted, first-push, length-without, off_first, seat, times-without}
 
 -- the elements of the chain
 abbrev pub Items : Type 0 → Type 0 → Type 0
@@ -64,7 +62,7 @@ module _ {T S : Type 0} where
         count = omega (arith, s.count, one, waits-append items (x ∷ []));
         apart = λ j.
             let sum = counted j items (x ∷ []) in
-            let most = once_more (λ i. times i (places items)) k j (none_found items k fresh) (s.apart j) in omega arith;
+            let most = once_more (λ i. times i (places items)) k j (none_placed items k fresh) (s.apart j) in omega arith;
         fits = fits;
       }
 

@@ -3,19 +3,16 @@ use Rattle.std.proofs.Common.{◌≡◌, ◌≢◌, ℕ, Bool, [], ◌∷◌, �
 use Rattle.std.proofs.lemmas.Bool.{cases_Bool, eqb-true}
 use Rattle.std.specs.Option.{unwrap_or, option_eq}
 use Rattle.std.proofs.lemmas.List.Elements.{All-append, All-cons, All-nil}
-use Rattle.flume_chain.specs.Chained.{times, places, found, first_place, place_after}
-use Rattle.flume_chain.proofs.Rings.{once_same}
-use Rattle.flume_chain.proofs.Tables.{item, after_at}
+use Rattle.flume_state.proofs.Chains.{times, places, found, first_place, place_after, once_same, item, after_at, with_value_at, revalued, length-edited, places-edited}
 use Rattle.flume_model.specs.Entries.{waiting_count}
 use Rattle.flume_model.specs.declared.entry.Entry.{Entry}
 use Rattle.flume_state.specs.Notices.{no_longer_due}
 use Rattle.flume_state.specs.layout.EntryLayout.{Each, EntryLayout, entries_in, entry_in}
-use Rattle.flume_chain.specs.Edited.{with_value_at}
 use Rattle.flume_state.specs.Receivers.{Entries, NoDueReceiver, NamesReceiver}
 use Rattle.flume_state.specs.declared.entries.Parked.{Parked}
 use Rattle.flume_state.specs.declared.notice.Notice.{Notice}
 use Rattle.flume_state.specs.layout.Ticketed.{Ticketed}
-use Rattle.flume_state.proofs.EntryParts.{Apart, Front, alone, counted, front_at, length-revalued, places-revalued, revalued_at, seat_found, with_value}
+use Rattle.flume_state.proofs.EntryParts.{Apart, Front, alone, counted, edited_at, front_at, seat_found, with_value}
 use Rattle.flume_state.proofs.EntrySorted.{Is, Items, each-push, entries-append, waits-append}
 use Rattle.flume_state.proofs.EntryDues.{revalued_entries}
 
@@ -114,7 +111,7 @@ module _ {T S : Type 0} where
       let x = item k d.element in
       let y = item k (with_value d.element v) in
       let now : with_value_at k items v ≡ s.quiet ++ y ∷ (d.others ++ s.last) =
-      ap (λ l. with_value_at k l v) d.is ∙ revalued_at k s.quiet (d.others ++ s.last) d.element v d.clear d.behind in
+      ap (λ l. with_value_at k l v) d.is ∙ edited_at (revalued v) k s.quiet (d.others ++ s.last) d.element d.clear d.behind in
       let before = ap (λ l. waiting_count (entries_in l)) d.is ∙ waits-append s.quiet (x ∷ (d.others ++ s.last)) in
       let later = ap (λ l. waiting_count (entries_in l)) now ∙ waits-append s.quiet (y ∷ (d.others ++ s.last)) in
       record {
@@ -128,8 +125,8 @@ module _ {T S : Type 0} where
         first_due = ap (λ l. place_after l k) d.is ∙ after_at s.quiet (d.others ++ s.last) k d.element d.clear;
         first_waits = s.first_waits;
         count = omega (arith, s.count, before, later);
-        apart = λ j. let same = ap (times j) (places-revalued k items v) in let most = s.apart j in omega arith;
-        fits = omega (arith, s.fits, length-revalued k items v);
+        apart = λ j. let same = ap (times j) (places-edited (revalued v) items k) in let most = s.apart j in omega arith;
+        fits = omega (arith, s.fits, length-edited (revalued v) items k);
       }
 
   -- and it was told

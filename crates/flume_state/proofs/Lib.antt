@@ -1,9 +1,10 @@
+mod Chains
 pub mod PlacedLemmas
-pub mod LineLemmas
-pub mod LineSteps
-pub mod LineSpace
+pub mod MessageLemmas
+pub mod MessageSteps
+pub mod MessageSpace
 pub mod Withdrawals
-pub mod LineMarks
+pub mod MessageMarks
 pub mod EntryParts
 pub mod EntrySorted
 pub mod EntrySeats
@@ -24,3 +25,5 @@ pub mod ByTicket
 pub mod SendLines
 pub mod SendSteps
 pub mod FirstDue
+pub mod Links
+pub mod Pairs

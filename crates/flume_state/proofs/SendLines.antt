@@ -1,28 +1,17 @@
 -- The chain of the live sends stays one of those that aren't due and then those that are.
-use Rattle.std.proofs.Common.{◌≡◌, ℕ, ◌+◌, ◌≤◌, ◌==◌, Bool, true, false, List, [], ◌∷◌, ◌++◌, Option, Some, refl, sym, if◌then◌else◌, ap, ap₂, subst, ◌∙◌, inl, inr, arith}
+use Rattle.std.proofs.Common.{◌≡◌, ℕ, ◌==◌, Bool, true, false, List, [], ◌∷◌, ◌++◌, Option, Some, refl, sym, if◌then◌else◌, ap, ap₂, subst, ◌∙◌, inl, inr, IsSome}
 use Rattle.std.proofs.lemmas.Bool.{cases_Bool}
-use Rattle.std.proofs.lemmas.List.{append-nil, append_assoc, map-append}
+use Rattle.std.proofs.lemmas.List.{append_assoc}
 use Rattle.std.specs.Option.{option_or}
-use Rattle.flume_chain.specs.Chained.{times, places, without, first_place}
-use Rattle.flume_chain.proofs.Rings.{times-append, once_same}
-use Rattle.flume_chain.proofs.Tables.{item, put_before_at}
+use Rattle.flume_state.proofs.Chains.{found, without, first_place, item, found_some}
 use Rattle.flume_state.specs.declared.sends.LiveSend.{LiveSend}
-use Rattle.flume_state.specs.layout.Ticketed.{Ticketed}
+use Rattle.flume_state.specs.layout.Ticketed.{Ticketed, put_ahead}
 use Rattle.flume_state.specs.layout.SendLayout.{Element, EachDueIs, SendLayout}
-use Rattle.flume_state.specs.layout.Ticketed.{ticket_times, put_ahead}
+use Rattle.flume_state.proofs.EntryParts.{Apart, first-push, first_same}
+use Rattle.flume_state.proofs.PlacedLemmas.{put_ahead_between}
 use Rattle.flume_state.proofs.ByTicket.{under}
 
 module _ {S : Type 0} where
-  -- how often a place is in two lists joined
-  pub times_both : (k : ℕ) (xs ys : List (Element S)) → times k (places (xs ++ ys)) ≡ times k (places xs) + times k (places ys)
-  times_both k xs ys =
-      ap (times k) (map-append (λ (x : Element S). x.place) xs ys) ∙ times-append k (places xs) (places ys)
-
-  -- how many of two lists joined have a ticket
-  pub tickets_both : (t : ℕ) (xs ys : List (Element S)) → ticket_times t (xs ++ ys) ≡ ticket_times t xs + ticket_times t ys
-  tickets_both t [] ys = omega arith
-  tickets_both t (x ∷ xs) ys = let rest = tickets_both t xs ys in omega arith
-
   pub lined_append : (due : Bool) (xs ys : List (Element S)) → EachDueIs due xs → EachDueIs due ys → EachDueIs due (xs ++ ys)
   lined_append due [] ys h k = k
   lined_append due (x ∷ xs) ys h k = (h.0, h.1, lined_append due xs ys h.2 k)
@@ -99,9 +88,20 @@ module _ {S : Type 0} where
         behind = r.behind;
       }
 
-  first_same : (xs ys : List (Element S)) (p : ℕ) (e f : Ticketed (LiveSend S)) → first_place (xs ++ item p e ∷ ys) ≡ first_place (xs ++ item p f ∷ ys)
-  first_same [] ys p e f = refl
-  first_same (x ∷ xs) ys p e f = refl
+  -- each element has a ticket
+  pub labelled : (items : List (Element S)) (d : Option ℕ) (p : ℕ) (e : Ticketed (LiveSend S)) → found items p ≡ Some e → SendLayout items d → IsSome e.label
+  labelled items d p e at l =
+      let f = found_some items p e at in
+      elim (cases_Bool e.value.notice.due) [
+        | inl due ↦ (
+            let r = due_side f.before f.after l.quiet l.late (item p e) (sym f.is ∙ l.parts) l.none_due due in
+            (lined_back true r.between (item p e ∷ f.after) (subst (EachDueIs true) r.behind l.all_due)).0
+            )
+        | inr quiet ↦ (
+            let r = quiet_side f.before f.after l.quiet l.late (item p e) (sym f.is ∙ l.parts) l.all_due quiet in
+            (lined_back false f.before (item p e ∷ r.between) (subst (EachDueIs false) r.ahead l.none_due)).0
+            )
+      ]
 
   -- a send is written, and is due where it was
   pub written_lined : (before after : List (Element S)) (p t : ℕ) (v w : LiveSend S) (d : Option ℕ) → w.notice.due ≡ v.notice.due
@@ -131,10 +131,6 @@ module _ {S : Type 0} where
         )
   ]
 
-  first_or : (xs : List (Element S)) (p : ℕ) (e : Ticketed (LiveSend S)) → option_or (first_place xs) (Some p) ≡ first_place (xs ++ item p e ∷ [])
-  first_or [] p e = refl
-  first_or (x ∷ xs) p e = refl
-
   -- a send that wasn't due is, behind all others
   pub moved_lined : (before after : List (Element S)) (p t : ℕ) (v w : LiveSend S) (d : Option ℕ) → v.notice.due ≡ false → w.notice.due ≡ true
       → SendLayout (before ++ item p (under t v) ∷ after) d → SendLayout ((before ++ after) ++ item p (under t w) ∷ []) (option_or d (Some p))
@@ -150,28 +146,19 @@ module _ {S : Type 0} where
             ∙ append_assoc (before ++ r.between) l.late last;
         none_due = lined_cut false before r.between (item p (under t v)) (subst (EachDueIs false) r.ahead l.none_due);
         all_due = lined_append true l.late last l.all_due (refl, is, tt);
-        first = ap (λ o. option_or o (Some p)) l.first ∙ first_or l.late p (under t w);
+        first = ap (λ o. option_or o (Some p)) l.first ∙ sym (first-push l.late (item p (under t w)));
       }
 
   -- one more that isn't due stands ahead of the first that is
-  put_parts : (quiet late : List (Element S)) (x : Element S) → ((k : ℕ) → times k (places (quiet ++ late)) ≤ 1)
-      → put_ahead (quiet ++ late) (first_place late) x ≡ quiet ++ x ∷ late
-  put_parts quiet [] x apart = ap (λ (xs : List (Element S)). xs ++ x ∷ []) (append-nil quiet)
-  put_parts quiet (y ∷ late) x apart =
-      let here = once_same y.place in
-      let most = apart y.place in
-      let both = times_both y.place quiet (y ∷ late) in
-      put_before_at quiet late y.place y.element x (omega arith)
-
   pub put_is : (items : List (Element S)) (d : Option ℕ) (x : Element S) (l : SendLayout items d)
-      → ((k : ℕ) → times k (places items) ≤ 1) → put_ahead items d x ≡ l.quiet ++ x ∷ l.late
+      → Apart items → put_ahead items d x ≡ l.quiet ++ x ∷ l.late
   put_is items d x l apart =
       ap₂ (λ (xs : List (Element S)) (o : Option ℕ). put_ahead xs o x) l.parts l.first
-      ∙ put_parts l.quiet l.late x (subst (λ (xs : List (Element S)). (k : ℕ) → times k (places xs) ≤ 1) l.parts apart)
+      ∙ put_ahead_between l.quiet l.late x (subst Apart l.parts apart)
 
   -- and the chain is one of such sends again
   pub put_lined : (items : List (Element S)) (d : Option ℕ) (p t : ℕ) (w : LiveSend S) → w.notice.due ≡ false → SendLayout items d
-      → ((k : ℕ) → times k (places items) ≤ 1) → SendLayout (put_ahead items d (item p (under t w))) d
+      → Apart items → SendLayout (put_ahead items d (item p (under t w))) d
   put_lined items d p t w e l apart = record {
     quiet = l.quiet ++ item p (under t w) ∷ [];
     late = l.late;

@@ -1,13 +1,12 @@
 -- How a `HashMap` from tickets is seen as a finite map, and what a table that isn't made has.
-use Rattle.std.proofs.Common.{◌≡◌, ◌↔◌, ℕ, Bool, true, false, cond, nat_eq, List, [], ◌∷◌, length, Option, Some, None, refl, sym, ap, ◌∙◌}
+use Rattle.std.proofs.Common.{◌≡◌, ◌↔◌, ℕ, Bool, true, cond, nat_eq, List, [], ◌∷◌, length, Option, Some, None, refl, sym, ap, ◌∙◌, IsTrue}
 use Rattle.std.specs.HashMap as table
 use Rattle.std.specs.HashMap.{HashMap, hash_map_len}
 use Rattle.std.specs.Cmp.{nat_cmp_total, eq_by_cmp_equiv, unsigned_tied}
 use Rattle.std.specs.FinMap.{FinMap, empty, from_entries, find, get, insert, remove, get-empty, get-insert, get-remove, get-from_entries}
-use Rattle.std.specs.Bool.{IsTrue}
 use Rattle.std.specs.Map.{lookup}
 use Rattle.std.specs.Ordering.{nat_cmp, eq_by_cmp}
-use Rattle.flume_state.proofs.MapLaws.{same}
+use Rattle.flume_state.proofs.SendsLaws.{same, remove_absent}
 
 -- the finite map of some entries
 abbrev pub seen : {X : Type 0} → List (ℕ × X) → FinMap nat_cmp X
@@ -74,15 +73,6 @@ pub ruleset inserts = (inserted, get_of_table)
 pub nothing_found : {X : Type 0} (k : ℕ) → get (empty {X = X} {R = nat_cmp}) k ≡ None
 nothing_found k = get-empty nat_cmp k
 
--- one value, whichever way it is chosen
-either : {X : Type 0} (b : Bool) (x : X) → cond b x x ≡ x
-either true x = refl
-either false x = refl
-
 -- to remove from no table leaves none
 pub nothing_removed : {X : Type 0} (k : ℕ) → remove (empty {X = X} {R = nat_cmp}) k ≡ empty
-nothing_removed k = same _ _ (λ q.
-    get-remove nat_cmp_total empty k q
-    ∙ ap (cond (eq_by_cmp nat_cmp q k) None) (nothing_found q)
-    ∙ either (eq_by_cmp nat_cmp q k) None
-    ∙ sym (nothing_found q))
+nothing_removed k = remove_absent empty k (nothing_found k)

@@ -1,15 +1,11 @@
 -- A chain with tickets under single edits: which place each ticket has, and how many elements have it.
-use Rattle.std.proofs.Common.{◌≡◌, ◌≢◌, ℕ, ◌+◌, ◌≤◌, ◌==◌, Bool, true, false, cond, List, [], ◌∷◌, ◌++◌, Option, Some, None, refl, sym, ap, subst, ◌∙◌, arith, ⊎_elim, inl, inr, append-nil}
-use Rattle.std.proofs.lemmas.Bool.{cases_eq, cases_Bool, eq-eqb, ne_eqb}
+use Rattle.std.proofs.Common.{◌≡◌, ◌≢◌, ℕ, ◌+◌, ◌≤◌, ◌==◌, Bool, true, false, cond, if◌then◌else◌, List, [], ◌∷◌, ◌++◌, Option, Some, None, refl, sym, ap, subst, ◌∙◌, arith, ⊎_elim, inl, inr, append-nil, nat_cmp}
+use Rattle.std.proofs.lemmas.Bool.{cases_eq, cases_Bool, eq-eqb, eqb-true, ne_eqb}
 use Rattle.std.specs.FinMap.{empty, get, insert, remove, get-empty}
-use Rattle.std.specs.Ordering.{nat_cmp}
-use Rattle.std.proofs.lemmas.List.{map-append}
-use Rattle.flume_chain.specs.Chained.{Placed, once, times, places, found, without, put_before}
-use Rattle.flume_chain.proofs.Rings.{times-append, once_same, once_more}
-use Rattle.flume_chain.proofs.Tables.{item, found_some, without_at}
-use Rattle.flume_state.specs.layout.Ticketed.{Ticketed}
+use Rattle.flume_state.proofs.Chains.{Placed, once, times, places, found, without, put_before, once_same, once_more, item, without_at}
+use Rattle.flume_state.proofs.EntryParts.{Apart, seat}
+use Rattle.flume_state.specs.layout.Ticketed.{Ticketed, place_of, ticket_times, put_ahead, Agrees}
 use Rattle.flume_state.specs.layout.Places.{PlaceMap}
-use Rattle.flume_state.specs.layout.Ticketed.{place_of, ticket_times, put_ahead, Agrees}
 use Rattle.flume_model.specs.Log.{is_ticket}
 use Rattle.flume_state.proofs.SendsLaws.{get-insert_same, get-insert_other, get-remove_same, get-remove_other}
 
@@ -25,14 +21,24 @@ ticket_same t = eq-eqb t t refl
 pub is_its : (t : ℕ) (o : Option ℕ) → o ≡ Some t → is_ticket t o ≡ true
 is_its t o has = ap (is_ticket t) has ∙ ticket_same t
 
+-- which ticket is there
+pub ticket_is : (t : ℕ) (o : Option ℕ) → is_ticket t o ≡ true → o ≡ Some t
+ticket_is t None h = absurd (let none : ⊥ = cc in none)
+ticket_is t (Some u) h = ap Some (eqb-true u t h)
+
 -- and no other
 pub ticket_other : (u t : ℕ) → u ≢ t → is_ticket u (Some t) ≡ false
 ticket_other u t ne = ne_eqb t u (λ e. ne (sym e))
 
 -- where none is counted the first is none
-none_first : (b : Bool) (n : ℕ) → cond b 1 0 + n ≡ 0 → b ≡ false
+pub none_first : (b : Bool) (n : ℕ) → cond b 1 0 + n ≡ 0 → b ≡ false
 none_first true n h = absurd (omega arith)
 none_first false n h = refl
+
+-- where a choice finds none it isn't the first, and the others have none
+pub neither : {X : Type 0} (b : Bool) (x : X) (o : Option X) → (if b then Some x else o) ≡ None → (b ≡ false) × (o ≡ None)
+neither true x o none = absurd (let no : ⊥ = cc in no)
+neither false x o none = (refl, none)
 
 module _ {E : Type 0} where
   -- an element among others adds its own ticket
@@ -40,6 +46,11 @@ module _ {E : Type 0} where
       → ticket_times t (xs ++ x ∷ ys) ≡ one_of t x.element.label + ticket_times t (xs ++ ys)
   times_amid t [] ys x = refl
   times_amid t (y ∷ xs) ys x = omega (arith, times_amid t xs ys x)
+
+  -- how many of two lists joined have a ticket
+  pub tickets_both : (t : ℕ) (xs ys : List (Placed (Ticketed E))) → ticket_times t (xs ++ ys) ≡ ticket_times t xs + ticket_times t ys
+  tickets_both t [] ys = omega arith
+  tickets_both t (x ∷ xs) ys = let rest = tickets_both t xs ys in omega arith
 
   -- an element among others changes the place of no ticket but its own
   pub place_amid : (t : ℕ) (xs ys : List (Placed (Ticketed E))) (x : Placed (Ticketed E)) → is_ticket t x.element.label ≡ false
@@ -65,17 +76,10 @@ module _ {E : Type 0} where
   pub times_none : (t : ℕ) (xs : List (Placed (Ticketed E))) → place_of t xs ≡ None → ticket_times t xs ≡ 0
   times_none t [] none = refl
   times_none t (y ∷ xs) none =
-      elim (cases_Bool (is_ticket t y.element.label)) [
-        | inl own ↦ (
-            let some : Some y.place ≡ None = sym (ap (λ b. cond b (Some y.place) (place_of t xs)) own) ∙ none in
-            absurd (let no : ⊥ = cc in no)
-            )
-        | inr other ↦ (
-            let rest = times_none t xs (sym (ap (λ b. cond b (Some y.place) (place_of t xs)) other) ∙ none) in
-            let here : one_of t y.element.label ≡ 0 = ap (λ b. cond b 1 0) other in
-            omega arith
-            )
-      ]
+      let both = neither (is_ticket t y.element.label) y.place (place_of t xs) none in
+      let rest = times_none t xs both.1 in
+      let here : one_of t y.element.label ≡ 0 = ap (λ b. cond b 1 0) both.0 in
+      omega arith
 
   -- an element among others adds its own place
   pub once_amid : (k : ℕ) (xs ys : List (Placed (Ticketed E))) (x : Placed (Ticketed E))
@@ -102,6 +106,13 @@ module _ {E : Type 0} (items rest : List (Placed (Ticketed E))) (x : Placed (Tic
 
   pub own : (t : ℕ) → is_ticket t x.element.label ≡ true → ticket_times t rest ≡ 0 → place_of t items ≡ Some x.place
   own t is none = rw at.whole (place_own t at.before at.after x is (ap (ticket_times t) (sym at.others) ∙ none))
+
+  -- where an element has a ticket none of the others has it
+  pub others_none : (t : ℕ) → x.element.label ≡ Some t → ticket_times t items ≤ 1 → ticket_times t rest ≡ 0
+  others_none t has most =
+      let one : one_of t x.element.label ≡ 1 = ap (one_of t) has ∙ ap (λ b. cond b 1 0) (ticket_same t) in
+      let sum = counts t in
+      omega arith
 
   kept_apart : ((k : ℕ) → times k (places items) ≤ 1) → (k : ℕ) → times k (places rest) ≤ 1
   kept_apart apart k = let most = apart k in let sum = names k in omega arith
@@ -201,26 +212,16 @@ module _ {E : Type 0} where
   put_amid items None x = record { before = items; after = []; whole = refl; others = sym (append-nil items) }
   put_amid items (Some k) x = put_before_amid items k x
 
-  -- those behind the first are all but the first
-  pub first_amid : (x : Placed (Ticketed E)) (items : List (Placed (Ticketed E))) → Amid (x ∷ items) items x
-  first_amid x items = record { before = []; after = items; whole = refl; others = refl }
-
-  -- those without a place are all but the element found there, where the place names no other
-  pub without_amid : (items : List (Placed (Ticketed E))) (k : ℕ) (e : Ticketed E) → times k (places items) ≤ 1 → found items k ≡ Some e
+  -- those without a place are all but the element found there, where each place is of one
+  pub without_amid : (items : List (Placed (Ticketed E))) (k : ℕ) (e : Ticketed E) → Apart items → found items k ≡ Some e
       → Amid items (without items k) (item k e)
-  without_amid items k e most is =
-      let r = found_some items k e is in
-      let names : places items ≡ places r.before ++ k ∷ places r.after =
-      ap places r.is ∙ map-append (λ (z : Placed (Ticketed E)). z.place) r.before (item k e ∷ r.after) in
-      let n = ap (times k) names in
-      let a = times-append k (places r.before) (k ∷ places r.after) in
-      let o = once_same k in
+  without_amid items k e apart is =
+      let s = seat items k e apart is in
       record {
-        before = r.before;
-        after = r.after;
-        whole = r.is;
-        others = ap (λ (l : List (Placed (Ticketed E))). without l k) r.is
-            ∙ without_at r.before r.after k e (omega arith) (omega arith);
+        before = s.before;
+        after = s.after;
+        whole = s.is;
+        others = ap (λ (l : List (Placed (Ticketed E))). without l k) s.is ∙ without_at s.before s.after k e s.ahead s.behind;
       }
 
   -- the place of an element that is taken out names no other

@@ -1,16 +1,8 @@
 -- The map from tickets to places, where a ticket is put in ahead of its place, or moved.
-use Rattle.std.proofs.Common.{◌≡◌, ℕ, Option, Some, None, refl, sym, ap, ◌∙◌}
-use Rattle.std.specs.Prelude.{false, is_some, is_err, Ok, Err, OnOk, OnErr}
-use Rattle.std.specs.declared.result.Result.{Result}
+use Rattle.std.proofs.Common.{◌≡◌, ℕ, Option, Some, None, refl, sym, ap, ◌∙◌, false, is_some, is_err, Ok, Err, OnOk, OnErr, Result}
 use Rattle.std.specs.FinMap.{get, insert, remove}
 use Rattle.flume_state.specs.layout.Places.{PlaceMap}
-use Rattle.flume_state.proofs.SendsLaws.{same_by, get-insert_same, get-insert_other, get-remove_other}
-
--- a ticket put in twice has its last place
-insert_twice : (m : PlaceMap) (t a b : ℕ) → insert (insert m t a) t b ≡ insert m t b
-insert_twice m t a b =
-    same_by _ _ t (get-insert_same (insert m t a) t b ∙ sym (get-insert_same m t b))
-    (λ u ne. get-insert_other (insert m t a) t b u ne ∙ get-insert_other m t a u ne ∙ sym (get-insert_other m t b u ne))
+use Rattle.flume_state.proofs.MapLaws.{lone_again, same_by, get-insert_same, get-insert_other, get-remove_other}
 
 -- a ticket removed, and put in again with its place, leaves the map
 pub insert-remove : (m : PlaceMap) (t a : ℕ) → get m t ≡ Some a → insert (remove m t) t a ≡ m
@@ -21,7 +13,7 @@ insert-remove m t a is =
 -- a place is written over another, whatever memory is left
 pub written_over : {X Y : Type 0} (r : Result X Y) (m n o : PlaceMap) (t a b : ℕ) → n ≡ insert m t a
     → OnOk r (o ≡ insert n t b) → OnErr r (get n t ≡ None) → o ≡ insert m t b
-written_over (Ok x) m n o t a b first second absent = second ∙ ap (λ k. insert k t b) first ∙ insert_twice m t a b
+written_over (Ok x) m n o t a b first second absent = second ∙ ap (λ k. insert k t b) first ∙ sym (lone_again m t a b)
 written_over (Err x) m n o t a b first second absent =
     let none : Some a ≡ None = sym (get-insert_same m t a) ∙ ap (λ k. get k t) (sym first) ∙ absent in
     absurd (let no : ⊥ = cc in no)

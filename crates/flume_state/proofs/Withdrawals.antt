@@ -1,90 +1,121 @@
--- The blocked message with a ticket, and what is left of a line without it.
-use Rattle.std.proofs.Common.{◌≡◌, ◌≢◌, ℕ, ◌-◌, ◌≤◌, List, [], ◌∷◌, ◌++◌, false, length, Option, Some, None, refl, sym, ap, subst, ◌∙◌, inl, inr, arith, length-append, if◌then◌else◌}
-use Rattle.std.specs.List.{All}
-use Rattle.std.proofs.lemmas.Bool.{cases_Bool, eqb-false}
-use Rattle.std.proofs.lemmas.List.Elements.{All-nil, All-cons}
-use Rattle.flume_chain.specs.Chained.{Placed}
-use Rattle.flume_state.specs.layout.Ticketed.{Ticketed}
-use Rattle.flume_state.specs.layout.Ticketed.{place_of}
-use Rattle.flume_model.specs.Log.{is_ticket}
-use Rattle.flume_state.specs.Messages.{Blocked, Messages, TakesBack}
-use Rattle.flume_state.specs.layout.LineLayout.{blocked_ahead, blocked_of, line_of, LineLayout}
-use Rattle.flume_state.proofs.PlacedLemmas.{Apart, Holder, holder_of}
-use Rattle.flume_state.proofs.LineLemmas.{unblocked}
-use Rattle.flume_state.proofs.LineSteps.{stands, value_at, leaves, FirstWithout, TakenOut}
+-- The blocked message at a place, what is left of the messages without it, and which places blocked ones have.
+use Rattle.std.proofs.Common.{◌≡◌, ◌≢◌, ℕ, ◌-◌, ◌==◌, ◌≤◌, ◌+◌, List, [], ◌∷◌, ◌++◌, map, length, Option, Some, None, refl, sym, ap, subst, ◌∙◌, inl, inr, arith, length-append, if◌then◌else◌, All, option_and_then}
+use Rattle.std.proofs.lemmas.Bool.{cases_Bool, eqb-true}
+use Rattle.flume_state.proofs.Chains.{once, times, Placed, places, found, without, once_same, once_back, item, Split, found_some}
+use Rattle.flume_state.specs.layout.MessageLayout.{Message, BlockedAt, MessageList, TakesOut, blocked_ahead, blocked_of, messages_of, MessageLayout}
+use Rattle.flume_state.proofs.EntryParts.{Apart}
+use Rattle.flume_state.proofs.PlacedLemmas.{found_here}
+use Rattle.flume_state.proofs.MessageLemmas.{unblocked}
+use Rattle.flume_state.proofs.Pairs.{elsewhere}
+use Rattle.flume_state.proofs.MessageSteps.{owner_at, stands, leaves, FirstWithout}
 
 module _ {T : Type 0} where
-  -- one more message has another ticket, or none
-  others_ahead : (t : ℕ) (o : Option ℕ) (m : T) (bs : List (Blocked T)) → is_ticket t o ≡ false → All (λ b. b.ticket ≢ t) bs
-      → All (λ b. b.ticket ≢ t) (blocked_ahead o m bs)
-  others_ahead t None m bs other rest = rest
-  others_ahead t (Some u) m bs other rest = All-cons (λ (b : Blocked T). b.ticket ≢ t) _ bs (eqb-false u t other) rest
+  -- no more blocked messages than elements stand at a place
+  ahead_fewer : (k p : ℕ) (o : Option ℕ) (m : T) (bs : List (BlockedAt T)) (n : ℕ) → times k (map (λ b. b.place) bs) ≤ n
+      → times k (map (λ b. b.place) (blocked_ahead p o m bs)) ≤ once p k + n
+  ahead_fewer k p None m bs n rest = omega arith
+  ahead_fewer k p (Some t) m bs n rest = omega arith
 
-  -- where no element has the ticket, no blocked message has it
-  none_has : (t : ℕ) (xs : List (Placed (Ticketed T))) → place_of t xs ≡ None → All (λ b. b.ticket ≢ t) (blocked_of xs)
-  none_has t [] none = All-nil _
-  none_has t (x ∷ xs) none = elim (cases_Bool (is_ticket t x.element.label)) [
+  fewer : (k : ℕ) (xs : List (Placed (Message T))) → times k (map (λ b. b.place) (blocked_of xs)) ≤ times k (places xs)
+  fewer k [] = omega arith
+  fewer k (x ∷ xs) = ahead_fewer k x.place x.element.label x.element.value (blocked_of xs) _ (fewer k xs)
+
+  -- where the element at a place has no owner, no blocked message stands there
+  not_blocked : (k : ℕ) (xs : List (Placed (Message T))) → times k (places xs) ≤ 1 → None ≡ owner_at xs k → times k (map (λ b. b.place) (blocked_of xs)) ≡ 0
+  not_blocked k [] apart none = refl
+  not_blocked k (x ∷ xs) apart none = elim (cases_Bool (k == x.place)) [
     | inl here ↦ (
-        let both : Some x.place ≡ None = sym (ap (λ b. if b then Some x.place else place_of t xs) here) ∙ none in
-        absurd (let no : ⊥ = cc in no)
+        let queued : None ≡ x.element.label = none ∙ ap (λ b. option_and_then (λ e. e.label) (if b then Some x.element else found xs k)) here in
+        let one : once x.place k ≡ 1 = ap (λ p. once p k) (sym (eqb-true k x.place here)) ∙ once_same k in
+        let less = fewer k xs in
+        ap (λ o. times k (map (λ b. b.place) (blocked_ahead x.place o x.element.value (blocked_of xs)))) (sym queued) ∙ omega arith
         )
-    | inr other ↦ others_ahead t x.element.label x.element.value (blocked_of xs) other
-        (none_has t xs (sym (ap (λ b. if b then Some x.place else place_of t xs) other) ∙ none))
+    | inr other ↦ (
+        let rest = not_blocked k xs (omega arith) (none ∙ ap (λ b. option_and_then (λ e. e.label) (if b then Some x.element else found xs k)) other) in
+        let less = ahead_fewer k x.place x.element.label x.element.value (blocked_of xs) 0 (omega arith) in
+        let none_here = once_back k x.place (ap (λ b. if b then 1 else 0) other) in
+        omega arith
+        )
   ]
 
-  -- no queued message has a ticket
-  place_behind : (t : ℕ) (xs ys : List (Placed (Ticketed T))) → blocked_of xs ≡ [] → place_of t (xs ++ ys) ≡ place_of t ys
-  place_behind t [] ys none = refl
-  place_behind t (x ∷ xs) ys none =
-      let first = unblocked x.element.label x.element.value [] (blocked_of xs) none in
-      ap (λ o. if is_ticket t o then Some x.place else place_of t (xs ++ ys)) first.0 ∙ place_behind t xs ys first.1
+  pub absent : (items : List (Placed (Message T))) (space place : ℕ) (list : MessageList T) → messages_of items space ≡ list → Apart items
+      → None ≡ owner_at items place → All (λ b. b.place ≢ place) list.blocked
+  absent items space place list view apart none =
+      subst (λ (l : MessageList T). All (λ b. b.place ≢ place) l.blocked) view (elsewhere place _ (not_blocked place items (apart place) none))
 
-  -- the first element with a ticket is the first blocked message with it
-  pub holds : (items : List (Placed (Ticketed T))) (first : Option ℕ) (count t place : ℕ) (w : LineLayout items first count)
-      → Some place ≡ place_of t items → Holder w.back t place
-  holds items first count t place w found =
-      holder_of w.back t place (sym (place_behind t w.front w.back w.none_blocked) ∙ ap (place_of t) (sym w.is) ∙ sym found)
+  -- so no two stand at the same one
+  pub blocked_apart : (items : List (Placed (Message T))) (space : ℕ) (list : MessageList T) → messages_of items space ≡ list → Apart items
+      → (k : ℕ) → times k (map (λ b. b.place) list.blocked) ≤ 1
+  blocked_apart items space list view apart k =
+      let less = fewer k items in
+      let one = apart k in
+      let same = ap (λ (l : MessageList T). times k (map (λ b. b.place) l.blocked)) view in
+      omega arith
+
+  -- the element with an owner at a place, among others
+  abbrev pub StandsAt : List (Placed (Message T)) → ℕ → Type 0
+  StandsAt xs place = (e : Message T) × Split xs place e
+
+  stands_at : (xs : List (Placed (Message T))) (place owner : ℕ) → Some owner ≡ owner_at xs place → StandsAt xs place
+  stands_at xs place owner has = elim (found xs place) as (λ o. found xs place ≡ o → Some owner ≡ option_and_then (λ e. e.label) o → StandsAt xs place) [
+    | None ↦ λ is none. absurd cc
+    | Some e ↦ λ is some. (e, found_some xs place e is)
+  ] refl has
+
+  -- no queued message has an owner
+  owner_behind : (k owner : ℕ) (xs ys : List (Placed (Message T))) → blocked_of xs ≡ [] → Some owner ≡ owner_at (xs ++ ys) k → Some owner ≡ owner_at ys k
+  owner_behind k owner [] ys none has = has
+  owner_behind k owner (x ∷ xs) ys none has =
+      let first = unblocked x.place x.element.label x.element.value [] (blocked_of xs) none in
+      elim (cases_Bool (k == x.place)) [
+        | inl here ↦ (
+            let both : Some owner ≡ None =
+            has ∙ ap (λ b. option_and_then (λ e. e.label) (if b then Some x.element else found (xs ++ ys) k)) here ∙ first.0 in
+            absurd (let no : ⊥ = cc in no)
+            )
+        | inr other ↦ owner_behind k owner xs ys first.1
+            (has ∙ ap (λ b. option_and_then (λ e. e.label) (if b then Some x.element else found (xs ++ ys) k)) other)
+      ]
+
+  -- the message with an owner at a place is a blocked one
+  pub holds : (items : List (Placed (Message T))) (first : Option ℕ) (count place owner : ℕ) (w : MessageLayout items first count)
+      → Some owner ≡ owner_at items place → StandsAt w.back place
+  holds items first count place owner w has =
+      stands_at w.back place owner (owner_behind place owner w.front w.back w.none_blocked (has ∙ ap (λ l. owner_at l place) w.is))
 
   -- so one is blocked
-  pub some_holds : (items : List (Placed (Ticketed T))) (first : Option ℕ) (count t place : ℕ) → LineLayout items first count
-      → Some place ≡ place_of t items → 1 ≤ count
-  some_holds items first count t place w found =
-      let h = holds items first count t place w found in
-      omega (arith, w.counted, ap length h.is, length-append h.before (h.holder ∷ h.after))
+  pub some_holds : (items : List (Placed (Message T))) (first : Option ℕ) (count place owner : ℕ) → MessageLayout items first count
+      → Some owner ≡ owner_at items place → 1 ≤ count
+  some_holds items first count place owner w has =
+      let h = holds items first count place owner w has in
+      omega (arith, w.counted, ap length h.1.is, length-append h.1.before (item place h.0 ∷ h.1.after))
 
-  -- where none has the ticket, no message blocks under it
-  pub absent : (items : List (Placed (Ticketed T))) (first : Option ℕ) (count space t : ℕ) (line : Messages T) → LineLayout items first count
-      → line_of items space ≡ line → None ≡ place_of t items → All (λ b. b.ticket ≢ t) line.blocked
-  absent items first count space t line w view none =
-      subst (λ (l : Messages T). All (λ b. b.ticket ≢ t) l.blocked) view (none_has t items (sym none))
+  -- the blocked message at a place leaves
+  pub record Withdrawn (items new : List (Placed (Message T))) (next : Option ℕ) (left space place : ℕ) (list : MessageList T) : Type 0 where
+    pub element : Message T
+    pub is : found items place ≡ Some element
+    pub layout : MessageLayout new next left
+    pub takes : TakesOut list (messages_of new space) place element.value
 
-  -- the message with a ticket leaves
-  pub record Withdrawn (new : List (Placed (Ticketed T))) (next : Option ℕ) (left t : ℕ) (line : Messages T) (result : Option T) : Type 0 where
-    pub message : T
-    pub is : result ≡ Some message
-    pub lined : LineLayout new next left
-    pub takes : TakesBack line (line_of new line.space) t message
-
-  pub withdraws : (items new : List (Placed (Ticketed T))) (first next : Option ℕ) (count space t place : ℕ) (line : Messages T) (result : Option T)
-      → LineLayout items first count → line_of items space ≡ line → Apart items → Some place ≡ place_of t items
-      → FirstWithout items first next place → TakenOut items new place result → Withdrawn new next (count - 1) t line result
-  withdraws items new first next count space t place line result w view apart found firsts out =
-      let h = holds items first count t place w found in
-      let s = stands items h.before h.after first count space h.holder line w view h.is in
-      let l = leaves items new h.before h.after first next count space place h.holder line result w s view h.is apart (sym h.here) firsts out in
-      let both : Some s.ticket ≡ Some t = sym s.has ∙ h.ticket in
-      let same : s.ticket ≡ t = cc in
+  pub withdraws : (items new : List (Placed (Message T))) (first next : Option ℕ) (count space place owner : ℕ) (list : MessageList T)
+      → MessageLayout items first count → messages_of items space ≡ list → Apart items → Some owner ≡ owner_at items place
+      → FirstWithout items first next place → new ≡ without items place → Withdrawn items new next (count - 1) space place list
+  withdraws items new first next count space place owner list w view apart has firsts is =
+      let h = holds items first count place owner w has in
+      let x = item place h.0 in
+      let s = stands items h.1.before h.1.after first count space x list w view h.1.is in
+      let l = leaves items new h.1.before h.1.after first next count space x list w s view h.1.is apart firsts is in
       record {
-        message = h.holder.element.value;
-        is = out.0 ∙ value_at items w.front h.before h.after h.holder line place s apart (sym h.here);
-        lined = l.lined;
+        element = h.0;
+        is = ap (λ k. found k place) s.among ∙ found_here (w.front ++ h.1.before) h.1.after x (subst Apart s.among apart);
+        layout = l.layout;
         takes = record {
-          before = blocked_of h.before;
-          after = blocked_of h.after;
-          found = s.all ∙ ap (λ k. blocked_of h.before ++ record { ticket = k; message = h.holder.element.value } ∷ blocked_of h.after) same;
-          first = none_has t h.before h.first;
-          rest = ap (λ (m : Messages T). m.blocked) l.view;
-          same = ap (λ (m : Messages T). m.queued) l.view;
-          same_space = refl;
+          owner = s.owner;
+          before = blocked_of h.1.before;
+          after = blocked_of h.1.after;
+          found = s.all;
+          rest = ap (λ (m : MessageList T). m.blocked) l.view;
+          same = ap (λ (m : MessageList T). m.queued) l.view;
+          same_space = ap (λ (m : MessageList T). m.space) view;
         };
       }

@@ -4,6 +4,7 @@ pub mod TicketHash
 pub mod Places
 pub mod Ticketed
 pub mod TicketedLends
-pub mod LineLayout
+pub mod MessageLayout
 pub mod SendLayout
+pub mod Pairing
 pub mod EntryLayout

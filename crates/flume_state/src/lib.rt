@@ -1,9 +1,9 @@
 //! The state of a channel. This is the inside of `flume_core`, the only library that calls it: it
 //! may change whenever `flume_core` does.
 //!
-//! - `line`: the messages, queued and blocked.
+//! - `line`: the messages, queued and blocked, and the tickets of blocked sends. `messages` and
+//!   `sends` are its two halves, `maybe_place` the label of a message.
 //! - `entries`: the parked receivers, and which of them a new message wakes.
-//! - `sends`: the tickets of blocked sends.
 //! - `notice`: the signal of a ticket, and whether its owner is to be told.
 //! - `ticketed`, `maybe_ticket`, `places`: chains in which an element with a ticket is found
 //!   through a table of places.
@@ -15,7 +15,9 @@
 
 pub mod entries;
 pub mod line;
+pub mod maybe_place;
 pub mod maybe_ticket;
+pub mod messages;
 pub mod notice;
 pub mod places;
 pub mod sends;

@@ -1,74 +1,70 @@
-//! The line of a channel: its queued messages, and behind them those whose senders block.
-ghost use Rattle.std.specs.Prelude.{◌≡◌, ◌≢◌, ◌<◌, ◌≤◌, ◌+◌, [], ◌∷◌, ◌++◌, length, Some, None};
-ghost use Rattle.std.specs.Prelude.{IfNone, IfSome, IfOk, IfErr, OnOk, OnErr, IsOk};
+//! The line of a channel: its queued messages, behind them those whose senders block, and the live
+//! sends.
+ghost use Rattle.std.specs.Prelude.{◌≡◌, ◌≢◌, ◌<◌, ◌≤◌, ◌+◌, ℕ, true, false, [], ◌∷◌, ◌++◌, length};
+ghost use Rattle.std.specs.Prelude.{Some, None, IfNone, IfSome, IfOk, IfErr, OnOk, OnErr, IsOk};
+ghost use Rattle.std.specs.Prelude.{◌↔◌};
 ghost use Rattle.std.specs.List.{All};
-ghost use Rattle.flume_chain.specs.Chained.{place_after};
+ghost use Rattle.std.specs.Option.{option_map, option_copied};
+ghost use Rattle.std.specs.FinMap.{empty, get, insert, remove};
 ghost use Rattle.flume_state.specs.Messages.{Admits, TakesBack, count};
+ghost use Rattle.flume_state.specs.Notices.{no_longer_due, with_signal};
+ghost use Rattle.flume_state.specs.Sends.{blocked, noticed_send, is_due_send, NoDueSend};
 ghost use Rattle.flume_state.specs.Effects.{with_all_due};
 
+use crate::messages::MessageChain;
 use crate::sends::Sends;
-use crate::ticketed::TicketChain;
 use std::alloc::{AllocError, Allocator};
 use std::marker::Model;
 
-/// The messages of a channel: the queued ones, and behind them those of blocked sends.
+/// The messages of a channel, the queued ones and behind them the blocked ones, and the live sends.
 #[derive(Drop)]
-pub struct Line<T, A: Allocator> {
-    // The queued messages, the front first, and behind them the blocked ones, which have their
-    // tickets. A blocked one that joins the queue stays where it is, so letting it in takes no
-    // memory and looks at no other message.
-    chain: TicketChain<T, A>,
-    // The place of the first blocked one.
-    blocked: Option<u32>,
-    // How many are blocked.
-    blocked_len: usize,
+pub struct Line<T, S, A: Allocator> {
+    // A blocked message and its send have each other's place: so a ticket leads to its message, and
+    // a message that joins the queue to its send, with no search.
+    messages: MessageChain<T, A>,
+    sends: Sends<S, A>,
 }
 
-impl<T, A: Allocator> Model for Line<T, A> {
+impl<T, S, A: Allocator> Model for Line<T, S, A> {
+    ghost use Rattle.std.specs.Coded.{codes};
     ghost use Rattle.flume_state.specs.Messages.{Messages};
+    ghost use Rattle.flume_state.specs.Sends.{send_map_code};
+    ghost use Rattle.flume_state.specs.layout.Pairing.{Paired, named, live_sends};
 
-    ghost Value = { Messages T };
+    ghost Value = { Messages T S };
 
-    ghost use Rattle.flume_state.specs.layout.LineLayout.{line_of, space_of, LineLayout};
+    ghost coded = { Prim.hlevel (codes, send_map_code S.code) };
 
-    ghost view = { λ s. line_of s.chain.items (space_of s.chain) };
+    ghost view = { λ s. record {
+      queued = s.messages.queued;
+      blocked = named s.sends s.messages.blocked;
+      space = s.messages.space;
+      sends = live_sends s.sends;
+    } };
 
-    ghost invariant = { λ s. LineLayout s.chain.items s.blocked s.blocked_len };
+    ghost invariant = { λ s. Paired s.messages.blocked s.sends };
 }
 
-// The place of the first blocked one, once that at a place has left.
-fn first_without<T: Drop, A: Allocator + Copy>(
-    chain: &TicketChain<T, A>,
-    first: Option<u32>,
-    place: u32,
-) -> Option<u32>
-    ensures next { first ≡ Some place → result ≡ place_after chain.now.items place }
-    ensures same { first ≢ Some place → result ≡ first }
-{
-    if first == Some(place) {
-        return chain.next(place);
-    }
-    first
-}
-
-impl<T: Drop, A: Allocator + Copy> Line<T, A> {
-    /// A line with no messages. Takes no memory.
+// `queued_len`, `blocked_len`, `room`, `push_queued`, `take_queued` and `drain_queued` are those of
+// the chain of messages, `accepted`, `signal`, `set_signal` and `next_due` those of the sends: they
+// hand on, since both are private, so that neither changes without the other.
+impl<T: Drop, S: Drop, A: Allocator + Copy> Line<T, S, A> {
+    /// A line with no messages and no sends. Takes no memory.
     ///
     /// ```
-    /// let mut line = Line::new(alloc);
+    /// let mut line: Line<u64, (), Global> = Line::new(alloc);
     /// let _ = line.push_queued(7);       // Ok(())
-    /// let _ = line.push_blocked(1, 8);   // Ok(())
+    /// let _ = line.block(1, 8, ());      // Ok(())
     /// line.take_queued();                // Some(7)
     /// line.take_queued();                // None: 8 is blocked
     /// ```
     #[inline(always)]
     pub fn new(alloc: A) -> Self
-        ensures empty { result ≡ record { queued = []; blocked = []; space = 0 } }
+        ensures empty { result ≡ record { queued = []; blocked = []; space = 0; sends = empty } }
     {
         Line {
-            chain: TicketChain::new(alloc),
-            blocked: None,
-            blocked_len: 0,
+            messages: MessageChain::new(alloc),
+            sends: Sends::new(alloc),
         }
     }
 
@@ -77,7 +73,7 @@ impl<T: Drop, A: Allocator + Copy> Line<T, A> {
     pub fn queued_len(&self) -> usize
         ensures len { result ≡ length self.now.queued }
     {
-        self.chain.len() - self.blocked_len
+        self.messages.queued_len()
     }
 
     /// How many messages are blocked. It reads a count, whatever the length.
@@ -85,7 +81,7 @@ impl<T: Drop, A: Allocator + Copy> Line<T, A> {
     pub fn blocked_len(&self) -> usize
         ensures len { result ≡ length self.now.blocked }
     {
-        self.blocked_len
+        self.messages.blocked_len()
     }
 
     /// How many more messages may stand before more memory is needed for one.
@@ -93,7 +89,7 @@ impl<T: Drop, A: Allocator + Copy> Line<T, A> {
     pub fn room(&self) -> usize
         ensures room { result + count self.now ≡ self.now.space }
     {
-        self.chain.room()
+        self.messages.room()
     }
 
     /// Queues a message behind the other queued ones, and before the blocked ones. With no memory
@@ -110,44 +106,54 @@ impl<T: Drop, A: Allocator + Copy> Line<T, A> {
         ensures returned { IfErr result (λ back. back ≡ message) }
         ensures unchanged { OnErr result (self.new ≡ self.old) }
     {
-        self.chain.facts();
-        self.chain.insert_before(self.blocked, message)?;
-        Ok(())
+        self.messages.push_queued(message)
     }
 
-    /// Puts a message behind all others, as one that blocks under this ticket. With no memory
-    /// left, a ticket under which one blocks already, or the greatest number, which is no ticket,
-    /// the message comes back, and the line stays as it was.
-    pub fn push_blocked(&mut self, ticket: u64, message: T) -> Result<(), T>
-        ensures pushed { OnOk result (self.new ≡ record self.old {
+    /// Puts a message behind all others, as one that blocks under this ticket, which is live from
+    /// now on, with this signal and nothing due. With no memory left, a ticket that is live
+    /// already, or the greatest number, which is no ticket, the message comes back, and the line
+    /// stays as it was.
+    pub fn block(&mut self, ticket: u64, message: T, signal: S) -> Result<(), T>
+        ensures blocked { OnOk result (self.new ≡ record self.old {
           blocked = self.old.blocked ++ record { ticket = ticket; message = message } ∷ [];
           space = self.new.space;
+          sends = insert self.old.sends ticket (blocked signal);
         }) }
         ensures space { self.old.space ≤ self.new.space }
         ensures returned { IfErr result (λ back. back ≡ message) }
         ensures unchanged { OnErr result (self.new ≡ self.old) }
     {
-        let queued = self.queued_len();
-        let place = self.chain.insert_ticket(None, ticket, message)?;
-        self.blocked = self.blocked.or(Some(place));
-        self.blocked_len = self.chain.len() - queued;
-        Ok(())
+        // The send first: it is taken back where the message finds no memory. The other way round
+        // the message's place would stay, and a refusal would leave more room than it found.
+        let Ok(owner) = self.sends.block(ticket, signal) else {
+            return Err(message);
+        };
+        match self.messages.push_blocked(owner, message) {
+            Ok(place) => {
+                self.sends.set_message(owner, place);
+                Ok(())
+            }
+            Err(back) => {
+                self.sends.spend(owner);
+                Err(back)
+            }
+        }
     }
 
-    /// Lets the first blocked message into the queue, behind all queued ones, and returns its
-    /// ticket. `None` where no message is blocked, and then nothing changes. Takes no memory.
+    /// Lets the first blocked message into the queue, behind all queued ones: its send is accepted,
+    /// and due. False where no message is blocked, and then nothing changes. Takes no memory.
     #[inline(always)]
-    pub fn admit(&mut self) -> Option<u64>
-        ensures admitted { IfSome result (λ ticket. Admits self.old self.new ticket) }
-        ensures none_blocked { IfNone result (self.old.blocked ≡ []) }
-        ensures unchanged { IfNone result (self.new ≡ self.old) }
+    pub fn admit(&mut self) -> bool
+        ensures admitted { result ≡ true → Admits self.old self.new }
+        ensures none_blocked { result ≡ false → self.old.blocked ≡ [] }
+        ensures unchanged { result ≡ false → self.new ≡ self.old }
     {
-        self.chain.facts();
-        let place = self.blocked?;
-        let ticket = self.chain.release(place)?;
-        self.blocked = self.chain.next(place);
-        self.blocked_len -= 1;
-        Some(ticket)
+        self.messages.facts();
+        let Some(owner) = self.messages.admit() else {
+            return false;
+        };
+        self.sends.accept(owner);
+        true
     }
 
     /// Takes the message at the front of the queue. `None` where none is queued, though some may be
@@ -159,62 +165,106 @@ impl<T: Drop, A: Allocator + Copy> Line<T, A> {
         ensures none_queued { IfNone result (self.old.queued ≡ []) }
         ensures unchanged { IfNone result (self.new ≡ self.old) }
     {
-        if self.queued_len() == 0 {
-            return None;
-        }
-        self.chain.pop_front()
+        self.messages.take_queued()
     }
 
     /// Takes all queued messages, the front first, and leaves the blocked ones. With no memory left
     /// for their list, nothing changes. It never fails where none is queued.
+    #[inline(always)]
     pub fn drain_queued(&mut self) -> Result<Vec<T, A>, AllocError>
         ensures drained { IfOk result (λ list. list.items ≡ self.old.queued) }
         ensures becomes { OnOk result (self.new ≡ record self.old { queued = [] }) }
         ensures none_queued { OnErr result (self.old.queued ≢ []) }
         ensures unchanged { OnErr result (self.new ≡ self.old) }
     {
-        let mut list = Vec::with_capacity(*self.chain.allocator(), self.queued_len())?;
-        while let Some(message) = self.take_queued() {
-            list.push_reserved(message);
-        }
-        Ok(list)
+        self.messages.drain_queued()
     }
 
     /// Marks the send of each blocked message due, the first one's first. Takes no memory.
-    pub fn mark_blocked<S: Drop>(&self, sends: &mut Sends<S, A>)
-        ensures marked { sends.new ≡ with_all_due self.now.blocked sends.old }
+    #[inline(always)]
+    pub fn mark_blocked(&mut self)
+        ensures marked { self.new ≡ record self.old {
+          sends = with_all_due self.old.blocked self.old.sends;
+        } }
     {
-        self.chain.facts();
-        let mut next = self.blocked;
-        while let Some(place) = next {
-            if let Some(ticket) = self.chain.ticket(place) {
-                sends.mark_due(ticket);
-            }
-            next = self.chain.next(place);
-        }
+        self.messages.mark_blocked(&mut self.sends);
     }
 
-    /// Takes out the first blocked message with this ticket. The others keep their order. `None`
-    /// where none has it, and then nothing changes. It costs the same however many are blocked.
-    /// Takes no memory.
+    /// Takes out the first blocked message with this ticket, which is live no more. The others keep
+    /// their order. `None` where none has it, and then nothing changes. It costs the same however
+    /// many are blocked. Takes no memory.
     pub fn withdraw(&mut self, ticket: u64) -> Option<T>
         ensures taken { IfSome result (λ m. TakesBack self.old self.new ticket m) }
         ensures absent { IfNone result (All (λ b. b.ticket ≢ ticket) self.old.blocked) }
         ensures unchanged { IfNone result (self.new ≡ self.old) }
     {
-        self.chain.facts();
-        let place = self.chain.find(ticket)?;
-        self.blocked = first_without(&self.chain, self.blocked, place);
-        self.blocked_len -= 1;
-        self.chain.remove(place)
+        self.messages.facts();
+        let (owner, place) = self.sends.blocked_at(ticket)?;
+        let message = self.messages.withdraw(place)?;
+        self.sends.spend(owner);
+        Some(message)
     }
 
-    /// Drops every message, queued and blocked. Takes no memory.
-    pub fn clear(&mut self)
-        ensures empty { self.new ≡ record self.old { queued = []; blocked = [] } }
+    /// Whether the message of a live ticket was accepted. `None` where the ticket isn't live.
+    #[inline(always)]
+    pub fn accepted(&self, ticket: u64) -> Option<bool>
+        ensures value { result ≡ option_map (λ s. s.accepted) (get self.now.sends ticket) }
     {
-        self.chain.clear();
-        self.blocked = None;
-        self.blocked_len = 0;
+        self.sends.accepted(ticket)
+    }
+
+    /// The signal that the sender of a live ticket left last. `None` where the ticket isn't live.
+    #[inline(always)]
+    pub fn signal(&self, ticket: u64) -> Option<&S>
+        ensures value { option_copied result
+            ≡ option_map (λ s. s.notice.signal) (get self.now.sends ticket) }
+    {
+        self.sends.signal(ticket)
+    }
+
+    /// Replaces the signal of a live ticket. Nothing changes where the ticket isn't live. Takes no
+    /// memory.
+    #[inline(always)]
+    pub fn set_signal(&mut self, ticket: u64, signal: S)
+        ensures replaced { self.new ≡ record self.old {
+          sends = noticed_send (with_signal (Some signal)) ticket self.old.sends;
+        } }
+    {
+        self.sends.set_signal(ticket, signal);
+    }
+
+    /// The ticket, whose message was accepted, is live no more. Takes no memory.
+    #[inline(always)]
+    pub fn spend_accepted(&mut self, ticket: u64)
+        requires accepted { option_map (λ s. s.accepted) (get self.old.sends ticket) ≡ Some true }
+        ensures spent { self.new ≡ record self.old { sends = remove self.old.sends ticket } }
+    {
+        if let Some(place) = self.sends.find(ticket) {
+            self.sends.spend(place);
+        }
+    }
+
+    /// A live ticket that was due, and now isn't: it is named once. `None` where none is due, and
+    /// then nothing changes, and it only reads one place. It looks through no tickets, whatever the
+    /// length. Takes no memory.
+    #[inline(always)]
+    pub fn next_due(&mut self) -> Option<u64>
+        ensures was_due { IfSome result (λ t. is_due_send self.old.sends t ≡ true) }
+        ensures taken { IfSome result (λ t. self.new ≡ record self.old {
+          sends = noticed_send no_longer_due t self.old.sends;
+        }) }
+        ensures none_due { IfNone result (NoDueSend self.old.sends) }
+        ensures unchanged { IfNone result (self.new ≡ self.old) }
+    {
+        self.sends.next_due()
+    }
+
+    /// Drops every message, queued and blocked, and every ticket is live no more. Takes no memory.
+    pub fn clear(&mut self)
+        ensures empty { self.new
+            ≡ record self.old { queued = []; blocked = []; sends = empty } }
+    {
+        self.messages.clear();
+        self.sends.clear();
     }
 }

@@ -6,8 +6,7 @@ use std::marker::Model;
 // The number that stands for no ticket. It is never a ticket.
 const NO_TICKET: u64 = u64::MAX;
 
-/// A ticket, or none. It takes 8 bytes, half of an `Option<u64>`: so the node of a queued message
-/// of 8 bytes takes 32 bytes, in place of 40.
+/// A ticket, or none. It takes 8 bytes, half of an `Option<u64>`.
 #[derive(Drop)]
 pub struct MaybeTicket {
     number: u64,
@@ -22,22 +21,13 @@ impl Model for MaybeTicket {
 }
 
 impl MaybeTicket {
-    /// No ticket.
+    /// This ticket. `None` at the greatest number, which is no ticket.
     ///
     /// ```
-    /// MaybeTicket::none().get();         // None
     /// if let Some(ticket) = MaybeTicket::of(7) {
     ///     ticket.get();                  // Some(7)
     /// }
     /// ```
-    #[inline(always)]
-    pub fn none() -> Self
-        ensures none { result ≡ None }
-    {
-        MaybeTicket { number: NO_TICKET }
-    }
-
-    /// This ticket. `None` at the greatest number, which is no ticket.
     #[inline(always)]
     pub fn of(ticket: u64) -> Option<Self>
         ensures ticket { IfSome result (λ made. made ≡ Some ticket) }

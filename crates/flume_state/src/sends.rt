@@ -1,11 +1,14 @@
 //! The live send tickets of a channel: each send that blocked and isn't spent.
-ghost use Rattle.std.specs.Prelude.{◌≡◌, ◌==◌, true, false, None, OnOk, OnErr, IfSome, IfNone};
+ghost use Rattle.std.specs.Prelude.{◌≡◌, ◌==◌, ℕ, true, false, [], Some, None};
+ghost use Rattle.std.specs.Prelude.{OnOk, OnErr, IfOk, IfSome, IfNone, if◌then◌else◌};
 ghost use Rattle.std.specs.Option.{option_map, option_copied};
-ghost use Rattle.std.specs.FinMap.{empty, get, insert, remove};
+ghost use Rattle.std.specs.FinMap.{get, insert, remove};
 ghost use Rattle.flume_state.specs.Notices.{due_now, no_longer_due, with_signal};
 ghost use Rattle.flume_state.specs.Sends.{blocked, accepted_now, changed, noticed_send};
-ghost use Rattle.flume_state.specs.layout.SendLayout.{due_accepting};
 ghost use Rattle.flume_state.specs.Sends.{is_due_send, NoDueSend};
+ghost use Rattle.flume_state.specs.layout.SendLayout.{due_accepting};
+ghost use Rattle.flume_state.specs.layout.Pairing.{Link, link_at, live_sends, at_message};
+ghost use Rattle.flume_state.specs.layout.Pairing.{accepting};
 
 use crate::notice::Notice;
 use crate::ticketed::TicketChain;
@@ -21,29 +24,36 @@ pub struct LiveSend<S> {
     pub notice: Notice<S>,
 }
 
-/// The live send of each live ticket.
+/// A live send, and the place of its message. Once this was accepted, the place says nothing.
+#[derive(Drop)]
+pub struct Owner<S> {
+    /// Where its message stands in the chain of messages, while it is blocked.
+    pub message: u32,
+    /// The send.
+    pub send: LiveSend<S>,
+}
+
+/// The live send of each live ticket. Each has a place, which it keeps while it is live.
 #[derive(Drop)]
 pub struct Sends<S, A: Allocator> {
     // First those that aren't due, then those that are, in the order in which they became due: so
     // `next_due` reads one place, whatever the length. The first ones stand in the order in which
     // they blocked or were named, but nothing reads that order: they are found by their tickets.
-    // The order of blocked messages is the line's alone.
-    chain: TicketChain<LiveSend<S>, A>,
+    // The order of blocked messages is that of their chain.
+    chain: TicketChain<Owner<S>, A>,
     // The place of the first that is due.
     due: Option<u32>,
 }
 
 impl<S, A: Allocator> Model for Sends<S, A> {
-    ghost use Rattle.flume_state.specs.Sends.{SendMap, send_map_code};
-    ghost use Rattle.flume_state.specs.layout.SendLayout.{by_ticket, SendLayout};
+    ghost use Rattle.flume_state.specs.layout.SendLayout.{SendLayout};
+    ghost use Rattle.flume_state.specs.layout.Pairing.{SendList, sends_in};
 
-    ghost Value = { SendMap S };
+    ghost Value = { SendList S };
 
-    ghost coded = { send_map_code S.code };
+    ghost view = { λ s. s.chain.items };
 
-    ghost view = { λ s. by_ticket s.chain.items };
-
-    ghost invariant = { λ s. SendLayout s.chain.items s.due };
+    ghost invariant = { λ s. SendLayout (sends_in s.chain.items) s.due };
 }
 
 impl<S: Drop, A: Allocator + Copy> Sends<S, A> {
@@ -51,15 +61,15 @@ impl<S: Drop, A: Allocator + Copy> Sends<S, A> {
     ///
     /// ```
     /// let mut sends = Sends::new(alloc);
-    /// let _ = sends.block(7, ());        // Ok(())
+    /// let _ = sends.block(7, ());        // Ok(0): its place
     /// sends.accepted(7);                 // Some(false)
-    /// sends.accept(7);
+    /// sends.accept(0);
     /// sends.accepted(7);                 // Some(true)
     /// sends.next_due();                  // Some(7)
     /// ```
     #[inline(always)]
     pub fn new(alloc: A) -> Self
-        ensures empty { result ≡ empty }
+        ensures empty { result ≡ [] }
     {
         Sends {
             chain: TicketChain::new(alloc),
@@ -67,13 +77,19 @@ impl<S: Drop, A: Allocator + Copy> Sends<S, A> {
         }
     }
 
-    /// Makes `ticket` live, with its message blocked and nothing due. All room for what happens to
-    /// it later is made here. With no memory left, a ticket that is live already, or the greatest
-    /// number, which is no ticket, nothing changes. No caller gives either of these.
+    /// Makes `ticket` live, with its message blocked and nothing due, and returns its place, which
+    /// no other has. The place of its message is to be set. All room for what happens to it later
+    /// is made here. With no memory left, a ticket that is live already, or the greatest number,
+    /// which is no ticket, nothing changes. No caller gives either of these.
     #[inline(always)]
-    pub fn block(&mut self, ticket: u64, signal: S) -> Result<(), AllocError>
-        ensures ok { OnOk result (self.new ≡ insert self.old ticket (blocked signal)) }
-        ensures absent { OnOk result (get self.old ticket ≡ None) }
+    pub fn block(&mut self, ticket: u64, signal: S) -> Result<u32, AllocError>
+        ensures live { OnOk result (live_sends self.new
+            ≡ insert (live_sends self.old) ticket (blocked signal)) }
+        ensures link { IfOk result (λ p. (k : ℕ) → link_at self.new k ≡ if k == p
+            then Some (record { ticket = ticket; message = 0; accepted = false })
+            else link_at self.old k) }
+        ensures fresh { IfOk result (λ p. link_at self.old p ≡ None) }
+        ensures absent { OnOk result (get (live_sends self.old) ticket ≡ None) }
         ensures err { OnErr result (self.new ≡ self.old) }
     {
         self.chain.facts();
@@ -82,16 +98,53 @@ impl<S: Drop, A: Allocator + Copy> Sends<S, A> {
             accepted: false,
             notice,
         };
-        match self.chain.insert_ticket(self.due, ticket, send) {
-            Ok(_) => Ok(()),
+        let owner = Owner { message: 0, send };
+        match self.chain.insert_ticket(self.due, ticket, owner) {
+            Ok(place) => Ok(place),
             Err(_) => Err(AllocError),
         }
+    }
+
+    /// The message of the send at this place stands at that one. Nothing changes where no send
+    /// stands there. Takes no memory.
+    #[inline(always)]
+    pub fn set_message(&mut self, place: u32, message: u32)
+        ensures live { live_sends self.new ≡ live_sends self.old }
+        ensures link { (k : ℕ) → link_at self.new k ≡ if k == place
+            then option_map (at_message message) (link_at self.old k) else link_at self.old k }
+    {
+        self.chain.facts();
+        let Some(owner) = self.chain.get_mut(place) else {
+            return;
+        };
+        owner.message = message;
+    }
+
+    /// The place of the send with this ticket, and that of its message, while this is blocked.
+    /// `None` where the ticket isn't live, or its message was accepted.
+    #[inline(always)]
+    pub fn blocked_at(&self, ticket: u64) -> Option<(u32, u32)>
+        ensures found { IfSome result (λ b. link_at self.now b.0
+            ≡ Some (record { ticket = ticket; message = b.1; accepted = false })) }
+        ensures only { IfSome result (λ b. (k : ℕ) (l : Link) → link_at self.now k ≡ Some l
+            → l.ticket ≡ ticket → k ≡ b.0) }
+        ensures absent { IfNone result ((k : ℕ) (l : Link) → link_at self.now k ≡ Some l
+            → l.ticket ≡ ticket → l.accepted ≡ true) }
+    {
+        self.chain.facts();
+        let place = self.chain.find(ticket)?;
+        let owner = self.chain.get(place)?;
+        if owner.send.accepted {
+            return None;
+        }
+        Some((place, owner.message))
     }
 
     /// Whether the message of a live ticket was accepted. `None` where the ticket isn't live.
     #[inline(always)]
     pub fn accepted(&self, ticket: u64) -> Option<bool>
-        ensures value { result ≡ option_map (λ s. s.accepted) (get self.now ticket) }
+        ensures value { result
+            ≡ option_map (λ s. s.accepted) (get (live_sends self.now) ticket) }
     {
         Some(self.get(ticket)?.accepted)
     }
@@ -100,84 +153,106 @@ impl<S: Drop, A: Allocator + Copy> Sends<S, A> {
     #[inline(always)]
     pub fn signal(&self, ticket: u64) -> Option<&S>
         ensures value { option_copied result
-            ≡ option_map (λ s. s.notice.signal) (get self.now ticket) }
+            ≡ option_map (λ s. s.notice.signal) (get (live_sends self.now) ticket) }
     {
         Some(&self.get(ticket)?.notice.signal)
     }
 
     #[inline(always)]
     fn get(&self, ticket: u64) -> Option<&LiveSend<S>>
-        ensures value { option_copied result ≡ get self.now ticket }
+        ensures value { option_copied result ≡ get (live_sends self.now) ticket }
     {
         self.chain.facts();
         let place = self.chain.find(ticket)?;
-        self.chain.get(place)
+        Some(&self.chain.get(place)?.send)
     }
 
     /// Replaces the signal of a live ticket. Nothing changes where the ticket isn't live. Takes no
     /// memory.
     pub fn set_signal(&mut self, ticket: u64, signal: S)
-        ensures replaced { self.new ≡ noticed_send (with_signal (Some signal)) ticket self.old }
+        ensures live { live_sends self.new
+            ≡ noticed_send (with_signal (Some signal)) ticket (live_sends self.old) }
+        ensures links { (k : ℕ) → link_at self.new k ≡ link_at self.old k }
     {
         self.chain.facts();
         let Some(place) = self.chain.find(ticket) else {
             return;
         };
-        let Some(send) = self.chain.get_mut(place) else {
+        let Some(owner) = self.chain.get_mut(place) else {
             return;
         };
-        send.notice.signal = signal;
+        owner.send.notice.signal = signal;
     }
 
-    /// The message of a live ticket was taken into the queue: the ticket is accepted, and due.
-    /// Nothing changes where the ticket isn't live. Takes no memory.
+    /// The message of the send at this place was taken into the queue: its ticket is accepted, and
+    /// due. Nothing changes where no send stands there. Takes no memory.
     // It and `mark_due` hand on to `make_due`, so that each call says which of its two cases it
     // means.
     #[inline(never)]
-    pub fn accept(&mut self, ticket: u64)
-        ensures accepted { self.new ≡ changed self.old ticket accepted_now }
+    pub fn accept(&mut self, place: u32)
+        ensures live { IfSome (link_at self.old place) (λ l. live_sends self.new
+            ≡ changed (live_sends self.old) l.ticket accepted_now) }
+        ensures link { (k : ℕ) → link_at self.new k ≡ if k == place
+            then option_map (accepting true) (link_at self.old k) else link_at self.old k }
     {
-        self.make_due(ticket, true);
+        self.make_due(place, true);
     }
 
-    /// Makes a live ticket due, and leaves it accepted or not as it was. Nothing changes where the
-    /// ticket isn't live. Takes no memory.
-    pub fn mark_due(&mut self, ticket: u64)
-        ensures marked { self.new ≡ noticed_send due_now ticket self.old }
+    /// Makes the ticket of the send at this place due, and leaves it accepted or not as it was.
+    /// Nothing changes where no send stands there. Takes no memory.
+    pub fn mark_due(&mut self, place: u32)
+        ensures live { IfSome (link_at self.old place) (λ l. live_sends self.new
+            ≡ noticed_send due_now l.ticket (live_sends self.old)) }
+        ensures links { (k : ℕ) → link_at self.new k ≡ link_at self.old k }
     {
-        self.make_due(ticket, false);
+        self.make_due(place, false);
     }
 
-    // Makes a live ticket due, and accepted where `accepts`. One that wasn't due goes behind all
-    // others.
-    fn make_due(&mut self, ticket: u64, accepts: bool)
-        ensures due { self.new ≡ changed self.old ticket (due_accepting accepts) }
+    // Makes the ticket of the send at this place due, and accepted where `accepts`. One that wasn't
+    // due goes behind all others.
+    fn make_due(&mut self, place: u32, accepts: bool)
+        ensures live { IfSome (link_at self.old place) (λ l. live_sends self.new
+            ≡ changed (live_sends self.old) l.ticket (due_accepting accepts)) }
+        ensures link { (k : ℕ) → link_at self.new k ≡ if k == place
+            then option_map (accepting accepts) (link_at self.old k) else link_at self.old k }
     {
         self.chain.facts();
-        let Some(place) = self.chain.find(ticket) else {
+        let Some(owner) = self.chain.get_mut(place) else {
             return;
         };
-        let Some(send) = self.chain.get_mut(place) else {
-            return;
-        };
-        let was_due = send.notice.due;
-        send.accepted = accepts | send.accepted;
-        send.notice.due = true;
+        let was_due = owner.send.notice.due;
+        owner.send.accepted = accepts | owner.send.accepted;
+        owner.send.notice.due = true;
         if !was_due {
             self.chain.move_back(place);
             self.due = self.due.or(Some(place));
         }
     }
 
-    /// The ticket is live no more. Nothing changes where it wasn't. Takes no memory.
+    /// The place of the send with this ticket. `None` where the ticket isn't live.
     #[inline(always)]
-    pub fn spend(&mut self, ticket: u64)
-        ensures spent { self.new ≡ remove self.old ticket }
+    pub fn find(&self, ticket: u64) -> Option<u32>
+        ensures found { IfSome result (λ p. option_map (λ l. l.ticket) (link_at self.now p)
+            ≡ Some ticket) }
+        ensures accepted { IfSome result (λ p. option_map (λ l. l.accepted) (link_at self.now p)
+            ≡ option_map (λ s. s.accepted) (get (live_sends self.now) ticket)) }
+        ensures absent { IfNone result (get (live_sends self.now) ticket ≡ None) }
     {
         self.chain.facts();
-        let Some(place) = self.chain.find(ticket) else {
-            return;
-        };
+        self.chain.find(ticket)
+    }
+
+    /// The ticket of the send at this place is live no more. Nothing changes where no send stands
+    /// there. Takes no memory.
+    #[inline(always)]
+    pub fn spend(&mut self, place: u32)
+        ensures live { IfSome (link_at self.old place) (λ l. live_sends self.new
+            ≡ remove (live_sends self.old) l.ticket) }
+        ensures link { (k : ℕ) → link_at self.new k ≡ if k == place then None
+            else link_at self.old k }
+        ensures none { IfNone (link_at self.old place) (self.new ≡ self.old) }
+    {
+        self.chain.facts();
         if self.due == Some(place) {
             self.due = self.chain.next(place);
         }
@@ -189,9 +264,11 @@ impl<S: Drop, A: Allocator + Copy> Sends<S, A> {
     /// length. Takes no memory.
     #[inline(always)]
     pub fn next_due(&mut self) -> Option<u64>
-        ensures was_due { IfSome result (λ t. is_due_send self.old t ≡ true) }
-        ensures taken { IfSome result (λ t. self.new ≡ noticed_send no_longer_due t self.old) }
-        ensures none_due { IfNone result (NoDueSend self.old) }
+        ensures was_due { IfSome result (λ t. is_due_send (live_sends self.old) t ≡ true) }
+        ensures taken { IfSome result (λ t. live_sends self.new
+            ≡ noticed_send no_longer_due t (live_sends self.old)) }
+        ensures links { (k : ℕ) → link_at self.new k ≡ link_at self.old k }
+        ensures none_due { IfNone result (NoDueSend (live_sends self.old)) }
         ensures unchanged { IfNone result (self.new ≡ self.old) }
     {
         match self.due {
@@ -204,23 +281,25 @@ impl<S: Drop, A: Allocator + Copy> Sends<S, A> {
     #[cold]
     #[inline(never)]
     fn tell_first(&mut self) -> Option<u64>
-        ensures was_due { IfSome result (λ t. is_due_send self.old t ≡ true) }
-        ensures taken { IfSome result (λ t. self.new ≡ noticed_send no_longer_due t self.old) }
-        ensures none_due { IfNone result (NoDueSend self.old) }
+        ensures was_due { IfSome result (λ t. is_due_send (live_sends self.old) t ≡ true) }
+        ensures taken { IfSome result (λ t. live_sends self.new
+            ≡ noticed_send no_longer_due t (live_sends self.old)) }
+        ensures links { (k : ℕ) → link_at self.new k ≡ link_at self.old k }
+        ensures none_due { IfNone result (NoDueSend (live_sends self.old)) }
         ensures unchanged { IfNone result (self.new ≡ self.old) }
     {
         self.chain.facts();
         let place = self.due?;
         let ticket = self.chain.ticket(place)?;
-        let send = self.chain.get_mut(place)?;
-        send.notice.due = false;
+        let owner = self.chain.get_mut(place)?;
+        owner.send.notice.due = false;
         self.due = self.chain.next(place);
         Some(ticket)
     }
 
     /// Every ticket is live no more. Takes no memory.
     pub fn clear(&mut self)
-        ensures empty { self.new ≡ empty }
+        ensures empty { self.new ≡ [] }
     {
         self.chain.clear();
         self.due = None;

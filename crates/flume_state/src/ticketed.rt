@@ -1,15 +1,13 @@
-//! Elements in order, of which some have a ticket, by which each is found at the same cost.
+//! Elements in order, each put in with a ticket, by which it is found at the same cost.
 ghost use Rattle.std.specs.Prelude.{◌≡◌, ◌<◌, ◌+◌, ◌≤◌, ◌++◌, ◌∷◌, [], ℕ, Some, None, length};
 ghost use Rattle.std.specs.Prelude.{true, false};
 ghost use Rattle.std.specs.Prelude.{IsOk, IsSome, IfOk, IfErr, OnOk, OnErr, IfSome, IfNone, OnSome};
 ghost use Rattle.std.specs.Prelude.{option_copied, ◌↔◌};
 ghost use Rattle.std.specs.Option.{option_map, option_copied_mut};
 ghost use Rattle.flume_chain.specs.Chained.{Placed, found, without};
-ghost use Rattle.flume_chain.specs.Chained.{place_after, first_element, behind_first};
-ghost use Rattle.flume_chain.specs.Chained.{times, places};
+ghost use Rattle.flume_chain.specs.Chained.{place_after, times, places};
 ghost use Rattle.flume_state.specs.layout.Ticketed.{place_of, ticket_times, put_ahead};
-ghost use Rattle.flume_state.specs.layout.Ticketed.{without_ticket_at, ticket_in};
-ghost use Rattle.flume_state.specs.layout.Ticketed.{Ticketed};
+ghost use Rattle.flume_state.specs.layout.Ticketed.{ticket_in, Ticketed};
 ghost use Rattle.std.specs.Borrow.{sem};
 ghost use Rattle.flume_state.specs.layout.TicketedLends.{lends_value};
 
@@ -20,7 +18,7 @@ use flume_chain::labelled::Labelled;
 use std::alloc::Allocator;
 use std::marker::Model;
 
-/// Elements in order. Each has a place, and some have a ticket.
+/// Elements in order. Each has a place, and was put in with a ticket.
 #[derive(Drop)]
 pub struct TicketChain<E, A: Allocator> {
     chain: Chain<MaybeTicket, E, A>,
@@ -39,17 +37,17 @@ impl<E, A: Allocator> Model for TicketChain<E, A> {
     ghost invariant = { λ s. Agrees s.chain.items s.places };
 }
 
-// `len`, `room`, `allocator`, `next` and `move_back` are the chain's, and `find` is the places':
-// they hand on, since both are private, so that neither changes without the other.
+// `next` and `move_back` are the chain's, and `find` is the places': they hand on, since both are
+// private, so that neither changes without the other.
 impl<E: Drop, A: Allocator + Copy> TicketChain<E, A> {
     /// No elements. Takes no memory.
     ///
     /// ```
     /// let mut chain = TicketChain::new(alloc);
-    /// let _ = chain.insert_ticket(None, 7, 'a'); // Ok(0)
-    /// let _ = chain.insert_before(Some(0), 'b'); // Ok(1), ahead of 'a'
-    /// chain.find(7);                             // Some(0)
-    /// chain.next(1);                             // Some(0)
+    /// let _ = chain.insert_ticket(None, 7, 'a');    // Ok(0)
+    /// let _ = chain.insert_ticket(Some(0), 8, 'b'); // Ok(1), ahead of 'a'
+    /// chain.find(7);                                // Some(0)
+    /// chain.next(1);                                // Some(0)
     /// ```
     #[inline(always)]
     pub fn new(alloc: A) -> Self
@@ -70,28 +68,6 @@ impl<E: Drop, A: Allocator + Copy> TicketChain<E, A> {
         ensures apart { (k : ℕ) → times k (places self.now.items) ≤ 1 }
     {
         let _ = self.chain.len();
-    }
-
-    /// How many elements stand. It reads a count, whatever the length.
-    #[inline(always)]
-    pub fn len(&self) -> usize
-        ensures len { result ≡ length self.now.items }
-    {
-        self.chain.len()
-    }
-
-    /// How many more elements without a ticket may stand before more memory is needed.
-    #[inline(always)]
-    pub fn room(&self) -> usize
-        ensures room { result ≡ self.now.room }
-    {
-        self.chain.room()
-    }
-
-    /// The allocator that memory is taken from.
-    #[inline(always)]
-    pub fn allocator(&self) -> &A {
-        self.chain.allocator()
     }
 
     /// The place of the element with a ticket. `None` where none has it.
@@ -139,30 +115,6 @@ impl<E: Drop, A: Allocator + Copy> TicketChain<E, A> {
         ensures next { result ≡ place_after self.now.items place }
     {
         self.chain.next(place)
-    }
-
-    /// Puts a value without a ticket ahead of that at a place, or behind all others where no place
-    /// is given or none stands there, and returns its own place, which no other has. With no memory
-    /// left, or 4,294,967,295 elements standing, the value comes back, and the chain stays as it
-    /// was.
-    #[inline(always)]
-    pub fn insert_before(&mut self, next: Option<u32>, value: E) -> Result<u32, E>
-        ensures inserted { IfOk result (λ place. self.new.items ≡ put_ahead self.old.items next
-            (record { place = place; element = record { label = None; value = value } })) }
-        ensures fresh { IfOk result (λ place. found self.old.items place ≡ None) }
-        ensures room { OnOk result (0 < self.old.room → self.new.room + 1 ≡ self.old.room) }
-        ensures succeeds { 0 < self.old.room → IsOk result }
-        ensures returned { IfErr result (λ back. back ≡ value) }
-        ensures unchanged { OnErr result (self.new ≡ self.old) }
-    {
-        let element = Labelled {
-            label: MaybeTicket::none(),
-            value,
-        };
-        match push(&mut self.chain, next, element) {
-            Ok(place) => Ok(place),
-            Err(back) => Err(back.value),
-        }
     }
 
     /// Puts a value with a ticket ahead of that at a place, or behind all others where no place is
@@ -215,21 +167,6 @@ impl<E: Drop, A: Allocator + Copy> TicketChain<E, A> {
         self.chain.move_back(place)
     }
 
-    /// The element at a place has no ticket any more. The ticket that it had. `None` where none
-    /// stands there, or it had none, and then nothing changes. Takes no memory.
-    #[inline(always)]
-    pub fn release(&mut self, place: u32) -> Option<u64>
-        ensures ticket { result ≡ ticket_in (found self.old.items place) }
-        ensures released { OnSome result (self.new.items ≡ without_ticket_at place self.old.items) }
-        ensures room { self.new.room ≡ self.old.room }
-        ensures unchanged { IfNone result (self.new ≡ self.old) }
-    {
-        let ticket = self.chain.label(place)?.get()?;
-        self.chain.set_label(place, MaybeTicket::none());
-        self.places.remove(ticket);
-        Some(ticket)
-    }
-
     /// Takes out the element at a place, which then names none, and its ticket finds none. The
     /// others keep their order and their places. `None` where none stands there, and then nothing
     /// changes. Takes no memory.
@@ -241,22 +178,6 @@ impl<E: Drop, A: Allocator + Copy> TicketChain<E, A> {
         ensures unchanged { IfNone result (self.new ≡ self.old) }
     {
         let element = self.chain.remove(place)?;
-        if let Some(ticket) = element.label.get() {
-            self.places.remove(ticket);
-        }
-        Some(element.value)
-    }
-
-    /// Takes out the first element. The others keep their order and their places. `None` where
-    /// none stands, and then nothing changes. Takes no memory.
-    #[inline(always)]
-    pub fn pop_front(&mut self) -> Option<E>
-        ensures first { result ≡ option_map (λ e. e.value) (first_element self.old.items) }
-        ensures taken { self.new.items ≡ behind_first self.old.items }
-        ensures room { OnSome result (self.new.room ≡ self.old.room + 1) }
-        ensures unchanged { IfNone result (self.new ≡ self.old) }
-    {
-        let element = self.chain.pop_front()?;
         if let Some(ticket) = element.label.get() {
             self.places.remove(ticket);
         }
@@ -276,11 +197,11 @@ impl<E: Drop, A: Allocator + Copy> TicketChain<E, A> {
 // Puts an element ahead of that at a place, or behind all others where no place is given or none
 // stands there.
 #[inline(always)]
-fn push<E: Drop, A: Allocator>(
-    chain: &mut Chain<MaybeTicket, E, A>,
+pub fn push<L: Drop, E: Drop, A: Allocator>(
+    chain: &mut Chain<L, E, A>,
     next: Option<u32>,
-    element: Labelled<MaybeTicket, E>,
-) -> Result<u32, Labelled<MaybeTicket, E>>
+    element: Labelled<L, E>,
+) -> Result<u32, Labelled<L, E>>
     ensures inserted { IfOk result (λ place. chain.new.items
         ≡ put_ahead chain.old.items next (record { place = place; element = element })) }
     ensures fresh { IfOk result (λ place. found chain.old.items place ≡ None) }

@@ -119,13 +119,12 @@ impl<T: Drop, S: Drop, A: Allocator + Copy> Chan<T, S, A> {
     {
         if self.senders == 0 && self.receivers == 0 {
             self.line.clear();
-            self.sends.clear();
             self.entries.clear();
             return;
         }
         if was_open && !self.is_open() {
             self.entries.wake_all();
-            self.line.mark_blocked(&mut self.sends);
+            self.line.mark_blocked();
         }
     }
 }

@@ -171,7 +171,7 @@ impl<T: Drop, S: Drop, A: Allocator + Copy> Chan<T, S, A> {
         ensures unchanged { IfNone result (self.new ≡ self.old) }
         ensures stands { SameLogs A self.old self.new }
     {
-        if let Some(ticket) = self.sends.next_due() {
+        if let Some(ticket) = self.line.next_due() {
             return Some(ticket);
         }
         self.entries.next_due()
@@ -182,7 +182,7 @@ impl<T: Drop, S: Drop, A: Allocator + Copy> Chan<T, S, A> {
     pub fn signal(&self, ticket: u64) -> Option<&S>
         ensures signal { option_copied result ≡ signal_of self.now ticket }
     {
-        if let Some(signal) = self.sends.signal(ticket) {
+        if let Some(signal) = self.line.signal(ticket) {
             return Some(signal);
         }
         self.entries.signal(ticket)

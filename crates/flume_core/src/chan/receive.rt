@@ -182,9 +182,7 @@ impl<T: Drop, S: Drop, A: Allocator + Copy> Chan<T, S, A> {
     fn admit(&mut self)
         ensures admitted { self.new ≡ after_admission self.old }
     {
-        if let Some(ticket) = self.line.admit() {
-            self.sends.accept(ticket);
-        }
+        self.line.admit();
     }
 
     // Lets blocked messages into the queue while it has room.

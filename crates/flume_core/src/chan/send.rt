@@ -111,13 +111,7 @@ impl<T: Drop, S: Drop, A: Allocator + Copy> Chan<T, S, A> {
         if ticket == u64::MAX {
             return Reply::Spent(Some(message));
         }
-        // The ticket first: it is taken back where the message finds no memory. The other way round
-        // the message's place would stay, and a refusal would leave more room than it found.
-        let Ok(()) = self.sends.block(ticket, signal) else {
-            return Reply::NoMemory(Some(message));
-        };
-        if let Err(back) = self.line.push_blocked(ticket, message) {
-            self.sends.spend(ticket);
+        if let Err(back) = self.line.block(ticket, message, signal) {
             return Reply::NoMemory(Some(back));
         }
         self.next = ticket + 1;
@@ -152,7 +146,7 @@ impl<T: Drop, S: Drop, A: Allocator + Copy> Chan<T, S, A> {
         } }
         ensures unchanged { IsRefusal result → self.new ≡ self.old }
     {
-        match self.sends.accepted(ticket) {
+        match self.line.accepted(ticket) {
             None => Reply::NoTicket,
             Some(true) => self.learn(ticket),
             Some(false) if !self.is_open() => self.take_back(ticket),
@@ -181,7 +175,7 @@ impl<T: Drop, S: Drop, A: Allocator + Copy> Chan<T, S, A> {
             → Returns self.old self.new ticket message closed }
         ensures unchanged { IsRefusal result → self.new ≡ self.old }
     {
-        match self.sends.accepted(ticket) {
+        match self.line.accepted(ticket) {
             None => Reply::NoTicket,
             Some(true) => self.learn(ticket),
             Some(false) => self.take_back(ticket),
@@ -190,10 +184,11 @@ impl<T: Drop, S: Drop, A: Allocator + Copy> Chan<T, S, A> {
 
     // Tells a sender that its message was taken in.
     fn learn(&mut self, ticket: u64) -> Reply<T, A>
+        requires known { accepted_at self.old ticket ≡ Some true }
         ensures accepted { result ≡ Reply.Accepted }
         ensures removed { self.new ≡ record self.old { sends = remove self.old.sends ticket } }
     {
-        self.sends.spend(ticket);
+        self.line.spend_accepted(ticket);
         Reply::Accepted
     }
 
@@ -210,10 +205,7 @@ impl<T: Drop, S: Drop, A: Allocator + Copy> Chan<T, S, A> {
     {
         let closed = !self.is_open();
         match self.line.withdraw(ticket) {
-            Some(message) => {
-                self.sends.spend(ticket);
-                Reply::Returned { message, closed }
-            }
+            Some(message) => Reply::Returned { message, closed },
             None => Reply::NoTicket,
         }
     }
@@ -224,7 +216,7 @@ impl<T: Drop, S: Drop, A: Allocator + Copy> Chan<T, S, A> {
         } }
     {
         if let Some(signal) = signal {
-            self.sends.set_signal(ticket, signal);
+            self.line.set_signal(ticket, signal);
         }
     }
 }

@@ -53,7 +53,7 @@ impl<T: Drop, S: Drop, A: Allocator + Copy> Chan<T, S, A> {
     pub fn parked_send_would_wait(&self, ticket: u64) -> bool
         ensures waits { IsTrue result ↔ IsHeldBack ticket self.now }
     {
-        match self.sends.accepted(ticket) {
+        match self.line.accepted(ticket) {
             Some(false) => self.is_open(),
             _ => false,
         }

@@ -1,10 +1,9 @@
 -- For this crate alone: the elements of a chain in order, of which some have a ticket.
-use Rattle.std.specs.Prelude.{◌≡◌, ℕ, ◌+◌, ◌≤◌, ◌==◌, if◌then◌else◌}
+use Rattle.std.specs.Prelude.{◌≡◌, ℕ, ◌+◌, ◌≤◌, if◌then◌else◌}
 use Rattle.std.specs.Prelude.{List, [], ◌∷◌, ◌++◌, Option, Some, None}
 use Rattle.std.specs.FinMap.{get}
 use Rattle.flume_model.specs.Log.{is_ticket}
 use Rattle.flume_chain.specs.Chained.{Placed, put_before, times, places}
-use Rattle.flume_chain.specs.Edited.{with_label_at}
 use Rattle.flume_chain.specs.declared.labelled.Labelled.{Labelled}
 use Rattle.flume_state.specs.layout.Places.{PlaceMap}
 
@@ -32,14 +31,9 @@ module _ {E : Type 0} where
 
   -- the elements with one more: ahead of that at a place, or behind all others where no place is
   -- given or none stands there
-  abbrev pub put_ahead : List (Placed (Ticketed E)) → Option ℕ → Placed (Ticketed E)
-      → List (Placed (Ticketed E))
+  abbrev pub put_ahead : List (Placed E) → Option ℕ → Placed E → List (Placed E)
   put_ahead items None x = items ++ x ∷ []
   put_ahead items (Some k) x = put_before items k x
-
-  -- the elements where that at a place has lost its ticket
-  abbrev pub without_ticket_at : ℕ → List (Placed (Ticketed E)) → List (Placed (Ticketed E))
-  without_ticket_at k items = with_label_at k items None
 
   -- each ticket is of one element at most, and so is each place, and the map has the tickets'
   -- places

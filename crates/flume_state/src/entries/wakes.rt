@@ -19,7 +19,7 @@ impl<T: Drop, S: Drop, A: Allocator + Copy> Entries<T, S, A> {
     /// ticket that was filled, if one was. Nothing changes where nothing is queued or nobody waits,
     /// and then it only reads two counts. Takes no memory.
     #[inline(always)]
-    pub fn wake(&mut self, line: &mut Line<T, A>) -> Option<u64>
+    pub fn wake(&mut self, line: &mut Line<T, S, A>) -> Option<u64>
         ensures fills { result ≡ round_for_fills line.old.queued self.old }
         ensures woken { self.new ≡ round_for due_now line.old.queued self.old }
         ensures queue { line.new ≡ record line.old {
@@ -36,7 +36,7 @@ impl<T: Drop, S: Drop, A: Allocator + Copy> Entries<T, S, A> {
     // The round, where a message is queued.
     #[cold]
     #[inline(never)]
-    fn wake_round(&mut self, line: &mut Line<T, A>) -> Option<u64>
+    fn wake_round(&mut self, line: &mut Line<T, S, A>) -> Option<u64>
         requires queued { length line.old.queued ≢ 0 }
         ensures fills { result ≡ round_for_fills line.old.queued self.old }
         ensures woken { self.new ≡ round_for due_now line.old.queued self.old }

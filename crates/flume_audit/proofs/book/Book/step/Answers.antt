@@ -1,7 +1,7 @@
 use Rattle.std.proofs.Common.{rules, ◌≡◌, ℕ, List, [], ◌∷◌, ◌++◌, length, refl, ◌∙◌, ap}
 use Rattle.flume_model.specs.declared.step.Step.{Step}
 use Rattle.flume_model.specs.declared.step.Reply.{Reply}
-use Rattle.flume_state.proofs.LineLemmas.{on_err}
+use Rattle.flume_state.proofs.MessageLemmas.{on_err}
 use Rattle.flume_audit.specs.declared.receipt.Receipt.{Receipt}
 use Rattle.flume_audit.proofs.Steps.{room_serves, pushed, written, entry_weighs, receipt_weighs}
 use Rattle.flume_audit.proofs.book.Book.step.Goals as goal

@@ -2,8 +2,6 @@
 use Rattle.std.proofs.Common.{◌≡◌, ◌<◌, refl, ap, ◌∙◌, rules, arith}
 use Rattle.flume_model.specs.declared.step.Reply.TheVariants.{Full}
 use Rattle.flume_model.specs.Limits.{most}
-use Rattle.std.specs.FinMap.{remove}
-use Rattle.flume_state.proofs.SendsLaws.{remove-insert}
 use Rattle.flume_core.proofs.Moves.{blocks}
 use Rattle.flume_core.proofs.Answering.{takes_none_in}
 use Rattle.flume_core.proofs.AsTries.{send_as_try, send_comes, try_never_spent}
@@ -34,7 +32,7 @@ returns-clause-step g c o log h =
     let next : c.self.inside.next ≡ c.args.self.now.next = ap (λ s. s.next) same in
     let found = c.in-Full.ensures.full.0 (ap Full c.in-Full.ensures.comes) in
     let some_left : c.args.self.now.next < most = rw (← next) (search rules) in
-    blocks o log _ c.args.self.now _ c.args.message c.args.signal c.push_blocked.new.self.space h
+    blocks o log _ c.args.self.now _ c.args.message c.args.signal c.block.new.self.space h
     (takes_none_in h found.0 found.1 found.2, omega (arith, h.next_is, some_left), next ∙ h.next_is)
     (rw next refl) (search rules)
 
@@ -44,17 +42,8 @@ returns-in_default-clause-dues g c = λ led.
 
 pub returns-clause-dues : goal.returns-clause-dues
 returns-clause-dues g c = λ led.
-    blocks_due c.args.self.now _ _ _ (record { ticket = c.args.self.now.next; message = c.args.message }) c.args.signal c.push_blocked.new.self.space
+    blocks_due c.args.self.now _ _ _ (record { ticket = c.args.self.now.next; message = c.args.message }) c.args.signal c.block.new.self.space
     (λ t. refl) led (search rules)
-
--- where the message finds no room its ticket is taken back, and the channel is as it was
-pub returns-in-Err-clause-unchanged : goal.returns-in-Err-clause-unchanged
-returns-in-Err-clause-unchanged g c refused =
-    let line = c.in-Err.ensures.unchanged in
-    let added = c.in-Ok.ensures in
-    let sends = c.spend.ensures.spent ∙ ap (λ m. remove m c.self.inside.next) added.ok
-    ∙ remove-insert c.self.inside.sends c.self.inside.next _ added.absent in
-    rw (line, sends) (c.self.view_is ∙ c.in-Full.ensures.unchanged tt)
 
 pub returns-in-Err-clause-step : goal.returns-in-Err-clause-step
 returns-in-Err-clause-step g c o log h =
@@ -63,7 +52,7 @@ returns-in-Err-clause-step g c o log h =
     let found = c.in-Full.ensures.full.0 (ap Full c.in-Full.ensures.comes) in
     let some_left : c.args.self.now.next < most = rw (← next) (search rules) in
     still o log _ c.args.self.now _ h (open_at_log h found.0, (λ none. omega (arith, h.next_is, some_left)), search rules) refl
-    (returns-in-Err-clause-unchanged g c tt)
+    (search rules)
 
 pub returns-in-Err-clause-dues : goal.returns-in-Err-clause-dues
-returns-in-Err-clause-dues g c = λ led. unchanged _ _ _ _ (λ t. refl) (returns-in-Err-clause-unchanged g c tt)
+returns-in-Err-clause-dues g c = λ led. unchanged _ _ _ _ (λ t. refl) (search rules)

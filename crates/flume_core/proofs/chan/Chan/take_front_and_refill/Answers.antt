@@ -7,8 +7,9 @@ returns-clause-some g c =
     let taken = c.in_ok-message.ensures.taken in
     let queue = ap (λ l. l.queued) taken in
     let same = ap (λ l. l.blocked) taken in
-    let space = ap (λ l. l.space) taken in (
+    let space = ap (λ l. l.space) taken in
+    let sends = ap (λ l. l.sends) taken in (
       c.take_queued.new.self.queued,
       rw (← c.bring_to_front.ensures.fronted, ← c.self.view_is) queue,
-      c.refill.ensures.refilled ∙ rw (← c.bring_to_front.ensures.fronted, ← c.self.view_is, same, space) refl,
+      c.refill.ensures.refilled ∙ rw (← c.bring_to_front.ensures.fronted, ← c.self.view_is, same, space, sends) refl,
     )

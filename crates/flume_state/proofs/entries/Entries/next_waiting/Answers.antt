@@ -1,8 +1,7 @@
-use Rattle.std.proofs.Common.{◌≡◌, Some, None, ap, ap₂, sym, ◌∙◌, option_map}
-use Rattle.std.specs.Option.{unwrap_or}
+use Rattle.std.proofs.Common.{◌≡◌, Some, None, ap, ap₂, sym, ◌∙◌, option_map, unwrap_or}
 use Rattle.flume_state.specs.layout.EntryLayout.{first_waiting}
 use Rattle.flume_state.specs.layout.Ticketed.{ticket_in}
-use Rattle.flume_state.proofs.EntryParts.{read_some, read_value}
+use Rattle.flume_state.proofs.EntryParts.{read_value}
 use Rattle.flume_state.proofs.EntryDues.{nobody_waits, waits_at, waits_first}
 use Rattle.flume_state.proofs.entries.Entries.next_waiting.Goals as goal
 
@@ -17,11 +16,6 @@ returns-in_err-ticket g c =
     let w = waits_at _ _ _ _ _ c.self.invariant c.in_ok-place.was in
     let none : None ≡ Some (unwrap_or w.element.label 0) = c.in_err-ticket.ensures.ticket ∙ ap ticket_in w.here ∙ w.class.0 in
     absurd cc
-
-pub returns-in_err-parked : goal.returns-in_err-parked
-returns-in_err-parked g c =
-    let w = waits_at _ _ _ _ _ c.self.invariant c.in_ok-place.was in
-    absurd (read_some _ _ w.here c.in_err-parked.ensures.found)
 
 pub returns : goal.returns
 returns g c =

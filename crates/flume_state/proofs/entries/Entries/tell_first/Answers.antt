@@ -1,6 +1,4 @@
-use Rattle.std.proofs.Common.{◌≡◌, None, Some, ap, not, sym, ◌∙◌, subst}
-use Rattle.std.specs.Option.{unwrap_or}
-use Rattle.flume_state.specs.layout.EntryLayout.{}
+use Rattle.std.proofs.Common.{◌≡◌, None, Some, ap, not, sym, ◌∙◌, subst, unwrap_or}
 use Rattle.flume_state.specs.Receivers.{NoDueReceiver}
 use Rattle.flume_state.specs.layout.Ticketed.{ticket_in}
 use Rattle.flume_state.proofs.EntryParts.{read_value}

@@ -1,11 +1,8 @@
-use Rattle.std.proofs.Common.{◌≡◌, ap, arith, refl, sym, ◌∙◌}
+use Rattle.std.proofs.Common.{◌≡◌, ap, arith, sym, ◌∙◌}
 use Rattle.flume_model.specs.Entries.{all_woken, waiting_count}
 use Rattle.flume_state.specs.Notices.{due_now}
 use Rattle.flume_state.proofs.EntryRounds.{all_idle, all_on, fewer_of}
 use Rattle.flume_state.proofs.entries.Entries.wake_all.Goals as goal
-
-pub loop-self-init : goal.loop-self-init
-loop-self-init g c = refl
 
 pub loop-self-smaller : goal.loop-self-smaller
 loop-self-smaller g c =

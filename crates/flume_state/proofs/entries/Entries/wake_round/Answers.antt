@@ -1,7 +1,7 @@
 use Rattle.std.proofs.Common.{Some, ap, sym, ◌∙◌}
 use Rattle.flume_state.specs.Notices.{due_now}
 use Rattle.flume_state.proofs.EntryRounds.{fewer_wait}
-use Rattle.flume_state.proofs.EntryWakes.{not_empty, wakes_first, wakes_stream, woke_block, woke_over, woke_plain}
+use Rattle.flume_state.proofs.EntryWakes.{wakes_first, wakes_stream, woke_block, woke_over, woke_plain}
 use Rattle.flume_state.proofs.entries.Entries.wake_round.Goals as goal
 
 pub loop-ticket-init : goal.loop-ticket-init
@@ -15,10 +15,6 @@ pub loop-ticket-preserved : goal.loop-ticket-preserved
 loop-ticket-preserved g c =
     wakes_stream due_now _ _ _ _ _ c.in-Some.ticket c.loop-ticket.invariant
     (sym c.next_waiting.ensures.first ∙ c.in-Some.is ∙ ap (λ k. Some (c.in-Some.ticket, k)) c.in-Stream.is) c.wake_next.ensures.woken
-
-pub returns-in_err-front-in-Block : goal.returns-in_err-front-in-Block
-returns-in_err-front-in-Block g c =
-    absurd (not_empty due_now _ _ _ _ c.loop-ticket.invariant (c.in_err-front-in-Block.ensures.none_queued))
 
 pub returns-in-Block : goal.returns-in-Block
 returns-in-Block g c =

@@ -1,6 +1,5 @@
-use Rattle.std.proofs.Common.{◌≡◌, ap, ◌∙◌}
+use Rattle.std.proofs.Common.{◌≡◌, ap, ◌∙◌, nat_cmp}
 use Rattle.std.specs.FinMap.{get, insert, get-empty}
-use Rattle.std.specs.Ordering.{nat_cmp}
 use Rattle.flume_state.proofs.PlaceLemmas.{IsAway, away_none, away_some, insert_apart, insert_ok, insert_absent, here_absent, here_insert, none_view}
 use Rattle.flume_state.proofs.places.Places.insert.Given.{Over}
 use Rattle.flume_state.proofs.places.Places.insert.Goals as goal

@@ -1,25 +1,43 @@
-use Rattle.std.proofs.Common.{refl}
+use Rattle.std.proofs.Common.{refl, sym, ap, ◌∙◌}
+use Rattle.flume_state.specs.layout.Pairing.{sends_in}
+use Rattle.flume_state.specs.layout.SendLayout.{by_ticket}
 use Rattle.flume_state.specs.Sends.{blocked}
-use Rattle.flume_state.proofs.SendSteps.{block_absent, block_kept, block_view}
+use Rattle.flume_state.proofs.SendLines.{put_lined}
+use Rattle.flume_state.proofs.SendSteps.{get_none, put_view}
+use Rattle.flume_state.proofs.Links.{put_sends, place_sends, apart_sends, link_put}
 use Rattle.flume_state.proofs.sends.Sends.block.Goals.{in-Ok, in-Err}
 use Rattle.flume_state.proofs.sends.Sends.block.Goals as goal
 
 pub invariant_of-self : goal.invariant_of-self
 invariant_of-self g c =
-    block_kept c.self.inside.chain _ _ c.args.ticket (blocked c.args.signal) _ refl c.self.invariant
-    c.facts.ensures.apart c.insert_ticket.ensures.inserted c.insert_ticket.ensures.unchanged
+    let items = c.self.inside.chain.items in
+    elim c.match-insert_ticket.branch [
+      | in-Ok w ↦ rw w.in-Ok.ensures.inserted (rw (put_sends items c.self.inside.due _)
+          (put_lined (sends_in items) _ _ c.args.ticket (blocked c.args.signal) refl c.self.invariant (apart_sends items c.facts.ensures.apart)))
+      | in-Err w ↦ rw w.in-Err.ensures.unchanged c.self.invariant
+    ]
 
-pub returns-clause-ok : goal.returns-clause-ok
-returns-clause-ok g c = elim c.match-insert_ticket.branch [
-  | in-Ok w ↦ rw w.result-is
-      (block_view c.self.inside.chain c.insert_ticket.new.self _ _ _ _ (blocked c.args.signal) _ c.self.view_is c.self.invariant
-      c.facts.ensures.apart c.insert_ticket.ensures.inserted c.insert_ticket.ensures.new_ticket w.in-Ok.is)
+pub returns-clause-live : goal.returns-clause-live
+returns-clause-live g c =
+    let items = c.self.inside.chain.items in
+    elim c.match-insert_ticket.branch [
+      | in-Ok w ↦ rw w.result-is (rw (sym c.self.view_is)
+          (ap by_ticket (ap sends_in w.in-Ok.ensures.inserted ∙ put_sends items c.self.inside.due _)
+          ∙ put_view (sends_in items) _ c.args.ticket _ (blocked c.args.signal) c.self.invariant (apart_sends items c.facts.ensures.apart)
+          (place_sends c.args.ticket items ∙ w.in-Ok.ensures.new_ticket)))
+      | in-Err w ↦ rw w.result-is tt
+    ]
+
+pub returns-clause-link : goal.returns-clause-link
+returns-clause-link g c = elim c.match-insert_ticket.branch [
+  | in-Ok w ↦ rw w.result-is (rw (sym c.self.view_is) (rw w.in-Ok.ensures.inserted
+      (link_put c.self.inside.chain.items c.self.inside.due _ c.args.ticket _ w.in-Ok.ensures.fresh)))
   | in-Err w ↦ rw w.result-is tt
 ]
 
 pub returns-clause-absent : goal.returns-clause-absent
 returns-clause-absent g c = elim c.match-insert_ticket.branch [
-  | in-Ok w ↦ rw w.result-is
-      (block_absent c.self.inside.chain.items _ c.args.ticket _ _ c.self.view_is c.insert_ticket.ensures.new_ticket w.in-Ok.is)
+  | in-Ok w ↦ rw w.result-is (rw (sym c.self.view_is)
+      (get_none (sends_in c.self.inside.chain.items) c.args.ticket (place_sends c.args.ticket c.self.inside.chain.items ∙ w.in-Ok.ensures.new_ticket)))
   | in-Err w ↦ rw w.result-is tt
 ]

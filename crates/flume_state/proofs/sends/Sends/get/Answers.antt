@@ -1,21 +1,23 @@
-use Rattle.std.proofs.Common.{sym, ap, ◌∙◌}
-use Rattle.std.specs.FinMap.{get}
-use Rattle.std.specs.Option.{option_copied}
-use Rattle.flume_state.proofs.SendSteps.{get_is, get_none}
+use Rattle.std.proofs.Common.{sym, ap, ◌∙◌, option_copied}
+use Rattle.flume_state.specs.layout.Pairing.{sends_in}
+use Rattle.flume_state.proofs.ByTicket.{found_somewhere, stands_value}
+use Rattle.flume_state.proofs.SendSteps.{get_none}
+use Rattle.flume_state.proofs.Links.{place_sends, seat_at}
 use Rattle.flume_state.proofs.sends.Sends.get.Goals as goal
 
 pub returns-in_err-place : goal.returns-in_err-place
 returns-in_err-place g c = record {
-  value =
-      ap option_copied c.from_residual.ensures
-      ∙ sym (ap (λ m. get m c.args.ticket) (sym c.self.view_is)
-      ∙ get_none c.self.inside.chain.items c.args.ticket (sym c.find.ensures.place ∙ c.in_err-place.was));
+  value = rw (sym c.self.view_is) (ap option_copied c.from_residual.ensures
+      ∙ sym (get_none (sends_in c.self.inside.chain.items) c.args.ticket (place_sends c.args.ticket c.self.inside.chain.items ∙ sym c.find.ensures.place ∙ c.in_err-place.was)));
 }
+
+pub returns-in_err-get : goal.returns-in_err-get
+returns-in_err-get g c =
+    absurd (found_somewhere c.args.ticket c.in_ok-place.place _ c.facts.ensures.apart (sym c.find.ensures.place ∙ c.in_ok-place.was) c.in_err-get.ensures.found)
 
 pub returns : goal.returns
 returns g c = record {
-  value =
-      c.get.ensures.found
-      ∙ get_is _ c.args.ticket c.in_ok-place.place (sym c.find.ensures.place ∙ c.in_ok-place.was) c.facts.ensures.apart c.facts.ensures.single
-      ∙ ap (λ m. get m c.args.ticket) c.self.view_is;
+  value = rw (sym c.self.view_is) (sym (stands_value c.args.ticket _ _ _
+      (seat_at _ c.in_ok-place.place c.args.ticket _ c.facts.ensures.apart c.facts.ensures.single
+      (sym c.find.ensures.place ∙ c.in_ok-place.was) c.in_ok-get.ensures.found).stands));
 }

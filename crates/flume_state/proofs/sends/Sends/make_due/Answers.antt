@@ -1,39 +1,40 @@
-use Rattle.std.proofs.Common.{refl, sym, ◌∙◌}
-use Rattle.flume_state.specs.layout.SendLayout.{due_accepting}
-use Rattle.flume_state.proofs.ByTicket.{found_somewhere, stands}
-use Rattle.flume_state.proofs.SendSteps.{none_changed, written_kept, written_view, moved_kept, moved_view}
+use Rattle.std.proofs.Common.{refl, sym, ap, ◌∙◌}
+use Rattle.flume_state.specs.layout.SendLayout.{by_ticket, due_accepting}
+use Rattle.flume_state.specs.layout.Pairing.{sends_in, accepting}
+use Rattle.flume_state.proofs.SendSteps.{written_kept, moved_kept, moved_view}
+use Rattle.flume_state.proofs.Links.{seat, moved, written_sends, live_written, link_written}
 use Rattle.flume_state.proofs.sends.Sends.make_due.Goals as goal
-
-pub returns-in_default : goal.returns-in_default
-returns-in_default g c = record {
-  due = none_changed c.self.inside.chain.items _ _ _ c.self.view_is (sym c.find.ensures.place ∙ c.in_default.is);
-}
-
-pub returns-in_default-get_mut : goal.returns-in_default-get_mut
-returns-in_default-get_mut g c =
-    absurd (found_somewhere c.args.ticket c.in-Some.place _ (sym c.find.ensures.place ∙ c.in-Some.is) c.in_default-get_mut.ensures.value)
 
 pub invariant_of-self-then-not-was_due : goal.invariant_of-self-then-not-was_due
 invariant_of-self-then-not-was_due g c =
-    let s = stands _ _ _ _ (sym c.find.ensures.place ∙ c.in-Some.is) c.facts.ensures.apart c.facts.ensures.single c.in-Some-get_mut.ensures.value in
-    rw c.or-self-inside.ensures
-    (moved_kept c.self.inside.chain.items _ _ c.args.ticket _ _ (due_accepting c.args.accepts c.in-Some-get_mut.send.now) _
-    c.if-not-was_due.true refl s c.move_back.ensures.stood c.move_back.ensures.moved c.self.invariant)
+    let items = c.self.inside.chain.items in
+    let s = seat items c.args.place _ _ c.self.invariant c.facts.ensures.apart c.facts.ensures.single c.in-Some.ensures.value in
+    let m = moved items _ c.args.place s.0 _ _ _ c.facts.ensures.apart s.1 c.move_back.ensures.stood c.move_back.ensures.moved in
+    rw (c.or-self-inside.ensures, m.sends)
+    (moved_kept (sends_in items) _ _ _ _ (due_accepting c.args.accepts c.in-Some.owner.now.send) c.if-not-was_due.true refl s.1.stands c.self.invariant)
 
 pub returns-then-not-was_due : goal.returns-then-not-was_due
 returns-then-not-was_due g c =
-    let s = stands _ _ _ _ (sym c.find.ensures.place ∙ c.in-Some.is) c.facts.ensures.apart c.facts.ensures.single c.in-Some-get_mut.ensures.value in
-    record {
-      due = moved_view c.self.inside.chain.items _ _ _ _ _ (due_accepting c.args.accepts) _ c.self.view_is s
-          c.move_back.ensures.stood c.move_back.ensures.moved;
-    }
+    let items = c.self.inside.chain.items in
+    let s = seat items c.args.place _ _ c.self.invariant c.facts.ensures.apart c.facts.ensures.single c.in-Some.ensures.value in
+    let m = moved items _ c.args.place s.0 _ _ _ c.facts.ensures.apart s.1 c.move_back.ensures.stood c.move_back.ensures.moved in
+    rw (sym c.self.view_is) (record {
+      live = rw s.1.is (ap by_ticket m.sends ∙ moved_view (sends_in items) _ _ _ (due_accepting c.args.accepts) s.1.stands);
+      link = λ k. m.links k ∙ link_written items _ _ (accepting c.args.accepts) _ _ refl s.1.is k;
+    })
 
 pub invariant_of-self-else-not-was_due : goal.invariant_of-self-else-not-was_due
 invariant_of-self-else-not-was_due g c =
-    let s = stands _ _ _ _ (sym c.find.ensures.place ∙ c.in-Some.is) c.facts.ensures.apart c.facts.ensures.single c.in-Some-get_mut.ensures.value in
-    written_kept c.self.inside.chain.items _ _ _ _ _ (sym c.if-not-was_due.false) s c.self.invariant
+    let items = c.self.inside.chain.items in
+    let s = seat items c.args.place _ _ c.self.invariant c.facts.ensures.apart c.facts.ensures.single c.in-Some.ensures.value in
+    rw (written_sends items c.args.place _)
+    (written_kept (sends_in items) _ _ _ _ _ (sym c.if-not-was_due.false) s.1.stands c.self.invariant)
 
 pub returns-else-not-was_due : goal.returns-else-not-was_due
 returns-else-not-was_due g c =
-    let s = stands _ _ _ _ (sym c.find.ensures.place ∙ c.in-Some.is) c.facts.ensures.apart c.facts.ensures.single c.in-Some-get_mut.ensures.value in
-    record { due = written_view c.self.inside.chain.items _ _ _ _ (due_accepting c.args.accepts) c.self.view_is s }
+    let items = c.self.inside.chain.items in
+    let s = seat items c.args.place _ _ c.self.invariant c.facts.ensures.apart c.facts.ensures.single c.in-Some.ensures.value in
+    rw (sym c.self.view_is) (record {
+      live = rw s.1.is (live_written items _ _ c.in-Some.owner.now _ (due_accepting c.args.accepts) refl s.1.stands);
+      link = link_written items _ _ (accepting c.args.accepts) _ _ refl s.1.is;
+    })

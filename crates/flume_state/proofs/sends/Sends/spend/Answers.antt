@@ -1,12 +1,11 @@
-use Rattle.std.proofs.Common.{◌≡◌, sym, ap, ◌∙◌}
-use Rattle.flume_state.proofs.SendSteps.{none_removed, taken_is, taken_view, spent_first, spent_other, same_place, other_place}
+use Rattle.std.proofs.Common.{◌≡◌, sym, ap, subst, ◌∙◌}
+use Rattle.flume_chain.specs.Chained.{without}
+use Rattle.flume_state.specs.layout.SendLayout.{SendLayout}
+use Rattle.flume_state.specs.layout.Pairing.{sends_in}
+use Rattle.flume_state.proofs.SendSteps.{spent_kept, bounded_same, bounded_other}
+use Rattle.flume_state.proofs.Links.{taken_out, without_sends, after_sends, apart_sends, spent}
 use Rattle.flume_state.proofs.sends.Sends.spend.Goals as goal
 use Rattle.flume_state.proofs.sends.Sends.spend.Goals.{then-eq, else-eq}
-
-pub returns-in_default : goal.returns-in_default
-returns-in_default g c = record {
-  spent = none_removed c.self.inside.chain.items _ _ c.self.view_is (sym c.find.ensures.place ∙ c.in_default.is);
-}
 
 pub invariant_of-self : goal.invariant_of-self
 invariant_of-self g c =
@@ -16,24 +15,26 @@ invariant_of-self g c =
       | else-eq w ↦ ap (λ i. i.chain) w.self-inside-is
     ] in
     let e = rw same at c.remove.ensures in
-    let taken = taken_is items _ c.args.ticket c.in-Some.place _ (sym c.find.ensures.place ∙ c.in-Some.is) e.found e.taken in
+    let taken = ap sends_in (taken_out c.self.inside.chain _ c.args.place _ e.found e.taken e.unchanged) ∙ without_sends items c.args.place in
+    let kept = SendLayout (without (sends_in items) c.args.place) in
+    let left = spent_kept (sends_in items) c.self.inside.due c.args.place (apart_sends items c.facts.ensures.apart) c.self.invariant in
     elim c.if-eq.branch [
       | then-eq w ↦
-          rw (taken, w.self-inside-is, w.next-self-inside.ensures.next)
-          (spent_first items _ c.in-Some.place (same_place _ _ (sym c.eq.ensures ∙ w.if-eq.true)) c.facts.ensures.apart c.self.invariant)
+          rw (taken, w.self-inside-is, w.next-self-inside.ensures.next, sym (after_sends items c.args.place))
+          (subst kept (bounded_same c.self.inside.due c.args.place _ (sym c.eq.ensures ∙ w.if-eq.true)) left)
       | else-eq w ↦
           rw (taken, w.self-inside-is)
-          (spent_other items _ c.in-Some.place (other_place _ _ (sym c.eq.ensures ∙ w.if-eq.false)) c.self.invariant)
+          (subst kept (bounded_other c.self.inside.due c.args.place _ (sym c.eq.ensures ∙ w.if-eq.false)) left)
     ]
 
 pub returns : goal.returns
 returns g c =
+    let items = c.self.inside.chain.items in
     let same : c.if-eq.self-inside.chain ≡ c.self.inside.chain = elim c.if-eq.branch [
       | then-eq w ↦ ap (λ i. i.chain) w.self-inside-is
       | else-eq w ↦ ap (λ i. i.chain) w.self-inside-is
     ] in
     let e = rw same at c.remove.ensures in
-    record {
-      spent = taken_view c.self.inside.chain.items _ _ _ c.in-Some.place _ c.self.view_is (sym c.find.ensures.place ∙ c.in-Some.is)
-          c.facts.ensures.apart c.facts.ensures.single e.found e.taken;
-    }
+    let taken = taken_out c.self.inside.chain _ c.args.place _ e.found e.taken e.unchanged in
+    let s = spent items _ c.args.place _ c.self.invariant c.facts.ensures.apart c.facts.ensures.single taken in
+    rw (sym c.self.view_is) (record { live = s.live; link = s.link; none = s.none })

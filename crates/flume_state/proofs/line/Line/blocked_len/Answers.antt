@@ -1,5 +1,0 @@
-use Rattle.flume_state.proofs.LineLemmas.{counts}
-use Rattle.flume_state.proofs.line.Line.blocked_len.Goals as goal
-
-pub returns : goal.returns
-returns g c = record { len = (counts _ _ _ _ _ c.self.invariant c.self.view_is).1 }

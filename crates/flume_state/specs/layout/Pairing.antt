@@ -1,0 +1,95 @@
+-- For this crate alone: each blocked message and its send, which name each other's places.
+use Rattle.std.specs.Prelude.{◌≡◌, ◌==◌, ℕ, Bool, false, ◌||◌, List, [], ◌∷◌, map}
+use Rattle.std.specs.Prelude.{Option, Some, None, if◌then◌else◌}
+use Rattle.std.specs.List.{All}
+use Rattle.std.specs.Option.{option_map}
+use Rattle.flume_chain.specs.Chained.{Placed, found}
+use Rattle.flume_state.specs.declared.sends.Owner.{Owner}
+use Rattle.flume_state.specs.layout.Ticketed.{Ticketed}
+use Rattle.flume_state.specs.layout.SendLayout.{Element, by_ticket}
+use Rattle.flume_state.specs.layout.MessageLayout.{BlockedAt}
+use Rattle.flume_state.specs.Messages.{Blocked}
+use Rattle.flume_state.specs.Sends.{SendMap}
+
+-- the sends of a channel in the order of their chain, each with the place of its message
+abbrev pub SendList : Type 0 → Type 0
+SendList S = List (Placed (Ticketed (Owner S)))
+
+-- what of a send its message is tied to: the ticket, the message's place, and whether the message
+-- was accepted
+pub record Link : Type 0 where
+  pub ticket : ℕ
+  pub message : ℕ
+  pub accepted : Bool
+
+-- the link of a send whose message has another place
+abbrev pub at_message : ℕ → Link → Link
+at_message message l = record l { message = message }
+
+-- the link of a send whose message is accepted from now on, where this is true
+abbrev pub accepting : Bool → Link → Link
+accepting accepts l = record l { accepted = accepts || l.accepted }
+
+-- the ticket in a link, or 0 where there is none
+abbrev pub ticket_or_zero : Option Link → ℕ
+ticket_or_zero None = 0
+ticket_or_zero (Some l) = l.ticket
+
+module _ {S : Type 0} where
+  -- a send without the place of its message
+  abbrev pub send_in : Placed (Ticketed (Owner S)) → Element S
+  send_in x = record {
+    place = x.place;
+    element = record { label = x.element.label; value = x.element.value.send };
+  }
+
+  -- the sends without the places of their messages
+  abbrev pub sends_in : SendList S → List (Element S)
+  sends_in items = map send_in items
+
+  -- the live sends, by ticket
+  abbrev pub live_sends : SendList S → SendMap S
+  live_sends items = by_ticket (sends_in items)
+
+  -- the link of a send that may be there
+  abbrev pub link_in : Option (Ticketed (Owner S)) → Option Link
+  link_in None = None
+  link_in (Some e) = option_map (λ ticket. record {
+    ticket = ticket;
+    message = e.value.message;
+    accepted = e.value.send.accepted;
+  }) e.label
+
+  -- the link of the send at a place
+  abbrev pub link_at : SendList S → ℕ → Option Link
+  link_at items k = link_in (found items k)
+
+-- the owner of the first of these blocked messages that has this place
+abbrev pub owner_at : {T : Type 0} → List (BlockedAt T) → ℕ → Option ℕ
+owner_at [] k = None
+owner_at (b ∷ blocked) k = if b.place == k then Some b.owner else owner_at blocked k
+
+module _ {T S : Type 0} where
+  -- a blocked message under the ticket of its send
+  abbrev pub under_ticket : SendList S → BlockedAt T → Blocked T
+  under_ticket sends b = record {
+    ticket = ticket_or_zero (link_at sends b.owner);
+    message = b.message;
+  }
+
+  -- blocked messages, each under the ticket of its send
+  abbrev pub named : SendList S → List (BlockedAt T) → List (Blocked T)
+  named sends blocked = map (under_ticket sends) blocked
+
+  -- the owner of a blocked message is a live send that isn't accepted and names its place
+  pub record HasLink (sends : SendList S) (b : BlockedAt T) : Type 0 where
+    pub ticket : ℕ
+    pub is : link_at sends b.owner
+        ≡ Some (record { ticket = ticket; message = b.place; accepted = false })
+
+  -- each blocked message has a send that isn't accepted, and each such send a blocked message; and
+  -- they name each other's places
+  pub record Paired (blocked : List (BlockedAt T)) (sends : SendList S) : Type 0 where
+    pub held : All (HasLink sends) blocked
+    pub owns : (k : ℕ) (l : Link) → link_at sends k ≡ Some l → l.accepted ≡ false
+        → owner_at blocked l.message ≡ Some k

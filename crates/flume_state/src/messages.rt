@@ -1,0 +1,274 @@
+//! The messages of a channel in their order, each blocked one with the place of its send.
+ghost use Rattle.std.specs.Prelude.{◌≡◌, ◌≢◌, ◌<◌, ◌≤◌, ◌+◌, ℕ, [], ◌∷◌, ◌++◌, length, Some, None};
+ghost use Rattle.std.specs.Prelude.{IfNone, IfSome, IfOk, IfErr, OnOk, OnErr, IsOk, map};
+ghost use Rattle.std.specs.List.{All};
+ghost use Rattle.std.specs.Option.{option_and_then};
+ghost use Rattle.flume_chain.specs.Chained.{found, place_after, places, times};
+ghost use Rattle.flume_state.specs.layout.MessageLayout.{AdmitsOwner, TakesOut, message_count};
+ghost use Rattle.flume_state.specs.layout.Pairing.{HasLink, link_at, live_sends, named};
+ghost use Rattle.flume_state.specs.Effects.{with_all_due};
+
+use crate::maybe_place::MaybePlace;
+use crate::sends::Sends;
+use crate::ticketed::push;
+use flume_chain::chain::Chain;
+use flume_chain::labelled::Labelled;
+use std::alloc::{AllocError, Allocator};
+use std::marker::Model;
+
+/// Messages in order: the queued ones, and behind them the blocked ones. Of each blocked one it
+/// keeps the owner, which is the place of its send.
+#[derive(Drop)]
+pub struct MessageChain<T, A: Allocator> {
+    // A blocked one that joins the queue stays where it is, so letting it in takes no memory and
+    // looks at no other message.
+    chain: Chain<MaybePlace, T, A>,
+    // The place of the first blocked one.
+    blocked: Option<u32>,
+    // How many are blocked.
+    blocked_len: usize,
+}
+
+impl<T, A: Allocator> Model for MessageChain<T, A> {
+    ghost use Rattle.flume_state.specs.layout.MessageLayout.{MessageList, messages_of, space_of};
+    ghost use Rattle.flume_state.specs.layout.MessageLayout.{MessageLayout};
+
+    ghost Value = { MessageList T };
+
+    ghost view = { λ s. messages_of s.chain.items (space_of s.chain) };
+
+    ghost invariant = { λ s. MessageLayout s.chain.items s.blocked s.blocked_len };
+}
+
+// The place of the first blocked one, once that at a place has left.
+fn first_without<T: Drop, A: Allocator>(
+    chain: &Chain<MaybePlace, T, A>,
+    first: Option<u32>,
+    place: u32,
+) -> Option<u32>
+    ensures next { first ≡ Some place → result ≡ place_after chain.now.items place }
+    ensures same { first ≢ Some place → result ≡ first }
+{
+    if first == Some(place) {
+        return chain.next(place);
+    }
+    first
+}
+
+// No two messages have the same place. Does nothing.
+#[inline(always)]
+fn chain_facts<T: Drop, A: Allocator>(chain: &Chain<MaybePlace, T, A>)
+    ensures apart { (k : ℕ) → times k (places chain.now.items) ≤ 1 }
+{
+    let _ = chain.get(0);
+}
+
+// The owner of the message at a place. `None` where none stands there, or it is queued.
+#[inline(always)]
+fn owner_at<T: Drop, A: Allocator>(chain: &Chain<MaybePlace, T, A>, place: u32) -> Option<u32>
+    ensures owner { result ≡ option_and_then (λ e. e.label) (found chain.now.items place) }
+{
+    chain.label(place)?.get()
+}
+
+impl<T: Drop, A: Allocator + Copy> MessageChain<T, A> {
+    /// No messages. Takes no memory.
+    ///
+    /// ```
+    /// let mut messages = MessageChain::new(alloc);
+    /// let _ = messages.push_queued(7);     // Ok(())
+    /// let _ = messages.push_blocked(3, 8); // Ok(1): its place
+    /// messages.take_queued();              // Some(7)
+    /// messages.take_queued();              // None: 8 is blocked
+    /// messages.admit();                    // Some(3)
+    /// ```
+    #[inline(always)]
+    pub fn new(alloc: A) -> Self
+        ensures empty { result ≡ record { queued = []; blocked = []; space = 0 } }
+    {
+        MessageChain {
+            chain: Chain::new(alloc),
+            blocked: None,
+            blocked_len: 0,
+        }
+    }
+
+    /// What holds of all: no two blocked ones have the same place. Does nothing.
+    #[inline(always)]
+    pub fn facts(&self)
+        ensures apart { (k : ℕ) → times k (map (λ b. b.place) self.now.blocked) ≤ 1 }
+    {
+        chain_facts(&self.chain);
+    }
+
+    /// How many messages are queued. It reads counts, whatever the length.
+    #[inline(always)]
+    pub fn queued_len(&self) -> usize
+        ensures len { result ≡ length self.now.queued }
+    {
+        self.chain.len() - self.blocked_len
+    }
+
+    /// How many messages are blocked. It reads a count, whatever the length.
+    #[inline(always)]
+    pub fn blocked_len(&self) -> usize
+        ensures len { result ≡ length self.now.blocked }
+    {
+        self.blocked_len
+    }
+
+    /// How many more messages may stand before more memory is needed for one.
+    #[inline(always)]
+    pub fn room(&self) -> usize
+        ensures room { result + message_count self.now ≡ self.now.space }
+    {
+        self.chain.room()
+    }
+
+    /// Queues a message behind the other queued ones, and before the blocked ones. With no memory
+    /// left, the message comes back, and nothing changes. While there is room, it isn't refused.
+    #[inline(always)]
+    pub fn push_queued(&mut self, message: T) -> Result<(), T>
+        ensures pushed { OnOk result (self.new ≡ record self.old {
+          queued = self.old.queued ++ message ∷ [];
+          space = self.new.space;
+        }) }
+        ensures space { self.old.space ≤ self.new.space }
+        ensures succeeds { message_count self.old < self.old.space → IsOk result }
+        ensures returned { IfErr result (λ back. back ≡ message) }
+        ensures unchanged { OnErr result (self.new ≡ self.old) }
+    {
+        chain_facts(&self.chain);
+        let label = MaybePlace::none();
+        let element = Labelled {
+            label,
+            value: message,
+        };
+        if let Err(back) = push(&mut self.chain, self.blocked, element) {
+            return Err(back.value);
+        }
+        Ok(())
+    }
+
+    /// Puts a message behind all others, as one that is blocked and has this owner, and returns
+    /// its own place, which no other has. With no memory left, or the greatest number as owner,
+    /// which is no place, the message comes back, and nothing changes.
+    pub fn push_blocked(&mut self, owner: u32, message: T) -> Result<u32, T>
+        ensures pushed { IfOk result (λ place. self.new ≡ record self.old {
+          blocked = self.old.blocked
+              ++ record { place = place; owner = owner; message = message } ∷ [];
+          space = self.new.space;
+        }) }
+        ensures fresh { IfOk result (λ place. All (λ b. b.place ≢ place) self.old.blocked) }
+        ensures space { self.old.space ≤ self.new.space }
+        ensures returned { IfErr result (λ back. back ≡ message) }
+        ensures unchanged { OnErr result (self.new ≡ self.old) }
+    {
+        chain_facts(&self.chain);
+        let Some(label) = MaybePlace::of(owner) else {
+            return Err(message);
+        };
+        let queued = self.queued_len();
+        let element = Labelled {
+            label,
+            value: message,
+        };
+        match self.chain.push_back(element) {
+            Ok(place) => {
+                self.blocked = self.blocked.or(Some(place));
+                self.blocked_len = self.chain.len() - queued;
+                Ok(place)
+            }
+            Err(back) => Err(back.value),
+        }
+    }
+
+    /// Lets the first blocked message into the queue, behind all queued ones, and returns its
+    /// owner. `None` where no message is blocked, and then nothing changes. Takes no memory.
+    #[inline(always)]
+    pub fn admit(&mut self) -> Option<u32>
+        ensures admitted { IfSome result (λ owner. AdmitsOwner self.old self.new owner) }
+        ensures none_blocked { IfNone result (self.old.blocked ≡ []) }
+        ensures unchanged { IfNone result (self.new ≡ self.old) }
+    {
+        chain_facts(&self.chain);
+        let place = self.blocked?;
+        let owner = owner_at(&self.chain, place)?;
+        self.chain.set_label(place, MaybePlace::none());
+        self.blocked = self.chain.next(place);
+        self.blocked_len -= 1;
+        Some(owner)
+    }
+
+    /// Takes the message at the front of the queue. `None` where none is queued, though some may be
+    /// blocked, and then nothing changes. Takes no memory.
+    #[inline(always)]
+    pub fn take_queued(&mut self) -> Option<T>
+        ensures taken { IfSome result (λ m.
+            self.old ≡ record self.new { queued = m ∷ self.new.queued }) }
+        ensures none_queued { IfNone result (self.old.queued ≡ []) }
+        ensures unchanged { IfNone result (self.new ≡ self.old) }
+    {
+        if self.queued_len() == 0 {
+            return None;
+        }
+        Some(self.chain.pop_front()?.value)
+    }
+
+    /// Takes all queued messages, the front first, and leaves the blocked ones. With no memory left
+    /// for their list, nothing changes. It never fails where none is queued.
+    pub fn drain_queued(&mut self) -> Result<Vec<T, A>, AllocError>
+        ensures drained { IfOk result (λ list. list.items ≡ self.old.queued) }
+        ensures becomes { OnOk result (self.new ≡ record self.old { queued = [] }) }
+        ensures none_queued { OnErr result (self.old.queued ≢ []) }
+        ensures unchanged { OnErr result (self.new ≡ self.old) }
+    {
+        let mut list = Vec::with_capacity(*self.chain.allocator(), self.queued_len())?;
+        while let Some(message) = self.take_queued() {
+            list.push_reserved(message);
+        }
+        Ok(list)
+    }
+
+    /// Marks the send of each blocked message due, the first one's first. Takes no memory.
+    pub fn mark_blocked<S: Drop>(&self, sends: &mut Sends<S, A>)
+        requires owned { All (HasLink sends.old) self.now.blocked }
+        ensures marked { live_sends sends.new
+            ≡ with_all_due (named sends.old self.now.blocked) (live_sends sends.old) }
+        ensures links { (k : ℕ) → link_at sends.new k ≡ link_at sends.old k }
+    {
+        chain_facts(&self.chain);
+        let mut next = self.blocked;
+        while let Some(place) = next {
+            if let Some(owner) = owner_at(&self.chain, place) {
+                sends.mark_due(owner);
+            }
+            next = self.chain.next(place);
+        }
+    }
+
+    /// Takes out the blocked message at a place. The others keep their order. `None` where no
+    /// blocked one stands there, and then nothing changes. Takes no memory.
+    pub fn withdraw(&mut self, place: u32) -> Option<T>
+        ensures taken { IfSome result (λ m. TakesOut self.old self.new place m) }
+        ensures absent { IfNone result (All (λ b. b.place ≢ place) self.old.blocked) }
+        ensures unchanged { IfNone result (self.new ≡ self.old) }
+    {
+        chain_facts(&self.chain);
+        owner_at(&self.chain, place)?;
+        let first = first_without(&self.chain, self.blocked, place);
+        let element = self.chain.remove(place)?;
+        self.blocked = first;
+        self.blocked_len -= 1;
+        Some(element.value)
+    }
+
+    /// Drops every message, queued and blocked. Takes no memory.
+    pub fn clear(&mut self)
+        ensures empty { self.new ≡ record self.old { queued = []; blocked = [] } }
+    {
+        self.chain.clear();
+        self.blocked = None;
+        self.blocked_len = 0;
+    }
+}
