@@ -6,20 +6,15 @@ use Rattle.flume_model.specs.declared.step.Reply.{Reply}
 use Rattle.flume_core.specs.declared.error.RecvError.{RecvError}
 use Rattle.flume_core.specs.declared.error.TryRecvError.{TryRecvError}
 use Rattle.flume_core.specs.declared.error.RecvTimeoutError.{RecvTimeoutError}
-use Rattle.flume_core.specs.declared.error.RecvTimeoutError.TheVariants.{Timeout, Disconnected}
+use Rattle.flume_core.specs.declared.error.RecvTimeoutError.TheVariants.{Timeout}
 use Rattle.flume_calls.specs.declared.calls.receive.RecvNext.{RecvNext}
 use Rattle.flume_calls.specs.declared.calls.receive.RecvNext.TheVariants.{Done, NeedSignal, Park, Refused}
 use Rattle.flume_deadline.specs.declared.Deadline.{Deadline}
 use Rattle.flume_deadline.specs.declared.Deadline.TheVariants.{Never}
 use Rattle.flume_calls.specs.ReceiveTurns as turn
 use Rattle.flume_calls.specs.ReceiveGates as gate
-use Rattle.flume_calls.specs.ManyReceives.{Gives, given, with_more, IsWithin, FirstTook, Some, None, NoRoom as FirstNoRoom}
-use Rattle.flume.specs.ManyCalls.{Came, GrowsBy, AnswersMany, Asked, NoRoom}
-
--- a parked call that has ended answers so
-ended_again : (t : ℕ) (late : Bool) → turn.IsAgain {T = ℕ} t late (Done (Err Disconnected))
-ended_again t true = tt
-ended_again t false = tt
+use Rattle.flume_calls.specs.ManyReceives.{Gives, given, with_more, IsWithin, FirstManyTable, Some, None, NoRoom}
+use Rattle.flume.specs.ManyCalls.{Came, GrowsBy, AnswersMany, IsntDone}
 
 module _ {T : Type 0} where
   -- a turn and what was taken behind it leave this of the list
@@ -47,6 +42,7 @@ module _ {T : Type 0} where
   pub from_list : (most : ℕ) (a b after : List T) (next : RecvNext ℕ) → a ≡ b → GrowsBy most a after next → GrowsBy most b after next
   from_list most a b after next e grows = subst (λ b. GrowsBy most b after next) e grows
 
+  -- a turn that gave no message leaves the list as it was
   none_grows : (most : ℕ) (before after : List T) (first : RecvNext T) → turn.IsNone first → after ≡ before → GrowsBy most before after (with_more 0 first)
   none_grows most before after (Done (Ok m)) none same = absurd none
   none_grows most before after (Done (Err e)) none same = same
@@ -56,7 +52,7 @@ module _ {T : Type 0} where
 
   -- what a first receive of many leaves of the list
   pub first_grows : {A : Type 0} {made : List (Step T × Reply T A)} (most : ℕ) (before after : List T) (next : RecvNext ℕ)
-      → FirstTook before made after next → IsWithin most next → GrowsBy most before after next
+      → FirstManyTable before made after next → IsWithin most next → GrowsBy most before after next
   first_grows most before after next (Some count took is) within =
       let within : IsWithin most (Done (Ok count)) = subst (λ n. IsWithin most n) is within in
       subst (λ n. GrowsBy most before after n) (sym is) (record {
@@ -68,7 +64,7 @@ module _ {T : Type 0} where
       })
   first_grows most before after next (None reply first made answered none same is) within =
       subst (λ n. GrowsBy most before after n) (sym is) (none_grows most before after first none same)
-  first_grows most before after next (FirstNoRoom made same is) within = subst (λ n. GrowsBy most before after n) (sym is) same
+  first_grows most before after next (NoRoom made same is) within = subst (λ n. GrowsBy most before after n) (sym is) same
 
   -- what a receive of many with no deadline says of the list
   pub waited_came : (most : ℕ) (before after : List T) (ended : Result ℕ RecvTimeoutError) (result : Result ℕ RecvError)
@@ -84,6 +80,7 @@ module _ {T : Type 0} where
   tried_came most before after next (Ok count) grows is = subst (λ n. GrowsBy most before after n) ((is count).1 refl) grows
   tried_came most before after next (Err e) grows is = tt
 
+  -- a turn that may park answers as one does, with how many came
   parking_more : (n : ℕ) (first : RecvNext T) → turn.IsParking first → turn.IsParking (with_more n first)
   parking_more n (Done (Ok m)) is = tt
   parking_more n (Done (Err e)) is = is
@@ -93,9 +90,9 @@ module _ {T : Type 0} where
 
   -- a turn that may park answers as one does
   pub parks_many : (next : RecvNext ℕ) → AnswersMany {T = T} (λ first. turn.IsParking first) next → turn.IsParking next
-  parks_many next (Asked first more is same) = subst (λ n. turn.IsParking n) (sym same) (parking_more more first is)
-  parks_many next (NoRoom same) = subst (λ n. turn.IsParking n) (sym same) tt
+  parks_many next is = subst (λ n. turn.IsParking n) (sym is.next_is) (parking_more is.more is.first is.answered)
 
+  -- a turn of a parked call answers as one does, with how many came
   again_more : (t : ℕ) (late : Bool) (n : ℕ) (first : RecvNext T) → turn.IsAgain t late first → turn.IsAgain t late (with_more n first)
   again_more t false n (Done (Ok m)) is = tt
   again_more t false n (Done (Err e)) is = is
@@ -108,6 +105,7 @@ module _ {T : Type 0} where
   again_more t true n (Park s) is = is
   again_more t true n (Refused s) is = is
 
+  -- a turn that isn't refused isn't with how many came
   served_more : (n : ℕ) (first : RecvNext T) → turn.IsntRefused first → turn.IsntRefused (with_more n first)
   served_more n (Done (Ok m)) is = tt
   served_more n (Done (Err e)) is = is
@@ -118,9 +116,16 @@ module _ {T : Type 0} where
   -- a turn of a parked call answers as one does
   pub asks_many : (t : ℕ) (late : Bool) (next : RecvNext ℕ) → AnswersMany {T = T} (λ first. turn.IsAgain t late first × turn.IsntRefused first) next
       → turn.IsAgain t late next × turn.IsntRefused next
-  asks_many t late next (Asked first more is same) =
-      subst (λ n. turn.IsAgain t late n × turn.IsntRefused n) (sym same) (again_more t late more first is.0, served_more more first is.1)
-  asks_many t late next (NoRoom same) = subst (λ n. turn.IsAgain t late n × turn.IsntRefused n) (sym same) (ended_again t late, tt)
+  asks_many t late next is = subst (λ n. turn.IsAgain t late n × turn.IsntRefused n) (sym is.next_is)
+      (again_more t late is.more is.first is.answered.0, served_more is.more is.first is.answered.1)
+
+  -- a turn that gave a message ended the call
+  pub none_given : (n : ℕ) (first : RecvNext T) → IsntDone (with_more n first) → given first ≡ []
+  none_given n (Done (Ok m)) is = absurd is
+  none_given n (Done (Err e)) is = absurd is
+  none_given n NeedSignal is = refl
+  none_given n (Park t) is = refl
+  none_given n (Refused t) is = refl
 
   -- what an answer says of the list
   pub came_of : (most : ℕ) (before after : List T) (result : Result ℕ RecvTimeoutError) → GrowsBy most before after (Done result)
@@ -176,6 +181,7 @@ module _ {G T : Type 0} (deadline : G → Deadline) (most : G → ℕ) (items : 
   whole {old} {new} {result} (gate.AtPark f a p) = from _ (most old) _ (items old) (items new) (Done result) (a.1 ∙ f.1) (a.2 ∙ f.3) p.3
   whole {old} {new} {result} (gate.Parked f a p rest) = from _ (most old) _ (items old) (items new) (Done result) (p.1 ∙ a.1 ∙ f.1) (p.3 ∙ a.2 ∙ f.3) (parked rest)
 
+  -- the parked call isn't late where it has no deadline
   parked_in_time : {old new : G} {ticket : ℕ} {result : Result ℕ RecvTimeoutError} → gate.ParkedReceive Agains Waits old ticket new result
       → deadline old ≡ Never → result ≢ Err Timeout
   parked_in_time {ticket = ticket} (gate.Asked a) never late = subst (λ r. turn.IsLater ticket (Done r)) late a.2

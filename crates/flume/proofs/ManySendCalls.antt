@@ -1,19 +1,21 @@
 -- What is left of a list after some of its messages were sent.
-use Rattle.std.proofs.Common.{◌≡◌, List, [], ◌∷◌, ◌++◌, sym, ◌∙◌, ap, append_assoc}
+use Rattle.std.proofs.Common.{◌≡◌, ◌<◌, ◌+◌, List, [], ◌∷◌, ◌++◌, length, Option, Some, None, Result, Ok, Err, refl, sym, ◌∙◌, ap, subst, inl, inr, append_assoc, arith}
+use Rattle.std.proofs.lemmas.List.{append-nil, length-append}
+use Rattle.flume_core.specs.declared.error.SendError.{SendError}
+use Rattle.flume_core.specs.declared.error.SendError.TheVariants.{Disconnected, NoMemory}
 use Rattle.flume_calls.specs.ManySends.{IsRest}
-use Rattle.flume.specs.ManySendCalls.{IsRestAfterWait}
+use Rattle.flume_calls.specs.declared.polled.send.PolledSend.{PolledSend}
+use Rattle.flume_calls.specs.declared.polled.send.PolledSend.TheVariants.{Finished}
+use Rattle.flume.specs.ManySendCalls.{IsRestAfterWait, IsEndOf, LeavesList, PollLeaves}
+use Rattle.flume.proofs.SendPolls.{Answer, back_of}
 
 module _ {T : Type 0} where
-  -- these messages are the last ones of all
-  abbrev pub IsLast : List T → List T → Type 0
-  IsLast all now = (sent : List T) × (all ≡ sent ++ now)
-
   -- the last ones of the last ones are the last ones of all
-  joined : (all sent now : List T) (last : IsLast all now) (more : List T) → now ≡ sent ++ more → all ≡ (last.0 ++ sent) ++ more
+  joined : (all sent now : List T) (last : IsEndOf all now) (more : List T) → now ≡ sent ++ more → all ≡ (last.0 ++ sent) ++ more
   joined all sent now last more is = last.1 ∙ ap (λ list. last.0 ++ list) is ∙ sym (append_assoc last.0 sent more)
 
   -- what is left of the last ones is left of all
-  pub rest_of_all : (all now left : List T) → IsLast all now → IsRest now left → IsRest all left
+  pub rest_of_all : (all now left : List T) → IsEndOf all now → IsRest now left → IsRest all left
   rest_of_all all now left last rest = record {
     sent = last.0 ++ rest.sent;
     first = rest.first;
@@ -23,11 +25,11 @@ module _ {T : Type 0} where
   }
 
   -- what was sent before the last ones
-  pub last_of_rest : (all left : List T) → IsRest all left → IsLast all left
+  pub last_of_rest : (all left : List T) → IsRest all left → IsEndOf all left
   last_of_rest all left rest = (rest.sent, rest.messages_are)
 
   -- behind the first of the last ones
-  pub behind_first : (all now behind : List T) (first : T) → IsLast all now → now ≡ first ∷ behind → IsLast all behind
+  pub behind_first : (all now behind : List T) (first : T) → IsEndOf all now → now ≡ first ∷ behind → IsEndOf all behind
   behind_first all now behind first last is = (last.0 ++ first ∷ [], joined all (first ∷ []) now last behind is)
 
   -- what is left where no message waited
@@ -42,7 +44,7 @@ module _ {T : Type 0} where
   }
 
   -- what is left of the last ones after one of them waited is left of all
-  pub waited_of_all : (all now left : List T) → IsLast all now → IsRestAfterWait now left → IsRestAfterWait all left
+  pub waited_of_all : (all now left : List T) → IsEndOf all now → IsRestAfterWait now left → IsRestAfterWait all left
   waited_of_all all now left last rest = record {
     sent = last.0 ++ rest.sent;
     first = rest.first;
@@ -51,3 +53,63 @@ module _ {T : Type 0} where
     left_is = rest.left_is;
     messages_are = joined all rest.sent now last (rest.first ∷ rest.behind) rest.messages_are;
   }
+
+  -- what a poll of the first of some messages leaves: where an error comes back, it has that message
+  pub first_polled : (messages rest behind : List T) (first : T) (answer : Option (Result (Unit {0}) (SendError T))) → IsRest messages rest
+      → rest ≡ first ∷ behind → ((error : SendError T) → answer ≡ Some (Err error) → back_of error ≡ first) → LeavesList messages behind answer
+  first_polled messages rest behind first answer left is came = go answer came
+    where
+      last : IsEndOf messages (first ∷ behind)
+      last = (left.sent, left.messages_are ∙ ap (λ list. left.sent ++ list) is)
+
+      go : (answer : Option (Result (Unit {0}) (SendError T))) → ((error : SendError T) → answer ≡ Some (Err error) → back_of error ≡ first)
+          → LeavesList messages behind answer
+      go None came = (first, last)
+      go (Some (Ok sent)) came = inr (first, last)
+      go (Some (Err (Disconnected back))) came = subst (λ m. IsEndOf messages (m ∷ behind)) (sym (came (Disconnected back) refl)) last
+      go (Some (Err (NoMemory back))) came = subst (λ m. IsEndOf messages (m ∷ behind)) (sym (came (NoMemory back) refl)) last
+
+  -- the last of the last are the last of all
+  last_of_last : (all now left : List T) → IsEndOf all now → IsEndOf now left → IsEndOf all left
+  last_of_last all now left last more = (last.0 ++ more.0, joined all more.0 now last left more.1)
+
+  -- of a list that a poll was sending the last are left
+  pub list_end : (messages left : List T) (answer : Answer T) → LeavesList messages left answer → IsEndOf messages left
+  list_end messages left None leaves = behind_first messages (leaves.0 ∷ left) left leaves.0 leaves.1 refl
+  list_end messages left (Some (Ok sent)) (inl none) =
+      subst (λ left. IsEndOf messages left) (sym none) (messages, sym (append-nil messages))
+  list_end messages left (Some (Ok sent)) (inr one) = behind_first messages (one.0 ∷ left) left one.0 one.1 refl
+  list_end messages left (Some (Err (Disconnected back))) last = behind_first messages (back ∷ left) left back last refl
+  list_end messages left (Some (Err (NoMemory back))) last = behind_first messages (back ∷ left) left back last refl
+
+  -- the same of a poll that first polls a send
+  pub poll_end : (send : PolledSend T) (messages left : List T) (answer : Answer T) → PollLeaves send messages left answer → IsEndOf messages left
+  poll_end send messages left answer (inl same) = ([], sym same.1)
+  poll_end send messages left answer (inr leaves) = list_end messages left answer leaves
+
+  -- where the send had ended, the poll went on to the list
+  pub past_send : (send : PolledSend T) (messages left : List T) (answer : Answer T) → send ≡ Finished → PollLeaves send messages left answer
+      → LeavesList messages left answer
+  past_send send messages left answer over (inl same) = absurd (same.0 over)
+  past_send send messages left answer over (inr leaves) = leaves
+
+  -- where all went well so far, the poll went on to the list
+  pub past_ok : (send : PolledSend T) (messages left : List T) → PollLeaves send messages left (Some (Ok tt)) → LeavesList messages left (Some (Ok tt))
+  past_ok send messages left (inl same) = absurd (same.2 refl)
+  past_ok send messages left (inr leaves) = leaves
+
+  -- what a poll leaves of what an earlier one left
+  pub next_leaves : (all now left : List T) (answer : Answer T) → IsEndOf all now → LeavesList now left answer → LeavesList all left answer
+  next_leaves all now left None last leaves = (leaves.0, last_of_last all now (leaves.0 ∷ left) last leaves.1)
+  next_leaves all now left (Some (Ok sent)) last (inl none) = inl none
+  next_leaves all now left (Some (Ok sent)) last (inr one) = inr (one.0, last_of_last all now (one.0 ∷ left) last one.1)
+  next_leaves all now left (Some (Err (Disconnected back))) last more = last_of_last all now (back ∷ left) last more
+  next_leaves all now left (Some (Err (NoMemory back))) last more = last_of_last all now (back ∷ left) last more
+
+  -- a poll that sent some of the list leaves fewer
+  pub fewer : (messages left : List T) → 0 < length messages → LeavesList messages left (Some (Ok tt)) → length left < length messages
+  fewer messages left some (inl none) = let no : length left ≡ 0 = ap length none in omega arith
+  fewer messages left some (inr one) =
+      let all : length messages ≡ length (one.1.0 ++ one.0 ∷ left) = ap length one.1.1 in
+      let parts : length (one.1.0 ++ one.0 ∷ left) ≡ length one.1.0 + length (one.0 ∷ left) = length-append one.1.0 (one.0 ∷ left) in
+      omega arith

@@ -12,7 +12,7 @@ use Rattle.flume_calls.specs.SendTurns.{IsFirst, IsParking}
 use Rattle.flume_calls.specs.PolledSends.{settles_send, SendPoll, Over, Tries, Parks, Asks}
 
 -- what a poll answers
-abbrev Answer : Type 0 → Type 0
+abbrev pub Answer : Type 0 → Type 0
 Answer T = Option (Result (Unit {0}) (SendError T))
 
 module _ {T : Type 0} where
@@ -68,6 +68,13 @@ module _ {T S A : Type 0} {send after : PolledSend T} {signal : Option S} {old n
       settled next after answer settles result ready
   ended (Asks late ticket next is held signalled turned again outcome settles) result ready =
       settled next after answer settles result ready
+
+  -- a send that has ended answers that it is sent
+  pub is_over : SendPoll A send signal old new after answer → send ≡ Finished → answer ≡ Some (Ok tt)
+  is_over (Over is same finished ok) over = ok
+  is_over (Tries message next is none turned first outcome settles) over = absurd (let none : ⊥ = cc in none)
+  is_over (Parks message next given is some turned parking outcome settles) over = absurd (let none : ⊥ = cc in none)
+  is_over (Asks late ticket next is held signalled turned again outcome settles) over = absurd (let none : ⊥ = cc in none)
 
   -- what comes back of one that wasn't sent is its message
   pub comes_back : SendPoll A send signal old new after answer → (message : T) → send ≡ Unsent message

@@ -1,9 +1,7 @@
 -- Receives of many messages, as their callers see them.
 use Rattle.std.specs.Prelude.{◌≡◌, ℕ, ◌≤◌, List, ◌++◌, length, Option, Some, Result, Ok}
-use Rattle.std.specs.Prelude.{Err}
 use Rattle.flume_core.specs.declared.error.RecvError.{RecvError}
 use Rattle.flume_calls.specs.declared.calls.receive.RecvNext.{RecvNext}
-use Rattle.flume_core.specs.declared.error.RecvTimeoutError.TheVariants.{Disconnected}
 use Rattle.flume_calls.specs.declared.calls.receive.RecvNext.TheVariants.{Done}
 use Rattle.flume_calls.specs.ManyReceives.{with_more}
 
@@ -22,13 +20,18 @@ module _ {T : Type 0} where
   GrowsBy most before after (Done (Ok count)) = Came most before after count
   GrowsBy most before after _ = after ≡ before
 
-  -- what a turn of a call that waits answers
-  pub data AnswersMany (answers : RecvNext T → Type 0) (next : RecvNext ℕ) : Type 0 where
-    -- as a turn of this kind, with how many came where it got a message
-    Asked : (first : RecvNext T) → (more : ℕ) → answers first → next ≡ with_more more first
-        → AnswersMany answers next
-    -- the list has no room, so that no turn was made
-    NoRoom : next ≡ Done (Err Disconnected) → AnswersMany answers next
+  -- what a turn of a call that waits answers: as a turn of this kind, with how many came where it
+  -- got a message
+  pub record AnswersMany (answers : RecvNext T → Type 0) (next : RecvNext ℕ) : Type 0 where
+    pub first : RecvNext T
+    pub more : ℕ
+    pub answered : answers first
+    pub next_is : next ≡ with_more more first
+
+  -- the call hasn't ended
+  abbrev pub IsntDone : RecvNext T → Type 0
+  IsntDone (Done result) = ⊥
+  IsntDone next = Unit {0}
 
   -- what a poll leaves of the list, by its answer
   abbrev pub PollGrows : ℕ → List T → List T → Option (Result ℕ RecvError) → Type 0

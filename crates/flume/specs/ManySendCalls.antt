@@ -1,12 +1,40 @@
 -- Sends of many messages, as their callers see them.
-use Rattle.std.specs.Prelude.{◌≡◌, List, ◌∷◌, ◌++◌}
+use Rattle.std.specs.Prelude.{◌≡◌, ◌≢◌, ◌⊎◌, Option, Some, None, Result, Ok, Err, List, [], ◌∷◌}
+use Rattle.std.specs.Prelude.{◌++◌}
+use Rattle.flume_core.specs.declared.error.SendError.{SendError}
+use Rattle.flume_core.specs.declared.error.SendError.TheVariants.{Disconnected, NoMemory}
+use Rattle.flume_calls.specs.declared.polled.send.PolledSend.{PolledSend}
+use Rattle.flume_calls.specs.declared.polled.send.PolledSend.TheVariants.{Finished}
 
--- What is left of these messages after one of them waited: that one and all behind it. The first is
--- what the channel gave back for it.
-pub record IsRestAfterWait {T : Type 0} (messages left : List T) : Type 0 where
-  pub sent : List T
-  pub first : T
-  pub back : T
-  pub behind : List T
-  pub left_is : left ≡ back ∷ behind
-  pub messages_are : messages ≡ sent ++ first ∷ behind
+module _ {T : Type 0} where
+  -- What is left of these messages after one of them waited: that one and all behind it. The first
+  -- is what the channel gave back for it.
+  pub record IsRestAfterWait (messages left : List T) : Type 0 where
+    pub sent : List T
+    pub first : T
+    pub back : T
+    pub behind : List T
+    pub left_is : left ≡ back ∷ behind
+    pub messages_are : messages ≡ sent ++ first ∷ behind
+
+  -- what is left are the last of these messages, in their order
+  abbrev pub IsEndOf : List T → List T → Type 0
+  IsEndOf messages left = (sent : List T) × (messages ≡ sent ++ left)
+
+  -- What a poll that sends these messages leaves of them, by its answer; none says that it waits.
+  -- Where it waits one of them is blocked, and where it fails one comes back: those behind that one
+  -- are left.
+  abbrev pub LeavesList : List T → List T → Option (Result (Unit {0}) (SendError T)) → Type 0
+  LeavesList messages left None = (blocked : T) × IsEndOf messages (blocked ∷ left)
+  LeavesList messages left (Some (Ok sent)) =
+      (left ≡ []) ⊎ ((first : T) × IsEndOf messages (first ∷ left))
+  LeavesList messages left (Some (Err (Disconnected back))) = IsEndOf messages (back ∷ left)
+  LeavesList messages left (Some (Err (NoMemory back))) = IsEndOf messages (back ∷ left)
+
+  -- the same of a poll that first polls this send: where that one waits or fails the list is as it
+  -- was
+  abbrev pub PollLeaves : PolledSend T → List T → List T
+      → Option (Result (Unit {0}) (SendError T)) → Type 0
+  PollLeaves send messages left answer =
+      ((send ≢ Finished) × (left ≡ messages) × (answer ≢ Some (Ok tt)))
+      ⊎ LeavesList messages left answer

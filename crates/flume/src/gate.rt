@@ -1,6 +1,6 @@
 //! The gate of the ends: each turn of a call is made under the channel's lock, and the call waits
 //! on a parker of its own.
-ghost use Rattle.std.specs.Prelude.{◌≡◌, ◌≢◌, Bool, true, false};
+ghost use Rattle.std.specs.Prelude.{◌≡◌, ◌≢◌, ⊤, Bool, true, false};
 ghost use Rattle.flume_deadline.specs.declared.Deadline.TheVariants.{Never};
 ghost use Rattle.flume_calls.specs.SendTurns as send;
 ghost use Rattle.flume_calls.specs.ReceiveTurns as receive;
@@ -103,6 +103,8 @@ impl<T: Drop, R: Waits, A: Allocator + Copy> RecvGate<T> for Gate<'_, T, R, A> {
         (new ≡ old) × receive.IsAgain ticket late next × receive.IsntRefused next };
 
     ghost waits = { λ old new late. (new ≡ old) × (late ≡ true → old ≢ Never) };
+
+    ghost is_armed = { λ _. ⊤ };
 
     #[inline(always)]
     fn first(&mut self) -> RecvNext<T> {

@@ -71,8 +71,8 @@ impl<'a, T: Drop, R: Waits, A: Allocator + Copy> Iter<'a, T, R, A> {
         self.progress.fault
     }
 
-    /// The same as a `Result`, for a program that goes on by `?` after a loop: an error exactly where
-    /// `fault` is true.
+    /// The same as a `Result`, for a program that goes on by `?` after a loop: an error exactly
+    /// where `fault` is true.
     ///
     /// ```
     /// let (tx, rx) = flume::on(rt).unbounded::<u64>()?;

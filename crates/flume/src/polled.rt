@@ -1,6 +1,6 @@
-//! Futures, sinks and streams over a channel: each poll makes at most one step of the channel, and
-//! one that has to wait has left its task's waker in the very step that found nothing. Tasks and
-//! threads may share a channel.
+//! Futures, sinks and streams over a channel: each poll makes at most one step of the channel, or
+//! several where it moves many messages. One that has to wait has left its task's waker in the very
+//! step that found nothing. Tasks and threads may share a channel.
 //!
 //! A call that is dropped while it waits takes itself back: a send its message, a receive its place
 //! among those that wait, and a wake that it had goes on to another. One that is forgotten, and
@@ -9,6 +9,7 @@
 mod owned_or_ref;
 mod receive;
 mod send;
+mod sends;
 mod sink;
 mod stream;
 

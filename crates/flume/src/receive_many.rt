@@ -1,7 +1,7 @@
 //! Receives of many messages: each call takes what is there, under one lock.
-ghost use Rattle.std.specs.Prelude.{◌≡◌, ◌≢◌, ◌<◌, true, Err, IfOk, OnErr};
+ghost use Rattle.std.specs.Prelude.{◌≡◌, ◌≢◌, ◌<◌, true, Err, IfOk, OnErr, vec_len, vec_capacity};
 ghost use Rattle.flume_deadline.specs.declared.Deadline.TheVariants.{Never};
-ghost use Rattle.flume.specs.ManyCalls.{Came, GrowsBy, AnswersMany};
+ghost use Rattle.flume.specs.ManyCalls.{Came, GrowsBy, AnswersMany, IsntDone};
 
 use crate::answers::{tried_receives, waited_receive};
 use crate::receiver::Receiver;
@@ -165,20 +165,19 @@ struct ManyGate<'a, T, R: Waits, A: Allocator + Copy> {
 
 impl<T: Drop, R: Waits, A: Allocator + Copy> ManyGate<'_, T, R, A> {
     // Makes the turn of a call that waits, and where that gives a message takes what else is there.
-    // While a call waits its list keeps the room that `arm` made. One whose list is full has ended.
+    // The list keeps the room that `arm` made until a message comes.
     #[cold]
     #[inline(never)]
     fn and_more<C>(&mut self, turn: C) -> RecvNext<usize>
     where
         C: Turn<T, Signal<A>, A, Answer = RecvNext<T>> + Drop,
+        requires room { vec_len self.old.into < vec_capacity self.old.into }
         ensures deadline { self.new.deadline ≡ self.old.deadline }
         ensures most { self.new.most ≡ self.old.most }
         ensures answers { AnswersMany (C.answers turn) result }
         ensures grows { GrowsBy self.old.most self.old.into.items self.new.into.items result }
+        ensures room { IsntDone result → vec_len self.new.into < vec_capacity self.new.into }
     {
-        if self.into.len() == self.into.capacity() {
-            return RecvNext::Done(Err(RecvTimeoutError::Disconnected));
-        }
         let into = replace(&mut self.into, Vec::new(self.shared.alloc));
         let more = self.most - 1;
         let ManyNext { into, next } = self.shared.call_all(ReceiveAndMore { turn, into, more });
@@ -213,6 +212,9 @@ impl<T: Drop, R: Waits, A: Allocator + Copy> RecvGate<usize> for ManyGate<'_, T,
     ghost waits = { λ old new late.
         (new.deadline ≡ old.deadline) × (new.most ≡ old.most)
         × (new.into.items ≡ old.into.items) × (late ≡ true → old.deadline ≢ Never) };
+
+    // There is room for one message.
+    ghost is_armed = { λ gate. vec_len gate.into < vec_capacity gate.into };
 
     fn first(&mut self) -> RecvNext<usize> {
         let into = replace(&mut self.into, Vec::new(self.shared.alloc));

@@ -226,9 +226,9 @@ impl<T: Drop, R: Waits, A: Allocator + Copy> Receiver<T, R, A> {
         self.shared.id == other.shared.id
     }
 
-    /// How many sends are blocked in the channel now: calls that wait, polled futures and sinks, and
-    /// arms of selections. One whose message was taken in isn't counted, though it hasn't gone on
-    /// yet; one whose channel closed is, until it has its message back. Takes no memory.
+    /// How many sends are blocked in the channel now: calls that wait, polled futures and sinks,
+    /// and arms of selections. One whose message was taken in isn't counted, though it hasn't gone
+    /// on yet; one whose channel closed is, until it has its message back. Takes no memory.
     ///
     /// ```
     /// let (tx, rx) = flume::on(rt).bounded::<u64>(0)?;

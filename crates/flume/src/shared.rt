@@ -5,7 +5,7 @@ ghost use Rattle.flume.specs.ManyCalls.{PollGrows};
 ghost use Rattle.flume.specs.Polling.{HasPolled};
 ghost use Rattle.flume.specs.Turning.{HasMade, HasMadeAll};
 
-use crate::signal::{Parker, Signal};
+use crate::signal::{Parker, Signal, YIELDS};
 use crate::task::Task;
 use flume_calls::batch::Batch;
 use flume_calls::calls::MoreReceives;
@@ -40,9 +40,12 @@ const SPIN_CAPACITY: u64 = 4;
 const UNBOUNDED: u64 = u64::MAX;
 
 // How often a call checks for its wake, at the most.
-const CHECKS: u32 = 2000;
+const CHECKS: u32 = 220;
 
-// How long a call pauses.
+// How long a call pauses where the channel holds few messages.
+const FEW_PAUSES: u32 = 70;
+
+// How long it pauses where the channel holds many.
 const PAUSES: u32 = 300;
 
 // How a call that is to wait spends its first moments, so that it seldom has to sleep: a sleep and
@@ -56,14 +59,17 @@ struct Backoff {
 }
 
 impl Backoff {
-    // Where the channel holds few messages each call meets another one, so it parks and checks.
-    // Where it holds many, it lets them gather, or go, before it asks again. Where it holds any
-    // number neither served.
+    // Where the channel holds none each call meets another one, so it parks and checks. Where it
+    // holds few, it lets one come, or go, before it asks again, and once it has parked it checks.
+    // Where it holds many it lets them gather, or go, for longer, and once it has parked it only
+    // lets other threads run. Where it holds any number neither served.
     fn of(capacity_hint: u64) -> Backoff {
-        let (pauses, checks) = if capacity_hint <= SPIN_CAPACITY {
+        let (pauses, checks) = if capacity_hint == 0 {
             (0, CHECKS)
+        } else if capacity_hint <= SPIN_CAPACITY {
+            (FEW_PAUSES, CHECKS)
         } else if capacity_hint < UNBOUNDED {
-            (PAUSES, 0)
+            (PAUSES, YIELDS)
         } else {
             (0, 0)
         };
@@ -72,10 +78,10 @@ impl Backoff {
 }
 
 // How often a call tries for a lock that another thread has, before it sleeps for it.
-const TRIES: u32 = 7;
+const TRIES: u32 = 8;
 
 // How long it pauses before the first of these tries; before each next one twice as long.
-const FIRST_PAUSES: u32 = 16;
+const FIRST_PAUSES: u32 = 32;
 
 // Lets others go on for a moment, so many pauses of the processor.
 fn pause(pauses: u32) {
@@ -87,7 +93,7 @@ fn pause(pauses: u32) {
 /// The bell of the ends: it fires the signal.
 #[derive(Clone, Copy)]
 pub(crate) struct SignalBell<R: Waits> {
-    rt: R,
+    pub(crate) rt: R,
 }
 
 impl<R: Waits, A: Allocator> Bell<Signal<A>> for SignalBell<R> {
@@ -164,7 +170,7 @@ impl<T: Drop, R: Waits, A: Allocator + Copy> Shared<T, R, A> {
 
     /// The channel, locked. Where nobody has the lock it is taken without a call.
     #[inline(always)]
-    fn lock(&self) -> MutexGuard<'_, Locked<T, Signal<A>, A>> {
+    pub(crate) fn lock(&self) -> MutexGuard<'_, Locked<T, Signal<A>, A>> {
         match self.state.try_lock() {
             Some(state) => state,
             None => self.wait_for_lock(),
@@ -253,9 +259,9 @@ impl<T: Drop, R: Waits, A: Allocator + Copy> Shared<T, R, A> {
         self.poll_locked(&mut *guard, call, task, cx)
     }
 
-    // Polls the call, as `poll` does, of a channel whose lock was taken.
+    /// Polls the call, as `poll` does, of a channel whose lock was taken.
     #[inline(always)]
-    fn poll_locked<P: Polled<T, Signal<A>, A>>(
+    pub(crate) fn poll_locked<P: Polled<T, Signal<A>, A>>(
         &self,
         locked: &mut Locked<T, Signal<A>, A>,
         call: &mut P,

@@ -9,6 +9,7 @@ use std::cell::Cell;
 use std::hint::spin_loop;
 use std::sync::atomic::{AtomicU64, Ordering};
 use std::sync::{Arc, Condvar, Mutex, Wait};
+use std::thread::yield_now;
 use std::time::{Clock, Instant};
 
 // What a parker's word says: no wake has come that wasn't taken, one has, or its call sleeps.
@@ -17,6 +18,9 @@ const IDLE: u64 = 0;
 const FIRED: u64 = 1;
 
 const ASLEEP: u64 = 2;
+
+/// After how many of a parker's last checks other threads run, before it checks again or sleeps.
+pub(crate) const YIELDS: u32 = 20;
 
 /// What one blocking call waits on, and others wake it by. A wake that comes before the wait isn't
 /// lost: the wait then takes it, and returns at once. Two wakes before a wait count as one.
@@ -117,13 +121,18 @@ impl Parker {
         false
     }
 
-    // Checks for a wake for a short while, and takes it.
+    // Checks for a wake for a short while, and takes it. Between the last checks it lets other
+    // threads run: the one that is to wake it may wait for a processor.
     fn spin(&self) -> bool {
-        for _ in 0..self.checks {
+        for done in 0..self.checks {
             if self.word.load(Ordering::SeqCst) == FIRED {
                 return self.take();
             }
-            spin_loop();
+            if self.checks.saturating_sub(done) > YIELDS {
+                spin_loop();
+            } else {
+                yield_now();
+            }
         }
         false
     }

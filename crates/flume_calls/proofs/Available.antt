@@ -12,7 +12,7 @@ use Rattle.flume_state.specs.State.{State, message_count}
 use Rattle.flume_state.specs.Effects.{with_front, with_front_of, after_admission, after_admission_of, after_refill, after_take}
 use Rattle.flume_state.specs.Due.{BecomesDue}
 use Rattle.flume_core.specs.Represents.{Extends, IsReachable}
-use Rattle.flume_calls.specs.Batches.{Lead, NoSteps, Stepped}
+use Rattle.flume_calls.specs.Batches.{StepsBetween, NoSteps, FirstStep}
 use Rattle.flume_calls.specs.ManyReceives.{Takes, each_got}
 
 module _ {T S : Type 0} where
@@ -33,16 +33,6 @@ module _ {T S : Type 0} where
           let none : length s.queue ≡ 0 = ap length queued in
           let none_blocked : length s.blocked ≡ 0 = ap length blocked in
           absurd (omega arith)
-
-  -- where none stands there is no front
-  pub no_front : (s : State T S) → message_count s ≡ 0 → (with_front s).queue ≡ []
-  no_front s none = go s.queue s.blocked refl refl
-    where
-      go : (q : List T) (b : List (Blocked T)) → s.queue ≡ q → s.blocked ≡ b → (with_front s).queue ≡ []
-      go (m ∷ rest) b queued blocked = let some : length s.queue ≡ length (m ∷ rest) = ap length queued in absurd (omega arith)
-      go [] (b ∷ later) queued blocked = let some : length s.blocked ≡ length (b ∷ later) = ap length blocked in absurd (omega arith)
-      go [] [] queued blocked =
-          ap (λ q. (with_front_of q s).queue) queued ∙ ap (λ b. (after_admission_of b s).queue) blocked ∙ queued
 
   -- a blocked message that joins the queue still stands
   admission_keeps : (s : State T S) → message_count (after_admission s) ≡ message_count s
@@ -81,10 +71,10 @@ module _ {T S : Type 0} where
 
 module _ {T A S : Type 0} where
   -- one more step behind those that lead there
-  pub one_more : {old between new : State T S} {made : List (Step T × Reply T A)} {step : Step T} {reply : Reply T A} → Lead old made between
-      → Extends between step reply new → (IsReachable A between → BecomesDue between step reply new) → Lead old (made ++ (step, reply) ∷ []) new
-  one_more NoSteps stepped dues = Stepped stepped dues NoSteps
-  one_more (Stepped first due rest) stepped dues = Stepped first due (one_more rest stepped dues)
+  pub one_more : {old between new : State T S} {made : List (Step T × Reply T A)} {step : Step T} {reply : Reply T A} → StepsBetween old made between
+      → Extends between step reply new → (IsReachable A between → BecomesDue between step reply new) → StepsBetween old (made ++ (step, reply) ∷ []) new
+  one_more NoSteps stepped dues = FirstStep stepped dues NoSteps
+  one_more (FirstStep first due rest) stepped dues = FirstStep first due (one_more rest stepped dues)
 
 module _ {T S : Type 0} where
   -- a step that takes the front leaves one less
@@ -103,7 +93,7 @@ module _ {T S : Type 0} (A : Type 0) where
       → after ≡ items ++ message ∷ [] → Takes A old before (count + 1) new after
   takes_one {old} {between} {new} {before} message took stepped dues is = record {
     taken = took.taken ++ message ∷ [];
-    led = subst (λ made. Lead old made new) (sym (map-append (λ m. (TryRecv, Got m)) took.taken (message ∷ []))) (one_more took.led stepped dues);
+    led = subst (λ made. StepsBetween old made new) (sym (map-append (λ m. (TryRecv, Got m)) took.taken (message ∷ []))) (one_more took.led stepped dues);
     items = is ∙ ap (λ items. items ++ message ∷ []) took.items ∙ append_assoc before took.taken (message ∷ []);
     number = let more : length (took.taken ++ message ∷ []) ≡ length took.taken + 1 = length-append took.taken (message ∷ []) in
         let number = took.number in omega arith;

@@ -5,12 +5,12 @@ use Rattle.flume_model.specs.declared.step.Reply.{Reply}
 use Rattle.flume_model.specs.Log.{Log, Opening}
 use Rattle.flume_state.specs.State.{State}
 use Rattle.flume_core.specs.Represents.{Represents}
-use Rattle.flume_calls.specs.Batches.{Lead, NoSteps, Stepped, goes_on}
+use Rattle.flume_calls.specs.Batches.{StepsBetween, NoSteps, FirstStep, goes_on}
 
 module _ {T A S : Type 0} where
   -- each log goes on with the steps and their replies
-  pub led_log : {old new : State T S} {made : List (Step T × Reply T A)} → Lead old made new
+  pub led_log : {old new : State T S} {made : List (Step T × Reply T A)} → StepsBetween old made new
       → (opening : Opening) (log : Log T A) → Represents opening log old → Represents opening (goes_on log made) new
   led_log NoSteps opening log stands = stands
-  led_log (Stepped {step = step} {reply = reply} stepped dues rest) opening log stands =
+  led_log (FirstStep {step = step} {reply = reply} stepped dues rest) opening log stands =
       led_log rest opening ((step, reply) ∷ log) (stepped opening log stands)

@@ -7,7 +7,7 @@ use Rattle.flume_state.specs.Receivers.{NoDueReceiver}
 use Rattle.flume_state.specs.State.{State}
 use Rattle.flume_core.specs.Represents.{IsReachable, SameLogs}
 use Rattle.flume_calls.specs.Turns.{Turned}
-use Rattle.flume_calls.specs.Batches.{Batched}
+use Rattle.flume_calls.specs.Batches.{IsBatch}
 use Rattle.flume_calls.specs.Rings.{Rings}
 
 module _ {T S : Type 0} where
@@ -36,7 +36,7 @@ module _ {T S A N B : Type 0} (rings : B → ℕ → S → B → Type 0) where
       (outcomes : State T S → State T S → N → Type 0) (old : State T S) (bell : B)
       (new : State T S) (rung : B) (answer : N) : Type 0 where
     pub between : State T S
-    pub batch : Batched table old between answer
+    pub batch : IsBatch table old between answer
     pub outcome : outcomes old between answer
     pub rang : Rings rings between bell new rung
     -- the rings are no steps

@@ -17,20 +17,20 @@ module _ {T A : Type 0} where
     -- The steps lead from the state before to the state after, with these replies, the first first.
     -- Each reply is one that the abstract channel gives there. Who is due at the end was due before
     -- and still is, or became due by one of these steps and still is.
-    pub data Lead : State T S → List (Step T × Reply T A) → State T S → Type 0 where
+    pub data StepsBetween : State T S → List (Step T × Reply T A) → State T S → Type 0 where
       -- there is no step
-      NoSteps : {s : State T S} → Lead s [] s
+      NoSteps : {s : State T S} → StepsBetween s [] s
       -- one step, and then the others
-      Stepped : {old between new : State T S} {step : Step T} {reply : Reply T A}
+      FirstStep : {old between new : State T S} {step : Step T} {reply : Reply T A}
           {later : List (Step T × Reply T A)} → Extends old step reply between
           → (IsReachable A old → BecomesDue old step reply between)
-          → Lead between later new → Lead old ((step, reply) ∷ later) new
+          → StepsBetween between later new → StepsBetween old ((step, reply) ∷ later) new
 
   module _ {S N : Type 0} where
     -- the channel made some steps, and the batch answered as its table says to them and their
     -- replies
-    pub record Batched (table : List (Step T × Reply T A) → N → Type 0) (old new : State T S)
+    pub record IsBatch (table : List (Step T × Reply T A) → N → Type 0) (old new : State T S)
         (answer : N) : Type 0 where
       pub made : List (Step T × Reply T A)
-      pub led : Lead old made new
+      pub led : StepsBetween old made new
       pub answered : table made answer

@@ -12,7 +12,7 @@ use Rattle.flume_core.specs.declared.error.RecvTimeoutError.TheVariants.{Disconn
 use Rattle.flume_calls.specs.declared.calls.receive.RecvNext.{RecvNext}
 use Rattle.flume_calls.specs.declared.calls.receive.RecvNext.TheVariants.{Done, NeedSignal, Park}
 use Rattle.flume_calls.specs.declared.calls.receive.RecvNext.TheVariants.{Refused}
-use Rattle.flume_calls.specs.Batches.{Lead}
+use Rattle.flume_calls.specs.Batches.{StepsBetween}
 use Rattle.flume_calls.specs.ReceiveTurns.{after_try_recv, IsNone}
 
 -- how many messages a call took, where it took some: at most so many, and none only for a call
@@ -32,7 +32,7 @@ module _ {T S : Type 0} (A : Type 0) where
   pub record Takes (old : State T S) (before : List T) (count : ℕ) (new : State T S)
       (after : List T) : Type 0 where
     pub taken : List T
-    pub led : Lead {A = A} old (each_got taken) new
+    pub led : StepsBetween {A = A} old (each_got taken) new
     pub items : after ≡ before ++ taken
     pub number : length taken ≡ count
 
@@ -62,7 +62,7 @@ module _ {T : Type 0} where
 
 module _ {T A : Type 0} where
   -- the table of a batch that takes what is there: so many were taken, and put behind
-  pub record Took (before : List T) (made : List (Step T × Reply T A)) (after : List T)
+  pub record MoreTable (before : List T) (made : List (Step T × Reply T A)) (after : List T)
       (count : ℕ) : Type 0 where
     pub taken : List T
     pub steps : made ≡ each_got taken
@@ -70,23 +70,23 @@ module _ {T A : Type 0} where
     pub number : length taken ≡ count
 
   -- the table of a first receive of many
-  pub data FirstTook (before : List T) (made : List (Step T × Reply T A)) (after : List T)
+  pub data FirstManyTable (before : List T) (made : List (Step T × Reply T A)) (after : List T)
       (next : RecvNext ℕ) : Type 0 where
     -- it took what was there
-    Some : (count : ℕ) → Took before made after count → next ≡ Done (Ok count)
-        → FirstTook before made after next
+    Some : (count : ℕ) → MoreTable before made after count → next ≡ Done (Ok count)
+        → FirstManyTable before made after next
     -- there was none, as its one step says
     None : (reply : Reply T A) → (first : RecvNext T) → made ≡ (TryRecv, reply) ∷ []
         → after_try_recv reply first → IsNone first → after ≡ before → next ≡ with_more 0 first
-        → FirstTook before made after next
+        → FirstManyTable before made after next
     -- there was no memory for the room that they need, and it made no step
     NoRoom : made ≡ [] → after ≡ before → next ≡ Done (Err NoMemory)
-        → FirstTook before made after next
+        → FirstManyTable before made after next
 
   -- the table of a batch that begins with a turn of this step and this table
-  pub record TookMore (step : Step T) (table : Reply T A → RecvNext T → Type 0) (before : List T)
-      (more : ℕ) (made : List (Step T × Reply T A)) (after : List T) (next : RecvNext ℕ)
-      : Type 0 where
+  pub record AndMoreTable (step : Step T) (table : Reply T A → RecvNext T → Type 0)
+      (before : List T) (more : ℕ) (made : List (Step T × Reply T A)) (after : List T)
+      (next : RecvNext ℕ) : Type 0 where
     pub reply : Reply T A
     pub first : RecvNext T
     pub taken : List T
@@ -101,8 +101,8 @@ module _ {T A : Type 0} where
   TakesAll most there count after =
       (count ≡ min most there) ⊎ ((count < min most there) × (vec_len after ≡ vec_capacity after))
 
-  -- The answer of a turn of this kind, and of what was taken after it. Where the turn gave no message
-  -- the list is the very one that was given, its room included.
+  -- The answer of a turn of this kind, and of what was taken after it. Where the turn gave no
+  -- message the list is the very one that was given, its room included.
   pub record AnswersMore (answers : RecvNext T → Type 0) (before : Vec T A) (more : ℕ)
       (after : Vec T A) (next : RecvNext ℕ) : Type 0 where
     pub first : RecvNext T
@@ -121,8 +121,8 @@ module _ {T S A : Type 0} where
         ↔ (0 < most) × (message_count old ≡ 0) × IsOpen old.senders old.receivers
     pub disconnected : (next ≡ Done (Err Disconnected))
         ↔ (0 < most) × (message_count old ≡ 0) × IsClosed old.senders old.receivers
-    pub no_memory : next ≡ Done (Err NoMemory)
-        → (0 < message_count old) × (vec_capacity into < vec_len into + min most (message_count old))
+    pub no_memory : next ≡ Done (Err NoMemory) → (0 < message_count old)
+        × (vec_capacity into < vec_len into + min most (message_count old))
     pub unchanged : IsNone next → new ≡ old
 
   -- a turn with these outcomes, and then what else is there, at most so many

@@ -1,11 +1,15 @@
 -- Sends of a list of messages: which steps are made under one lock, and what is answered.
-use Rattle.std.specs.Prelude.{◌≡◌, ℕ, Option, Some, List, [], ◌∷◌, ◌++◌, Result, Ok, Err}
+use Rattle.std.specs.Prelude.{◌≡◌, ◌≢◌, ℕ, ◌+◌, ◌≤◌, Option, Some, List, [], ◌∷◌, ◌++◌, length}
+use Rattle.std.specs.Prelude.{Result, Ok, Err}
 use Rattle.std.specs.declared.collections.VecDeque.{VecDeque}
 use Rattle.flume_model.specs.declared.step.Step.{Step}
 use Rattle.flume_model.specs.declared.step.Step.TheVariants.{TrySend}
 use Rattle.flume_model.specs.declared.step.Reply.{Reply}
 use Rattle.flume_model.specs.declared.step.Reply.TheVariants.{Sent}
 use Rattle.flume_model.specs.declared.step.Reply.TheVariants as reply
+use Rattle.flume_model.specs.Limits as limits
+use Rattle.flume_state.specs.State.{State, message_count}
+use Rattle.flume_core.specs.Waiting.{FindsNoRoom}
 use Rattle.flume_core.specs.declared.error.TrySendError.{TrySendError}
 use Rattle.flume_core.specs.declared.error.TrySendError.TheVariants.{Full, Disconnected, NoMemory}
 
@@ -51,3 +55,18 @@ module _ {T A : Type 0} where
   LeavesRest messages (Err (Full left)) = IsRest messages left.items
   LeavesRest messages (Err (Disconnected left)) = IsRest messages left.items
   LeavesRest messages (Err (NoMemory left)) = IsRest messages left.items
+
+module _ {T S A : Type 0} where
+  -- What the states before and after say of the sends of these messages. The offer that was
+  -- refused, where one was, left the channel as it is after them: there was no room for its
+  -- message, or it was closed, or it had no space for one more without memory. Where there was
+  -- space for all of them before, none is refused for memory.
+  pub record SendManyOutcome (messages : List T) (old new : State T S)
+      (answer : Result (Unit {0}) (TrySendError (VecDeque T A))) : Type 0 where
+    pub full : (left : VecDeque T A) → answer ≡ Err (Full left) → FindsNoRoom new
+    pub disconnected : (left : VecDeque T A) → answer ≡ Err (Disconnected left)
+        → limits.IsClosed new.senders new.receivers
+    pub no_memory : (left : VecDeque T A) → answer ≡ Err (NoMemory left)
+        → new.space ≤ message_count new
+    pub succeeds : message_count old + length messages ≤ old.space
+        → (left : VecDeque T A) → answer ≢ Err (NoMemory left)

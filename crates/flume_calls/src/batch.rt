@@ -4,7 +4,7 @@ ghost use Rattle.std.specs.Prelude.{List};
 ghost use Rattle.flume_model.specs.declared.step.Step.{Step};
 ghost use Rattle.flume_model.specs.declared.step.Reply.{Reply};
 ghost use Rattle.flume_state.specs.State.{State};
-ghost use Rattle.flume_calls.specs.Batches.{Batched};
+ghost use Rattle.flume_calls.specs.Batches.{IsBatch};
 
 use flume_core::chan::Chan;
 use std::alloc::Allocator;
@@ -26,7 +26,7 @@ pub trait Batch<T, S, A: Allocator> {
 
     /// Makes the steps, and answers to their replies.
     fn apply(self, chan: &mut Chan<T, S, A>) -> Self::Answer
-        ensures batch { Batched {A = A} (table self) chan.old chan.new result }
+        ensures batch { IsBatch {A = A} (table self) chan.old chan.new result }
         ensures answers { answers self result }
         ensures outcome { outcome self chan.old chan.new result };
 }

@@ -132,7 +132,7 @@ pub fn write_reply<A: Allocator>(
     ensures value { OnOk result
         (string_bytes text.new ≡ string_bytes text.old ++ (reply_text reply.now ++ 10 ∷ [])) }
 {
-    match reply {
+    Ok(match reply {
         Reply::Sent { filled } => write_sent(text, *filled)?,
         Reply::Full(message) => writeln!(text, "full {message}")?,
         Reply::Closed(message) => writeln!(text, "closed {message}")?,
@@ -156,8 +156,7 @@ pub fn write_reply<A: Allocator>(
         Reply::Truth(truth) => write_truth(text, *truth)?,
         Reply::Capacity(capacity) => write_capacity(text, *capacity)?,
         Reply::Unbounded => text.push_str("unbounded\n")?,
-    }
-    Ok(())
+    })
 }
 
 /// The texts of the replies, each on a line. `NoMemory`: the text found no room. Linear in the

@@ -133,7 +133,7 @@ impl<T: Drop, A: Allocator + Copy> SendGate<T> for Lent<T, A> {
 }
 
 impl<T: Drop, A: Allocator + Copy> RecvGate<T> for Lent<T, A> {
-    ghost use Rattle.std.specs.Prelude.{◌≡◌};
+    ghost use Rattle.std.specs.Prelude.{◌≡◌, ⊤};
     ghost use Rattle.flume_model.specs.declared.step.Kind.TheVariants.{Block};
     ghost use Rattle.flume_model.specs.declared.step.Step.TheVariants.{TryRecv, Recv};
     ghost use Rattle.flume_calls.specs.ReceiveTurns.{after_try_recv, after_recv};
@@ -157,6 +157,8 @@ impl<T: Drop, A: Allocator + Copy> RecvGate<T> for Lent<T, A> {
         (after_parked_receive ticket late) old.locked new.locked answer };
 
     ghost waits = { λ old new answer. Others A old.locked new.locked };
+
+    ghost is_armed = { λ _. ⊤ };
 
     fn first(&mut self) -> RecvNext<T> {
         self.locked.make(FirstReceive, &mut self.bell)

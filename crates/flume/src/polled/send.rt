@@ -1,9 +1,10 @@
 //! A send as a future.
-ghost use Rattle.std.specs.Prelude.{◌≡◌, ⊤, Result, Ok, Err};
+ghost use Rattle.std.specs.Prelude.{◌≡◌, ⊤, Result, Ok, Err, Some, None};
 ghost use Rattle.futures.specs.Task.{Covers, Keeps};
 ghost use Rattle.futures.specs.Poll.{IfReady, OnPending};
 ghost use Rattle.flume_calls.specs.declared.polled.send.PolledSend.TheVariants.{Finished, Unsent};
 ghost use Rattle.flume.specs.Ends.{end_of};
+ghost use Rattle.flume.specs.ManySendCalls.{PollLeaves};
 
 use crate::polled::owned_or_ref::OwnedOrRef;
 use crate::sender::Sender;
@@ -14,7 +15,9 @@ use flume_core::error::SendError;
 use futures::Future;
 use futures::task::{Context, Poll};
 use std::alloc::{Allocator, Global};
+use std::collections::VecDeque;
 use std::fmt;
+use std::mem::replace;
 
 /// A send, as a future: `Sender::send_async` and `Sender::into_send_async`. Ready with `Ok`: the
 /// message was taken in. With `Disconnected`: all receivers have been dropped, and it wasn't. With
@@ -98,6 +101,28 @@ impl<'a, T: Drop, R: Waits, A: Allocator + Copy> SendFut<'a, T, R, A> {
             self.sender.get().shared().call_cold(takes_back);
         }
         self.send = PolledSend::Unsent(message);
+    }
+
+    /// Polls it, and once it has ended well sends the messages, as many as the channel takes in. It
+    /// goes on with the first that finds no room. What isn't sent stays in the list. `None`: it
+    /// waits.
+    pub(crate) fn poll_sends(
+        &mut self,
+        cx: &mut Context<'_>,
+        messages: &mut VecDeque<T, A>,
+    ) -> Option<Result<(), SendError<T>>>
+        ensures leaves { PollLeaves self.old.send messages.old.items messages.new.items result }
+        ensures finished { (answer : Result (Unit {0}) (SendError T)) → result ≡ Some answer
+            → self.new.send ≡ Finished }
+        ensures registered { result ≡ None
+            → Covers cx.new (λ source. source ≡ self.new.task.source.id) }
+        ensures kept { Keeps cx.old cx.new }
+    {
+        let shared = self.sender.get().shared();
+        let list = replace(messages, VecDeque::new(shared.alloc));
+        let (left, answer) = shared.poll_sends(&mut self.send, &self.task, cx, list);
+        *messages = left;
+        answer
     }
 
     /// Whether all receivers, or all senders, have been dropped.

@@ -1,10 +1,14 @@
 //! A sender as a sink.
-ghost use Rattle.std.specs.Prelude.{◌≡◌, ◌==◌, ⊤, List, Ok, OnOk};
+ghost use Rattle.std.specs.Prelude.{◌≡◌, ◌==◌, ◌∷◌, [], ⊤, List, Ok, OnOk, Err};
+ghost use Rattle.futures.specs.Task.{Covers, Keeps};
+ghost use Rattle.futures.specs.Poll.{IfReady, OnPending};
 ghost use Rattle.flume.specs.Ends.{end_of};
+ghost use Rattle.flume.specs.ManySendCalls.{IsEndOf};
 ghost use Rattle.flume_calls.specs.declared.polled.send.PolledSend.TheVariants.{Finished};
 
 use crate::polled::owned_or_ref::OwnedOrRef;
 use crate::polled::send::SendFut;
+use crate::polled::sends::is_sent;
 use crate::sender::Sender;
 use crate::shared::Waits;
 use flume_calls::polled::PolledSend;
@@ -12,6 +16,7 @@ use flume_core::error::SendError;
 use futures::task::{Context, Poll};
 use futures::{Future, Sink};
 use std::alloc::{AllocError, Allocator, Global};
+use std::collections::VecDeque;
 use std::fmt;
 
 /// A sender as a sink: `Sender::sink` and `Sender::into_sink`. `start_send` only keeps the message,
@@ -60,6 +65,60 @@ impl<'a, T: Drop, R: Waits, A: Allocator + Copy> SendSink<'a, T, R, A> {
     {
         SendSink {
             kept: SendFut::new(sender, PolledSend::Finished),
+        }
+    }
+
+    /// Polls for these messages to be sent, in order, from the front of the list on. As many as the
+    /// channel takes in are sent under one lock. Where it is full the sink keeps the next one, and
+    /// that one blocks as one of `start_send` does; the poll is pending, and those behind it stay
+    /// in the list. A message that the sink keeps goes first. Ready with `Ok`: all are sent; the
+    /// list is empty, and without its room.
+    ///
+    /// The errors are those of `SendFut`. An error has the first message that wasn't sent: the one
+    /// that the sink kept, or one of the list. Those behind it stay in the list, and the sink keeps
+    /// none.
+    ///
+    /// ```
+    /// let (tx, rx) = flume::on(rt).bounded(1)?;
+    /// let mut sink = tx.sink();
+    /// let mut messages = VecDeque::from_vec(vec![in rt.alloc(); 1, 2, 3]?);
+    /// let task = MockTask::new(&rt)?;
+    /// let polled = task.enter(|cx| sink.poll_send_many(cx, &mut messages));
+    /// assert_eq!(rt; polled, Poll::Pending);
+    /// assert_eq!(rt; messages.len(), 1);
+    /// assert_eq!(rt; rx.recv(), Ok(1));
+    /// assert_eq!(rt; rx.recv(), Ok(2));
+    /// let polled = task.enter(|cx| sink.poll_send_many(cx, &mut messages));
+    /// assert_eq!(rt; polled, Poll::Ready(Ok(())));
+    /// assert_eq!(rt; rx.recv(), Ok(3));
+    /// ```
+    pub fn poll_send_many(
+        &mut self,
+        cx: &mut Context<'_>,
+        messages: &mut VecDeque<T, A>,
+    ) -> Poll<Result<(), SendError<T>>>
+        ensures all { result ≡ Poll.Ready (Ok tt) → messages.new.items ≡ [] }
+        ensures left { IsEndOf messages.old.items messages.new.items }
+        ensures waits { self.old.kept.send ≡ Finished → OnPending result ((blocked : T)
+            × IsEndOf messages.old.items (blocked ∷ messages.new.items)) }
+        ensures disconnected { (back : T) → self.old.kept.send ≡ Finished
+            → result ≡ Poll.Ready (Err (SendError.Disconnected back))
+            → IsEndOf messages.old.items (back ∷ messages.new.items) }
+        ensures no_memory { (back : T) → self.old.kept.send ≡ Finished
+            → result ≡ Poll.Ready (Err (SendError.NoMemory back))
+            → IsEndOf messages.old.items (back ∷ messages.new.items) }
+        ensures finished { IfReady result (λ _. self.new.kept.send ≡ Finished) }
+        ensures registered { OnPending result
+            (Covers cx.new (λ source. source ≡ self.new.kept.task.source.id)) }
+        ensures kept { Keeps cx.old cx.new }
+    {
+        let mut answer = self.kept.poll_sends(cx, messages);
+        while !messages.is_empty() && is_sent(&answer) {
+            answer = self.kept.poll_sends(cx, messages);
+        }
+        match answer {
+            Some(answer) => Poll::Ready(answer),
+            None => Poll::Pending,
         }
     }
 

@@ -97,9 +97,9 @@ impl<'a, T: Drop, R: Waits, A: Allocator + Copy> RecvStream<'a, T, R, A> {
     /// may be. `most` of 0 is ready with 0.
     ///
     /// `Disconnected`: none is there, and all senders have been dropped. `NoMemory`: there was no
-    /// room for one message in `into`, or no memory to wait. Neither takes a message, and both leave
-    /// `into` as it was. Where there is no memory for more room it takes as many as there is room
-    /// for, one at least. `fault` says of it what it says of `poll_next`.
+    /// room for one message in `into`, or no memory to wait. Neither takes a message, and both
+    /// leave `into` as it was. Where there is no memory for more room it takes as many as there is
+    /// room for, one at least. `fault` says of it what it says of `poll_next`.
     ///
     /// ```
     /// let (tx, rx) = flume::on(rt).unbounded()?;

@@ -48,8 +48,8 @@ pub trait Arm<V, A: Allocator + Copy> {
     fn checks(&self) -> u32;
 
     /// Its turn, which is one step of its channel: it is started, or polled where it was started
-    /// before. Where it parks it leaves a copy of the parker, with its number. With no parker an arm
-    /// that isn't started is only tried: it stays so where it would have to wait.
+    /// before. Where it parks it leaves a copy of the parker, with its number. With no parker an
+    /// arm that isn't started is only tried: it stays so where it would have to wait.
     fn turn(&mut self, number: usize, parker: Option<&Arc<Parker, A>>) -> ArmNext
         ensures does { turns (is_some parker.entry) self.old result self.new }
         ensures completed { result ≡ ArmNext.Completed → has_completed self.new }

@@ -3,8 +3,9 @@ ghost use Rattle.std.specs.Prelude.{◌≡◌, [], ◌+◌, ◌<◌, ◌≤◌, 
 ghost use Rattle.std.specs.Prelude.{vec_len, vec_capacity};
 ghost use Rattle.flume_model.specs.declared.step.Step.TheVariants.{TryRecv};
 ghost use Rattle.flume_state.specs.State.{message_count};
-ghost use Rattle.flume_calls.specs.ManyReceives.{Takes, TakesAll, Took, FirstTook, TookMore};
-ghost use Rattle.flume_calls.specs.ManyReceives.{AnswersMore, IsWithin, given, with_more};
+ghost use Rattle.flume_calls.specs.ManyReceives.{Takes, TakesAll, AnswersMore, IsWithin};
+ghost use Rattle.flume_calls.specs.ManyReceives.{MoreTable, FirstManyTable, AndMoreTable};
+ghost use Rattle.flume_calls.specs.ManyReceives.{given, with_more};
 ghost use Rattle.flume_calls.specs.ManyReceives.{FirstManyOutcome, MoreOutcome};
 ghost use Rattle.flume_calls.specs.ReceiveTurns as receive;
 
@@ -38,7 +39,7 @@ impl<T: Drop, S: Drop, A: Allocator + Copy> Batch<T, S, A> for FirstReceiveMany<
     type Answer = ManyNext<T, A>;
 
     ghost table = { λ batch made answer.
-        FirstTook batch.into.items made answer.into.items answer.next };
+        FirstManyTable batch.into.items made answer.into.items answer.next };
 
     ghost answers = { λ batch answer.
         receive.IsFirst answer.next × IsWithin batch.most answer.next };
@@ -80,7 +81,7 @@ impl<T: Drop, S: Drop, A: Allocator + Copy> Batch<T, S, A> for MoreReceives<T, A
     type Answer = (Vec<T, A>, usize);
 
     ghost table = { λ batch made answer.
-        Took batch.into.items made answer.0.items answer.1 };
+        MoreTable batch.into.items made answer.0.items answer.1 };
 
     ghost answers = { λ batch answer. (answer.1 ≤ batch.most)
         × (vec_len answer.0 ≡ vec_len batch.into + answer.1) };
@@ -116,7 +117,7 @@ where
 {
     type Answer = ManyNext<T, A>;
 
-    ghost table = { λ batch made answer. TookMore (C.step batch.turn) (C.table batch.turn)
+    ghost table = { λ batch made answer. AndMoreTable (C.step batch.turn) (C.table batch.turn)
         batch.into.items batch.more made answer.into.items answer.next };
 
     ghost answers = { λ batch answer. AnswersMore (C.answers batch.turn) batch.into

@@ -12,8 +12,9 @@ use std::collections::VecDeque;
 /// The first turns of the sends of these messages, in order, up to the first that isn't taken in.
 /// Each step is `Chan::try_send`. `Ok`: all were taken in. `Full`, `Disconnected`, `NoMemory`: the
 /// last step was answered so, and left the channel as it was. The error has the messages that
-/// weren't taken in, in their order, the refused one first. Of an empty list it makes no step. No
-/// memory but the channel's.
+/// weren't taken in, in their order, the refused one first. `NoMemory` comes only where the channel
+/// had no room for one more; where it had room for all of them it never comes. Of an empty list it
+/// makes no step. No memory but the channel's.
 ///
 /// ```
 /// let messages = VecDeque::from_vec(vec![in alloc; 1, 2, 3]?);
@@ -27,8 +28,7 @@ pub struct SendMany<T, A: Allocator> {
 }
 
 impl<T: Drop, S: Drop, A: Allocator + Copy> Batch<T, S, A> for SendMany<T, A> {
-    ghost use Rattle.std.specs.Prelude.{⊤};
-    ghost use Rattle.flume_calls.specs.ManySends.{SendsMany, LeavesRest};
+    ghost use Rattle.flume_calls.specs.ManySends.{SendsMany, LeavesRest, SendManyOutcome};
 
     type Answer = Result<(), TrySendError<VecDeque<T, A>>>;
 
@@ -36,7 +36,7 @@ impl<T: Drop, S: Drop, A: Allocator + Copy> Batch<T, S, A> for SendMany<T, A> {
 
     ghost answers = { λ batch. LeavesRest batch.messages.items };
 
-    ghost outcome = { λ _ _ _ _. ⊤ };
+    ghost outcome = { λ batch. SendManyOutcome batch.messages.items };
 
     #[inline(always)]
     fn apply(self, chan: &mut Chan<T, S, A>) -> Result<(), TrySendError<VecDeque<T, A>>> {

@@ -1,5 +1,5 @@
 //! A receive through a gate.
-ghost use Rattle.std.specs.Prelude.{◌≡◌, ◌≢◌, ℕ, Bool, true, Result, Err, is_some};
+ghost use Rattle.std.specs.Prelude.{◌≡◌, ◌≢◌, ◌⊎◌, ℕ, Bool, true, Result, Err, IfSome, is_some};
 ghost use Rattle.flume_calls.specs.declared.calls.receive.RecvNext.{RecvNext};
 ghost use Rattle.flume_calls.specs.ReceiveTurns.{IsFirst, IsParking, IsAgain};
 ghost use Rattle.flume_calls.specs.ReceiveGates.{got_or_no_memory, IsNeverRefused, EndsUnparked};
@@ -10,7 +10,8 @@ use flume_core::error::RecvTimeoutError::{self, NoMemory};
 use std::sync::Wait;
 
 /// What a blocking receive of messages `T` goes through. Each turn says by its relation what it
-/// does to the gate, from the gate before to the gate after, and what it answers.
+/// does to the gate, from the gate before to the gate after, and what it answers. What `arm` makes
+/// the gate keep, `is_armed`, the turns of a call that waits can rely on.
 pub trait RecvGate<T> {
     /// What the call waits on.
     type Waiter: Drop;
@@ -33,6 +34,9 @@ pub trait RecvGate<T> {
     // The gate before, the gate after, and the answer.
     ghost waits: { Self → Self → Bool → Type 0 };
 
+    // What holds of the gate from `arm` on until the call has ended.
+    ghost is_armed: { Self → Type 0 };
+
     /// The first turn, which doesn't park. `Done(Err(NoMemory))`: the channel wanted memory to give
     /// out a message that is there, and there was none.
     fn first(&mut self) -> RecvNext<T>
@@ -42,21 +46,29 @@ pub trait RecvGate<T> {
     /// Makes what the call waits on, and the signal that it leaves as it parks. `None`: there was
     /// no memory for them.
     fn arm(&mut self) -> Option<(Self::Waiter, Self::Signal)>
-        ensures does { arms self.old self.new (is_some result) };
+        ensures does { arms self.old self.new (is_some result) }
+        ensures armed { IfSome result (λ _. is_armed self.new) };
 
     /// The turn that parks the call where it can't end at once.
     fn park(&mut self, signal: Self::Signal) -> RecvNext<T>
+        requires armed { is_armed self.old }
         ensures does { parks self.old self.new result }
-        ensures answers { IsParking result };
+        ensures answers { IsParking result }
+        ensures armed { (ticket : ℕ) → result ≡ RecvNext.Park ticket → is_armed self.new };
 
     /// A turn of the parked call. Where it is late it ends the call.
     fn again(&mut self, call: RecvCall, late: bool) -> RecvNext<T>
+        requires armed { is_armed self.old }
         ensures does { agains self.old call late self.new result }
-        ensures answers { IsAgain call late result };
+        ensures answers { IsAgain call late result }
+        ensures armed { (ticket : ℕ)
+            → (result ≡ RecvNext.Park ticket) ⊎ (result ≡ RecvNext.Refused ticket)
+            → is_armed self.new };
 
     /// Waits for a wake or for the deadline. True, at once, where the deadline is reached.
     fn wait(&mut self, waiter: &Self::Waiter) -> bool
-        ensures does { waits self.old self.new result };
+        ensures does { waits self.old self.new result }
+        ensures armed { is_armed self.old → is_armed self.new };
 }
 
 /// A receive that waits. It parks where its first turn doesn't end it, and then asks and waits in
@@ -119,6 +131,7 @@ fn parked_receive<T: Drop, G: RecvGate<T>, R: Wait>(
     waiter: &G::Waiter,
     mut call: RecvCall,
 ) -> Result<T, RecvTimeoutError>
+    requires armed { G.is_armed gate.old }
     ensures run { ParkedReceive G.agains G.waits gate.old call gate.new result }
     ensures wants_no_memory { IsNeverRefused G.agains → result ≢ Err RecvTimeoutError.NoMemory }
 {
@@ -142,7 +155,8 @@ fn parked_receive<T: Drop, G: RecvGate<T>, R: Wait>(
 // A parked receive that was refused because memory ran out withdraws.
 #[inline(always)]
 fn withdrawn<T: Drop, G: RecvGate<T>>(gate: &mut G, call: RecvCall) -> Result<T, RecvTimeoutError>
-    ensures { (answer : Result T RecvTimeoutError)
+    requires armed { G.is_armed gate.old }
+    ensures withdraws { (answer : Result T RecvTimeoutError)
         × G.agains gate.old call true gate.new (RecvNext.Done answer)
         × (result ≡ got_or_no_memory answer) }
 {

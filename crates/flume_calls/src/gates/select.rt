@@ -114,8 +114,8 @@ enum RoundEnd {
 /// // the deadline is reached before either does:   Err(Timeout), and both were withdrawn
 /// ```
 pub fn select_over<R: Wait, G: SelectGate>(rt: &R, gate: &mut G) -> Result<usize, SelectError>
-    ensures run { WholeSelection G.makes (G.turns true) G.waits G.withdraws (G.count (G.kept gate.old))
-        (G.start (G.kept gate.old)) gate.old gate.new result }
+    ensures run { WholeSelection G.makes (G.turns true) G.waits G.withdraws
+        (G.count (G.kept gate.old)) (G.start (G.kept gate.old)) gate.old gate.new result }
     ensures completed { IfOk result (HasCompleted G.holds (G.count (G.kept gate.old)) gate.new) }
     ensures in_time { ((old new : G) → G.kept old ≡ G.kept gate.old → ¬ (G.waits old new true))
         → result ≢ Err SelectError.Timeout }
@@ -222,8 +222,8 @@ fn ended<G: SelectGate>(gate: &mut G, round: RoundEnd) -> Result<usize, SelectEr
 // have taken the message, and a further arm may be ready too. So which arm completes depends on the
 // channels and the start arm alone.
 fn round<G: SelectGate>(gate: &mut G, waiter: Option<&G::Waiter>) -> RoundEnd
-    ensures round { IsRound (G.turns (is_some waiter.entry)) (G.count (G.kept gate.old)) (G.start (G.kept gate.old))
-        gate.old gate.new result }
+    ensures round { IsRound (G.turns (is_some waiter.entry)) (G.count (G.kept gate.old))
+        (G.start (G.kept gate.old)) gate.old gate.new result }
     ensures completed { IfCompleted (HasCompleted G.holds (G.count (G.kept gate.old)) gate.new)
         result }
     ensures kept { G.kept gate.new ≡ G.kept gate.old }

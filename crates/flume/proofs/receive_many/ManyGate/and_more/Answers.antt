@@ -1,13 +1,13 @@
 -- What the turn leaves of the list, and how it answers.
-use Rattle.std.proofs.Common.{length, ap, arith}
-use Rattle.flume.specs.ManyCalls.{Asked}
-use Rattle.flume.proofs.ManyReceives.{grown, from_list}
+use Rattle.std.proofs.Common.{◌<◌, length, sym, ap, ◌∙◌, subst, arith, vec_len, vec_capacity}
+use Rattle.flume.specs.ManyCalls.{IsntDone}
+use Rattle.flume.proofs.ManyReceives.{grown, from_list, none_given}
 use Rattle.flume.proofs.receive_many.ManyGate.and_more.Goals as goal
 
 pub returns-clause-answers : goal.returns-clause-answers
 returns-clause-answers g c =
     let came = c.call_all-into.ensures.answers in
-    Asked came.first (length came.taken) came.answered came.gives.next_is
+    record { first = came.first; more = length came.taken; answered = came.answered; next_is = came.gives.next_is }
 
 pub returns-clause-grows : goal.returns-clause-grows
 returns-clause-grows g c =
@@ -16,3 +16,10 @@ returns-clause-grows g c =
     let next = c.call_all-into.result.next in
     from_list most _ _ _ next (ap (λ list. list.items) c.replace-into.ensures.value)
     (grown most _ _ _ came.taken came.first next (omega arith) came.gives)
+
+pub returns-clause-room : goal.returns-clause-room
+returns-clause-room g c waits =
+    let came = c.call_all-into.ensures.answers in
+    let none = none_given (length came.taken) came.first (subst IsntDone came.gives.next_is waits) in
+    let same = came.none_given none ∙ c.replace-into.ensures.value in
+    subst (λ list. vec_len list < vec_capacity list) (sym same) c.requires.room

@@ -1,6 +1,6 @@
 -- A first receive of many: what it made of the channel.
 use Rattle.std.proofs.Common.{◌∷◌, [], ◌++◌, refl, ap, ◌∙◌}
-use Rattle.flume_calls.specs.Batches.{NoSteps, Stepped}
+use Rattle.flume_calls.specs.Batches.{NoSteps, FirstStep}
 use Rattle.flume_calls.specs.ManyReceives.{NoRoom, None, Some}
 use Rattle.flume_calls.proofs.calls.receive_many.FirstReceiveManyBatch.apply.Goals as goal
 use Rattle.flume_calls.proofs.calls.receive_many.FirstReceiveManyBatch.apply.Goals.{in-Empty, in-Ended}
@@ -8,7 +8,7 @@ use Rattle.flume_calls.proofs.calls.receive_many.FirstReceiveManyBatch.apply.Goa
 pub returns-then-most-gt0-clause-batch : goal.returns-then-most-gt0-clause-batch
 returns-then-most-gt0-clause-batch g c = record {
   made = (_, c.try_recv.result) ∷ [];
-  led = Stepped c.try_recv.ensures.step c.try_recv.ensures.dues NoSteps;
+  led = FirstStep c.try_recv.ensures.step c.try_recv.ensures.dues NoSteps;
   answered = elim c.match-try_recv.branch [
     | in-Empty w ↦ rw (w.next-is, w.in-Empty.is) (None _ _ refl refl tt refl refl)
     | in-Ended w ↦ rw (w.next-is, w.in-Ended.is) (None _ _ refl refl tt refl refl)

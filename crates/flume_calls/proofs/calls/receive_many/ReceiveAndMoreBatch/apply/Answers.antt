@@ -1,6 +1,6 @@
 -- A turn, and what is taken behind it.
 use Rattle.std.proofs.Common.{[], refl}
-use Rattle.flume_calls.specs.Batches.{NoSteps, Stepped}
+use Rattle.flume_calls.specs.Batches.{NoSteps, FirstStep}
 use Rattle.flume_calls.proofs.ManyReceiving.{gives_none, gives_some, no_message}
 use Rattle.flume_calls.proofs.calls.receive_many.ReceiveAndMoreBatch.apply.Goals as goal
 
@@ -10,7 +10,7 @@ returns-in-Ok-clause-batch g c =
     let took = c.take_more-taken.ensures.took in
     record {
       made = _;
-      led = Stepped turn.stepped turn.dues took.led;
+      led = FirstStep turn.stepped turn.dues took.led;
       answered = record {
         reply = turn.reply;
         first = c.apply.result;
@@ -51,7 +51,7 @@ returns-in-Err-clause-batch g c =
     let none = c.in-Err.ensures.none in
     record {
       made = _;
-      led = Stepped turn.stepped turn.dues NoSteps;
+      led = FirstStep turn.stepped turn.dues NoSteps;
       answered = record {
         reply = turn.reply;
         first = c.apply.result;

@@ -1,8 +1,9 @@
 -- Each message is taken in and the batch goes on, or it stops there.
-use Rattle.std.proofs.Common.{◌≡◌, [], rules}
+use Rattle.std.proofs.Common.{◌≡◌, [], ◌∷◌, length, Some, refl, ap, ◌∙◌, arith, rules}
+use Rattle.flume_model.specs.declared.step.Reply.TheVariants.{NoMemory}
 use Rattle.flume_calls.specs.ManySends.{NoneLeft, IsFull, IsClosed, IsRefused}
 use Rattle.flume_calls.specs.Batches.{NoSteps}
-use Rattle.flume_calls.proofs.ManySends.{taken_in, one_step, all_left, first_sent}
+use Rattle.flume_calls.proofs.ManySends.{taken_in, one_step, all_left, first_sent, one_at_most, refused}
 use Rattle.flume_calls.proofs.calls.send_many.SendManyBatch.apply.Goals as goal
 
 pub loop-message-preserved : goal.loop-message-preserved
@@ -12,6 +13,12 @@ loop-message-preserved g c =
       from_here = λ new answer batch. c.loop-message.invariant.from_here new answer
           (rw items (taken_in c.in-Sent.ensures.step c.in-Sent.ensures.dues batch));
       rest = λ left is. c.loop-message.invariant.rest left (rw items (first_sent _ _ left is));
+      fits = λ space.
+          let before = c.loop-message.invariant.fits space in
+          let one : length c.loop-message.messages.items ≡ length (c.in-Some.message ∷ c.pop_front.new.self.items) = ap length items in
+          let more = one_at_most c.loop-message.chan c.try_send.new.self c.in-Some.message c.in-Sent.filled (c.in-Sent.ensures.sent c.in-Sent.filled refl) in
+          let kept = c.in-Sent.ensures.space in
+          omega arith;
     }
 
 pub returns-in-Full-clause-batch : goal.returns-in-Full-clause-batch
@@ -67,3 +74,12 @@ pub returns-clause-batch : goal.returns-clause-batch
 returns-clause-batch g c =
     let none : c.loop-message.messages.items ≡ [] = search rules in
     c.loop-message.invariant.from_here _ _ (record { made = _; led = NoSteps; answered = rw none NoneLeft })
+
+pub returns-in-NoMemory-Some-clause-outcome : goal.returns-in-NoMemory-Some-clause-outcome
+returns-in-NoMemory-Some-clause-outcome g c =
+    let comes = c.in-NoMemory-Some.ensures.comes in
+    let same : c.in-NoMemory-Some.back ≡ c.in-Some.message = cc in
+    let said = c.in-NoMemory-Some.is ∙ ap NoMemory (c.in-NoMemory-Some.field-0-is ∙ ap Some same) in
+    refused c.args.chan.now c.loop-message.chan c.try_send.new.self c.args.self.messages.items c.loop-message.messages.items _
+    (c.in-NoMemory-Some.ensures.unchanged tt) (λ space. c.try_send.ensures.succeeds space said)
+    (rw c.in-Some.ensures.items (omega arith)) c.loop-message.invariant.fits

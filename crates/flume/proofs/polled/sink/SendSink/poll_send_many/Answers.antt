@@ -1,0 +1,29 @@
+-- What one more poll leaves, and that the last of the list are left.
+use Rattle.std.proofs.Common.{◌≡◌, Some, Ok, inr, subst, rules}
+use Rattle.flume.specs.ManySendCalls.{PollLeaves}
+use Rattle.flume.proofs.ManySendCalls.{list_end, poll_end, past_send, past_ok, next_leaves}
+use Rattle.flume.proofs.polled.sink.SendSink.poll_send_many.Goals as goal
+
+pub returns-in-Some-clause-left : goal.returns-in-Some-clause-left
+returns-in-Some-clause-left g c = poll_end _ _ _ _ c.loop-answer.invariant.leaves
+
+pub returns-in-None-clause-left : goal.returns-in-None-clause-left
+returns-in-None-clause-left g c = poll_end _ _ _ _ c.loop-answer.invariant.leaves
+
+pub loop-answer-preserved : goal.loop-answer-preserved
+loop-answer-preserved g c =
+    let ok : c.loop-answer.answer ≡ Some (Ok tt) = search rules in
+    let kept = c.args.self.now.kept.send in
+    let all = c.args.messages.now.items in
+    let now = c.loop-answer.messages.items in
+    let next = c.poll_sends-answer-in-loop-answer.new.messages.items in
+    let result = c.poll_sends-answer-in-loop-answer.result in
+    let before = past_ok kept all now (subst (λ answer. PollLeaves kept all now answer) ok c.loop-answer.invariant.leaves) in
+    let over = c.loop-answer.invariant.finished (Ok tt) ok in
+    let leaves = past_send c.loop-answer.self.kept.send now next result over c.poll_sends-answer-in-loop-answer.ensures.leaves in
+    record {
+      leaves = inr (next_leaves all now next result (list_end all now (Some (Ok tt)) before) leaves);
+      finished = c.poll_sends-answer-in-loop-answer.ensures.finished;
+      registered = c.poll_sends-answer-in-loop-answer.ensures.registered;
+      kept = λ fact holds. c.poll_sends-answer-in-loop-answer.ensures.kept fact (c.loop-answer.invariant.kept fact holds);
+    }

@@ -1,0 +1,100 @@
+//! A poll that sends a list of messages.
+ghost use Rattle.std.specs.Prelude.{◌≡◌, ◌↔◌, ◌∷◌, ◌<◌, IsTrue, Some, None, Result, Ok};
+ghost use Rattle.std.specs.VecDeque.{deque_len};
+ghost use Rattle.futures.specs.Task.{Covers, Keeps};
+ghost use Rattle.flume_core.specs.declared.error.SendError.{SendError};
+ghost use Rattle.flume_calls.specs.declared.polled.send.PolledSend.TheVariants.{Finished};
+ghost use Rattle.flume.specs.ManySendCalls.{LeavesList, PollLeaves};
+
+use crate::shared::{Shared, SignalBell, Waits};
+use crate::signal::Signal;
+use crate::task::Task;
+use flume_calls::calls::SendMany;
+use flume_calls::locked::Locked;
+use flume_calls::polled::PolledSend;
+use flume_core::error::{SendError, TrySendError};
+use futures::task::Context;
+use std::alloc::Allocator;
+use std::collections::VecDeque;
+
+/// What is left of the list that a poll sends, and what the poll answers. `None`: it waits.
+pub(crate) type Sends<T, A> = (VecDeque<T, A>, Option<Result<(), SendError<T>>>);
+
+impl<T: Drop, R: Waits, A: Allocator + Copy> Shared<T, R, A> {
+    /// Polls the send as `poll` does. Once it has ended well the messages are sent, in order, as
+    /// many as the channel takes in, under the same lock. The first that finds no room is the
+    /// send's then, and is polled.
+    #[inline(never)]
+    pub(crate) fn poll_sends(
+        &self,
+        call: &mut PolledSend<T>,
+        task: &Task,
+        cx: &mut Context<'_>,
+        messages: VecDeque<T, A>,
+    ) -> Sends<T, A>
+        ensures leaves { PollLeaves call.old messages.items result.0.items result.1 }
+        ensures finished { (answer : Result (Unit {0}) (SendError T)) → result.1 ≡ Some answer
+            → call.new ≡ Finished }
+        ensures registered { result.1 ≡ None → Covers cx.new (λ s. s ≡ task.now.source.id) }
+        ensures kept { Keeps cx.old cx.new }
+    {
+        let mut guard = self.lock();
+        let locked = &mut *guard;
+        match self.poll_locked(locked, call, task, cx) {
+            Some(Ok(())) => self.poll_list(locked, call, task, cx, messages),
+            answer => (messages, answer),
+        }
+    }
+
+    // Sends the messages into a channel whose lock was taken, by a send that has ended.
+    fn poll_list(
+        &self,
+        locked: &mut Locked<T, Signal<A>, A>,
+        call: &mut PolledSend<T>,
+        task: &Task,
+        cx: &mut Context<'_>,
+        messages: VecDeque<T, A>,
+    ) -> Sends<T, A>
+        requires over { call.old ≡ Finished }
+        ensures leaves { LeavesList messages.items result.0.items result.1 }
+        ensures finished { (answer : Result (Unit {0}) (SendError T)) → result.1 ≡ Some answer
+            → call.new ≡ Finished }
+        ensures registered { result.1 ≡ None → Covers cx.new (λ s. s ≡ task.now.source.id) }
+        ensures kept { Keeps cx.old cx.new }
+    {
+        match locked.make_all(SendMany { messages }, &mut SignalBell { rt: self.rt }) {
+            Ok(()) => (VecDeque::new(self.alloc), Some(Ok(()))),
+            Err(TrySendError::Full(rest)) => {
+                let (first, behind) = parted(rest);
+                *call = PolledSend::Unsent(first);
+                (behind, self.poll_locked(locked, call, task, cx))
+            }
+            Err(TrySendError::Disconnected(rest)) => {
+                let (first, behind) = parted(rest);
+                (behind, Some(Err(SendError::Disconnected(first))))
+            }
+            Err(TrySendError::NoMemory(rest)) => {
+                let (first, behind) = parted(rest);
+                (behind, Some(Err(SendError::NoMemory(first))))
+            }
+        }
+    }
+}
+
+// The first of these messages, and the others.
+fn parted<T, A: Allocator>(mut messages: VecDeque<T, A>) -> (T, VecDeque<T, A>)
+    requires some { 0 < deque_len messages }
+    ensures items { messages.items ≡ result.0 ∷ result.1.items }
+{
+    let Some(first) = messages.pop_front() else {
+        unreachable!();
+    };
+    (first, messages)
+}
+
+/// Whether a poll answers that all is sent.
+pub(crate) fn is_sent<T>(answer: &Option<Result<(), SendError<T>>>) -> bool
+    ensures sent { IsTrue result ↔ (answer.now ≡ Some (Ok tt)) }
+{
+    matches!(answer, Some(Ok(())))
+}
