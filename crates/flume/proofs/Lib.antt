@@ -1,4 +1,5 @@
 mod InTime
+mod Made
 mod ManyReceives
 mod ManySendCalls
 pub mod Outlives

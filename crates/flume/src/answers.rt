@@ -37,23 +37,23 @@ pub(crate) fn tried_send<T: Drop>(turn: SendNext<T>) -> Result<(), TrySendError<
     }
 }
 
-/// What a tried send of many answers, by its batch. What is left goes to the front of the list that
+/// What a tried send of many answers, by its turn. What is left goes to the front of the list that
 /// it was taken from.
 pub(crate) fn tried_sends<T: Drop, A: Allocator>(
-    batch: Result<(), TrySendError<VecDeque<T, A>>>,
+    turn: Result<(), TrySendError<VecDeque<T, A>>>,
 ) -> Result<(), TrySendError<Vec<T, A>>>
-    ensures sent { (batch ≡ Ok tt) ↔ (result ≡ Ok tt) }
+    ensures sent { (turn ≡ Ok tt) ↔ (result ≡ Ok tt) }
     ensures full { (rest : Vec T A) → result ≡ Err (TrySendError.Full rest)
-        → (left : VecDeque T A) × (batch ≡ Err (TrySendError.Full left))
+        → (left : VecDeque T A) × (turn ≡ Err (TrySendError.Full left))
         × (rest.items ≡ left.items) }
     ensures disconnected { (rest : Vec T A) → result ≡ Err (TrySendError.Disconnected rest)
-        → (left : VecDeque T A) × (batch ≡ Err (TrySendError.Disconnected left))
+        → (left : VecDeque T A) × (turn ≡ Err (TrySendError.Disconnected left))
         × (rest.items ≡ left.items) }
     ensures no_memory { (rest : Vec T A) → result ≡ Err (TrySendError.NoMemory rest)
-        → (left : VecDeque T A) × (batch ≡ Err (TrySendError.NoMemory left))
+        → (left : VecDeque T A) × (turn ≡ Err (TrySendError.NoMemory left))
         × (rest.items ≡ left.items) }
 {
-    match batch {
+    match turn {
         Ok(()) => Ok(()),
         Err(TrySendError::Full(left)) => Err(TrySendError::Full(left.into_vec())),
         Err(TrySendError::Disconnected(left)) => Err(TrySendError::Disconnected(left.into_vec())),

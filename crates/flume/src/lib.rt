@@ -18,8 +18,8 @@
 //!
 //! # Bounded channels
 //!
-//! `flume::on(rt).bounded(n)` opens a channel that holds at most `n` messages. When it is full,
-//! `send` waits for room, and `try_send` hands its message back.
+//! `flume::on(rt).bounded(n)` opens a channel with room for `n` queued messages. When it is full,
+//! and no receiver waits, `send` waits for room, and `try_send` hands its message back.
 //!
 //! ```
 //! let (tx, _rx) = flume::on(rt).bounded(1)?;
@@ -43,8 +43,8 @@
 //!
 //! When the last sender is dropped, receivers still get the queued messages, and then
 //! `Disconnected`. When the last receiver is dropped, a send answers `Disconnected` with its
-//! message. A loop over a receiver ends then; `fault` of its iterator says whether it ended early,
-//! since an allocation failed.
+//! message. After the last sender's drop, a loop over a receiver ends once no message is left;
+//! `ended` of its iterator is an error if it ended early because an allocation failed.
 //!
 //! ```
 //! let (tx, rx) = flume::on(rt).unbounded()?;
@@ -77,7 +77,7 @@
 //! ```
 //!
 //! The repository's docs/USING.md has more recipes, its README.md says what is proved. The crate
-//! also gives the names of `flume_core`, `check_history`, and most of `flume_calls`, `flume_audit`
+//! also gives the names of `flume_core`, and some of `flume_calls`, `flume_audit`, `flume_history`
 //! and `flume_script`.
 #![tactic(auto)]
 

@@ -3,11 +3,10 @@ ghost use Rattle.std.specs.Prelude.{◌≡◌, ◌+◌, ◌<◌, None, vec_len, 
 ghost use Rattle.futures.specs.Task.{Covers, Keeps};
 ghost use Rattle.flume.specs.ManyCalls.{PollGrows};
 ghost use Rattle.flume.specs.Polling.{HasPolled};
-ghost use Rattle.flume.specs.Turning.{HasMade, HasMadeAll};
+ghost use Rattle.flume.specs.Turning.{HasDone};
 
 use crate::signal::{Parker, Signal, YIELDS};
 use crate::task::Task;
-use flume_calls::batch::Batch;
 use flume_calls::calls::MoreReceives;
 use flume_calls::due::Bell;
 use flume_calls::locked::Locked;
@@ -33,19 +32,19 @@ pub trait Waits: Wait + Clock + Copy {}
 
 impl<R: Wait + Clock + Copy> Waits for R {}
 
-// The most messages that count as few.
+// The greatest capacity that counts as small.
 const SPIN_CAPACITY: u64 = 4;
 
-// What an unbounded channel holds, as a number: no bounded one holds more.
+// The capacity of an unbounded channel, as a number: no bounded one has more.
 const UNBOUNDED: u64 = u64::MAX;
 
 // How often a call checks for its wake, at the most.
 const CHECKS: u32 = 220;
 
-// How long a call pauses where the channel holds few messages.
+// How long a call pauses at a small capacity.
 const FEW_PAUSES: u32 = 70;
 
-// How long it pauses where the channel holds many.
+// How long it pauses at a greater one.
 const PAUSES: u32 = 300;
 
 // How a call that is to wait spends its first moments, so that it seldom has to sleep: a sleep and
@@ -59,10 +58,10 @@ struct Backoff {
 }
 
 impl Backoff {
-    // Where the channel holds none each call meets another one, so it parks and checks. Where it
-    // holds few, it lets one come, or go, before it asks again, and once it has parked it checks.
-    // Where it holds many it lets them gather, or go, for longer, and once it has parked it only
-    // lets other threads run. Where it holds any number neither served.
+    // At capacity 0 each call meets another one, so it parks and checks. At a small capacity it lets
+    // one message come, or go, before it asks again, and once it has parked it checks. At a greater
+    // one it lets them gather, or go, for longer, and once it has parked it only lets other threads
+    // run. On an unbounded channel neither served.
     fn of(capacity_hint: u64) -> Backoff {
         let (pauses, checks) = if capacity_hint == 0 {
             (0, CHECKS)
@@ -113,8 +112,8 @@ pub(crate) struct Shared<T, R: Waits, A: Allocator + Copy = Global> {
     pub(crate) id: u64,
     pub(crate) rt: R,
     pub(crate) alloc: A,
-    // How many messages the channel holds now. Written under its lock, and read without: how a call
-    // spends its first moments goes by it.
+    // The capacity in force, or `UNBOUNDED`. Written under the channel's lock, and read without: how
+    // a call spends its first moments goes by it.
     capacity_hint: AtomicU64,
 }
 
@@ -198,7 +197,7 @@ impl<T: Drop, R: Waits, A: Allocator + Copy> Shared<T, R, A> {
     #[inline(always)]
     pub(crate) fn call<C: Turn<T, Signal<A>, A>>(&self, turn: C) -> C::Answer
         ensures answers { C.answers turn result }
-        ensures made { HasMade (C.step turn) (C.table turn) result }
+        ensures made { HasDone A (C.does turn) result }
     {
         let mut guard = self.lock();
         let locked = &mut *guard;
@@ -224,21 +223,18 @@ impl<T: Drop, R: Waits, A: Allocator + Copy> Shared<T, R, A> {
     #[inline(never)]
     pub(crate) fn call_cold<C: Turn<T, Signal<A>, A>>(&self, turn: C) -> C::Answer
         ensures answers { C.answers turn result }
-        ensures made { HasMade (C.step turn) (C.table turn) result }
+        ensures made { HasDone A (C.does turn) result }
     {
         self.call(turn)
     }
 
-    /// Makes the steps of the batch under one lock, and then fires what they made due.
+    /// Makes a turn of several steps under one lock, in code of its own.
     #[inline(never)]
-    pub(crate) fn call_all<C: Batch<T, Signal<A>, A>>(&self, batch: C) -> C::Answer
-        ensures answers { C.answers batch result }
-        ensures made { HasMadeAll (C.table batch) result }
+    pub(crate) fn call_all<C: Turn<T, Signal<A>, A>>(&self, turn: C) -> C::Answer
+        ensures answers { C.answers turn result }
+        ensures made { HasDone A (C.does turn) result }
     {
-        let mut guard = self.lock();
-        let locked = &mut *guard;
-        locked.facts();
-        locked.make_all(batch, &mut SignalBell { rt: self.rt })
+        self.call(turn)
     }
 
     /// Polls the call under the lock, and fires what that made due. Where it has to wait, the
@@ -303,8 +299,8 @@ impl<T: Drop, R: Waits, A: Allocator + Copy> Shared<T, R, A> {
         match self.poll_locked(locked, call, task, cx) {
             Some(Ok(message)) => {
                 into.push_reserved(message);
-                let batch = MoreReceives { into, most: more };
-                let (into, taken) = locked.make_all(batch, &mut SignalBell { rt: self.rt });
+                let turn = MoreReceives { into, most: more };
+                let (into, taken) = locked.make(turn, &mut SignalBell { rt: self.rt });
                 (into, Some(Ok(taken + 1)))
             }
             Some(Err(error)) => (into, Some(Err(error))),

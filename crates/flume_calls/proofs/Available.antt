@@ -1,5 +1,5 @@
 -- While a message is queued or blocked there is a front, and taking it leaves one less.
-use Rattle.std.proofs.Common.{◌≡◌, ℕ, ◌+◌, ◌<◌, Bool, not, true, false, if◌then◌else◌, List, [], ◌∷◌, ◌++◌, length, map, refl, sym, ap, ◌∙◌, subst}
+use Rattle.std.proofs.Common.{◌≡◌, ℕ, ◌+◌, ◌<◌, Bool, not, true, false, if◌then◌else◌, List, [], ◌∷◌, ◌++◌, length, refl, sym, ap, ◌∙◌, subst}
 use Rattle.std.proofs.Common.{arith}
 use Rattle.std.proofs.lemmas.List.{length-append, map-append, append_assoc}
 use Rattle.flume_model.specs.Limits.{is_full}
@@ -13,7 +13,7 @@ use Rattle.flume_state.specs.Effects.{with_front, with_front_of, after_admission
 use Rattle.flume_state.specs.Due.{BecomesDue}
 use Rattle.flume_core.specs.Represents.{Extends, IsReachable}
 use Rattle.flume_calls.specs.Batches.{StepsBetween, NoSteps, FirstStep}
-use Rattle.flume_calls.specs.ManyReceives.{Takes, each_got}
+use Rattle.flume_calls.specs.ManyReceives.{Takes}
 
 module _ {T S : Type 0} where
   -- where a message stands there is a front

@@ -10,7 +10,7 @@ use Rattle.std.specs.Ordering.{nat_cmp, eq_by_cmp}
 use Rattle.flume_state.specs.declared.sends.LiveSend.{LiveSend}
 use Rattle.flume_state.specs.Notices.{no_longer_due}
 use Rattle.flume_state.specs.Sends.{SendMap, noticed_send, send_due_in, is_due_send}
-use Rattle.flume_state.specs.Receivers.{Entries, NamesReceiver}
+use Rattle.flume_state.specs.Receivers.{EntryList, NamesReceiver}
 use Rattle.flume_state.proofs.SendsLaws.{get-changed_same, get-changed_other}
 use Rattle.flume_state.specs.State.{State}
 use Rattle.flume_calls.specs.Rings.{send_not_due}
@@ -85,17 +85,17 @@ module _ {S : Type 0} where
 
 module _ {T S : Type 0} where
   -- how many parked receivers are due
-  abbrev pub due_entries : Entries T S → ℕ
+  abbrev pub due_entries : EntryList T S → ℕ
   due_entries [] = 0
   due_entries (e ∷ entries) = cond e.notice.due 1 0 + due_entries entries
 
   -- as many are due in two lists as in the one and in the other
-  due_entries-append : (some others : Entries T S) → due_entries (some ++ others) ≡ due_entries some + due_entries others
+  due_entries-append : (some others : EntryList T S) → due_entries (some ++ others) ≡ due_entries some + due_entries others
   due_entries-append [] others = omega arith
   due_entries-append (e ∷ some) others = omega (arith, due_entries-append some others)
 
   -- where one is told, one less is due
-  due_entries_less : (old new : Entries T S) (t : ℕ) → NamesReceiver old new t → due_entries new < due_entries old
+  due_entries_less : (old new : EntryList T S) (t : ℕ) → NamesReceiver old new t → due_entries new < due_entries old
   due_entries_less old new t tells =
       let e = tells.entry in
       let before = due_entries-append tells.before (e ∷ tells.later) in

@@ -11,7 +11,7 @@ use Rattle.flume_state.specs.declared.notice.Notice.{Notice}
 use Rattle.flume_state.specs.declared.sends.LiveSend.{LiveSend}
 use Rattle.flume_state.specs.Notices.{no_longer_due}
 use Rattle.flume_state.specs.Sends.{SendMap, noticed_send, send_due_in, NoDueSend}
-use Rattle.flume_state.specs.Receivers.{Entries, NoDueReceiver}
+use Rattle.flume_state.specs.Receivers.{EntryList, NoDueReceiver}
 use Rattle.flume_state.proofs.SendsLaws.{get-changed_same, get-changed_other}
 use Rattle.flume_state.specs.State.{State}
 use Rattle.flume_state.specs.Signals.{Names, Send, Receive, signal_of, signal_or}
@@ -56,11 +56,11 @@ module _ {S : Type 0} where
 
 module _ {T S : Type 0} where
   -- the signal of the first entry with a ticket
-  abbrev entry_signal : ℕ → Entries T S → Option S
+  abbrev entry_signal : ℕ → EntryList T S → Option S
   entry_signal t entries = option_map (λ e. e.notice.signal) (entry_of t entries)
 
   -- telling an entry keeps each ticket's signal
-  signal_kept : (before : Entries T S) (e : Entry T (Notice S)) (later : Entries T S) (t : ℕ)
+  signal_kept : (before : EntryList T S) (e : Entry T (Notice S)) (later : EntryList T S) (t : ℕ)
       → entry_signal t (before ++ receiver_not_due e ∷ later) ≡ entry_signal t (before ++ e ∷ later)
   signal_kept [] e later t =
       elim (eqb e.ticket t) as (λ b. option_map (λ e. e.notice.signal) (cond b (Some (receiver_not_due e)) (entry_of t later))
@@ -71,7 +71,7 @@ module _ {T S : Type 0} where
       [ true ↦ refl | false ↦ signal_kept before e later t ]
 
   -- one that is parked has a signal
-  parked_signal : (before : Entries T S) (e : Entry T (Notice S)) (later : Entries T S)
+  parked_signal : (before : EntryList T S) (e : Entry T (Notice S)) (later : EntryList T S)
       → (signal : S) × (entry_signal e.ticket (before ++ e ∷ later) ≡ Some signal)
   parked_signal [] e later =
       let same : eqb e.ticket e.ticket ≡ true = eq-eqb e.ticket e.ticket refl in (e.notice.signal, rw same refl)
@@ -81,7 +81,7 @@ module _ {T S : Type 0} where
       [ true ↦ (x.notice.signal, refl) | false ↦ parked_signal before e later ]
 
   -- an entry that is found in the list so has a signal
-  found_signal : (entries before : Entries T S) (e : Entry T (Notice S)) (later : Entries T S) (t : ℕ)
+  found_signal : (entries before : EntryList T S) (e : Entry T (Notice S)) (later : EntryList T S) (t : ℕ)
       → entries ≡ before ++ e ∷ later → e.ticket ≡ t → (signal : S) × (entry_signal t entries ≡ Some signal)
   found_signal entries before e later t found is =
       let parked = parked_signal before e later in (parked.0, rw (found, ← is) parked.1)
@@ -120,7 +120,7 @@ module _ {T S : Type 0} where
       let there : signal_of old t ≡ Some signal.0 = signal.1 in absurd (let none : ⊥ = cc in none)
 
   -- a state that is another but for its sends and entries is so with its own ones
-  rest_from : (old named : State T S) (m : SendMap S) (es : Entries T S) → named ≡ record old { sends = m; entries = es }
+  rest_from : (old named : State T S) (m : SendMap S) (es : EntryList T S) → named ≡ record old { sends = m; entries = es }
       → named ≡ record old { sends = named.sends; entries = named.entries }
   rest_from old named m es e =
       let back = sym e in e ∙ (λ i. record old { sends = (back i).sends; entries = (back i).entries })
@@ -154,7 +154,7 @@ module _ {T S : Type 0} where
       }
 
   -- telling changes no entry that isn't due
-  idle_entries : (entries : Entries T S) → NoDueReceiver entries → entries ≡ map receiver_not_due entries
+  idle_entries : (entries : EntryList T S) → NoDueReceiver entries → entries ≡ map receiver_not_due entries
   idle_entries [] idle = refl
   idle_entries (e ∷ entries) idle =
       let first : e ≡ receiver_not_due e =

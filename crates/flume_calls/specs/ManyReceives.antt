@@ -83,17 +83,6 @@ module _ {T A : Type 0} where
     NoRoom : made ≡ [] → after ≡ before → next ≡ Done (Err NoMemory)
         → FirstManyTable before made after next
 
-  -- the table of a batch that begins with a turn of this step and this table
-  pub record AndMoreTable (step : Step T) (table : Reply T A → RecvNext T → Type 0)
-      (before : List T) (more : ℕ) (made : List (Step T × Reply T A)) (after : List T)
-      (next : RecvNext ℕ) : Type 0 where
-    pub reply : Reply T A
-    pub first : RecvNext T
-    pub taken : List T
-    pub answered : table reply first
-    pub steps : made ≡ (step, reply) ∷ each_got taken
-    pub gives : Gives before more first taken after next
-
 module _ {T A : Type 0} where
   -- So many were taken of those that were there: all, at most so many, or as many as the list has
   -- room for, where there was no memory for more room.
@@ -125,14 +114,16 @@ module _ {T S A : Type 0} where
         × (vec_capacity into < vec_len into + min most (message_count old))
     pub unchanged : IsNone next → new ≡ old
 
-  -- a turn with these outcomes, and then what else is there, at most so many
-  pub record MoreOutcome (outcomes : State T S → State T S → RecvNext T → Type 0)
-      (before : Vec T A) (more : ℕ) (old new : State T S) (after : Vec T A) (next : RecvNext ℕ)
-      : Type 0 where
+module _ {T S : Type 0} (A : Type 0) where
+  -- A turn that does this, and then, where it gave a message, what else is there, at most so many:
+  -- each by a `try_recv`, and put behind what was there before.
+  pub record AndMore (does : State T S → State T S → RecvNext T → Type 0) (before : Vec T A)
+      (more : ℕ) (old new : State T S) (after : Vec T A) (next : RecvNext ℕ) : Type 0 where
     pub between : State T S
     pub first : RecvNext T
     pub taken : List T
-    pub outcome : outcomes old between first
+    pub turn : does old between first
+    pub led : StepsBetween {A = A} between (each_got taken) new
     pub gives : Gives before.items more first taken after.items next
     pub none_behind : given first ≡ [] → new ≡ between
     pub all_behind : (message : T) → first ≡ Done (Ok message)

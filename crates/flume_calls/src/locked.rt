@@ -9,10 +9,9 @@ ghost use Rattle.flume_state.specs.State.{State, new_state};
 ghost use Rattle.flume_state.specs.Signals.{signal_of};
 ghost use Rattle.flume_core.specs.Represents.{IsReachable};
 ghost use Rattle.flume_core.specs.StateFacts.{ChannelFacts};
-ghost use Rattle.flume_calls.specs.AtRest.{IsAtRest, IsCall, IsBatchCall};
+ghost use Rattle.flume_calls.specs.AtRest.{IsAtRest, IsCall};
 ghost use Rattle.flume_calls.specs.Polls.{IsPollCall};
 
-use crate::batch::Batch;
 use crate::due::{Bell, fire_due};
 use crate::polled::Polled;
 use crate::turn::Turn;
@@ -78,23 +77,10 @@ impl<T: Drop, S: Drop, A: Allocator + Copy> Locked<T, S, A> {
     /// Makes the turn, and rings once for each ticket that is due then.
     #[inline(always)]
     pub fn make<C: Turn<T, S, A>, B: Bell<S>>(&mut self, turn: C, bell: &mut B) -> C::Answer
-        ensures call { IsCall {A = A} B.rings (C.step turn) (C.table turn) (C.outcome turn)
-            self.old bell.old self.new bell.new result }
+        ensures call { IsCall A B.rings (C.does turn) self.old bell.old self.new bell.new result }
         ensures answers { C.answers turn result }
     {
         let answer = turn.apply(&mut self.chan);
-        fire_due(&mut self.chan, bell);
-        answer
-    }
-
-    /// Makes the steps of the batch, and then rings once for each ticket that is due then.
-    #[inline(always)]
-    pub fn make_all<C: Batch<T, S, A>, B: Bell<S>>(&mut self, batch: C, bell: &mut B) -> C::Answer
-        ensures call { IsBatchCall {A = A} B.rings (C.table batch) (C.outcome batch)
-            self.old bell.old self.new bell.new result }
-        ensures answers { C.answers batch result }
-    {
-        let answer = batch.apply(&mut self.chan);
         fire_due(&mut self.chan, bell);
         answer
     }

@@ -1,4 +1,6 @@
 //! The turns that are a call of their own: nobody waits for what they do.
+ghost use Rattle.flume_calls.specs.Turns.{Turned};
+ghost use Rattle.flume_calls.specs.Batches.{by_step};
 
 use crate::turn::Turn;
 use flume_core::chan::Chan;
@@ -29,13 +31,13 @@ impl<T: Drop, S: Drop, A: Allocator + Copy> Turn<T, S, A> for Single {
 
     type Answer = Reply<T, A>;
 
-    ghost step = { step_of };
+    ghost does = { λ turn old new answer.
+        Turned {A = A} (step_of turn) (λ reply told. told ≡ reply) old new answer
+        × (ChangesNothing (step_of turn) answer → new ≡ old) };
 
-    ghost table = { λ _ reply answer. answer ≡ reply };
+    ghost leads = { λ _ old new answer does. by_step does.0 };
 
     ghost answers = { λ turn. PossibleReply (step_of turn) };
-
-    ghost outcome = { λ turn old new reply. ChangesNothing (step_of turn) reply → new ≡ old };
 
     fn apply(self, chan: &mut Chan<T, S, A>) -> Reply<T, A> {
         match self {
@@ -66,13 +68,12 @@ impl<T: Drop, S: Drop, A: Allocator + Copy> Turn<T, S, A> for AskNumber {
 
     type Answer = usize;
 
-    ghost step = { step_for_number };
+    ghost does = { λ turn old new answer. Turned {A = A} (step_for_number turn)
+        (λ reply number. reply ≡ Number number) old new answer × (new ≡ old) };
 
-    ghost table = { λ _ reply number. reply ≡ Number number };
+    ghost leads = { λ _ old new answer does. by_step does.0 };
 
     ghost answers = { λ _ _. Unit {0} };
-
-    ghost outcome = { λ _ old new _. new ≡ old };
 
     fn apply(self, chan: &mut Chan<T, S, A>) -> usize {
         let reply = match self {
@@ -105,13 +106,12 @@ impl<T: Drop, S: Drop, A: Allocator + Copy> Turn<T, S, A> for AskTruth {
 
     type Answer = bool;
 
-    ghost step = { step_for_truth };
+    ghost does = { λ turn old new answer. Turned {A = A} (step_for_truth turn)
+        (λ reply truth. reply ≡ Truth truth) old new answer × (new ≡ old) };
 
-    ghost table = { λ _ reply truth. reply ≡ Truth truth };
+    ghost leads = { λ _ old new answer does. by_step does.0 };
 
     ghost answers = { λ _ _. Unit {0} };
-
-    ghost outcome = { λ _ old new _. new ≡ old };
 
     fn apply(self, chan: &mut Chan<T, S, A>) -> bool {
         let reply = match self {
@@ -137,13 +137,12 @@ impl<T: Drop, S: Drop, A: Allocator + Copy> Turn<T, S, A> for AskCapacity {
 
     type Answer = Option<usize>;
 
-    ghost step = { λ _. AskForCapacity };
+    ghost does = { λ _ old new answer. Turned {A = A} AskForCapacity
+        (λ reply capacity. reply ≡ Capacity capacity) old new answer × (new ≡ old) };
 
-    ghost table = { λ _ reply capacity. reply ≡ Capacity capacity };
+    ghost leads = { λ _ old new answer does. by_step does.0 };
 
     ghost answers = { λ _ _. Unit {0} };
-
-    ghost outcome = { λ _ old new _. new ≡ old };
 
     fn apply(self, chan: &mut Chan<T, S, A>) -> Option<usize> {
         match chan.capacity() {
@@ -168,13 +167,13 @@ impl<T: Drop, S: Drop, A: Allocator + Copy> Turn<T, S, A> for SetCapacity {
 
     type Answer = Result<(), CapacityError>;
 
-    ghost step = { λ turn. step.SetCapacity turn.capacity };
+    ghost does = { λ turn old new answer.
+        Turned {A = A} (step.SetCapacity turn.capacity) after_set_capacity old new answer
+        × OnErr answer (new ≡ old) };
 
-    ghost table = { λ _. after_set_capacity };
+    ghost leads = { λ _ old new answer does. by_step does.0 };
 
     ghost answers = { λ _ _. Unit {0} };
-
-    ghost outcome = { λ _ old new answer. OnErr answer (new ≡ old) };
 
     fn apply(self, chan: &mut Chan<T, S, A>) -> Result<(), CapacityError> {
         match chan.set_capacity(self.capacity) {

@@ -1,26 +1,13 @@
--- What is found at a place of a chain, where its last element stands, and what room is left once it was cleared.
-use Rattle.std.proofs.Common.{◌≡◌, ◌≢◌, ℕ, ◌+◌, ◌≤◌, List, [], ◌∷◌, ◌++◌, Some, map, length, refl, ap, ◌∙◌, arith}
+-- What is found at a place of a chain, and what room is left once it was cleared.
+use Rattle.std.proofs.Common.{◌≡◌, ℕ, ◌+◌, ◌≤◌, length, ap, ◌∙◌, arith}
 use Rattle.std.specs.Option.{option_map}
 use Rattle.std.specs.Vec.{vec_capacity}
 use Rattle.flume_chain.specs.declared.chain.links.Links.{Links}
 use Rattle.flume_chain.specs.declared.labelled.Labelled.{Labelled}
-use Rattle.flume_chain.specs.Links.{end, previous_at, element_at}
-use Rattle.flume_chain.specs.Chained.{times, Placed, Chained, IsChain, places, found, last_or, last_place, table_of, chain_of, room_of}
+use Rattle.flume_chain.specs.Links.{element_at}
+use Rattle.flume_chain.specs.Chained.{times, Chained, IsChain, places, found, table_of, chain_of, room_of}
 use Rattle.flume_chain.proofs.Tables.{ring_of}
 use Rattle.flume_chain.proofs.Kept.{kept_items}
-
-module _ {E : Type 0} where
-  -- what is before the end is the last of some places, or what is before the first of them
-  last_before : (g : ℕ → ℕ) (p : ℕ) (xs : List (Placed E)) → map g (places xs ++ end ∷ []) ≡ p ∷ places xs → g end ≡ last_or p xs
-  last_before g p [] h = cc
-  last_before g p (x ∷ xs) h =
-      let tails : map g (places xs ++ end ∷ []) ≡ x.place ∷ places xs = cc in
-      last_before g x.place xs tails
-
-  -- what is before the end is the place of the last element
-  last_of : (g : ℕ → ℕ) (items : List (Placed E)) → items ≢ [] → map g (places items ++ end ∷ []) ≡ end ∷ places items → Some (g end) ≡ last_place items
-  last_of g [] ne h = absurd (ne refl)
-  last_of g (x ∷ xs) ne h = ap Some (last_before g end (x ∷ xs) h)
 
 module _ {L E Z : Type 0} where
   -- what a node holds is what is found at its place
@@ -39,12 +26,6 @@ module _ {L E Z : Type 0} where
       let most = ring.apart j in
       let same = ap (λ l. times j (places l)) (kept_items s n v k is) in
       omega arith
-
-  -- the last place of the links is that of the last element
-  pub last_kept : (s : Links L E Z) (n : ℕ) (v : Chained (Labelled L E)) (k : IsChain s n) → n ≢ 0 → chain_of s n ≡ v → Some s.last ≡ last_place v.items
-  last_kept s n v k ne is =
-      last_of (previous_at s) k.items (λ e. ne (k.count ∙ ap length e)) k.holds.backward
-      ∙ ap last_place (kept_items s n v k is)
 
   -- once all elements were dropped, there is room for as many more as stood
   pub cleared_room : (old new : Links L E Z) (n : ℕ) (v : Chained (Labelled L E)) (k : IsChain old n) → vec_capacity new.nodes ≡ vec_capacity old.nodes

@@ -1,5 +1,5 @@
 -- What is known of the links of a chain, and what each call leaves of them.
-use Rattle.std.proofs.Common.{◌≡◌, ◌≢◌, ℕ, ◌-◌, ◌<◌, ◌≤◌, ◌==◌, min, List, [], ◌∷◌, ◌++◌, Option, Some, None, map, length, refl, sym, ap, subst, ◌∙◌, inl, inr, arith, if◌then◌else◌}
+use Rattle.std.proofs.Common.{◌≡◌, ◌≢◌, ℕ, ◌+◌, ◌-◌, ◌<◌, ◌≤◌, ◌==◌, min, List, [], ◌∷◌, ◌++◌, Option, Some, None, length, length-append, refl, sym, ap, subst, ◌∙◌, inl, inr, arith, if◌then◌else◌}
 use Rattle.std.proofs.lemmas.Bool.{cases_Bool, cases_lt, eqb-true}
 use Rattle.std.specs.Option.{option_map}
 use Rattle.std.specs.Vec.{vec_len}
@@ -7,10 +7,10 @@ use Rattle.std.proofs.lemmas.List.{map-append, get_or_past}
 use Rattle.flume_chain.specs.declared.chain.links.Links.{Links}
 use Rattle.flume_chain.specs.declared.labelled.Labelled.{Labelled}
 use Rattle.flume_chain.specs.Links.{end, no_node, element_of, with, next_at, previous_at, element_at, Linked, Same}
-use Rattle.flume_chain.specs.Chained.{once, times, Placed, Chained, Table, Holds, IsChain, places, without, put_before, walk, table_of, chain_of, first_place, behind_first, place_after}
+use Rattle.flume_chain.specs.Chained.{once, times, Placed, Chained, Table, Holds, IsChain, places, without, put_before, walk, table_of, room_of, chain_of, first_place, place_after}
 use Rattle.flume_chain.proofs.Rings.{Ring, times-append, once_same}
 use Rattle.flume_chain.proofs.Splices.{around}
-use Rattle.flume_chain.proofs.Tables.{item, walk_is, Split, found_some, without_at, without_first, put_before_at, after_at, heads, ring_of}
+use Rattle.flume_chain.proofs.Tables.{item, walk_is, Split, found_some, without_at, put_before_at, after_at, heads, ring_of}
 use Rattle.flume_chain.proofs.Steps.{linked_table, emptied, bypassed, none_free, ring_below, takes}
 
 module _ {X : Type 0} where
@@ -38,11 +38,6 @@ module _ {X Y : Type 0} where
   missing f (Some x) h = absurd (let no : ⊥ = cc in no)
 
 module _ {E : Type 0} where
-  -- the place after `end` is that of the first element
-  first_of : (f : ℕ → ℕ) (items : List (Placed E)) → items ≢ [] → map f (end ∷ places items) ≡ places items ++ end ∷ [] → Some (f end) ≡ first_place items
-  first_of f [] ne h = absurd (ne refl)
-  first_of f (x ∷ xs) ne h = let e : f end ≡ x.place = cc in ap Some e
-
   -- the places beside that of an element are the end or below the size
   pub record Neighbours (t : Table E) (c : ℕ) : Type 0 where
     pub next : t.next c ≢ end → t.next c < t.size
@@ -198,10 +193,6 @@ module _ {L E Z : Type 0} where
       let o = once_same c in
       ap (λ (l : List (Placed (Labelled L E))). without l c) r.is ∙ without_at r.before r.after c e (omega arith) (omega arith)
 
-  -- the first place of the links is that of the first element
-  pub first_kept : (s : Links L E Z) (n : ℕ) (k : IsChain s n) → n ≢ 0 → Some s.first ≡ first_place k.items
-  first_kept s n k ne = first_of (next_at s) k.items (λ e. ne (k.count ∙ ap length e)) k.holds.forward
-
   -- links with no nodes are of no elements
   pub new_kept : (s : Links L E Z) → vec_len s.nodes ≡ 0 → s.first ≡ end → s.last ≡ end → s.free ≡ end → IsChain s 0
   new_kept s size first last free = record {
@@ -245,8 +236,51 @@ module _ {L E Z : Type 0} where
         )
   ]
 
-  -- without the first place of the links those behind the first element are left
-  pub first_behind : (s : Links L E Z) (n : ℕ) (k : IsChain s n) → n ≢ 0 → without k.items s.first ≡ behind_first k.items
-  first_behind s n k ne =
-      let ring = ring_of (table_of s) k.items k.frees k.holds in
-      without_first k.items s.first (λ x. let a = ring.apart x in omega arith) (first_kept s n k ne)
+-- links of n elements, where that at a place was taken out of its node
+module _ {L E Z : Type 0} (old mid : Links L E Z) (n c : ℕ) (e : Labelled L E) (k : IsChain old n) (is : Some e ≡ element_at old c)
+    (emptied_is : Linked old mid (next_at old) (previous_at old) (with (element_at old) c None) old.free) where
+  split : Split k.items c e
+  split = found_split old k.items k.frees c e k.holds is
+
+  -- the places beside it
+  pub beside_emptied : Neighbours (table_of mid) c
+  beside_emptied = beside_taken old mid k.items k.frees c e split k.holds emptied_is
+
+  -- as many as there were, but one
+  one_fewer : n - 1 ≡ length (split.before ++ split.after)
+  one_fewer =
+      let a = length-append split.before split.after in
+      let b = length-append split.before (item c e ∷ split.after) in
+      let l = ap length split.is in
+      let m = k.count in
+      omega arith
+
+  module _ (new : Links L E Z) (bypassed_is : Bypassed mid new c) where
+    left_holds : Holds (table_of new) (split.before ++ split.after) (c ∷ k.frees)
+    left_holds = take_holds old mid new k.items k.frees c e split k.holds emptied_is bypassed_is
+
+    -- once the place is out of the links, they are of the others
+    pub left_kept : IsChain new (n - 1)
+    left_kept = record { items = split.before ++ split.after; frees = c ∷ k.frees; holds = left_holds; count = one_fewer }
+
+    -- in their order
+    pub left_items : (v : Chained (Labelled L E)) → chain_of old n ≡ v → walk (table_of new) new.first (n - 1) ≡ without v.items c
+    left_items v view =
+        walked new (n - 1) (split.before ++ split.after) (c ∷ k.frees) left_holds one_fewer
+        ∙ sym (taken_items old k.items k.frees c e split k.holds) ∙ ap (λ l. without l c) (kept_items old n v k view)
+
+    -- and as many may stand
+    pub left_room : (v : Chained (Labelled L E)) → chain_of old n ≡ v
+        → room_of new (n - 1) + length (walk (table_of new) new.first (n - 1)) ≡ v.room + length v.items
+    left_room v view =
+        let left = ap length (walked new (n - 1) (split.before ++ split.after) (c ∷ k.frees) left_holds one_fewer) in
+        let stood = ap length (kept_items old n v k view) in
+        let room = ap (λ (x : Chained (Labelled L E)). x.room) view in
+        let same = bypassed_is.capacity ∙ emptied_is.capacity in
+        let a = length-append split.before split.after in
+        let b = length-append split.before (item c e ∷ split.after) in
+        let l = ap length split.is in
+        let count = k.count in
+        let total = k.holds.total in
+        let fits = k.holds.fits in
+        omega (arith, old.nodes.ok.0, old.nodes.ok.1)

@@ -2,7 +2,7 @@
 use Rattle.std.proofs.Common.{◌≡◌, ◌≢◌, ℕ, suc, ◌≤◌, ◌==◌, List, [], ◌∷◌, ◌++◌, false, Option, Some, None, map, length, refl, sym, ap, ap₂, ◌∙◌, inl, inr, arith, if◌then◌else◌, eq-eqb}
 use Rattle.std.proofs.lemmas.Bool.{cases_Bool, cases_lt, eqb-true}
 use Rattle.flume_chain.specs.Links.{end, with}
-use Rattle.flume_chain.specs.Chained.{once, times, Placed, Table, Holds, places, found, without, put_before, first_place, behind_first, place_after, listed, walk}
+use Rattle.flume_chain.specs.Chained.{once, times, Placed, Table, Holds, places, found, without, put_before, first_place, place_after, listed, walk}
 use Rattle.flume_chain.proofs.Rings.{Ring, once_same, once_none, once_back, once_more, with_same, with_other, map_with}
 
 module _ {X : Type 0} where
@@ -150,15 +150,6 @@ module _ {E : Type 0} where
       let r = ring_of t items frees h in
       walk_from t items end h.forward
       (map_same t.element (found items) h.elements (places items) ∙ found_each items (λ k. let a = r.apart k in omega arith))
-
-  -- without the place of the first element those behind it are left
-  pub without_first : (xs : List (Placed E)) (c : ℕ) → ((k : ℕ) → times k (places xs) ≤ 1) → Some c ≡ first_place xs → without xs c ≡ behind_first xs
-  without_first [] c h e = absurd cc
-  without_first (x ∷ xs) c h e =
-      let name : c ≡ x.place = cc in
-      let here = h x.place in
-      let same = once_same x.place in
-      ap (λ q. without (x ∷ xs) q) name ∙ without_at [] xs x.place x.element refl (omega arith)
 
   -- where no element is found, none is behind it
   pub after_none : (xs : List (Placed E)) (c : ℕ) → found xs c ≡ None → place_after xs c ≡ None

@@ -76,16 +76,6 @@ module _ {E : Type 0} where
   place_after [] k = None
   place_after (x ∷ xs) k = if k == x.place then first_place xs else place_after xs k
 
-  -- the place of the last element, or k where there is none
-  abbrev pub last_or : ℕ → List (Placed E) → ℕ
-  last_or k [] = k
-  last_or k (x ∷ xs) = last_or x.place xs
-
-  -- the place of the last element
-  abbrev pub last_place : List (Placed E) → Option ℕ
-  last_place [] = None
-  last_place (x ∷ xs) = Some (last_or x.place xs)
-
   -- the element that may stand at a place, ahead of others
   abbrev pub listed : ℕ → Option E → List (Placed E) → List (Placed E)
   listed k None xs = xs

@@ -74,8 +74,8 @@ module _ {L E Z : Type 0} where
   HasNode s k = k ≢ end → k < vec_len s.nodes
 
   -- new has the size and the capacity of old, and at each place what these say
-  pub record Linked (old new : Links L E Z) (next previous : ℕ → ℕ) (element : ℕ → Option (Labelled L E))
-      (free : ℕ) : Type 0 where
+  pub record Linked (old new : Links L E Z) (next previous : ℕ → ℕ)
+      (element : ℕ → Option (Labelled L E)) (free : ℕ) : Type 0 where
     pub size : vec_len new.nodes ≡ vec_len old.nodes
     pub capacity : vec_capacity new.nodes ≡ vec_capacity old.nodes
     pub nexts : (k : ℕ) → next_at new k ≡ next k

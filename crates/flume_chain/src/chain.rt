@@ -1,13 +1,13 @@
-//! Elements in order, of which each can be taken out at the same cost wherever it stands. An element is
-//! a value and a label.
+//! Elements in order, of which each can be taken out at the same cost wherever it stands. An
+//! element is a value and a label.
 ghost use Rattle.std.specs.Prelude.{◌≡◌, ◌≢◌, ◌<◌, ◌≤◌, ◌+◌, ◌++◌, ◌∷◌, [], Some, None, length};
 ghost use Rattle.std.specs.Prelude.{ℕ, true, false};
 ghost use Rattle.std.specs.Prelude.{IsOk, IfOk, IfErr, OnOk, OnErr, IfSome, IfNone, OnSome, IsSome};
 ghost use Rattle.std.specs.Prelude.{option_copied, ◌↔◌};
 ghost use Rattle.std.specs.Option.{option_map, option_copied_mut};
 ghost use Rattle.std.specs.Borrow.{sem};
-ghost use Rattle.flume_chain.specs.Chained.{found, without, put_before, first_place, place_after};
-ghost use Rattle.flume_chain.specs.Chained.{first_element, behind_first, last_place, moved_back};
+ghost use Rattle.flume_chain.specs.Chained.{found, without, put_before, place_after};
+ghost use Rattle.flume_chain.specs.Chained.{first_element, behind_first, moved_back};
 ghost use Rattle.flume_chain.specs.Chained.{times, places};
 ghost use Rattle.flume_chain.specs.Edited.{with_label_at};
 
@@ -49,7 +49,7 @@ impl<L: Drop, E: Drop, A: Allocator> Chain<L, E, A> {
     /// chain.push_back(Labelled { label: 8, value: 'b' }).ok(); // Some(1)
     /// chain.get(0).copied();             // Some('a')
     /// chain.label(1).copied();           // Some(8)
-    /// chain.first();                     // Some(0)
+    /// chain.next(0);                     // Some(1)
     /// ```
     #[inline(always)]
     pub fn new(alloc: A) -> Self
@@ -62,20 +62,20 @@ impl<L: Drop, E: Drop, A: Allocator> Chain<L, E, A> {
         }
     }
 
+    /// What holds of every chain: no two elements have the same place. Does nothing.
+    #[inline(always)]
+    pub fn facts(&self)
+        ensures apart { (k : ℕ) → times k (places self.now.items) ≤ 1 }
+    {
+        let _ = self.links.capacity();
+    }
+
     /// How many elements stand. It reads a count, whatever the length.
     #[inline(always)]
     pub fn len(&self) -> usize
         ensures len { result ≡ length self.now.items }
     {
         self.len
-    }
-
-    /// Whether no element stands. It reads a count, whatever the length.
-    #[inline(always)]
-    pub fn is_empty(&self) -> bool
-        ensures empty { result ≡ true ↔ self.now.items ≡ [] }
-    {
-        self.len == 0
     }
 
     /// How many more elements may stand before more memory is needed.
@@ -103,7 +103,6 @@ impl<L: Drop, E: Drop, A: Allocator> Chain<L, E, A> {
     pub fn get(&self, place: u32) -> Option<&E>
         ensures found { option_copied result
             ≡ option_map (λ e. e.value) (found self.now.items place) }
-        ensures apart { (k : ℕ) → times k (places self.now.items) ≤ 1 }
     {
         self.links.get(place)
     }
@@ -153,31 +152,6 @@ impl<L: Drop, E: Drop, A: Allocator> Chain<L, E, A> {
         ensures room { self.new.room ≡ self.old.room }
     {
         self.links.set_label(place, label);
-    }
-
-    /// The place of the first element. `None` where none stands. Without that place those behind
-    /// the first element are left.
-    #[inline(always)]
-    pub fn first(&self) -> Option<u32>
-        ensures first { result ≡ first_place self.now.items }
-        ensures behind { IfSome result (λ place.
-            without self.now.items place ≡ behind_first self.now.items) }
-    {
-        if self.len == 0 {
-            return None;
-        }
-        Some(self.links.next(END))
-    }
-
-    /// The place of the last element. `None` where none stands.
-    #[inline(always)]
-    pub fn last(&self) -> Option<u32>
-        ensures last { result ≡ last_place self.now.items }
-    {
-        if self.len == 0 {
-            return None;
-        }
-        Some(self.links.previous(END))
     }
 
     /// The place of the element behind that at a place. `None` where none stands at the place, or
@@ -274,6 +248,23 @@ impl<L: Drop, E: Drop, A: Allocator> Chain<L, E, A> {
         self.links.bypass(place);
         self.len -= 1;
         Some(element)
+    }
+
+    /// Drops the element at a place, which then names none. The others keep their order and their
+    /// places. Nothing changes where none stands there. Takes no memory.
+    // `remove` would do, but it moves the element out, a part at a time and more than once.
+    #[inline(always)]
+    pub fn discard(&mut self, place: u32)
+        ensures left { self.new.items ≡ without self.old.items place }
+        ensures room { self.new.room + length self.new.items
+            ≡ self.old.room + length self.old.items }
+    {
+        let Some(_) = self.links.get(place) else {
+            return;
+        };
+        self.links.discard(place);
+        self.links.bypass(place);
+        self.len -= 1;
     }
 
     /// Takes out the first element. The others keep their order and their places. `None` where

@@ -7,11 +7,11 @@
 //! chain.push_back(Labelled { label: 8, value: 'b' }).ok(); // Some(1)
 //! chain.get(0).copied();             // Some('a')
 //! chain.label(1).copied();           // Some(8)
-//! chain.first();                     // Some(0)
+//! chain.next(0);                     // Some(1)
 //! ```
 //!
 //! A chain holds at most 4,294,967,295 elements. It knows nothing of channels: a channel keeps its
-//! messages, its parked receivers and its blocked sends in such chains.
+//! messages, its parked receivers and its live sends in such chains.
 #![tactic(auto)]
 
 pub mod chain;

@@ -13,7 +13,7 @@ use Rattle.flume_model.specs.Replies.{IsReply}
 use Rattle.flume_model.specs.Entries.{waiting_count}
 use Rattle.flume_model.specs.Parked.{entries_after, is_closed_after}
 use Rattle.flume_state.specs.Sends.{SendMap}
-use Rattle.flume_state.specs.Receivers.{Entries}
+use Rattle.flume_state.specs.Receivers.{EntryList}
 use Rattle.flume_state.specs.State.{State, with_nothing_left, offers_of, bare}
 use Rattle.flume_core.specs.Represents.{Represents}
 use Rattle.flume_model.proofs.EntryShape.{told_filled}
@@ -66,7 +66,7 @@ keeps_all _ none =
 module _ {T A S : Type 0} where
   -- such a change leaves this state, while the channel isn't over
   pub keeps_standing : (o : Opening) (past : Log T A) (p : Step T × Reply T A) (done : Change T) (old new : State T S)
-      (m : SendMap S) (es : Entries T S) (peak next : ℕ)
+      (m : SendMap S) (es : EntryList T S) (peak next : ℕ)
       → Represents o past old → IsReply (channel o past) p.0 p.1 → change past p.0 p.1 ≡ done → moves_none done ≡ true
       → is_over (p ∷ past) ≡ false
       → new ≡ record old {
@@ -124,7 +124,7 @@ module _ {T A S : Type 0} where
 
   -- an end joins or leaves, and one is left
   pub counts_open : (o : Opening) (past : Log T A) (p : Step T × Reply T A) (done : Change T) (old new : State T S) (m : SendMap S)
-      (es : Entries T S) → Represents o past old → IsReply (channel o past) p.0 p.1 → change past p.0 p.1 ≡ done → moves_none done ≡ true
+      (es : EntryList T S) → Represents o past old → IsReply (channel o past) p.0 p.1 → change past p.0 p.1 ≡ done → moves_none done ≡ true
       → new ≡ record old {
         senders = senders_after old.senders done;
         receivers = receivers_after old.receivers done;

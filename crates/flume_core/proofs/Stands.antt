@@ -15,7 +15,7 @@ use Rattle.flume_model.specs.Entries.{waiting_count}
 use Rattle.flume_model.specs.Parked.{entries, entries_after, is_closed_after}
 use Rattle.flume_model.proofs.EntryShape.{told_filled}
 use Rattle.flume_core.proofs.Bare.{bare_waiting}
-use Rattle.flume_state.specs.Receivers.{Entries}
+use Rattle.flume_state.specs.Receivers.{EntryList}
 use Rattle.flume_state.specs.State.{State, offers_of, bare}
 use Rattle.flume_core.specs.Represents.{Represents}
 use Rattle.flume_model.proofs.Fits.{Fits, fits}
@@ -170,7 +170,7 @@ module _ {T A S : Type 0} where
       }
 
   -- where no more wait, the peak stays
-  pub peak_kept : {o : Opening} {log : Log T A} {s : State T S} → Represents o log s → (es : Entries T S)
+  pub peak_kept : {o : Opening} {log : Log T A} {s : State T S} → Represents o log s → (es : EntryList T S)
       → waiting_count es ≤ waiting_count s.entries → s.peak ≡ max s.peak (waiting_count es)
   peak_kept {o} {log} {s} h es fewer = let within = waiting_within h in omega arith
 

@@ -15,7 +15,7 @@ use Rattle.flume_state.specs.Notices.{no_longer_due, due_now}
 use Rattle.flume_state.specs.Sends.{SendMap, changed, noticed_send, with_notice}
 use Rattle.flume_state.specs.State.{State, bare}
 use Rattle.flume_core.specs.Represents.{Represents}
-use Rattle.flume_state.specs.Receivers.{Entries, NamesReceiver}
+use Rattle.flume_state.specs.Receivers.{EntryList, NamesReceiver}
 use Rattle.flume_state.specs.Effects.{with_all_due}
 use Rattle.flume_core.proofs.Views.{mark, SameMarks}
 use Rattle.flume_state.proofs.SendsLaws.{get-changed_same, get-changed_other}
@@ -58,7 +58,7 @@ module _ {T S : Type 0} where
 
 module _ {T S : Type 0} where
   -- telling one receiver changes nothing that a log knows
-  pub told_bare : (old new : Entries T S) (named : Option ℕ) → IfSome named (λ t. NamesReceiver old new t) → IfNone named (new ≡ old)
+  pub told_bare : (old new : EntryList T S) (named : Option ℕ) → IfSome named (λ t. NamesReceiver old new t) → IfNone named (new ≡ old)
       → map bare new ≡ map bare old
   told_bare old new None some none = ap (map bare) none
   told_bare old new (Some t) some none =
@@ -66,7 +66,7 @@ module _ {T S : Type 0} where
 
 module _ {T A S : Type 0} where
   -- what a log knows of a state doesn't change where no mark does
-  pub stands_told : (o : Opening) (log : Log T A) (old new : State T S) (m : SendMap S) (es : Entries T S) → Represents o log old
+  pub stands_told : (o : Opening) (log : Log T A) (old new : State T S) (m : SendMap S) (es : EntryList T S) → Represents o log old
       → new ≡ record old { sends = m; entries = es } → SameMarks m old.sends → map bare es ≡ map bare old.entries → Represents o log new
   stands_told o log old new m es h e marks same =
       let P : State T S → Type 0 = λ s. Represents o log s in

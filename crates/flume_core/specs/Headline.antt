@@ -12,7 +12,7 @@ use Rattle.flume_core.specs.Represents.{Represents}
 use Rattle.flume_core.specs.StateFacts.{WokenCoverQueued, QueuedAndWaitingAreBounded}
 
 module _ {T A S : Type 0} where
-  -- after the steps and replies of the log, the channel is in this state
+  -- what holds of a log, and of the state of a channel that it represents
   pub record Headline (opening : Opening) (log : Log T A) (s : State T S) : Type 0 where
     -- the j-th message handed out is the message of the j-th offer that wasn't withdrawn
     pub in_order : InOrder s.entries log

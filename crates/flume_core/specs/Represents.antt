@@ -70,7 +70,7 @@ module _ {T A : Type 0} where
   ChangesNothing _ reply = IsRefusal reply
 
 module _ {T A S : Type 0} where
-  -- each log that stood for the state before, with this step and this reply, stands for the state
+  -- each log that represents the state before, with this step and this reply, represents the state
   -- after
   abbrev pub Extends : State T S → Step T → Reply T A → State T S → Type 0
   Extends old step reply new =
@@ -78,7 +78,7 @@ module _ {T A S : Type 0} where
       → Represents opening ((step, reply) ∷ log) new
 
 module _ {T S : Type 0} where
-  -- each log that stood for the one state stands for the other
+  -- each log that represents the one state represents the other
   abbrev pub SameLogs : Type 0 → State T S → State T S → Type 0
   SameLogs A old new =
       (opening : Opening) (log : Log T A) → Represents opening log old → Represents opening log new

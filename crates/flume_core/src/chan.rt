@@ -67,7 +67,7 @@ impl<T, S, A: Allocator> Model for Chan<T, S, A> {
 
 impl<T: Drop, S: Drop, A: Allocator + Copy> Chan<T, S, A> {
     /// A channel with one sender, one receiver and no message, whose first ticket is 1. Its queue
-    /// holds as many messages as `capacity` says, or as many as memory holds where that is `None`.
+    /// has room for as many messages as `capacity` says, or for any number where that is `None`.
     /// Takes no memory.
     ///
     /// ```

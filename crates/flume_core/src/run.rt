@@ -60,7 +60,7 @@ pub fn run<T: Drop, A: Allocator + Copy>(
 }
 
 /// The headline, for a caller who does the steps of a channel one by one. Does nothing: each method
-/// of `Chan` says by its clause `step` which log its state stands for then, and this says what
+/// of `Chan` says by its clause `step` which log represents its state then, and this says what
 /// holds of that log and that state.
 ///
 /// ```

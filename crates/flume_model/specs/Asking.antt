@@ -60,7 +60,7 @@ module _ {T A : Type 0} where
       (c.line ≡ []) × (closed ≡ is_closed c.senders c.receivers) × (filled ≡ None)
   IsGoneBlock c _ = ⊥
 
-  -- one of another kind takes no message, and passes its wake on
+  -- one of another kind takes no message, and passes its wake on, if it was woken
   abbrev pub IsGoneOther : Channel T → ℕ → Reply T A → Type 0
   IsGoneOther c t (Gone closed filled) =
       (closed ≡ is_closed c.senders c.receivers) × (filled ≡ leave_fills t c.queue c.entries)

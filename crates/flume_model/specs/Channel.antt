@@ -1,4 +1,4 @@
--- The abstract channel: what stands before a step, and what it says of sends and of the line.
+-- The abstract channel: how it is before a step, and what it says of sends and of the line.
 use Rattle.std.specs.Prelude.{◌≡◌, ℕ, Bool, true, false, List, ◌∷◌, ◌++◌, Option, Some}
 use Rattle.std.specs.List.{list_any}
 use Rattle.flume_model.specs.Log.{Log, Opening, Offer, is_ticket}
@@ -28,13 +28,13 @@ pub record Channel (T : Type 0) : Type 0 where
   pub receivers : ℕ
 
 module _ {T : Type 0} where
-  -- a send is taken in at once: a receiver waits, or the queue has room
+  -- an open channel takes a send in at once: a receiver waits, or the queue has room
   abbrev pub TakesIn : Channel T → Type 0
   TakesIn c =
       IsOpen c.senders c.receivers
       × (some_wait c.entries ≡ false → HasRoom c.capacity c.boundary)
 
-  -- an open channel takes no send in at once
+  -- an open channel takes no send in at once: no receiver waits, and the queue has no room
   abbrev pub TakesNoneIn : Channel T → Type 0
   TakesNoneIn c =
       IsOpen c.senders c.receivers × (some_wait c.entries ≡ false)

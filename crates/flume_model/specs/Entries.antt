@@ -1,6 +1,6 @@
 -- The parked receivers, an entry each: how they stand, what a wake round and closing do to them,
 -- and how one asks again or leaves. The waiting ones stand in the order in which they began to
--- wait. N is what an entry has beside: nothing in a log, the signal in a state.
+-- wait. N is what else an entry has: nothing in a log, its signal in a state.
 use Rattle.std.specs.Prelude.{◌==◌, ℕ, ◌+◌, Bool, true, false, if◌then◌else◌, List, [], ◌∷◌, ◌++◌}
 use Rattle.std.specs.Prelude.{map, Option, Some, None}
 use Rattle.std.specs.List.{list_any}
@@ -31,7 +31,7 @@ module _ {T : Type 0} where
   held_in (Filled message) = Some message
   held_in _ = None
 
--- the ticket that a round fills at a waiting entry, where further on it would fill this one
+-- the ticket that a round fills from a waiting entry on, where behind that it would fill `on`
 abbrev pub filled_at : Kind → ℕ → Option ℕ → Option ℕ
 filled_at Stream ticket on = on
 filled_at Plain ticket on = None
@@ -53,7 +53,7 @@ module _ {T N : Type 0} where
   woken_count [] = 0
   woken_count (e ∷ entries) = (if is_woken e.mark then 1 else 0) + woken_count entries
 
-  -- the entry with another mark, told of it
+  -- the entry with another mark; `tell` makes its notice say so
   abbrev pub marked : (N → N) → Mark T → Entry T N → Entry T N
   marked tell mark e = record e { mark = mark; notice = tell e.notice }
 
@@ -66,8 +66,8 @@ module _ {T N : Type 0} where
   met tell Arm front e as_are goes_on = marked tell Woken e ∷ as_are
   met tell Block front e as_are goes_on = marked tell (Filled front) e ∷ as_are
 
-  -- a wake round: streams are woken up to the first waiting entry that is none; that is woken, or
-  -- filled with the message at the front of the queue where it blocks
+  -- A wake round: it wakes each waiting stream, until it meets a waiting entry of another kind. That
+  -- is woken, or, where it blocks, filled with the message at the front of the queue.
   abbrev pub round : (N → N) → T → List (Entry T N) → List (Entry T N)
   round tell front [] = []
   round tell front (e ∷ entries) =
@@ -110,7 +110,8 @@ module _ {T N : Type 0} where
   without t [] = []
   without t (e ∷ entries) = if e.ticket == t then entries else e ∷ without t entries
 
-  -- this entry, which a ticket has, waits again behind all others where it was woken
+  -- the entries, where this is the one with a ticket: if it was woken, it waits again behind all
+  -- others
   abbrev pub again_as : ℕ → Option (Entry T N) → List (Entry T N) → List (Entry T N)
   again_as t None entries = entries
   again_as t (Some e) entries =

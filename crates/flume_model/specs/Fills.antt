@@ -19,7 +19,7 @@ module _ {T : Type 0} where
   -- the hand-out that filled a receiver is of this message. It goes by whether both sides have
   -- disconnected, by the message that the receiver got, if it got one, and by the one that its
   -- entry holds, if it holds one. It is of what the receiver got; before that, of what its entry
-  -- holds. What wasn't got before both ends were gone went with them, and nothing is said of it
+  -- holds. If both sides disconnected before the receiver got it, nothing is said of it
   abbrev pub FillIs : Bool → Option T → Option T → T → Type 0
   FillIs over (Some got) held message = got ≡ message
   FillIs true None held message = Unit {0}

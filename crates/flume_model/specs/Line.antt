@@ -27,8 +27,8 @@ module _ {T : Type 0} where
   capacity_after capacity (Resizes new) = Some new
   capacity_after capacity _ = capacity
 
-  -- how many offers of the line's front are queued after a change, where `n` is how many were, and
-  -- this is the capacity, and the line is so long, after it
+  -- how many offers at the front of the line are queued after a change: `n` were queued before it,
+  -- and the capacity and the length of the line are those after it
   abbrev pub boundary_after : Option ℕ → ℕ → ℕ → Change T → ℕ
   boundary_after capacity line_length n (Queues message filled) = n + 1 - how_many filled
   boundary_after capacity line_length n (Takes message receiver) =

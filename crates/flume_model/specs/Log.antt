@@ -25,7 +25,8 @@ pub record Opening : Type 0 where
 abbrev pub opens : Option ℕ → ℕ → Opening
 opens capacity first = record { capacity = capacity; first = first }
 
--- a message that the channel took in, with the ticket under which it was blocked, if it was
+-- a message that the channel took, queued or blocked, with the ticket under which it was blocked, if
+-- it was
 pub record Offer (T : Type 0) : Type 0 where
   pub message : T
   pub ticket : Option ℕ
@@ -37,7 +38,7 @@ pub data HandOut (T : Type 0) : Type 0 where
   -- the one that filled the receiver parked under this ticket
   FilledIn : ℕ → HandOut T
 
--- what a step changes by its reply; all that follows goes by these cases
+-- what a step changes by its reply; most of what follows goes by these cases
 pub data Change (T : Type 0) : Type 0 where
   -- a message is offered and queued, and the receiver with this ticket is filled, if one is
   Queues : T → Option ℕ → Change T
@@ -50,7 +51,7 @@ pub data Change (T : Type 0) : Type 0 where
   -- the message at the front of the line is handed out, to the receiver parked under this ticket,
   -- or to one that isn't parked
   Takes : T → Option ℕ → Change T
-  -- so many queued messages, all of them, are handed out
+  -- these are handed out, all the messages that are queued
   Drains : List T → Change T
   -- a receiver of this kind parks under this ticket
   Parks : ℕ → Kind → Change T
@@ -81,7 +82,7 @@ is_ticket t None = false
 is_ticket t (Some u) = u == t
 
 module _ {T A : Type 0} where
-  -- the ticket that a reply tells as filled, if it tells one
+  -- the ticket of the receiver that was filled, if the reply names one
   abbrev pub filled_by : Reply T A → Option ℕ
   filled_by (Sent filled) = filled
   filled_by (Gone closed filled) = filled

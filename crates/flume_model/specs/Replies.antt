@@ -24,8 +24,8 @@ use Rattle.flume_model.specs.Channel.{IsBlocked, channel}
 use Rattle.flume_model.specs.Asking.{IsPolled, IsGone}
 
 module _ {T A : Type 0} where
-  -- the channel may answer the step so; of the two replies to a step that may be refused because
-  -- memory ran out either may come, and else exactly one
+  -- the channel may answer the step so: a step that may be refused because memory ran out has two
+  -- such replies, and each other step has one
   abbrev pub IsReply : Channel T → Step T → Reply T A → Type 0
   IsReply c (TrySend m) (Sent filled) = TakesIn c × (filled ≡ round_fills c.entries)
   IsReply c (TrySend m) (NoMemory back) = TakesIn c × (back ≡ Some m)

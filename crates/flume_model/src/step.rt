@@ -66,10 +66,10 @@ pub enum Step<T> {
 #[derive(Clone, Drop)]
 #[derive_where(Debug, PartialEq, Eq; T)]
 pub enum Reply<T, A: Allocator = Global> {
-    /// The message was taken in. `filled` is the ticket of the receiver that was handed the front
-    /// of the queue, if one was: this message, or an older one that was queued.
+    /// The message was taken into the queue. `filled` is the ticket of the receiver that was handed
+    /// the front of the queue, if one was: this message, or an older one that was queued.
     Sent { filled: Option<u64> },
-    /// The queue is at its capacity: the message comes back.
+    /// The queue has reached the capacity, and no receiver waits: the message comes back.
     Full(T),
     /// All senders or all receivers were dropped: the message comes back.
     Closed(T),
@@ -79,12 +79,12 @@ pub enum Reply<T, A: Allocator = Global> {
     Spent(Option<T>),
     /// The message is blocked under this ticket.
     Pending(u64),
-    /// The message of the blocked send was taken in; its ticket is spent.
+    /// The message of the blocked send was taken into the queue; its ticket is live no more.
     Accepted,
     /// The message of the blocked send is still blocked, or the parked receiver waits on.
     Waiting,
-    /// The message of the blocked send comes back, and its ticket is spent; `closed` says whether
-    /// the channel is closed.
+    /// The message of the blocked send comes back, and its ticket is live no more; `closed` says
+    /// whether the channel is closed.
     Returned { message: T, closed: bool },
     /// No live ticket of this kind has this number.
     NoTicket,

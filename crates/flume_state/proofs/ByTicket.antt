@@ -2,14 +2,13 @@
 use Rattle.std.proofs.Common.{◌≡◌, ℕ, ◌≤◌, ◌==◌, true, false, cond, if◌then◌else◌, List, [], ◌∷◌, ◌++◌, Option, Some, None, refl, sym, ap, ◌∙◌, inl, inr, arith, subst, append-nil, option_map, nat_cmp}
 use Rattle.std.proofs.lemmas.Bool.{cases_Bool, eqb-true, eq-eqb, ne_eqb}
 use Rattle.std.specs.Cmp.{nat_cmp_total, unsigned_tied}
-use Rattle.std.specs.FinMap.{FinMap, get, insert, remove, get-empty, get-insert}
-use Rattle.flume_state.proofs.Chains.{Placed, times, places, found, without, revalued, once_same, once_back, with_other, item, found_some, without_at, with_value_at}
-use Rattle.flume_state.specs.layout.Ticketed.{Ticketed, place_of, ticket_times}
+use Rattle.std.specs.FinMap.{get, insert, remove, get-empty, get-insert}
+use Rattle.flume_state.proofs.Chains.{Placed, times, places, found, without, revalued, once_same, once_none, once_back, with_other, item, found_some, without_at, with_value_at}
+use Rattle.flume_state.specs.layout.Ticketed.{Ticketed, place_of, tickets}
 use Rattle.flume_state.specs.Sends.{changed}
-use Rattle.flume_model.specs.Log.{is_ticket}
-use Rattle.flume_state.specs.layout.SendLayout.{put_under, by_ticket}
+use Rattle.flume_state.specs.layout.SendLayout.{by_ticket}
 use Rattle.flume_state.proofs.EntryParts.{Apart, alone, edited_at}
-use Rattle.flume_state.proofs.TicketLemmas.{one_of, ticket_same, ticket_is, none_first, neither, times_amid, tickets_both, once_amid}
+use Rattle.flume_state.proofs.TicketLemmas.{neither, times_amid, times_both}
 use Rattle.flume_state.proofs.SendsLaws.{same_by, get-insert_same, get-insert_other, changed-insert, remove-insert}
 
 -- two numbers are the same either way round
@@ -22,39 +21,34 @@ same_either a b = elim (cases_Bool (b == a)) [
 module _ {X : Type 0} where
   -- a value with its ticket
   abbrev pub under : ℕ → X → Ticketed X
-  under t v = record { label = Some t; value = v }
+  under t v = record { label = t; value = v }
 
   -- the value of the first element with a ticket
   abbrev pub value_of : ℕ → List (Placed (Ticketed X)) → Option X
   value_of t [] = None
-  value_of t (x ∷ items) = if is_ticket t x.element.label then Some x.element.value else value_of t items
-
-  -- what is found in a map with one more value
-  get_under : (m : FinMap nat_cmp X) (o : Option ℕ) (v : X) (q : ℕ) → get (put_under m o v) q ≡ (if is_ticket q o then Some v else get m q)
-  get_under m None v q = refl
-  get_under m (Some t) v q =
-      get-insert nat_cmp_total m t v q ∙ ap (λ b. cond b (Some v) (get m q)) (unsigned_tied q t ∙ same_either q t)
+  value_of t (x ∷ items) = if x.element.label == t then Some x.element.value else value_of t items
 
   -- the map has the value of the first element with a ticket
   pub get_by_ticket : (items : List (Placed (Ticketed X))) (q : ℕ) → get (by_ticket items) q ≡ value_of q items
   get_by_ticket [] q = get-empty nat_cmp q
   get_by_ticket (x ∷ items) q =
-      get_under (by_ticket items) x.element.label x.element.value q
-      ∙ ap (λ o. if is_ticket q x.element.label then Some x.element.value else o) (get_by_ticket items q)
+      get-insert nat_cmp_total (by_ticket items) x.element.label x.element.value q
+      ∙ ap (λ b. cond b (Some x.element.value) (get (by_ticket items) q)) (unsigned_tied q x.element.label ∙ same_either q x.element.label)
+      ∙ ap (λ o. if x.element.label == q then Some x.element.value else o) (get_by_ticket items q)
 
   -- behind elements of which none has the ticket the value is that of the others
   pub value_past : (q : ℕ) (xs ys : List (Placed (Ticketed X))) → value_of q xs ≡ None → value_of q (xs ++ ys) ≡ value_of q ys
   value_past q [] ys none = refl
   value_past q (x ∷ xs) ys none =
-      let both = neither (is_ticket q x.element.label) x.element.value (value_of q xs) none in
+      let both = neither (x.element.label == q) x.element.value (value_of q xs) none in
       ap (λ b. if b then Some x.element.value else value_of q (xs ++ ys)) both.0 ∙ value_past q xs ys both.1
 
   -- an element with another ticket may be left out
-  value_around : (q : ℕ) (xs ys : List (Placed (Ticketed X))) (x : Placed (Ticketed X)) → is_ticket q x.element.label ≡ false
+  value_around : (q : ℕ) (xs ys : List (Placed (Ticketed X))) (x : Placed (Ticketed X)) → (x.element.label == q) ≡ false
       → value_of q (xs ++ x ∷ ys) ≡ value_of q (xs ++ ys)
   value_around q [] ys x e = ap (λ b. if b then Some x.element.value else value_of q ys) e
   value_around q (y ∷ xs) ys x e =
-      ap (λ o. if is_ticket q y.element.label then Some y.element.value else o) (value_around q xs ys x e)
+      ap (λ o. if y.element.label == q then Some y.element.value else o) (value_around q xs ys x e)
 
   -- the value of an element behind others of which none has its ticket
   pub value_at : (t p : ℕ) (v : X) (xs ys : List (Placed (Ticketed X))) → value_of t xs ≡ None → value_of t (xs ++ item p (under t v) ∷ ys) ≡ Some v
@@ -99,10 +93,10 @@ module _ {X : Type 0} where
       ∙ ap (λ m. remove m t) (sym (by_ticket_insert t p v xs ys none))
 
   -- a ticket that no element has finds no value
-  pub value_none : (t : ℕ) (xs : List (Placed (Ticketed X))) → ticket_times t xs ≡ 0 → value_of t xs ≡ None
+  pub value_none : (t : ℕ) (xs : List (Placed (Ticketed X))) → times t (tickets xs) ≡ 0 → value_of t xs ≡ None
   value_none t [] none = refl
   value_none t (x ∷ xs) none =
-      ap (λ b. if b then Some x.element.value else value_of t xs) (none_first _ _ none) ∙ value_none t xs (omega arith)
+      ap (λ b. if b then Some x.element.value else value_of t xs) (once_none x.element.label t (omega arith)) ∙ value_none t xs (omega arith)
 
   -- the one element with a ticket, its place, which no other has, and its value, and those ahead of
   -- it and behind it
@@ -116,14 +110,14 @@ module _ {X : Type 0} where
     pub none_behind : value_of t after ≡ None
 
   -- it stands so among others, where no two have one place or one ticket
-  abbrev pub stands_amid : (t p : ℕ) (v : X) (items before after : List (Placed (Ticketed X))) → Apart items → ((u : ℕ) → ticket_times u items ≤ 1)
+  abbrev pub stands_amid : (t p : ℕ) (v : X) (items before after : List (Placed (Ticketed X))) → Apart items → ((u : ℕ) → times u (tickets items) ≤ 1)
       → items ≡ before ++ item p (under t v) ∷ after → Stands t p v items
   stands_amid t p v items before after apart single is =
       let at = alone before after p (under t v) (subst Apart is apart) in
       let most = single t in
-      let here = ap (ticket_times t) is ∙ times_amid t before after (item p (under t v)) in
-      let own : one_of t (Some t) ≡ 1 = ap (λ b. cond b 1 0) (ticket_same t) in
-      let both = tickets_both t before after in
+      let here = ap (λ l. times t (tickets l)) is ∙ times_amid (λ y. y.element.label) t before after (item p (under t v)) in
+      let own = once_same t in
+      let both = times_both (λ y. y.element.label) t before after in
       record {
         before = before;
         after = after;
@@ -135,7 +129,7 @@ module _ {X : Type 0} where
       }
 
   -- and where it is found
-  pub stands : (t p : ℕ) (v : X) (items : List (Placed (Ticketed X))) → Apart items → ((u : ℕ) → ticket_times u items ≤ 1)
+  pub stands : (t p : ℕ) (v : X) (items : List (Placed (Ticketed X))) → Apart items → ((u : ℕ) → times u (tickets items) ≤ 1)
       → found items p ≡ Some (under t v) → Stands t p v items
   stands t p v items apart single is =
       let s = found_some items p (under t v) is in stands_amid t p v items s.before s.after apart single s.is
@@ -144,19 +138,19 @@ module _ {X : Type 0} where
   pub held : (t p : ℕ) (items : List (Placed (Ticketed X))) → ((k : ℕ) → times k (places items) ≤ 1) → place_of t items ≡ Some p
       → (v : X) × found items p ≡ Some (under t v)
   held t p [] apart is = absurd (let no : ⊥ = cc in no)
-  held t p (x ∷ xs) apart is = elim (cases_Bool (is_ticket t x.element.label)) [
+  held t p (x ∷ xs) apart is = elim (cases_Bool (x.element.label == t)) [
     | inl e ↦ (
         let same : Some x.place ≡ Some p = sym (ap (λ b. if b then Some x.place else place_of t xs) e) ∙ is in
         let name : p ≡ x.place = cc in (
           x.element.value,
           ap (λ b. if b then Some x.element else found xs p) (eq-eqb p x.place name)
-              ∙ ap (λ (o : Option ℕ). Some (record x.element { label = o })) (ticket_is t x.element.label e),
+              ∙ ap (λ (u : ℕ). Some (record x.element { label = u })) (eqb-true x.element.label t e),
         )
         )
     | inr e ↦ (
         let r = held t p xs (λ k. let most = apart k in omega arith) (sym (ap (λ b. if b then Some x.place else place_of t xs) e) ∙ is) in
         let f = found_some xs p (under t r.0) r.1 in
-        let names = ap (λ l. times p (places l)) f.is ∙ once_amid p f.before f.after (item p (under t r.0)) in
+        let names = ap (λ l. times p (places l)) f.is ∙ times_amid (λ y. y.place) p f.before f.after (item p (under t r.0)) in
         let here = once_same p in
         let most = apart p in
         (r.0, with_other (found xs) x.place (Some x.element) p (once_back x.place p (omega arith)) ∙ r.1)

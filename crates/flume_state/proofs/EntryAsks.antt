@@ -1,20 +1,20 @@
 -- A parked receiver that asks again: it waits on in its place, or behind all others where it was woken.
-use Rattle.std.proofs.Common.{◌≡◌, ℕ, ◌+◌, ◌==◌, Bool, [], ◌∷◌, ◌++◌, Option, Some, None, OnSome, IsSome, ◌↔◌, length, length-append, refl, sym, ap, ap₂, ◌∙◌, inl, inr, arith, true, false, if◌then◌else◌}
+use Rattle.std.proofs.Common.{◌≡◌, ℕ, ◌+◌, ◌==◌, Bool, [], ◌∷◌, ◌++◌, Option, Some, None, option_map, OnSome, IsSome, ◌↔◌, length, length-append, refl, sym, ap, ap₂, ◌∙◌, inl, inr, arith, true, false, if◌then◌else◌}
 use Rattle.std.proofs.lemmas.Bool.{cases_Bool}
 use Rattle.std.specs.Option.{option_or}
-use Rattle.flume_state.proofs.Chains.{times, places, found, without, first_place, place_after, once_back, item, found_none, without_at, with_value_at, revalued, length-edited, places-edited, edited-append, edited_missing}
+use Rattle.flume_state.proofs.Chains.{times, places, found, without, first_place, place_after, once_back, item, found_none, without_at, with_value_at, with_same, revalued, length-edited, places-edited, found-edited, edited-append, edited_missing}
 use Rattle.flume_model.specs.Entries.{is_waiting, is_woken, waiting_count, again, again_as, entry_of, held_by, held_in, without as without_ticket}
 use Rattle.flume_model.specs.declared.entry.Entry.{Entry}
 use Rattle.flume_model.specs.declared.entry.Mark.{Mark}
 use Rattle.flume_model.specs.declared.entry.Mark.TheVariants.{Waiting, Woken, Filled}
 use Rattle.flume_state.specs.layout.EntryLayout.{Each, EntryLayout, after_asking, entries_in, entry_in, boundary_without}
-use Rattle.flume_state.specs.Receivers.{Entries, noticed_receiver, waits_on}
+use Rattle.flume_state.specs.Receivers.{EntryList, noticed_receiver, waits_on}
 use Rattle.flume_state.specs.declared.entries.Parked.{Parked}
 use Rattle.flume_state.specs.declared.notice.Notice.{Notice}
 use Rattle.flume_state.specs.layout.Ticketed.{Ticketed}
 use Rattle.flume_state.proofs.EntryDues.{revalued_entries}
 use Rattle.flume_state.proofs.EntryListLemmas.{count-append, weight}
-use Rattle.flume_state.proofs.EntryParts.{edited_at, gone, seat_found, with_value}
+use Rattle.flume_state.proofs.EntryParts.{edited_at, gone, with_value, without_written}
 use Rattle.flume_state.proofs.EntrySeats.{Seated, entry_at, noticed_at, noticed_none_of, without_entry}
 use Rattle.flume_state.proofs.EntrySorted.{Items, entries-append, sorted_push, sorted_without}
 
@@ -27,11 +27,11 @@ module _ {T S : Type 0} where
     | inl t ↦ (
         let it : Some x.element ≡ Some e = sym (ap (λ b. if b then Some x.element else found (xs ++ ys) k) t) ∙ h in
         let same : x.element ≡ e = cc in
-        let both : false ≡ true = sym all.1 ∙ ap (λ (o : Ticketed (Parked T S)). is_waiting o.value.mark) same ∙ waits in
+        let both : false ≡ true = sym all.0 ∙ ap (λ (o : Ticketed (Parked T S)). is_waiting o.value.mark) same ∙ waits in
         absurd (let none : ⊥ = cc in none)
         )
     | inr t ↦ (
-        let r = waits_behind d xs ys k e all.3 waits (sym (ap (λ b. if b then Some x.element else found (xs ++ ys) k) t) ∙ h) in
+        let r = waits_behind d xs ys k e all.2 waits (sym (ap (λ b. if b then Some x.element else found (xs ++ ys) k) t) ∙ h) in
         let other = once_back k x.place (ap (λ b. if b then 1 else 0) t) in
         (omega (arith, other, r.0), r.1)
         )
@@ -42,8 +42,8 @@ module _ {T S : Type 0} where
       → Each true false (with_value_at k xs v)
   each-revalued [] k v all waits quiet = all
   each-revalued (x ∷ xs) k v all waits quiet = elim (cases_Bool (k == x.place)) [
-    | inl t ↦ rw t (all.0, waits, quiet, each-revalued xs k v all.3 waits quiet)
-    | inr t ↦ rw t (all.0, all.1, all.2, each-revalued xs k v all.3 waits quiet)
+    | inl t ↦ rw t (waits, quiet, each-revalued xs k v all.2 waits quiet)
+    | inr t ↦ rw t (all.0, all.1, each-revalued xs k v all.2 waits quiet)
   ]
 
   -- the first place is the same after an element has another value
@@ -102,12 +102,12 @@ module _ {T S : Type 0} where
   asks_sorted items due waits n t k signal (Filled message) s q is asleep = rw (revalued_same items t k q) s
 
   -- what it holds
-  holds : (items : Items T S) (t k : ℕ) (m : Mark T) (old : Entries T S) (q : Seated items t k) → entries_in items ≡ old
+  holds : (items : Items T S) (t k : ℕ) (m : Mark T) (old : EntryList T S) (q : Seated items t k) → entries_in items ≡ old
       → q.element.value.mark ≡ m → held_by (entry_of t old) ≡ held_in m
   holds items t k m old q view is = ap (λ l. held_by (entry_of t l)) (sym view) ∙ ap held_by q.entry ∙ ap held_in is
 
   -- where nobody is parked under a ticket, nothing changes
-  pub asks_none : (f : Notice S → Notice S) (t : ℕ) (old : Entries T S) → entry_of t old ≡ None
+  pub asks_none : (f : Notice S → Notice S) (t : ℕ) (old : EntryList T S) → entry_of t old ≡ None
       → old ≡ again t (noticed_receiver f t old)
   asks_none f t old none = sym (ap (again t) (noticed_none_of f t old none) ∙ ap (λ o. again_as t o old) none)
 
@@ -116,18 +116,18 @@ module _ {T S : Type 0} where
   noticed {items} {t} {k} signal q = let x = entry_in (item k q.element) in record x { notice = waits_on signal x.notice }
 
   -- what becomes of the entries where it asks again
-  asks_at : (items : Items T S) (t k : ℕ) (signal : Option S) (old : Entries T S) (q : Seated items t k) → entries_in items ≡ old
+  asks_at : (items : Items T S) (t k : ℕ) (signal : Option S) (old : EntryList T S) (q : Seated items t k) → entries_in items ≡ old
       → again t (noticed_receiver (waits_on signal) t old)
       ≡ again_as t (Some (noticed signal q)) (entries_in q.before ++ noticed signal q ∷ entries_in q.after)
   asks_at items t k signal old q view =
       let x = entry_in (item k q.element) in
-      let some = entry_at t (entries_in q.before) (entries_in q.after) (noticed signal q) q.ahead q.number in
+      let some = entry_at t (entries_in q.before) (entries_in q.after) (noticed signal q) q.ahead q.ticket in
       ap (λ l. again t (noticed_receiver (waits_on signal) t l)) (sym view ∙ q.entries)
-      ∙ ap (again t) (noticed_at (waits_on signal) t (entries_in q.before) (entries_in q.after) x q.ahead q.number)
+      ∙ ap (again t) (noticed_at (waits_on signal) t (entries_in q.before) (entries_in q.after) x q.ahead q.ticket)
       ∙ ap (λ o. again_as t o (entries_in q.before ++ noticed signal q ∷ entries_in q.after)) some
 
   -- one that waits has its notice changed in its place
-  pub asks_entries : (items : Items T S) (t k : ℕ) (signal : Option S) (m : Mark T) (old : Entries T S) (q : Seated items t k)
+  pub asks_entries : (items : Items T S) (t k : ℕ) (signal : Option S) (m : Mark T) (old : EntryList T S) (q : Seated items t k)
       → entries_in items ≡ old → q.element.value.mark ≡ m → is_woken m ≡ false → held_by (entry_of t old) ≡ None
       → entries_in (with_value_at k items (after_asking m signal q.element.value)) ≡ again t (noticed_receiver (waits_on signal) t old)
   asks_entries items t k signal Waiting old q view is asleep none =
@@ -143,7 +143,7 @@ module _ {T S : Type 0} where
       absurd (let none : ⊥ = cc in none)
 
   -- a filled one stays as it is
-  pub asks_filled : (items : Items T S) (t k : ℕ) (signal : Option S) (m : Mark T) (old : Entries T S) (q : Seated items t k)
+  pub asks_filled : (items : Items T S) (t k : ℕ) (signal : Option S) (m : Mark T) (old : EntryList T S) (q : Seated items t k)
       → entries_in items ≡ old → q.element.value.mark ≡ m
       → OnSome (held_by (entry_of t old)) (entries_in (with_value_at k items (after_asking m signal q.element.value)) ≡ old)
   asks_filled items t k signal Waiting old q view is = rw (holds items t k Waiting old q view is) tt
@@ -152,7 +152,7 @@ module _ {T S : Type 0} where
       rw (holds items t k (Filled message) old q view is) (ap entries_in (revalued_same items t k q) ∙ view)
 
   -- a woken one holds nothing
-  pub woken_empty : (items : Items T S) (t k : ℕ) (m : Mark T) (old : Entries T S) (q : Seated items t k) → entries_in items ≡ old
+  pub woken_empty : (items : Items T S) (t k : ℕ) (m : Mark T) (old : EntryList T S) (q : Seated items t k) → entries_in items ≡ old
       → q.element.value.mark ≡ m → is_woken m ≡ true → held_by (entry_of t old) ≡ None
   woken_empty items t k Waiting old q view is woken = absurd (let none : ⊥ = cc in none)
   woken_empty items t k Woken old q view is woken = holds items t k Woken old q view is
@@ -169,15 +169,9 @@ module _ {T S : Type 0} where
       → new ≡ behind_all items k (with_value q.element v)
   moved items new t k v done q stood moves =
       let here : found (with_value_at k items v) k ≡ Some (with_value q.element v) =
-      ap (λ l. found (with_value_at k l v) k) q.is
-      ∙ ap (λ l. found l k) (edited_at (revalued v) k q.before q.after q.element q.clear q.behind)
-      ∙ seat_found q.before q.after k (with_value q.element v) q.clear in
+      found-edited (revalued v) items k k ∙ with_same (found items) k _ ∙ ap (option_map (revalued v)) q.here in
       moves (stood.1 (rw here refl)) (with_value q.element v) here
-      ∙ ap (λ l. l ++ item k (with_value q.element v) ∷ [])
-      (ap (λ l. without (with_value_at k l v) k) q.is
-      ∙ ap (λ l. without l k) (edited_at (revalued v) k q.before q.after q.element q.clear q.behind)
-      ∙ without_at q.before q.after k (with_value q.element v) q.clear q.behind
-      ∙ sym (ap (λ l. without l k) q.is ∙ without_at q.before q.after k q.element q.clear q.behind))
+      ∙ ap (λ l. l ++ item k (with_value q.element v) ∷ []) (without_written items k v)
 
   -- as many stand after one moved behind all others
   length-behind : (items : Items T S) (t k : ℕ) (e : Ticketed (Parked T S)) (q : Seated items t k)
@@ -199,10 +193,10 @@ module _ {T S : Type 0} where
       let e = with_value q.element (after_asking Woken signal q.element.value) in
       let left = sorted_without items due waits next n n k q.element s q.here after (rw is (omega arith)) in
       sorted_push (without items k) (boundary_without due k next) (boundary_without waits k next) n k e left (found_none (without items k) k (gone k items))
-      (q.ticket ∙ ap Some (sym q.number), refl, refl) (omega (arith, s.fits, length-behind items t k e q))
+      (refl, refl) (omega (arith, s.fits, length-behind items t k e q))
 
   -- and so it does among the entries
-  pub again_entries : (items : Items T S) (t k : ℕ) (signal : Option S) (m : Mark T) (old : Entries T S) (q : Seated items t k)
+  pub again_entries : (items : Items T S) (t k : ℕ) (signal : Option S) (m : Mark T) (old : EntryList T S) (q : Seated items t k)
       → entries_in items ≡ old → q.element.value.mark ≡ m → is_woken m ≡ true
       → entries_in (behind_all items k (with_value q.element (after_asking m signal q.element.value)))
       ≡ again t (noticed_receiver (waits_on signal) t old)
@@ -216,5 +210,5 @@ module _ {T S : Type 0} where
       ap (λ l. entries_in (without l k)) q.is ∙ ap entries_in (without_at q.before q.after k q.element q.clear q.behind)
       ∙ entries-append q.before q.after in
       entries-append (without items k) (item k (with_value q.element (after_asking Woken signal q.element.value)) ∷ [])
-      ∙ ap (λ l. l ++ y ∷ []) (left ∙ sym (without_entry t (entries_in q.before) (entries_in q.after) x q.ahead q.number))
+      ∙ ap (λ l. l ++ y ∷ []) (left ∙ sym (without_entry t (entries_in q.before) (entries_in q.after) x q.ahead q.ticket))
       ∙ sym (asks_at items t k signal old q view ∙ ap (λ b. if b then without_ticket t all ++ y ∷ [] else all) (ap is_woken is))

@@ -5,7 +5,7 @@ use Rattle.flume_model.specs.Entries.{is_waiting, waiting_count}
 use Rattle.flume_model.specs.declared.entry.Mark.{Mark}
 use Rattle.flume_state.specs.Notices.{due_now}
 use Rattle.flume_state.specs.layout.EntryLayout.{Each, EntryLayout, entries_in, entry_in, with_first_marked, first_waiting}
-use Rattle.flume_state.specs.Receivers.{Entries}
+use Rattle.flume_state.specs.Receivers.{EntryList}
 use Rattle.flume_state.specs.declared.entries.Parked.{Parked}
 use Rattle.flume_state.specs.declared.notice.Notice.{Notice}
 use Rattle.flume_state.specs.layout.Ticketed.{Ticketed}
@@ -23,16 +23,16 @@ module _ {T S : Type 0} where
       ∙ entries-append before (item k (with_value e v) ∷ after)
 
   -- where the first ones don't wait, another is the first that waits
-  waiting_skip : (d : Bool) (xs : Items T S) (es : Entries T S) → Each false d xs
+  waiting_skip : (d : Bool) (xs : Items T S) (es : EntryList T S) → Each false d xs
       → first_waiting (entries_in xs ++ es) ≡ first_waiting es
   waiting_skip d [] es all = refl
-  waiting_skip d (x ∷ xs) es all = rw all.1 (waiting_skip d xs es all.3)
+  waiting_skip d (x ∷ xs) es all = rw all.0 (waiting_skip d xs es all.2)
 
   -- and that is marked
-  marked_skip : (d : Bool) (tell : Notice S → Notice S) (m : Mark T) (xs : Items T S) (es : Entries T S) → Each false d xs
+  marked_skip : (d : Bool) (tell : Notice S → Notice S) (m : Mark T) (xs : Items T S) (es : EntryList T S) → Each false d xs
       → with_first_marked tell m (entries_in xs ++ es) ≡ entries_in xs ++ with_first_marked tell m es
   marked_skip d tell m [] es all = refl
-  marked_skip d tell m (x ∷ xs) es all = rw all.1 (ap (λ l. entry_in x ∷ l) (marked_skip d tell m xs es all.3))
+  marked_skip d tell m (x ∷ xs) es all = rw all.0 (ap (λ l. entry_in x ∷ l) (marked_skip d tell m xs es all.2))
 
   -- the entries of the three parts
   three : (items : Items T S) (due waits : Option ℕ) (n : ℕ) (s : EntryLayout items due waits n)
@@ -97,15 +97,15 @@ module _ {T S : Type 0} where
         clear = a.0;
         behind = a.1;
         here = ap (λ l. found l k) is ∙ seat_found (s.quiet ++ s.dues) f.rest k f.element a.0;
-        class = (all.0, all.1, all.2);
-        others = all.3;
+        class = (all.0, all.1);
+        others = all.2;
       }
 
   -- its entry is the first that waits
   pub waits_first : (items : Items T S) (due waits : Option ℕ) (n : ℕ) (k : ℕ) (s : EntryLayout items due waits n) (w : FirstWaiting items due waits n k s)
       → first_waiting (entries_in items) ≡ Some (entry_in (item k w.element))
   waits_first items due waits n k s w =
-      first_of_last items due waits n s ∙ ap (λ l. first_waiting (entries_in l)) w.last ∙ rw w.class.1 refl
+      first_of_last items due waits n s ∙ ap (λ l. first_waiting (entries_in l)) w.last ∙ rw w.class.0 refl
 
   -- the value of one that is woken or filled
   abbrev pub woken_value : Mark T → Parked T S → Parked T S
@@ -122,7 +122,7 @@ module _ {T S : Type 0} where
       let now : with_value_at k items v ≡ (s.quiet ++ s.dues) ++ y ∷ w.after =
       ap (λ l. with_value_at k l v) w.is ∙ edited_at (revalued v) k (s.quiet ++ s.dues) w.after w.element w.clear w.behind in
       let joined : s.dues ++ y ∷ w.after ≡ (s.dues ++ y ∷ []) ++ w.after = sym (append_assoc s.dues (y ∷ []) w.after) in
-      let one : weight (entry_in x) ≡ 1 = rw w.class.1 refl in
+      let one : weight (entry_in x) ≡ 1 = rw w.class.0 refl in
       let zero_weight : weight (entry_in y) ≡ 0 = rw awake refl in
       let before = ap (λ l. waiting_count (entries_in l)) w.is ∙ waits-append (s.quiet ++ s.dues) (x ∷ w.after) in
       let later = ap (λ l. waiting_count (entries_in l)) now ∙ waits-append (s.quiet ++ s.dues) (y ∷ w.after) in
@@ -132,7 +132,7 @@ module _ {T S : Type 0} where
         last = w.after;
         is = now ∙ append_assoc s.quiet s.dues (y ∷ w.after) ∙ ap (λ l. s.quiet ++ l) joined;
         are_quiet = s.are_quiet;
-        are_due = each-push false true s.dues k (with_value w.element v) s.are_due (w.class.0, awake, refl);
+        are_due = each-push false true s.dues k (with_value w.element v) s.are_due (awake, refl);
         wait = w.others;
         first_due = s.first_due ∙ ap (λ l. first_place (s.dues ++ l)) w.last
             ∙ first_same s.dues w.after k w.element (with_value w.element v) ∙ ap first_place joined;
@@ -149,7 +149,7 @@ module _ {T S : Type 0} where
   woken_entries items due waits n k m s w =
       let v = woken_value m w.element.value in
       let here : with_first_marked due_now m (entries_in s.last) ≡ entry_in (item k (with_value w.element v)) ∷ entries_in w.after =
-      ap (λ l. with_first_marked due_now m (entries_in l)) w.last ∙ rw w.class.1 refl in
+      ap (λ l. with_first_marked due_now m (entries_in l)) w.last ∙ rw w.class.0 refl in
       revalued_entries items (s.quiet ++ s.dues) w.after k w.element v w.is w.clear w.behind
       ∙ ap (λ l. l ++ entry_in (item k (with_value w.element v)) ∷ entries_in w.after) (entries-append s.quiet s.dues)
       ∙ append_assoc (entries_in s.quiet) (entries_in s.dues) (entry_in (item k (with_value w.element v)) ∷ entries_in w.after)
@@ -158,6 +158,6 @@ module _ {T S : Type 0} where
   -- some wait where one does
   pub waits_some : (items : Items T S) (due waits : Option ℕ) (n : ℕ) (k : ℕ) (s : EntryLayout items due waits n) → FirstWaiting items due waits n k s → 1 ≤ n
   waits_some items due waits n k s w =
-      let one : weight (entry_in (item k w.element)) ≡ 1 = rw w.class.1 refl in
+      let one : weight (entry_in (item k w.element)) ≡ 1 = rw w.class.0 refl in
       let sum = ap (λ l. waiting_count (entries_in l)) w.is ∙ waits-append (s.quiet ++ s.dues) (item k w.element ∷ w.after) in
       omega (arith, s.count, one, sum)

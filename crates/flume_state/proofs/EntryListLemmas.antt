@@ -1,4 +1,4 @@
--- The list of parked receivers under single changes: how many wait, who is to be told, and who has a ticket.
+-- The list of parked receivers: how many of them wait.
 use Rattle.std.proofs.Common.{◌≡◌, ◌≢◌, ℕ, ◌+◌, ◌≤◌, Bool, true, false, cond, ltb, ◌||◌, List, [], ◌∷◌, ◌++◌, length, refl, ap, ◌∙◌, arith, lt-ltb}
 use Rattle.flume_model.specs.Entries.{is_waiting, waiting_count, some_wait}
 use Rattle.flume_model.specs.declared.entry.Entry.{Entry}

@@ -3,9 +3,18 @@ use Rattle.std.proofs.Common.{◌≡◌, ℕ, ◌+◌, ◌≤◌, ◌==◌, Bool
 use Rattle.std.proofs.lemmas.Bool.{cases_Bool, eqb-true}
 use Rattle.std.proofs.lemmas.List.{map-append}
 use Rattle.std.specs.Option.{option_or}
-use Rattle.flume_state.proofs.Chains.{once, times, Placed, places, found, without, first_place, place_after, times-append, once_same, once_none, once_back, with_same, item, found_none, found_put, found_some, without_none, after_at, edited_missing, edited}
+use Rattle.flume_state.proofs.Chains.{once, times, Placed, places, found, without, first_place, place_after, times-append, once_same, once_none, once_back, with_same, item, found_none, found_put, found_some, without_none, after_at, edited_missing, edited, with_value_at}
 use Rattle.flume_state.specs.layout.EntryLayout.{boundary_without}
 use Rattle.flume_state.specs.layout.Ticketed.{Ticketed}
+
+module _ {X Y : Type 0} (f : X → Y) where
+  -- what is read is that of the element that is found
+  pub read_value : (o : Option X) (e : X) (v : Y) → o ≡ Some e → Some v ≡ option_map f o → v ≡ f e
+  read_value o e v is read = let same : Some v ≡ Some (f e) = read ∙ ap (option_map f) is in cc
+
+  -- and one is read
+  pub read_some : (o : Option X) (e : X) → o ≡ Some e → None ≡ option_map f o → ⊥
+  read_some o e is read = let same : None ≡ Some (f e) = read ∙ ap (option_map f) is in cc
 
 -- a function of a choice is the choice of its values
 pub passes : {X Y : Type 0} (f : X → Y) (b : Bool) (x y : X) → f (if b then x else y) ≡ (if b then f x else f y)
@@ -129,10 +138,12 @@ module _ {E : Type 0} where
   abbrev pub with_value : Ticketed E → E → Ticketed E
   with_value e v = record e { value = v }
 
-  -- the value that is read is the one of the element that is found
-  pub read_value : (o : Option (Ticketed E)) (e : Ticketed E) (v : E) → o ≡ Some e → Some v ≡ option_map (λ x. x.value) o → v ≡ e.value
-  read_value o e v is read = let same : Some v ≡ Some e.value = read ∙ ap (option_map (λ x. x.value)) is in cc
-
-  -- and one is read
-  pub read_some : (o : Option (Ticketed E)) (e : Ticketed E) → o ≡ Some e → None ≡ option_map (λ x. x.value) o → ⊥
-  read_some o e is read = let same : None ≡ Some e.value = read ∙ ap (option_map (λ x. x.value)) is in cc
+  -- the elements without a place are the same, whatever value was written there
+  pub without_written : (items : List (Placed (Ticketed E))) (k : ℕ) (v : E) → without (with_value_at k items v) k ≡ without items k
+  without_written [] k v = refl
+  without_written (x ∷ items) k v = elim (cases_Bool (k == x.place)) [
+    | inl t ↦ rw (t, eq-eqb x.place k (sym (eqb-true k x.place t))) (without_written items k v)
+    | inr t ↦
+        let other = once_none x.place k (once_back k x.place (ap (λ b. if b then 1 else 0) t)) in
+        rw (t, other) (ap (λ l. x ∷ l) (without_written items k v))
+  ]

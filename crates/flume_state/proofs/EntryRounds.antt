@@ -16,25 +16,25 @@ sum_zero false n e = (refl, omega (arith, e))
 
 module _ {T N : Type 0} where
   -- the ticket and the kind of an entry that may be there
-  abbrev pub named : Option (Entry T N) → Option (ℕ × Kind)
-  named o = option_map (λ e. (e.ticket, e.kind)) o
+  abbrev pub ticket_and_kind : Option (Entry T N) → Option (ℕ × Kind)
+  ticket_and_kind o = option_map (λ e. (e.ticket, e.kind)) o
 
   -- the entry that is named is the front, where that waits
   front_named : (x : Entry T N) (o : Option (Entry T N)) (p : ℕ × Kind) → is_waiting x.mark ≡ true
-      → named (if is_waiting x.mark then Some x else o) ≡ Some p → (x.ticket ≡ p.0) × (x.kind ≡ p.1)
+      → ticket_and_kind (if is_waiting x.mark then Some x else o) ≡ Some p → (x.ticket ≡ p.0) × (x.kind ≡ p.1)
   front_named x o p waits is =
       let front : ℕ × Kind = (x.ticket, x.kind) in
-      let it : Some front ≡ Some p = sym (ap (λ b. named (if b then Some x else o)) waits) ∙ is in
+      let it : Some front ≡ Some p = sym (ap (λ b. ticket_and_kind (if b then Some x else o)) waits) ∙ is in
       let both : front ≡ p = cc in
       (ap (λ q. q.0) both, ap (λ q. q.1) both)
 
   -- the entry that is named stands behind the front, where that doesn't wait
   behind_named : (x : Entry T N) (o : Option (Entry T N)) (p : Option (ℕ × Kind)) → is_waiting x.mark ≡ false
-      → named (if is_waiting x.mark then Some x else o) ≡ p → named o ≡ p
-  behind_named x o p awake is = sym (ap (λ b. named (if b then Some x else o)) awake) ∙ is
+      → ticket_and_kind (if is_waiting x.mark then Some x else o) ≡ p → ticket_and_kind o ≡ p
+  behind_named x o p awake is = sym (ap (λ b. ticket_and_kind (if b then Some x else o)) awake) ∙ is
 
   -- behind a stream the round goes on
-  pub round_on : (tell : N → N) (front : T) (es : List (Entry T N)) (t : ℕ) → named (first_waiting es) ≡ Some (t, Stream)
+  pub round_on : (tell : N → N) (front : T) (es : List (Entry T N)) (t : ℕ) → ticket_and_kind (first_waiting es) ≡ Some (t, Stream)
       → round tell front (with_first_marked tell Woken es) ≡ round tell front es
   round_on tell front [] t is = absurd (let none : ⊥ = cc in none)
   round_on tell front (x ∷ es) t is = elim (cases_Bool (is_waiting x.mark)) [
@@ -43,7 +43,7 @@ module _ {T N : Type 0} where
   ]
 
   -- behind a stream the round fills whom it would fill
-  pub fills_on : (tell : N → N) (es : List (Entry T N)) (t : ℕ) → named (first_waiting es) ≡ Some (t, Stream)
+  pub fills_on : (tell : N → N) (es : List (Entry T N)) (t : ℕ) → ticket_and_kind (first_waiting es) ≡ Some (t, Stream)
       → round_fills (with_first_marked tell Woken es) ≡ round_fills es
   fills_on tell [] t is = absurd (let none : ⊥ = cc in none)
   fills_on tell (x ∷ es) t is = elim (cases_Bool (is_waiting x.mark)) [
@@ -53,7 +53,7 @@ module _ {T N : Type 0} where
 
   -- the round ends at the first that waits, where its kind makes it so
   pub round_ends : (tell : N → N) (front : T) (mark : Mark T) (es : List (Entry T N)) (t : ℕ) (k : Kind)
-      → named (first_waiting es) ≡ Some (t, k)
+      → ticket_and_kind (first_waiting es) ≡ Some (t, k)
       → ((e : Entry T N) (as_are goes_on : List (Entry T N)) → met tell k front e as_are goes_on ≡ marked tell mark e ∷ as_are)
       → with_first_marked tell mark es ≡ round tell front es
   round_ends tell front mark [] t k is ends = absurd (let none : ⊥ = cc in none)
@@ -66,7 +66,7 @@ module _ {T N : Type 0} where
   ]
 
   -- whom the round fills at the first that waits, where its kind makes it so
-  pub fills_end : (es : List (Entry T N)) (t : ℕ) (k : Kind) (filled : Option ℕ) → named (first_waiting es) ≡ Some (t, k)
+  pub fills_end : (es : List (Entry T N)) (t : ℕ) (k : Kind) (filled : Option ℕ) → ticket_and_kind (first_waiting es) ≡ Some (t, k)
       → ((on : Option ℕ) → filled_at k t on ≡ filled) → round_fills es ≡ filled
   fills_end [] t k filled is ends = absurd (let none : ⊥ = cc in none)
   fills_end (x ∷ es) t k filled is ends = elim (cases_Bool (is_waiting x.mark)) [
@@ -75,18 +75,18 @@ module _ {T N : Type 0} where
   ]
 
   -- nobody waits where nobody is named
-  pub none_wait : (es : List (Entry T N)) → named (first_waiting es) ≡ None → waiting_count es ≡ 0
+  pub none_wait : (es : List (Entry T N)) → ticket_and_kind (first_waiting es) ≡ None → waiting_count es ≡ 0
   none_wait [] is = refl
   none_wait (x ∷ es) is = elim (cases_Bool (is_waiting x.mark)) [
     | inl w ↦
         let front : ℕ × Kind = (x.ticket, x.kind) in
-        let it : Some front ≡ None = sym (ap (λ b. named (if b then Some x else first_waiting es)) w) ∙ is in
+        let it : Some front ≡ None = sym (ap (λ b. ticket_and_kind (if b then Some x else first_waiting es)) w) ∙ is in
         absurd (let none : ⊥ = cc in none)
     | inr w ↦ rw w (omega (arith, none_wait es (behind_named x (first_waiting es) _ w is)))
   ]
 
   -- one fewer waits once the first is woken
-  pub fewer_wait : (tell : N → N) (es : List (Entry T N)) (p : ℕ × Kind) → named (first_waiting es) ≡ Some p
+  pub fewer_wait : (tell : N → N) (es : List (Entry T N)) (p : ℕ × Kind) → ticket_and_kind (first_waiting es) ≡ Some p
       → waiting_count (with_first_marked tell Woken es) < waiting_count es
   fewer_wait tell [] p is = absurd (let none : ⊥ = cc in none)
   fewer_wait tell (x ∷ es) p is = elim (cases_Bool (is_waiting x.mark)) [
@@ -97,8 +97,8 @@ module _ {T N : Type 0} where
   -- one fewer waits once the first is woken, where some wait
   pub fewer_of : (tell : N → N) (es : List (Entry T N)) → 0 < waiting_count es
       → waiting_count (with_first_marked tell Woken es) < waiting_count es
-  fewer_of tell es some = elim (named (first_waiting es)) as
-      (λ o. named (first_waiting es) ≡ o → waiting_count (with_first_marked tell Woken es) < waiting_count es) [
+  fewer_of tell es some = elim (ticket_and_kind (first_waiting es)) as
+      (λ o. ticket_and_kind (first_waiting es) ≡ o → waiting_count (with_first_marked tell Woken es) < waiting_count es) [
         | None ↦ λ is. absurd (omega (arith, none_wait es is, some))
         | Some p ↦ λ is. fewer_wait tell es p is
       ] refl

@@ -1,25 +1,18 @@
 -- The parked receiver that a ticket finds, in the chain and among the entries.
-use Rattle.std.proofs.Common.{◌≡◌, ℕ, ◌==◌, Bool, List, [], ◌∷◌, ◌++◌, Option, Some, None, refl, sym, ap, ◌∙◌, inl, inr, true, false, if◌then◌else◌, eq-eqb, subst, unwrap_or}
-use Rattle.std.proofs.lemmas.Bool.{cases_Bool}
-use Rattle.std.specs.Prelude.{⊤}
+use Rattle.std.proofs.Common.{◌≡◌, ℕ, ◌==◌, List, [], ◌∷◌, ◌++◌, Some, None, refl, sym, ap, ◌∙◌, inl, inr, if◌then◌else◌, eq-eqb, subst}
+use Rattle.std.proofs.lemmas.Bool.{cases_Bool, eqb-true}
 use Rattle.flume_state.proofs.Chains.{times, places, found, without, item, without_at}
 use Rattle.flume_model.specs.Entries.{entry_of, without as without_ticket}
 use Rattle.flume_model.specs.declared.entry.Entry.{Entry}
 use Rattle.flume_model.proofs.EntryLists.{none_parts}
-use Rattle.flume_state.specs.layout.EntryLayout.{Each, EntryLayout, entries_in, entry_in}
+use Rattle.flume_state.specs.layout.EntryLayout.{entries_in, entry_in}
 use Rattle.flume_state.specs.layout.Ticketed.{place_of, Ticketed}
-use Rattle.flume_model.specs.Log.{is_ticket}
-use Rattle.flume_state.specs.Receivers.{Entries, noticed_receiver}
+use Rattle.flume_state.specs.Receivers.{EntryList, noticed_receiver}
 use Rattle.flume_state.specs.declared.entries.Parked.{Parked}
 use Rattle.flume_state.specs.declared.notice.Notice.{Notice}
 use Rattle.flume_state.proofs.EntryParts.{Apart, alone, seat_found}
-use Rattle.flume_state.proofs.TicketLemmas.{neither, ticket_is}
+use Rattle.flume_state.proofs.TicketLemmas.{neither}
 use Rattle.flume_state.proofs.EntrySorted.{Items, entries-append}
-
--- a ticket that is there is another's or not as its number is
-ticket_same : (t : ℕ) (o : Option ℕ) → o ≡ Some (unwrap_or o 0) → (unwrap_or o 0 == t) ≡ is_ticket t o
-ticket_same t None h = absurd (let none : ⊥ = cc in none)
-ticket_same t (Some u) h = refl
 
 module _ {T N : Type 0} where
   -- the first entry with a ticket is the ticket's
@@ -44,55 +37,36 @@ module _ {T N : Type 0} where
 
 module _ {T S : Type 0} where
   -- the notice of the first entry with a ticket is changed
-  pub noticed_at : (f : Notice S → Notice S) (t : ℕ) (xs ys : Entries T S) (e : Entry T (Notice S)) → entry_of t xs ≡ None
+  pub noticed_at : (f : Notice S → Notice S) (t : ℕ) (xs ys : EntryList T S) (e : Entry T (Notice S)) → entry_of t xs ≡ None
       → e.ticket ≡ t → noticed_receiver f t (xs ++ e ∷ ys) ≡ xs ++ record e { notice = f e.notice } ∷ ys
   noticed_at f t [] ys e none is = rw (eq-eqb e.ticket t is) refl
   noticed_at f t (x ∷ xs) ys e none is =
       let p = none_parts t x xs none in rw p.0 (ap (λ l. x ∷ l) (noticed_at f t xs ys e p.1 is))
 
   -- where nobody has the ticket, no notice is changed
-  pub noticed_none_of : (f : Notice S → Notice S) (t : ℕ) (xs : Entries T S) → entry_of t xs ≡ None → noticed_receiver f t xs ≡ xs
+  pub noticed_none_of : (f : Notice S → Notice S) (t : ℕ) (xs : EntryList T S) → entry_of t xs ≡ None → noticed_receiver f t xs ≡ xs
   noticed_none_of f t [] none = refl
   noticed_none_of f t (x ∷ xs) none =
       let p = none_parts t x xs none in rw p.0 (ap (λ l. x ∷ l) (noticed_none_of f t xs p.1))
 
-  -- each element has a ticket
-  abbrev Held : Items T S → Type 0
-  Held [] = ⊤
-  Held (x ∷ items) = (x.element.label ≡ Some (unwrap_or x.element.label 0)) × Held items
-
-  held-each : (w d : Bool) (xs : Items T S) → Each w d xs → Held xs
-  held-each w d [] all = all
-  held-each w d (x ∷ xs) all = (all.0, held-each w d xs all.3)
-
-  held-append : (xs ys : Items T S) → Held xs → Held ys → Held (xs ++ ys)
-  held-append [] ys h g = g
-  held-append (x ∷ xs) ys h g = (h.0, held-append xs ys h.1 g)
-
-  held-sorted : (items : Items T S) (due waits : Option ℕ) (n : ℕ) → EntryLayout items due waits n → Held items
-  held-sorted items due waits n s = subst Held (sym s.is)
-      (held-append s.quiet (s.dues ++ s.last) (held-each false false s.quiet s.are_quiet)
-      (held-append s.dues s.last (held-each false true s.dues s.are_due) (held-each true false s.last s.wait)))
-
-  -- where no place is a ticket's, no entry is
-  absent : (t : ℕ) (items : Items T S) → Held items → place_of t items ≡ None → entry_of t (entries_in items) ≡ None
-  absent t [] held h = refl
-  absent t (x ∷ items) held h =
-      let both = neither (is_ticket t x.element.label) x.place (place_of t items) h in
-      rw (ticket_same t x.element.label held.0 ∙ both.0) (absent t items held.1 both.1)
+  -- where a ticket finds no place, nobody is parked under it
+  pub nobody : (t : ℕ) (items : Items T S) → place_of t items ≡ None → entry_of t (entries_in items) ≡ None
+  nobody t [] none = refl
+  nobody t (x ∷ items) none =
+      let both = neither (x.element.label == t) x.place (place_of t items) none in rw both.0 (nobody t items both.1)
 
   -- the first element with a ticket
-  record Owner (items : Items T S) (t k : ℕ) : Type 0 where
+  record FirstWith (items : Items T S) (t k : ℕ) : Type 0 where
     pub before : Items T S
     pub element : Ticketed (Parked T S)
     pub after : Items T S
     pub is : items ≡ before ++ item k element ∷ after
-    pub ticket : element.label ≡ Some t
+    pub ticket : element.label ≡ t
     pub ahead : entry_of t (entries_in before) ≡ None
 
-  owner : (items : Items T S) (t k : ℕ) → Held items → place_of t items ≡ Some k → Owner items t k
-  owner [] t k held h = absurd (let none : ⊥ = cc in none)
-  owner (x ∷ items) t k held h = elim (cases_Bool (is_ticket t x.element.label)) [
+  first_with : (items : Items T S) (t k : ℕ) → place_of t items ≡ Some k → FirstWith items t k
+  first_with [] t k h = absurd (let none : ⊥ = cc in none)
+  first_with (x ∷ items) t k h = elim (cases_Bool (x.element.label == t)) [
     | inl m ↦ (
         let it : Some x.place ≡ Some k = sym (ap (λ b. if b then Some x.place else place_of t items) m) ∙ h in
         let same : x.place ≡ k = cc in
@@ -101,19 +75,19 @@ module _ {T S : Type 0} where
           element = x.element;
           after = items;
           is = ap (λ (p : ℕ). item p x.element ∷ items) same;
-          ticket = ticket_is t x.element.label m;
+          ticket = eqb-true x.element.label t m;
           ahead = refl;
         }
         )
     | inr m ↦ (
-        let r = owner items t k held.1 (sym (ap (λ b. if b then Some x.place else place_of t items) m) ∙ h) in
+        let r = first_with items t k (sym (ap (λ b. if b then Some x.place else place_of t items) m) ∙ h) in
         record {
           before = x ∷ r.before;
           element = r.element;
           after = r.after;
           is = ap (λ l. x ∷ l) r.is;
           ticket = r.ticket;
-          ahead = rw (ticket_same t x.element.label held.0 ∙ m) r.ahead;
+          ahead = ap (λ b. if b then Some (entry_in x) else entry_of t (entries_in r.before)) m ∙ r.ahead;
         }
         )
   ]
@@ -124,8 +98,7 @@ module _ {T S : Type 0} where
     pub element : Ticketed (Parked T S)
     pub after : Items T S
     pub is : items ≡ before ++ item k element ∷ after
-    pub ticket : element.label ≡ Some t
-    pub number : unwrap_or element.label 0 ≡ t
+    pub ticket : element.label ≡ t
     pub ahead : entry_of t (entries_in before) ≡ None
     pub clear : times k (places before) ≡ 0
     pub behind : times k (places after) ≡ 0
@@ -134,12 +107,10 @@ module _ {T S : Type 0} where
     pub entry : entry_of t (entries_in items) ≡ Some (entry_in (item k element))
 
   -- what stands at the place that a ticket finds
-  pub seated : (items : Items T S) (due waits : Option ℕ) (n t k : ℕ) → EntryLayout items due waits n → place_of t items ≡ Some k
-      → Seated items t k
-  seated items due waits n t k s h =
-      let o = owner items t k (held-sorted items due waits n s) h in
-      let a = alone o.before o.after k o.element (subst Apart o.is s.apart) in
-      let number : unwrap_or o.element.label 0 ≡ t = ap (λ o. unwrap_or o 0) o.ticket in
+  pub seated : (items : Items T S) (t k : ℕ) → Apart items → place_of t items ≡ Some k → Seated items t k
+  seated items t k apart h =
+      let o = first_with items t k h in
+      let a = alone o.before o.after k o.element (subst Apart o.is apart) in
       let all = ap entries_in o.is ∙ entries-append o.before (item k o.element ∷ o.after) in
       record {
         before = o.before;
@@ -147,20 +118,14 @@ module _ {T S : Type 0} where
         after = o.after;
         is = o.is;
         ticket = o.ticket;
-        number = number;
         ahead = o.ahead;
         clear = a.0;
         behind = a.1;
         here = ap (λ l. found l k) o.is ∙ seat_found o.before o.after k o.element a.0;
         entries = all;
         entry = ap (entry_of t) all
-            ∙ entry_at t (entries_in o.before) (entries_in o.after) (entry_in (item k o.element)) o.ahead number;
+            ∙ entry_at t (entries_in o.before) (entries_in o.after) (entry_in (item k o.element)) o.ahead o.ticket;
       }
-
-  -- where a ticket finds no place, nobody is parked under it
-  pub nobody : (items : Items T S) (due waits : Option ℕ) (n t : ℕ) → EntryLayout items due waits n → place_of t items ≡ None
-      → entry_of t (entries_in items) ≡ None
-  nobody items due waits n t s h = absent t items (held-sorted items due waits n s) h
 
   -- the entries without it
   pub seat_without : (items : Items T S) (t k : ℕ) → Seated items t k
@@ -169,4 +134,4 @@ module _ {T S : Type 0} where
       ap (λ l. entries_in (without l k)) s.is ∙ ap entries_in (without_at s.before s.after k s.element s.clear s.behind)
       ∙ entries-append s.before s.after
       ∙ sym (ap (without_ticket t) s.entries
-      ∙ without_entry t (entries_in s.before) (entries_in s.after) (entry_in (item k s.element)) s.ahead s.number)
+      ∙ without_entry t (entries_in s.before) (entries_in s.after) (entry_in (item k s.element)) s.ahead s.ticket)

@@ -1,7 +1,7 @@
 -- The three parts of the parked receivers' chain, and their boundaries, under each step.
 use Rattle.std.proofs.Common.{◌≡◌, ℕ, suc, ◌+◌, ◌≤◌, ◌==◌, Bool, List, [], ◌∷◌, ◌++◌, Option, Some, None, length, refl, sym, ap, ap₂, ◌∙◌, inl, inr, arith, true, false, cond, append_assoc, subst}
 use Rattle.std.proofs.lemmas.Bool.{cases_Bool}
-use Rattle.std.specs.Option.{unwrap_or, option_or}
+use Rattle.std.specs.Option.{option_or}
 use Rattle.flume_state.proofs.Chains.{times, Placed, places, found, without, first_place, place_after, once_more, item, without_at, none_placed, without-append}
 use Rattle.flume_model.specs.Entries.{is_waiting, waiting_count}
 use Rattle.flume_state.specs.layout.EntryLayout.{Each, EntryLayout, entries_in, entry_in, boundary_without}
@@ -17,7 +17,7 @@ Items T S = List (Placed (Ticketed (Parked T S)))
 module _ {T S : Type 0} where
   -- an element is of the part where these say whether it waits, and whether it is due
   abbrev pub Is : Bool → Bool → Ticketed (Parked T S) → Type 0
-  Is waits due e = (e.label ≡ Some (unwrap_or e.label 0)) × (is_waiting e.value.mark ≡ waits) × (e.value.notice.due ≡ due)
+  Is waits due e = (is_waiting e.value.mark ≡ waits) × (e.value.notice.due ≡ due)
 
   -- the entries of two lists joined
   pub entries-append : (xs ys : Items T S) → entries_in (xs ++ ys) ≡ entries_in xs ++ entries_in ys
@@ -30,15 +30,15 @@ module _ {T S : Type 0} where
 
   -- a part with one more behind it
   pub each-push : (w d : Bool) (xs : Items T S) (k : ℕ) (e : Ticketed (Parked T S)) → Each w d xs → Is w d e → Each w d (xs ++ item k e ∷ [])
-  each-push w d [] k e h is = (is.0, is.1, is.2, h)
-  each-push w d (x ∷ xs) k e h is = (h.0, h.1, h.2, each-push w d xs k e h.3 is)
+  each-push w d [] k e h is = (is.0, is.1, h)
+  each-push w d (x ∷ xs) k e h is = (h.0, h.1, each-push w d xs k e h.2 is)
 
   -- a part without a place
   each-without : (w d : Bool) (xs : Items T S) (k : ℕ) → Each w d xs → Each w d (without xs k)
   each-without w d [] k h = h
   each-without w d (x ∷ xs) k h = elim (cases_Bool (x.place == k)) [
-    | inl t ↦ rw t (each-without w d xs k h.3)
-    | inr t ↦ rw t (h.0, h.1, h.2, each-without w d xs k h.3)
+    | inl t ↦ rw t (each-without w d xs k h.2)
+    | inr t ↦ rw t (h.0, h.1, each-without w d xs k h.2)
   ]
 
   -- one more that waits and isn't due stands behind all others
@@ -48,7 +48,7 @@ module _ {T S : Type 0} where
   sorted_push items due waits n k e s fresh is fits =
       let x = item k e in
       let joined : (s.dues ++ s.last) ++ x ∷ [] ≡ s.dues ++ (s.last ++ x ∷ []) = append_assoc s.dues s.last (x ∷ []) in
-      let one : weight (entry_in x) ≡ 1 = rw is.1 refl in
+      let one : weight (entry_in x) ≡ 1 = rw is.0 refl in
       record {
         quiet = s.quiet;
         dues = s.dues;

@@ -1,14 +1,14 @@
 -- The first that is due, and what becomes of it once it is named.
 use Rattle.std.proofs.Common.{◌≡◌, ◌≢◌, ℕ, Bool, [], ◌∷◌, ◌++◌, Option, Some, None, refl, sym, ap, ◌∙◌, arith, true, false, not, nat_eq, inl, inr, eq-eqb, subst, append_assoc}
 use Rattle.std.proofs.lemmas.Bool.{cases_Bool, eqb-true}
-use Rattle.std.specs.Option.{unwrap_or, option_eq}
+use Rattle.std.specs.Option.{option_eq}
 use Rattle.std.proofs.lemmas.List.Elements.{All-append, All-cons, All-nil}
 use Rattle.flume_state.proofs.Chains.{times, places, found, first_place, place_after, once_same, item, after_at, with_value_at, revalued, length-edited, places-edited}
 use Rattle.flume_model.specs.Entries.{waiting_count}
 use Rattle.flume_model.specs.declared.entry.Entry.{Entry}
 use Rattle.flume_state.specs.Notices.{no_longer_due}
 use Rattle.flume_state.specs.layout.EntryLayout.{Each, EntryLayout, entries_in, entry_in}
-use Rattle.flume_state.specs.Receivers.{Entries, NoDueReceiver, NamesReceiver}
+use Rattle.flume_state.specs.Receivers.{EntryList, NoDueReceiver, NamesReceiver}
 use Rattle.flume_state.specs.declared.entries.Parked.{Parked}
 use Rattle.flume_state.specs.declared.notice.Notice.{Notice}
 use Rattle.flume_state.specs.layout.Ticketed.{Ticketed}
@@ -39,7 +39,7 @@ module _ {T S : Type 0} where
   no_due : (w : Bool) (xs : Items T S) → Each w false xs → NoDueReceiver (entries_in xs)
   no_due w [] all = All-nil (λ (e : Entry T (Notice S)). e.notice.due ≡ false)
   no_due w (x ∷ xs) all =
-      All-cons (λ (e : Entry T (Notice S)). e.notice.due ≡ false) (entry_in x) (entries_in xs) all.2 (no_due w xs all.3)
+      All-cons (λ (e : Entry T (Notice S)). e.notice.due ≡ false) (entry_in x) (entries_in xs) all.1 (no_due w xs all.2)
 
   -- two boundaries at one place have nothing between them
   nothing_between : (quiet dues last : Items T S) → Apart (quiet ++ (dues ++ last)) → first_place (dues ++ last) ≡ first_place last → dues ≡ []
@@ -95,8 +95,8 @@ module _ {T S : Type 0} where
         clear = a.0;
         behind = a.1;
         here = ap (λ l. found l k) is ∙ seat_found s.quiet (f.rest ++ s.last) k f.element a.0;
-        class = (all.0, all.1, all.2);
-        due_too = all.3;
+        class = (all.0, all.1);
+        due_too = all.2;
       }
 
   -- the value of one that was named
@@ -119,7 +119,7 @@ module _ {T S : Type 0} where
         dues = d.others;
         last = s.last;
         is = now ∙ sym (append_assoc s.quiet (y ∷ []) (d.others ++ s.last));
-        are_quiet = each-push false false s.quiet k (with_value d.element v) s.are_quiet (d.class.0, d.class.1, refl);
+        are_quiet = each-push false false s.quiet k (with_value d.element v) s.are_quiet (d.class.0, refl);
         are_due = d.due_too;
         wait = s.wait;
         first_due = ap (λ l. place_after l k) d.is ∙ after_at s.quiet (d.others ++ s.last) k d.element d.clear;
@@ -130,15 +130,15 @@ module _ {T S : Type 0} where
       }
 
   -- and it was told
-  pub tells : (items : Items T S) (due waits : Option ℕ) (n : ℕ) (k t : ℕ) (es : Entries T S) (s : EntryLayout items due waits n)
-      (d : Dues items due waits n k s) → entries_in items ≡ es → d.element.label ≡ Some t
-      → NamesReceiver es (entries_in (with_value_at k items (told_value d.element.value))) t
-  tells items due waits n k t es s d view ticket = record {
+  pub tells : (items : Items T S) (due waits : Option ℕ) (n : ℕ) (k : ℕ) (es : EntryList T S) (s : EntryLayout items due waits n)
+      (d : Dues items due waits n k s) → entries_in items ≡ es
+      → NamesReceiver es (entries_in (with_value_at k items (told_value d.element.value))) d.element.label
+  tells items due waits n k es s d view = record {
     before = entries_in s.quiet;
     entry = entry_in (item k d.element);
     later = entries_in (d.others ++ s.last);
     found = sym view ∙ ap entries_in d.is ∙ entries-append s.quiet (item k d.element ∷ (d.others ++ s.last));
-    is_it = ap (λ o. unwrap_or o 0) ticket;
-    was_due = d.class.2;
+    is_it = refl;
+    was_due = d.class.1;
     told = revalued_entries items s.quiet (d.others ++ s.last) k d.element (told_value d.element.value) d.is d.clear d.behind;
   }

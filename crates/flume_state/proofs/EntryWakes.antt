@@ -8,7 +8,7 @@ use Rattle.flume_model.specs.Entries.{waiting_count, round, round_fills, round_f
 use Rattle.flume_state.specs.Messages.{Messages}
 use Rattle.flume_state.specs.layout.EntryLayout.{first_waiting, with_first_marked}
 use Rattle.flume_state.specs.Receivers.{after_fill}
-use Rattle.flume_state.proofs.EntryRounds.{named, round_on, fills_on, round_ends, fills_end, none_wait, round_idle, fills_idle}
+use Rattle.flume_state.proofs.EntryRounds.{ticket_and_kind, round_on, fills_on, round_ends, fills_end, none_wait, round_idle, fills_idle}
 
 module _ {X : Type 0} where
   -- a list that isn't empty has a front
@@ -66,7 +66,7 @@ module _ {T S N : Type 0} where
 
   -- the loop goes on behind a stream
   pub wakes_stream : (tell : N → N) (initial old new : List (Entry T N)) (line line_now : Messages T S) (t : ℕ) → Wakes tell initial old line line_now
-      → named (first_waiting old) ≡ Some (t, Stream) → new ≡ with_first_marked tell Woken old → Wakes tell initial new line line_now
+      → ticket_and_kind (first_waiting old) ≡ Some (t, Stream) → new ≡ with_first_marked tell Woken old → Wakes tell initial new line line_now
   wakes_stream tell initial old new line line_now t w next woken = record {
     front = w.front;
     rest = w.rest;
@@ -89,14 +89,14 @@ module _ {T S N : Type 0} where
 
   -- the loop ends where nobody waits
   pub woke_over : (tell : N → N) (initial now : List (Entry T N)) (line line_now : Messages T S) → Wakes tell initial now line line_now
-      → named (first_waiting now) ≡ None → Woke tell initial line None now line_now
+      → ticket_and_kind (first_waiting now) ≡ None → Woke tell initial line None now line_now
   woke_over tell initial now line line_now w none =
       let zero = none_wait now none in
       woke_none tell initial now now line line_now w (sym (round_idle tell w.front now zero)) (fills_idle now zero)
 
   -- the loop ends at one of the plain kind, and at an arm of a selector
   pub woke_plain : (tell : N → N) (initial old new : List (Entry T N)) (line line_now : Messages T S) (t : ℕ) (k : Kind)
-      → Wakes tell initial old line line_now → named (first_waiting old) ≡ Some (t, k) → (k ≡ Plain) ⊎ (k ≡ Arm)
+      → Wakes tell initial old line line_now → ticket_and_kind (first_waiting old) ≡ Some (t, k) → (k ≡ Plain) ⊎ (k ≡ Arm)
       → new ≡ with_first_marked tell Woken old → Woke tell initial line None new line_now
   woke_plain tell initial old new line line_now t k w next (inl is) woken =
       woke_none tell initial old new line line_now w (woken ∙ round_ends tell w.front Woken old t k next (λ e a o. rw is refl))
@@ -107,7 +107,7 @@ module _ {T S N : Type 0} where
 
   -- the loop ends at one that blocks, which is filled with the front of the queue
   pub woke_block : (tell : N → N) (initial old new : List (Entry T N)) (line line_now line_new : Messages T S) (t : ℕ) (taken : T)
-      → Wakes tell initial old line line_now → named (first_waiting old) ≡ Some (t, Block)
+      → Wakes tell initial old line line_now → ticket_and_kind (first_waiting old) ≡ Some (t, Block)
       → line_now ≡ record line_new { queued = taken ∷ line_new.queued } → new ≡ with_first_marked tell (Filled taken) old
       → Woke tell initial line (Some t) new line_new
   woke_block tell initial old new line line_now line_new t taken w next takes woken =

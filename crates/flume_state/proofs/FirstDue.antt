@@ -1,8 +1,8 @@
 -- The first of the live sends that is due, and what its telling leaves of the chain.
-use Rattle.std.proofs.Common.{◌≡◌, ℕ, ◌≤◌, true, false, List, [], ◌∷◌, ◌++◌, Option, Some, None, refl, sym, ap, subst, ◌∙◌, append_assoc, is_some}
-use Rattle.flume_state.proofs.Chains.{found, place_after, item, after_at, with_value_at}
+use Rattle.std.proofs.Common.{◌≡◌, ℕ, ◌≤◌, true, false, List, [], ◌∷◌, ◌++◌, Option, Some, None, sym, ap, subst, ◌∙◌, append_assoc, ◌≢◌}
+use Rattle.flume_state.proofs.Chains.{times, found, place_after, item, after_at, with_value_at}
 use Rattle.flume_state.specs.declared.sends.LiveSend.{LiveSend}
-use Rattle.flume_state.specs.layout.Ticketed.{Ticketed, ticket_times, ticket_in}
+use Rattle.flume_state.specs.layout.Ticketed.{Ticketed, tickets}
 use Rattle.flume_state.specs.Sends.{send_due_in, is_due_send}
 use Rattle.flume_state.specs.layout.SendLayout.{Element, by_ticket, EachDueIs, SendLayout}
 use Rattle.flume_state.proofs.ByTicket.{under, Stands, stands_amid, stands_value, stands_written}
@@ -38,7 +38,7 @@ module _ {S : Type 0} where
       }
 
   pub first_due : (items : List (Element S)) (d : Option ℕ) (t p : ℕ) (v : LiveSend S) → SendLayout items d → d ≡ Some p
-      → Apart items → ((u : ℕ) → ticket_times u items ≤ 1)
+      → Apart items → ((u : ℕ) → times u (tickets items) ≤ 1)
       → found items p ≡ Some (under t v) → FirstDue items t p v
   first_due items d t p v l is apart single at =
       let h = late_of items d p l is apart in
@@ -48,8 +48,8 @@ module _ {S : Type 0} where
       record {
         stands = stands_amid t p v items l.quiet h.tail apart single whole;
         none_due = l.none_due;
-        all_due = h.dues.2;
-        due = sym (ap (λ (e : Ticketed (LiveSend S)). e.value.notice.due) same) ∙ h.dues.1;
+        all_due = h.dues.1;
+        due = sym (ap (λ (e : Ticketed (LiveSend S)). e.value.notice.due) same) ∙ h.dues.0;
       }
 
   -- it is told: the next is the first that is due
@@ -62,7 +62,7 @@ module _ {S : Type 0} where
         quiet = s.before ++ item p (under t w) ∷ [];
         late = s.after;
         parts = is ∙ sym (append_assoc s.before (item p (under t w) ∷ []) s.after);
-        none_due = lined_append false s.before (item p (under t w) ∷ []) f.none_due (refl, e, tt);
+        none_due = lined_append false s.before (item p (under t w) ∷ []) f.none_due (e, tt);
         all_due = f.all_due;
         first = ap (λ (xs : List (Element S)). place_after xs p) is ∙ after_at s.before s.after p (under t w) s.ahead;
       }
@@ -71,11 +71,9 @@ module _ {S : Type 0} where
   pub told_due : (items : List (Element S)) (t p : ℕ) (v : LiveSend S) → FirstDue items t p v → is_due_send (by_ticket items) t ≡ true
   told_due items t p v f = ap send_due_in (stands_value t p v items f.stands) ∙ f.due
 
-  -- the first that is due has a ticket
-  pub due_ticket : (items : List (Element S)) (d : Option ℕ) (p : ℕ) → SendLayout items d → d ≡ Some p → Apart items
-      → None ≡ ticket_in (found items p) → ⊥
-  due_ticket items d p l is apart ticket =
+  -- the first that is due stands
+  pub due_stands : (items : List (Element S)) (d : Option ℕ) (p : ℕ) → SendLayout items d → d ≡ Some p → Apart items → found items p ≢ None
+  due_stands items d p l is apart = λ none.
       let h = late_of items d p l is apart in
-      let none : is_some h.element.label ≡ false = ap is_some (sym (ticket ∙ ap ticket_in h.at)) in
-      let some : is_some h.element.label ≡ true = h.dues.0 in
-      let no : ⊥ = cc in no
+      let no : Some h.element ≡ None = sym h.at ∙ none in
+      let never : ⊥ = cc in never

@@ -1,31 +1,25 @@
 -- The chain of the live sends seen without the places of their messages, and the link of each place, under each edit.
-use Rattle.std.proofs.Common.{◌≡◌, ◌≢◌, ℕ, ◌+◌, ◌≤◌, ◌==◌, Bool, true, false, if◌then◌else◌, List, [], ◌∷◌, ◌++◌, Option, Some, None, ◌↔◌, refl, sym, ap, ap₂, subst, ◌∙◌, inl, inr, arith, IsSome, IfSome, IfNone, OnSome, option_map, is_some}
+use Rattle.std.proofs.Common.{◌≡◌, ◌≢◌, ℕ, ◌≤◌, ◌==◌, Bool, true, false, if◌then◌else◌, List, [], ◌∷◌, ◌++◌, Option, Some, None, ◌↔◌, refl, sym, ap, ap₂, subst, ◌∙◌, inl, inr, arith, IsSome, IfSome, IfNone, option_map, is_some}
 use Rattle.std.proofs.lemmas.Bool.{cases_Bool, eqb-true}
 use Rattle.std.proofs.lemmas.List.{map-append}
 use Rattle.std.proofs.lemmas.Iterator.Adapters.{option_map_id}
 use Rattle.std.specs.FinMap.{empty, get, remove}
-use Rattle.flume_state.proofs.Chains.{Placed, Chained, times, places, found, without, put_before, first_place, place_after, revalued, with_value_at, times-append, with_same, item, found_none, found_put, none_placed, places-append, without_missing, places-edited, found-edited}
-use Rattle.flume_model.specs.Log.{is_ticket}
+use Rattle.flume_state.proofs.Chains.{Placed, times, places, found, without, put_before, first_place, place_after, revalued, with_value_at, times-append, with_same, item, found_none, found_put, none_placed, places-append, without_missing, places-edited, found-edited}
 use Rattle.flume_state.specs.declared.sends.LiveSend.{LiveSend}
-use Rattle.flume_state.specs.declared.sends.Owner.{Owner}
-use Rattle.flume_state.specs.layout.Ticketed.{Ticketed, place_of, ticket_times, put_ahead, ticket_in}
+use Rattle.flume_state.specs.declared.sends.PlacedSend.{PlacedSend}
+use Rattle.flume_state.specs.layout.Ticketed.{Ticketed, place_of, tickets, put_ahead}
 use Rattle.flume_state.specs.Sends.{changed}
 use Rattle.flume_state.specs.layout.SendLayout.{Element, SendLayout, by_ticket}
-use Rattle.flume_state.specs.layout.Pairing.{SendList, Link, send_in, sends_in, live_sends, link_in, link_at}
-use Rattle.flume_state.proofs.TicketLemmas.{Amid, put_amid, without_amid, without_fresh, own, is_its, others_none}
+use Rattle.flume_state.specs.layout.Pairing.{SendList, Link, send_in, sends_in, live_sends, link_of, link_at}
+use Rattle.flume_state.proofs.TicketLemmas.{Amid, put_amid, without_amid, without_fresh, own, others_none}
 use Rattle.flume_state.proofs.ByTicket.{under, held, Stands, stands, stands_value}
 use Rattle.flume_state.proofs.EntryParts.{Apart, passes}
-use Rattle.flume_state.proofs.SendLines.{labelled}
 use Rattle.flume_state.proofs.SendSteps.{get_none, written_view, spent_view}
-use Rattle.flume_state.proofs.FirstDue.{FirstDue, first_due}
-
--- the link of an owner under its ticket
-abbrev pub link_of : {S : Type 0} → ℕ → Owner S → Link
-link_of t o = record { ticket = t; message = o.message; accepted = o.send.accepted }
+use Rattle.flume_state.proofs.FirstDue.{FirstDue, first_due, due_stands}
 
 module _ {S : Type 0} where
   -- an element without the place of its message
-  abbrev pub bare : Ticketed (Owner S) → Ticketed (LiveSend S)
+  abbrev pub bare : Ticketed (PlacedSend S) → Ticketed (LiveSend S)
   bare e = record { label = e.label; value = e.value.send }
 
   pub found_sends : (xs : SendList S) (k : ℕ) → found (sends_in xs) k ≡ option_map bare (found xs k)
@@ -34,13 +28,6 @@ module _ {S : Type 0} where
       ap (λ o. if k == x.place then Some (bare x.element) else o) (found_sends xs k)
       ∙ sym (passes (option_map bare) (k == x.place) (Some x.element) (found xs k))
 
-  pub ticket_sends : (xs : SendList S) (k : ℕ) → ticket_in (found (sends_in xs) k) ≡ ticket_in (found xs k)
-  ticket_sends xs k = ap ticket_in (found_sends xs k) ∙ inner (found xs k)
-    where
-      inner : (x : Option (Ticketed (Owner S))) → ticket_in (option_map bare x) ≡ ticket_in x
-      inner None = refl
-      inner (Some e) = refl
-
   pub places_sends : (xs : SendList S) → places (sends_in xs) ≡ places xs
   places_sends [] = refl
   places_sends (x ∷ xs) = ap (λ (l : List ℕ). x.place ∷ l) (places_sends xs)
@@ -48,24 +35,24 @@ module _ {S : Type 0} where
   pub apart_sends : (xs : SendList S) → Apart xs → (k : ℕ) → times k (places (sends_in xs)) ≤ 1
   apart_sends xs apart k = rw (places_sends xs) (apart k)
 
-  tickets_sends : (t : ℕ) (xs : SendList S) → ticket_times t (sends_in xs) ≡ ticket_times t xs
-  tickets_sends t [] = refl
-  tickets_sends t (x ∷ xs) = ap (λ n. (if is_ticket t x.element.label then 1 else 0) + n) (tickets_sends t xs)
+  tickets_sends : (xs : SendList S) → tickets (sends_in xs) ≡ tickets xs
+  tickets_sends [] = refl
+  tickets_sends (x ∷ xs) = ap (λ (l : List ℕ). x.element.label ∷ l) (tickets_sends xs)
 
-  pub single_sends : (xs : SendList S) → ((t : ℕ) → ticket_times t xs ≤ 1) → (t : ℕ) → ticket_times t (sends_in xs) ≤ 1
-  single_sends xs single t = rw (tickets_sends t xs) (single t)
+  pub single_sends : (xs : SendList S) → ((t : ℕ) → times t (tickets xs) ≤ 1) → (t : ℕ) → times t (tickets (sends_in xs)) ≤ 1
+  single_sends xs single t = rw (tickets_sends xs) (single t)
 
   pub place_sends : (t : ℕ) (xs : SendList S) → place_of t (sends_in xs) ≡ place_of t xs
   place_sends t [] = refl
-  place_sends t (x ∷ xs) = ap (λ o. if is_ticket t x.element.label then Some x.place else o) (place_sends t xs)
+  place_sends t (x ∷ xs) = ap (λ o. if x.element.label == t then Some x.place else o) (place_sends t xs)
 
-  put_before_sends : (xs : SendList S) (k : ℕ) (x : Placed (Ticketed (Owner S))) → sends_in (put_before xs k x) ≡ put_before (sends_in xs) k (send_in x)
+  put_before_sends : (xs : SendList S) (k : ℕ) (x : Placed (Ticketed (PlacedSend S))) → sends_in (put_before xs k x) ≡ put_before (sends_in xs) k (send_in x)
   put_before_sends [] k x = refl
   put_before_sends (y ∷ xs) k x =
       passes sends_in (k == y.place) (x ∷ y ∷ xs) (y ∷ put_before xs k x)
       ∙ ap (λ (l : List (Element S)). if k == y.place then send_in x ∷ send_in y ∷ sends_in xs else send_in y ∷ l) (put_before_sends xs k x)
 
-  pub put_sends : (xs : SendList S) (d : Option ℕ) (x : Placed (Ticketed (Owner S))) → sends_in (put_ahead xs d x) ≡ put_ahead (sends_in xs) d (send_in x)
+  pub put_sends : (xs : SendList S) (d : Option ℕ) (x : Placed (Ticketed (PlacedSend S))) → sends_in (put_ahead xs d x) ≡ put_ahead (sends_in xs) d (send_in x)
   put_sends xs None x = map-append send_in xs (x ∷ [])
   put_sends xs (Some k) x = put_before_sends xs k x
 
@@ -75,7 +62,7 @@ module _ {S : Type 0} where
       passes sends_in (x.place == k) (without xs k) (x ∷ without xs k)
       ∙ ap (λ (l : List (Element S)). if x.place == k then l else send_in x ∷ l) (without_sends xs k)
 
-  pub written_sends : (xs : SendList S) (k : ℕ) (w : Owner S) → sends_in (with_value_at k xs w) ≡ with_value_at k (sends_in xs) w.send
+  pub written_sends : (xs : SendList S) (k : ℕ) (w : PlacedSend S) → sends_in (with_value_at k xs w) ≡ with_value_at k (sends_in xs) w.send
   written_sends [] k w = refl
   written_sends (x ∷ xs) k w =
       ap₂ (λ (y : Element S) (ys : List (Element S)). y ∷ ys)
@@ -90,17 +77,17 @@ module _ {S : Type 0} where
   after_sends [] k = refl
   after_sends (x ∷ xs) k = ap₂ (λ (n o : Option ℕ). if k == x.place then n else o) (first_sends xs) (after_sends xs k)
 
-  pub after_written : (xs : SendList S) (k : ℕ) (w : Owner S) → place_after (with_value_at k xs w) k ≡ place_after (with_value_at k (sends_in xs) w.send) k
+  pub after_written : (xs : SendList S) (k : ℕ) (w : PlacedSend S) → place_after (with_value_at k xs w) k ≡ place_after (with_value_at k (sends_in xs) w.send) k
   after_written xs k w =
       sym (after_sends (with_value_at k xs w) k) ∙ ap (λ (l : List (Element S)). place_after l k) (written_sends xs k w)
 
   -- a send among others, where it is found by its place: with its ticket
-  pub record Seat (xs : SendList S) (p t : ℕ) (o : Owner S) : Type 0 where
+  pub record Seat (xs : SendList S) (p t : ℕ) (o : PlacedSend S) : Type 0 where
     pub is : found xs p ≡ Some (under t o)
     pub stands : Stands t p o.send (sends_in xs)
 
   -- it stands so where it is found
-  pub seat_of : (xs : SendList S) (p t : ℕ) (o : Owner S) → Apart xs → ((u : ℕ) → ticket_times u xs ≤ 1)
+  pub seat_of : (xs : SendList S) (p t : ℕ) (o : PlacedSend S) → Apart xs → ((u : ℕ) → times u (tickets xs) ≤ 1)
       → found xs p ≡ Some (under t o) → Seat xs p t o
   seat_of xs p t o apart single is = record {
     is = is;
@@ -108,122 +95,121 @@ module _ {S : Type 0} where
   }
 
   -- and where its ticket does
-  pub seat_at : (xs : SendList S) (p t : ℕ) (o : Owner S) → Apart xs → ((u : ℕ) → ticket_times u xs ≤ 1)
+  pub seat_at : (xs : SendList S) (p t : ℕ) (o : PlacedSend S) → Apart xs → ((u : ℕ) → times u (tickets xs) ≤ 1)
       → place_of t xs ≡ Some p → Some o ≡ option_map (λ e. e.value) (found xs p) → Seat xs p t o
   seat_at xs p t o apart single place value =
       let r = held t p xs apart place in
-      let both : Some o ≡ Some r.0 = value ∙ ap (option_map (λ (e : Ticketed (Owner S)). e.value)) r.1 in
+      let both : Some o ≡ Some r.0 = value ∙ ap (option_map (λ (e : Ticketed (PlacedSend S)). e.value)) r.1 in
       let one : r.0 ≡ o = cc in
-      seat_of xs p t o apart single (r.1 ∙ ap (λ (w : Owner S). Some (under t w)) one)
+      seat_of xs p t o apart single (r.1 ∙ ap (λ (w : PlacedSend S). Some (under t w)) one)
 
   -- the ticket of an element stands where the element does
-  pub ticket_place : (xs : SendList S) (p t : ℕ) (e : Ticketed (Owner S)) → Apart xs → ((u : ℕ) → ticket_times u xs ≤ 1)
-      → found xs p ≡ Some e → e.label ≡ Some t → place_of t xs ≡ Some p
-  ticket_place xs p t e apart single is has =
+  pub ticket_place : (xs : SendList S) (p : ℕ) (e : Ticketed (PlacedSend S)) → Apart xs → ((u : ℕ) → times u (tickets xs) ≤ 1)
+      → found xs p ≡ Some e → place_of e.label xs ≡ Some p
+  ticket_place xs p e apart single is =
       let at = without_amid xs p e apart is in
-      own xs (without xs p) (item p e) empty at t (is_its t e.label has) (others_none xs (without xs p) (item p e) empty at t has (single t))
+      own xs (without xs p) (item p e) empty at e.label refl (others_none xs (without xs p) (item p e) empty at e.label refl (single e.label))
 
-  -- each send has a ticket
-  pub seat : (xs : SendList S) (p : ℕ) (d : Option ℕ) (o : Owner S) → SendLayout (sends_in xs) d → Apart xs → ((u : ℕ) → ticket_times u xs ≤ 1)
+  -- a send that is read at a place stands there
+  pub seat : (xs : SendList S) (p : ℕ) (o : PlacedSend S) → Apart xs → ((u : ℕ) → times u (tickets xs) ≤ 1)
       → Some o ≡ option_map (λ e. e.value) (found xs p) → (t : ℕ) × Seat xs p t o
-  seat xs p d o l apart single value =
-      elim (found xs p) as (λ (x : Option (Ticketed (Owner S))). found xs p ≡ x → Some o ≡ option_map (λ e. e.value) x → (t : ℕ) × Seat xs p t o) [
+  seat xs p o apart single value =
+      elim (found xs p) as (λ (x : Option (Ticketed (PlacedSend S))). found xs p ≡ x → Some o ≡ option_map (λ e. e.value) x → (t : ℕ) × Seat xs p t o) [
         | None ↦ λ is v. absurd (let no : ⊥ = cc in no)
-        | Some e ↦ λ is v.
-            elim e.label as (λ (h : Option ℕ). e.label ≡ h → (t : ℕ) × Seat xs p t o) [
-              | None ↦ λ none. (
-                  let there = labelled (sends_in xs) d p (bare e) (found_sends xs p ∙ ap (option_map bare) is) l in
-                  absurd (let no : false ≡ true = subst (λ (h : Option ℕ). IsSome h) none there in let never : ⊥ = cc in never)
-                  )
-              | Some t ↦ λ has. (
-                  let one : e.value ≡ o = cc in
-                  (t, seat_of xs p t o apart single (is ∙ ap Some (ap₂ (λ (h : Option ℕ) (w : Owner S). record { label = h; value = w }) has one)))
-                  )
-            ] refl
+        | Some e ↦ λ is v. (
+            let one : e.value ≡ o = cc in
+            (e.label, seat_of xs p e.label o apart single (is ∙ ap (λ (w : PlacedSend S). Some (under e.label w)) one))
+            )
       ] refl value
 
   -- the place of a ticket is that of its link
-  pub link_place : (xs : SendList S) (k : ℕ) (l : Link) → Apart xs → ((u : ℕ) → ticket_times u xs ≤ 1)
+  pub link_place : (xs : SendList S) (k : ℕ) (l : Link) → Apart xs → ((u : ℕ) → times u (tickets xs) ≤ 1)
       → link_at xs k ≡ Some l → place_of l.ticket xs ≡ Some k
   link_place xs k l apart single is =
-      elim (found xs k) as (λ (x : Option (Ticketed (Owner S))). found xs k ≡ x → link_in x ≡ Some l → place_of l.ticket xs ≡ Some k) [
+      elim (found xs k) as (λ (x : Option (Ticketed (PlacedSend S))). found xs k ≡ x → option_map link_of x ≡ Some l → place_of l.ticket xs ≡ Some k) [
         | None ↦ λ at none. absurd (let no : ⊥ = cc in no)
-        | Some e ↦ λ at some.
-            elim e.label as (λ (h : Option ℕ). e.label ≡ h → option_map (λ t. link_of t e.value) h ≡ Some l → place_of l.ticket xs ≡ Some k) [
-              | None ↦ λ has none. absurd (let no : ⊥ = cc in no)
-              | Some t ↦ λ has same. (
-                  let ticket : t ≡ l.ticket = ap (λ (q : Link). q.ticket) (let both : link_of t e.value ≡ l = cc in both) in
-                  subst (λ u. place_of u xs ≡ Some k) ticket (ticket_place xs k t e apart single at has)
-                  )
-            ] refl some
+        | Some e ↦ λ at some. (
+            let ticket : e.label ≡ l.ticket = ap (λ (q : Link). q.ticket) (let both : link_of e ≡ l = cc in both) in
+            subst (λ u. place_of u xs ≡ Some k) ticket (ticket_place xs k e apart single at)
+            )
       ] refl is
 
   -- the first that is due
-  pub first_sent : (xs : SendList S) (d : Option ℕ) (t p : ℕ) (o : Owner S) → SendLayout (sends_in xs) d → d ≡ Some p
-      → Apart xs → ((u : ℕ) → ticket_times u xs ≤ 1)
-      → Some t ≡ ticket_in (found xs p) → Some o ≡ option_map (λ e. e.value) (found xs p) → FirstDue (sends_in xs) t p o.send
+  pub first_sent : (xs : SendList S) (d : Option ℕ) (t p : ℕ) (o : PlacedSend S) → SendLayout (sends_in xs) d → d ≡ Some p
+      → Apart xs → ((u : ℕ) → times u (tickets xs) ≤ 1)
+      → Some t ≡ option_map (λ e. e.label) (found xs p) → Some o ≡ option_map (λ e. e.value) (found xs p) → FirstDue (sends_in xs) t p o.send
   first_sent xs d t p o l is apart single ticket value =
-      let s = seat xs p d o l apart single value in
-      let both : Some t ≡ Some s.0 = ticket ∙ ap ticket_in s.1.is in
+      let s = seat xs p o apart single value in
+      let both : Some t ≡ Some s.0 = ticket ∙ ap (option_map (λ (e : Ticketed (PlacedSend S)). e.label)) s.1.is in
       let one : s.0 ≡ t = cc in
       first_due (sends_in xs) d t p o.send l is (apart_sends xs apart) (single_sends xs single)
       (found_sends xs p ∙ ap (option_map bare) (s.1.is ∙ ap (λ u. Some (under u o)) one))
 
+  none_found : {X : Type 0} (f : Ticketed (PlacedSend S) → X) (x : Option (Ticketed (PlacedSend S))) → None ≡ option_map f x → x ≡ None
+  none_found f None is = refl
+  none_found f (Some e) is = absurd (let no : ⊥ = cc in no)
+
+  -- and whatever is read of it is there
+  pub due_found : {X : Type 0} (f : Ticketed (PlacedSend S) → X) (xs : SendList S) (d : Option ℕ) (p : ℕ) → SendLayout (sends_in xs) d → d ≡ Some p
+      → Apart xs → None ≡ option_map f (found xs p) → ⊥
+  due_found f xs d p l is apart none =
+      due_stands (sends_in xs) d p l is (apart_sends xs apart) (found_sends xs p ∙ ap (option_map bare) (none_found f (found xs p) none))
+
   -- the links where one element more stands among others
-  link_amid : (all rest : SendList S) (p : ℕ) (e : Ticketed (Owner S)) → Amid all rest (item p e) → times p (places rest) ≡ 0
-      → (k : ℕ) → link_at all k ≡ (if k == p then link_in (Some e) else link_at rest k)
+  link_amid : (all rest : SendList S) (p : ℕ) (e : Ticketed (PlacedSend S)) → Amid all rest (item p e) → times p (places rest) ≡ 0
+      → (k : ℕ) → link_at all k ≡ (if k == p then Some (link_of e) else link_at rest k)
   link_amid all rest p e at none k =
       let both = ap (times p) (ap places at.others ∙ places-append at.before at.after) in
       let sum = times-append p (places at.before) (places at.after) in
       ap (λ l. link_at l k) at.whole
-      ∙ ap link_in (found_put at.before at.after p e k (omega arith)
+      ∙ ap (option_map link_of) (found_put at.before at.after p e k (omega arith)
       ∙ ap (λ l. if k == p then Some e else found l k) (sym at.others))
-      ∙ passes link_in (k == p) (Some e) (found rest k)
+      ∙ passes (option_map link_of) (k == p) (Some e) (found rest k)
 
-  pub link_put : (xs : SendList S) (d : Option ℕ) (p t : ℕ) (o : Owner S) → found xs p ≡ None
-      → (k : ℕ) → link_at (put_ahead xs d (item p (under t o))) k ≡ (if k == p then Some (link_of t o) else link_at xs k)
+  pub link_put : (xs : SendList S) (d : Option ℕ) (p t : ℕ) (o : PlacedSend S) → found xs p ≡ None
+      → (k : ℕ) → link_at (put_ahead xs d (item p (under t o))) k ≡ (if k == p then Some (link_of (under t o)) else link_at xs k)
   link_put xs d p t o fresh k =
       link_amid _ xs p (under t o) (put_amid xs d (item p (under t o))) (none_placed xs p fresh) k
 
-  pub link_moved : (xs : SendList S) (p : ℕ) (e : Ticketed (Owner S)) → Apart xs → found xs p ≡ Some e
+  pub link_moved : (xs : SendList S) (p : ℕ) (e : Ticketed (PlacedSend S)) → Apart xs → found xs p ≡ Some e
       → (k : ℕ) → link_at (without xs p ++ item p e ∷ []) k ≡ link_at xs k
   link_moved xs p e apart is k =
       let at = without_amid xs p e apart is in
       let none = without_fresh xs (without xs p) (item p e) at (apart p) in
       link_amid _ (without xs p) p e (put_amid (without xs p) None (item p e)) none k ∙ sym (link_amid xs (without xs p) p e at none k)
 
-  pub link_without : (xs : SendList S) (p : ℕ) (e : Ticketed (Owner S)) → Apart xs → found xs p ≡ Some e
+  pub link_without : (xs : SendList S) (p : ℕ) (e : Ticketed (PlacedSend S)) → Apart xs → found xs p ≡ Some e
       → (k : ℕ) → link_at (without xs p) k ≡ (if k == p then None else link_at xs k)
   link_without xs p e apart is k =
       let at = without_amid xs p e apart is in
       let none = without_fresh xs (without xs p) (item p e) at (apart p) in
       elim (cases_Bool (k == p)) [
         | inl h ↦
-            ap (link_at (without xs p)) (eqb-true k p h) ∙ ap link_in (found_none (without xs p) p none)
+            ap (link_at (without xs p)) (eqb-true k p h) ∙ ap (option_map link_of) (found_none (without xs p) p none)
             ∙ sym (ap (λ b. if b then None else link_at xs k) h)
         | inr h ↦
-            sym (link_amid xs (without xs p) p e at none k ∙ ap (λ b. if b then link_in (Some e) else link_at (without xs p) k) h)
+            sym (link_amid xs (without xs p) p e at none k ∙ ap (λ b. if b then Some (link_of e) else link_at (without xs p) k) h)
             ∙ sym (ap (λ b. if b then None else link_at xs k) h)
       ]
 
   -- the links where a value is written
-  pub link_written : (xs : SendList S) (p t : ℕ) (f : Link → Link) (o w : Owner S) → link_of t w ≡ f (link_of t o) → found xs p ≡ Some (under t o)
+  pub link_written : (xs : SendList S) (p t : ℕ) (f : Link → Link) (o w : PlacedSend S) → link_of (under t w) ≡ f (link_of (under t o)) → found xs p ≡ Some (under t o)
       → (k : ℕ) → link_at (with_value_at p xs w) k ≡ (if k == p then option_map f (link_at xs k) else link_at xs k)
   link_written xs p t f o w same is k =
-      ap link_in (found-edited (revalued w) xs p k)
+      ap (option_map link_of) (found-edited (revalued w) xs p k)
       ∙ elim (cases_Bool (k == p)) [
         | inl h ↦
-            ap (λ b. link_in (if b then option_map (revalued w) (found xs p) else found xs k)) h
-            ∙ ap (λ x. link_in (option_map (revalued w) x)) is ∙ ap Some same
-            ∙ sym (ap (λ q. option_map f (link_at xs q)) (eqb-true k p h) ∙ ap (λ x. option_map f (link_in x)) is)
+            ap (λ b. option_map link_of (if b then option_map (revalued w) (found xs p) else found xs k)) h
+            ∙ ap (λ x. option_map link_of (option_map (revalued w) x)) is ∙ ap Some same
+            ∙ sym (ap (λ q. option_map f (link_at xs q)) (eqb-true k p h) ∙ ap (λ x. option_map f (option_map link_of x)) is)
             ∙ sym (ap (λ b. if b then option_map f (link_at xs k) else link_at xs k) h)
         | inr h ↦
-            ap (λ b. link_in (if b then option_map (revalued w) (found xs p) else found xs k)) h
+            ap (λ b. option_map link_of (if b then option_map (revalued w) (found xs p) else found xs k)) h
             ∙ sym (ap (λ b. if b then option_map f (link_at xs k) else link_at xs k) h)
       ]
 
   -- and where the written one has the same link
-  pub link_kept : (xs : SendList S) (p t : ℕ) (o w : Owner S) → link_of t w ≡ link_of t o → found xs p ≡ Some (under t o)
+  pub link_kept : (xs : SendList S) (p t : ℕ) (o w : PlacedSend S) → link_of (under t w) ≡ link_of (under t o) → found xs p ≡ Some (under t o)
       → (k : ℕ) → link_at (with_value_at p xs w) k ≡ link_at xs k
   link_kept xs p t o w same is k = link_written xs p t (λ l. l) o w same is k ∙ inner (k == p) (link_at xs k)
     where
@@ -231,24 +217,20 @@ module _ {S : Type 0} where
       inner true x = option_map_id x
       inner false x = refl
 
-  none_found : (x : Option (Ticketed (Owner S))) → None ≡ option_map (λ e. e.value) x → x ≡ None
-  none_found None is = refl
-  none_found (Some e) is = absurd (let no : ⊥ = cc in no)
-
   -- what a send that is written leaves
-  pub live_written : (xs : SendList S) (p t : ℕ) (o w : Owner S) (f : LiveSend S → LiveSend S) → w.send ≡ f o.send → Stands t p o.send (sends_in xs)
+  pub live_written : (xs : SendList S) (p t : ℕ) (o w : PlacedSend S) (f : LiveSend S → LiveSend S) → w.send ≡ f o.send → Stands t p o.send (sends_in xs)
       → live_sends (with_value_at p xs w) ≡ changed (live_sends xs) t f
   live_written xs p t o w f same s =
       ap by_ticket (written_sends xs p w ∙ ap (with_value_at p (sends_in xs)) same) ∙ written_view (sends_in xs) t p o.send f s
 
   -- what one leaves that is written, and then goes behind all others
-  pub record Moved (xs new : SendList S) (p t : ℕ) (w : Owner S) : Type 0 where
+  pub record Moved (xs new : SendList S) (p t : ℕ) (w : PlacedSend S) : Type 0 where
     pub sends : sends_in new ≡ without (with_value_at p (sends_in xs) w.send) p ++ item p (under t w.send) ∷ []
     pub links : (k : ℕ) → link_at new k ≡ link_at (with_value_at p xs w) k
 
-  pub moved : (xs new : SendList S) (p t : ℕ) (o w : Owner S) (r : Bool) → Apart xs → Seat xs p t o
+  pub moved : (xs new : SendList S) (p t : ℕ) (o w : PlacedSend S) (r : Bool) → Apart xs → Seat xs p t o
       → (r ≡ true ↔ IsSome (found (with_value_at p xs w) p))
-      → (r ≡ true → (e : Ticketed (Owner S)) → found (with_value_at p xs w) p ≡ Some e → new ≡ without (with_value_at p xs w) p ++ item p e ∷ [])
+      → (r ≡ true → (e : Ticketed (PlacedSend S)) → found (with_value_at p xs w) p ≡ Some e → new ≡ without (with_value_at p xs w) p ++ item p e ∷ [])
       → Moved xs new p t w
   moved xs new p t o w r apart s stood back =
       let at = found-edited (revalued w) xs p p ∙ with_same (found xs) p (option_map (revalued w) (found xs p)) ∙ ap (option_map (revalued w)) s.is in
@@ -264,35 +246,28 @@ module _ {S : Type 0} where
             ∙ link_moved (with_value_at p xs w) p (under t w) (λ j. rw (places-edited (revalued w) xs p) (apart j)) at k;
       }
 
-  -- what a send leaves that is taken out
-  pub taken_out : (old new : Chained (Ticketed (Owner S))) (p : ℕ) (r : Option (Owner S)) → r ≡ option_map (λ e. e.value) (found old.items p)
-      → OnSome r (new.items ≡ without old.items p) → IfNone r (new ≡ old) → new.items ≡ without old.items p
-  taken_out old new p (Some o) is taken same = taken
-  taken_out old new p None is taken same =
-      ap (λ (c : Chained (Ticketed (Owner S))). c.items) same ∙ sym (without_missing old.items p (none_found (found old.items p) is))
-
   pub record Spent (xs new : SendList S) (p : ℕ) : Type 0 where
     pub live : IfSome (link_at xs p) (λ l. live_sends new ≡ remove (live_sends xs) l.ticket)
     pub link : (k : ℕ) → link_at new k ≡ (if k == p then None else link_at xs k)
     pub none : IfNone (link_at xs p) (new ≡ xs)
 
-  pub spent : (xs new : SendList S) (p : ℕ) (d : Option ℕ) → SendLayout (sends_in xs) d → Apart xs → ((u : ℕ) → ticket_times u xs ≤ 1)
+  pub spent : (xs new : SendList S) (p : ℕ) → Apart xs → ((u : ℕ) → times u (tickets xs) ≤ 1)
       → new ≡ without xs p → Spent xs new p
-  spent xs new p d l apart single taken =
-      elim (found xs p) as (λ (x : Option (Ticketed (Owner S))). found xs p ≡ x → Spent xs new p) [
+  spent xs new p apart single taken =
+      elim (found xs p) as (λ (x : Option (Ticketed (PlacedSend S))). found xs p ≡ x → Spent xs new p) [
         | None ↦ λ is. (
             let same = taken ∙ without_missing xs p is in
             record {
               live = rw is tt;
               link = λ k. ap (λ y. link_at y k) same ∙ elim (cases_Bool (k == p)) [
-                | inl h ↦ ap (link_at xs) (eqb-true k p h) ∙ ap link_in is ∙ sym (ap (λ b. if b then None else link_at xs k) h)
+                | inl h ↦ ap (link_at xs) (eqb-true k p h) ∙ ap (option_map link_of) is ∙ sym (ap (λ b. if b then None else link_at xs k) h)
                 | inr h ↦ sym (ap (λ b. if b then None else link_at xs k) h)
               ];
               none = rw is same;
             }
             )
         | Some e ↦ λ is. (
-            let r = seat xs p d e.value l apart single (sym (ap (option_map (λ (x : Ticketed (Owner S)). x.value)) is)) in
+            let r = seat xs p e.value apart single (sym (ap (option_map (λ (x : Ticketed (PlacedSend S)). x.value)) is)) in
             record {
               live = rw r.1.is (ap by_ticket (ap sends_in taken ∙ without_sends xs p) ∙ spent_view (sends_in xs) r.0 p e.value.send r.1.stands);
               link = λ k. ap (λ y. link_at y k) taken ∙ link_without xs p e apart is k;
@@ -302,7 +277,7 @@ module _ {S : Type 0} where
       ] refl
 
   -- what is told of the place that a ticket may have
-  pub told : (xs : SendList S) (t : ℕ) (r : Option ℕ) → Apart xs → ((u : ℕ) → ticket_times u xs ≤ 1) → r ≡ place_of t xs
+  pub told : (xs : SendList S) (t : ℕ) (r : Option ℕ) → Apart xs → ((u : ℕ) → times u (tickets xs) ≤ 1) → r ≡ place_of t xs
       → IfSome r (λ p. option_map (λ l. l.ticket) (link_at xs p) ≡ Some t)
       × IfSome r (λ p. option_map (λ l. l.accepted) (link_at xs p) ≡ option_map (λ s. s.accepted) (get (live_sends xs) t))
       × IfNone r (get (live_sends xs) t ≡ None)
@@ -310,20 +285,20 @@ module _ {S : Type 0} where
   told xs t (Some p) apart single is =
       let r = held t p xs apart (sym is) in
       let s = seat_of xs p t r.0 apart single r.1 in (
-        ap (λ x. option_map (λ l. l.ticket) (link_in x)) s.is,
-        ap (λ x. option_map (λ l. l.accepted) (link_in x)) s.is ∙ sym (ap (option_map (λ s. s.accepted)) (stands_value t p r.0.send (sends_in xs) s.stands)),
+        ap (λ x. option_map (λ l. l.ticket) (option_map link_of x)) s.is,
+        ap (λ x. option_map (λ l. l.accepted) (option_map link_of x)) s.is ∙ sym (ap (option_map (λ s. s.accepted)) (stands_value t p r.0.send (sends_in xs) s.stands)),
         tt,
       )
 
   -- where a ticket stands nowhere no link has it
-  pub link_nowhere : (xs : SendList S) (t k : ℕ) (l : Link) → Apart xs → ((u : ℕ) → ticket_times u xs ≤ 1)
+  pub link_nowhere : (xs : SendList S) (t k : ℕ) (l : Link) → Apart xs → ((u : ℕ) → times u (tickets xs) ≤ 1)
       → place_of t xs ≡ None → link_at xs k ≡ Some l → l.ticket ≢ t
   link_nowhere xs t k l apart single none is = λ same.
       let no : Some k ≡ None = sym (link_place xs k l apart single is) ∙ ap (λ u. place_of u xs) same ∙ none in
       let never : ⊥ = cc in never
 
   -- and where it stands somewhere only the link there
-  pub link_where : (xs : SendList S) (t k p : ℕ) (l : Link) → Apart xs → ((u : ℕ) → ticket_times u xs ≤ 1)
+  pub link_where : (xs : SendList S) (t k p : ℕ) (l : Link) → Apart xs → ((u : ℕ) → times u (tickets xs) ≤ 1)
       → place_of t xs ≡ Some p → link_at xs k ≡ Some l → l.ticket ≡ t → k ≡ p
   link_where xs t k p l apart single at is same =
       let both : Some k ≡ Some p = sym (link_place xs k l apart single is) ∙ ap (λ u. place_of u xs) same ∙ at in cc

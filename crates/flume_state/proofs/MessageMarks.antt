@@ -6,7 +6,7 @@ use Rattle.flume_state.specs.Notices.{due_now}
 use Rattle.flume_state.specs.Sends.{SendMap, noticed_send}
 use Rattle.flume_state.specs.Effects.{with_all_due}
 use Rattle.flume_state.specs.layout.MessageLayout.{Message, BlockedAt, MessageList, blocked_ahead, blocked_of, messages_of, MessageLayout}
-use Rattle.flume_state.specs.layout.Pairing.{HasLink, SendList, link_at, live_sends, named, ticket_or_zero}
+use Rattle.flume_state.specs.layout.Pairing.{HasLink, SendList, link_at, live_sends, under_tickets, ticket_or_zero}
 use Rattle.flume_state.proofs.EntryParts.{Apart, alone, front_at, no_first}
 use Rattle.flume_state.proofs.PlacedLemmas.{found_here}
 use Rattle.flume_state.proofs.MessageLemmas.{laid}
@@ -45,7 +45,7 @@ module _ {T S : Type 0} where
   pub record ToMark (blocked : List (BlockedAt T)) (initial sends : SendList S) (done : SendMap S) : Type 0 where
     pub held : All (HasLink initial) blocked
     pub links : (k : ℕ) → link_at sends k ≡ link_at initial k
-    pub marks : with_all_due (named initial blocked) (live_sends sends) ≡ done
+    pub marks : with_all_due (under_tickets initial blocked) (live_sends sends) ≡ done
 
   -- one ahead of others is marked before them
   one_marked : (place : ℕ) (o : Option ℕ) (m : T) (bs : List (BlockedAt T)) (initial sends new : SendList S) (done : SendMap S)
@@ -58,7 +58,7 @@ module _ {T S : Type 0} where
       record {
         held = All-tail (HasLink initial) _ bs w.held;
         links = λ k. marked.1 k ∙ w.links k;
-        marks = ap (with_all_due (named initial bs)) (live ∙ ap (λ o. noticed_send due_now (ticket_or_zero o) (live_sends sends)) (sym one.is)) ∙ w.marks;
+        marks = ap (with_all_due (under_tickets initial bs)) (live ∙ ap (λ o. noticed_send due_now (ticket_or_zero o) (live_sends sends)) (sym one.is)) ∙ w.marks;
       }
 
   -- the walk has come to a place, from which on those are left that are to be marked
@@ -72,7 +72,7 @@ module _ {T S : Type 0} where
   -- it begins at the first blocked one
   pub walk_begins : (items : List (Placed (Message T))) (first : Option ℕ) (count space : ℕ) (list : MessageList T) (sends : SendList S)
       → MessageLayout items first count → messages_of items space ≡ list → All (HasLink sends) list.blocked
-      → Walks items first sends sends (with_all_due (named sends list.blocked) (live_sends sends))
+      → Walks items first sends sends (with_all_due (under_tickets sends list.blocked) (live_sends sends))
   walk_begins items first count space list sends w view held =
       let is : blocked_of w.back ≡ list.blocked = ap (λ (l : MessageList T). l.blocked) (sym (laid items first count space w) ∙ view) in
       record {
@@ -80,7 +80,7 @@ module _ {T S : Type 0} where
         rest = w.back;
         is = w.is;
         here = w.boundary;
-        left = subst (λ bs. ToMark bs sends sends (with_all_due (named sends list.blocked) (live_sends sends))) (sym is)
+        left = subst (λ bs. ToMark bs sends sends (with_all_due (under_tickets sends list.blocked) (live_sends sends))) (sym is)
             (record { held = held; links = λ k. refl; marks = refl });
       }
 
@@ -88,7 +88,7 @@ module _ {T S : Type 0} where
   pub walk_ends : (items : List (Placed (Message T))) (at : Option ℕ) (initial sends : SendList S) (done : SendMap S)
       → Walks items at initial sends done → at ≡ None → live_sends sends ≡ done
   walk_ends items at initial sends done w none =
-      ap (λ r. with_all_due (named initial (blocked_of r)) (live_sends sends)) (sym (no_first w.rest (sym none ∙ w.here))) ∙ w.left.marks
+      ap (λ r. with_all_due (under_tickets initial (blocked_of r)) (live_sends sends)) (sym (no_first w.rest (sym none ∙ w.here))) ∙ w.left.marks
 
   -- a step of the walk: fewer are left, and the one that it was at is marked
   pub record Stepped (items : List (Placed (Message T))) (place : ℕ) (initial sends : SendList S) (done : SendMap S) : Type 0 where

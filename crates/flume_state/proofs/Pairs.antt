@@ -8,7 +8,7 @@ use Rattle.flume_state.proofs.Chains.{times, times-append, once_same, once_none}
 use Rattle.flume_state.specs.Messages.{Blocked, Messages, Admits, TakesBack}
 use Rattle.flume_state.specs.Sends.{SendMap, changed, accepted_now}
 use Rattle.flume_state.specs.layout.MessageLayout.{BlockedAt, MessageList, AdmitsOwner, TakesOut}
-use Rattle.flume_state.specs.layout.Pairing.{SendList, Link, link_at, at_message, accepting, owner_at, ticket_or_zero, under_ticket, named, live_sends, HasLink, Paired}
+use Rattle.flume_state.specs.layout.Pairing.{SendList, Link, link_at, at_message, accepting, owner_at, ticket_or_zero, under_ticket, under_tickets, live_sends, HasLink, Pairing}
 
 -- the places of blocked messages
 abbrev pub places_of : {T : Type 0} → List (BlockedAt T) → List ℕ
@@ -107,7 +107,7 @@ module _ {T S : Type 0} where
   abbrev pub line_of : MessageList T → SendList S → Messages T S
   line_of list sends = record {
     queued = list.queued;
-    blocked = named sends list.blocked;
+    blocked = under_tickets sends list.blocked;
     space = list.space;
     sends = live_sends sends;
   }
@@ -117,7 +117,7 @@ module _ {T S : Type 0} where
   SameLinks new old bs = All (λ b. link_at new b.owner ≡ link_at old b.owner) bs
 
   -- so each is under its ticket as before
-  pub named_kept : (new old : SendList S) (bs : List (BlockedAt T)) → SameLinks new old bs → named new bs ≡ named old bs
+  pub named_kept : (new old : SendList S) (bs : List (BlockedAt T)) → SameLinks new old bs → under_tickets new bs ≡ under_tickets old bs
   named_kept new old [] same = refl
   named_kept new old (b ∷ bs) same =
       ap₂ (λ (l : Option Link) (rest : List (Blocked T)). let c : Blocked T = record { ticket = ticket_or_zero l; message = b.message } in c ∷ rest)
@@ -148,10 +148,10 @@ module _ {T S : Type 0} where
 
   -- where no link changed, all are paired as before
   pub record Kept (new old : SendList S) (bs : List (BlockedAt T)) : Type 0 where
-    pub paired : Paired bs new
-    pub names : named new bs ≡ named old bs
+    pub paired : Pairing bs new
+    pub names : under_tickets new bs ≡ under_tickets old bs
 
-  pub keeps : (new old : SendList S) (bs : List (BlockedAt T)) → ((k : ℕ) → link_at new k ≡ link_at old k) → Paired bs old → Kept new old bs
+  pub keeps : (new old : SendList S) (bs : List (BlockedAt T)) → ((k : ℕ) → link_at new k ≡ link_at old k) → Pairing bs old → Kept new old bs
   keeps new old bs links p =
       let same : SameLinks new old bs = λ k d lt. links _ in
       record {
@@ -161,7 +161,7 @@ module _ {T S : Type 0} where
 
   -- and so where a send left whose message was accepted
   pub spends : (new old : SendList S) (bs : List (BlockedAt T)) (o : ℕ) → LinksBut new old o (λ _. None)
-      → ((l : Link) → link_at old o ≡ Some l → l.accepted ≡ true) → Paired bs old → Kept new old bs
+      → ((l : Link) → link_at old o ≡ Some l → l.accepted ≡ true) → Pairing bs old → Kept new old bs
   spends new old bs o links known p =
       let same = same_but new old o _ bs links (not_owner old o bs known p.held) in
       record {
@@ -175,17 +175,17 @@ module _ {T S : Type 0} where
 
   -- a line whose messages and sends are paired
   pub record Pairs (list : MessageList T) (sends : SendList S) (P : Messages T S → Type 0) : Type 0 where
-    pub paired : Paired list.blocked sends
+    pub paired : Pairing list.blocked sends
     pub holds : P (line_of list sends)
 
   -- the first blocked message joins the queue, and its send is accepted
-  pub admits : (new old : SendList S) (l m : MessageList T) (o : ℕ) → Paired l.blocked old → ((k : ℕ) → times k (places_of l.blocked) ≤ 1)
+  pub admits : (new old : SendList S) (l m : MessageList T) (o : ℕ) → Pairing l.blocked old → ((k : ℕ) → times k (places_of l.blocked) ≤ 1)
       → AdmitsOwner l m o → LinksBut new old o (λ k. option_map (accepting true) (link_at old k))
       → IfSome (link_at old o) (λ i. live_sends new ≡ changed (live_sends old) i.ticket accepted_now)
       → Pairs m new (λ line. Admits (line_of l old) line)
   admits new old l m o paired apart a links live =
       let b : BlockedAt T = record { place = a.place; owner = o; message = a.message } in
-      let p = subst (λ bs. Paired bs old) a.leaves paired in
+      let p = subst (λ bs. Pairing bs old) a.leaves paired in
       let own = All-head (HasLink old) b m.blocked p.held in
       let rest = All-tail (HasLink old) b m.blocked p.held in
       let alone = (around [] m.blocked b (subst (λ bs. (k : ℕ) → times k (places_of bs) ≤ 1) a.leaves apart)).1 in
@@ -209,19 +209,19 @@ module _ {T S : Type 0} where
         };
         holds = record {
           first = record { ticket = own.ticket; message = a.message };
-          leaves = ap (named old) a.leaves
+          leaves = ap (under_tickets old) a.leaves
               ∙ ap₂ (λ (i : Option Link) (bs : List (Blocked T)). let c : Blocked T = record { ticket = ticket_or_zero i; message = a.message } in c ∷ bs)
               own.is (sym (named_kept new old m.blocked same));
-          becomes = λ i. record { queued = a.joins i; blocked = named new m.blocked; space = a.same_space i; sends = becomes i };
+          becomes = λ i. record { queued = a.joins i; blocked = under_tickets new m.blocked; space = a.same_space i; sends = becomes i };
         };
       }
 
   -- one more message blocks, and one more send
-  pub blocks : (new mid old : SendList S) (l m : MessageList T) (o place ticket : ℕ) (message : T) → Paired l.blocked old → link_at old o ≡ None
+  pub blocks : (new mid old : SendList S) (l m : MessageList T) (o place ticket : ℕ) (message : T) → Pairing l.blocked old → link_at old o ≡ None
       → LinksBut mid old o (λ _. Some (record { ticket = ticket; message = 0; accepted = false }))
       → LinksBut new mid o (λ k. option_map (at_message place) (link_at mid k))
       → m.blocked ≡ l.blocked ++ record { place = place; owner = o; message = message } ∷ [] → Elsewhere place l.blocked
-      → Pairs m new (λ line. line.blocked ≡ named old l.blocked ++ record { ticket = ticket; message = message } ∷ [])
+      → Pairs m new (λ line. line.blocked ≡ under_tickets old l.blocked ++ record { ticket = ticket; message = message } ∷ [])
   blocks new mid old l m o place ticket message p fresh first second is apart =
       let b : BlockedAt T = record { place = place; owner = o; message = message } in
       let but : (k : ℕ) → k ≢ o → link_at new k ≡ link_at old k = λ k ne. but_one new mid o _ second k ne ∙ but_one mid old o _ first k ne in
@@ -229,7 +229,7 @@ module _ {T S : Type 0} where
       let other = not_owner old o l.blocked (λ i h. let no : None ≡ Some i = sym fresh ∙ h in absurd (let none : ⊥ = cc in none)) p.held in
       let same : SameLinks new old l.blocked = λ k d lt. but _ (other k d lt) in
       record {
-        paired = subst (λ bs. Paired bs new) (sym is) (record {
+        paired = subst (λ bs. Pairing bs new) (sym is) (record {
           held = All-push (HasLink new) l.blocked b (held_kept new old l.blocked same p.held) (record { ticket = ticket; is = made });
           owns = λ k i h held_back. elim (cases_eq k o) [
             | inl e ↦ (
@@ -239,14 +239,14 @@ module _ {T S : Type 0} where
             | inr ne ↦ owner_more l.blocked (b ∷ []) i.message k (p.owns k i (sym (but k ne) ∙ h) held_back)
           ];
         });
-        holds = ap (named new) is ∙ map-append (under_ticket new) l.blocked (b ∷ [])
+        holds = ap (under_tickets new) is ∙ map-append (under_ticket new) l.blocked (b ∷ [])
             ∙ ap₂ (λ (bs : List (Blocked T)) (i : Option Link). let c : Blocked T = record { ticket = ticket_or_zero i; message = message } in bs ++ c ∷ [])
             (named_kept new old l.blocked same) made;
       }
 
   -- where the sends with a ticket were accepted, no blocked message is under it
   pub none_under : (sends : SendList S) (t : ℕ) (bs : List (BlockedAt T)) → ((k : ℕ) (l : Link) → link_at sends k ≡ Some l → l.ticket ≡ t → l.accepted ≡ true)
-      → All (HasLink sends) bs → All (λ b. b.ticket ≢ t) (named sends bs)
+      → All (HasLink sends) bs → All (λ b. b.ticket ≢ t) (under_tickets sends bs)
   none_under sends t bs known held =
       All-map (λ b. b.ticket ≢ t) (under_ticket sends) bs (λ k d lt e.
       let h = held k d lt in
@@ -255,13 +255,13 @@ module _ {T S : Type 0} where
 
   -- where one send alone has a ticket, no message of another is under it
   pub others_under : (sends : SendList S) (t o : ℕ) (bs : List (BlockedAt T)) → ((k : ℕ) (l : Link) → link_at sends k ≡ Some l → l.ticket ≡ t → k ≡ o)
-      → OfOthers o bs → All (HasLink sends) bs → All (λ b. b.ticket ≢ t) (named sends bs)
+      → OfOthers o bs → All (HasLink sends) bs → All (λ b. b.ticket ≢ t) (under_tickets sends bs)
   others_under sends t o bs only other held =
       All-map (λ b. b.ticket ≢ t) (under_ticket sends) bs (λ k d lt e.
       let h = held k d lt in other k d lt (only _ _ h.is (ap ticket_or_zero (sym h.is) ∙ e)))
 
   -- the message of a send that isn't accepted is blocked
-  pub is_blocked : (sends : SendList S) (bs : List (BlockedAt T)) (o ticket place : ℕ) → Paired bs sends
+  pub is_blocked : (sends : SendList S) (bs : List (BlockedAt T)) (o ticket place : ℕ) → Pairing bs sends
       → link_at sends o ≡ Some (record { ticket = ticket; message = place; accepted = false }) → Elsewhere place bs → ⊥
   is_blocked sends bs o ticket place p is none =
       let both : None ≡ Some o = sym (owner_none place bs none) ∙ p.owns o _ is refl in let no : ⊥ = cc in no
@@ -279,7 +279,7 @@ module _ {T S : Type 0} where
       record { own = rest.own; ahead = All-cons (HasLink sends) c before (All-head (HasLink sends) c (before ++ b ∷ after) held) rest.ahead; behind = rest.behind }
 
   -- a blocked message leaves, and its send
-  pub withdraws : (new old : SendList S) (l m : MessageList T) (o place ticket : ℕ) (message : T) → Paired l.blocked old
+  pub withdraws : (new old : SendList S) (l m : MessageList T) (o place ticket : ℕ) (message : T) → Pairing l.blocked old
       → ((k : ℕ) → times k (places_of l.blocked) ≤ 1)
       → link_at old o ≡ Some (record { ticket = ticket; message = place; accepted = false })
       → ((k : ℕ) (i : Link) → link_at old k ≡ Some i → i.ticket ≡ ticket → k ≡ o)
@@ -288,7 +288,7 @@ module _ {T S : Type 0} where
       → Pairs m new (λ line. TakesBack (line_of l old) line ticket message)
   withdraws new old l m o place ticket message paired apart is only t links live =
       let b : BlockedAt T = record { place = place; owner = t.owner; message = message } in
-      let p = subst (λ bs. Paired bs old) t.found paired in
+      let p = subst (λ bs. Pairing bs old) t.found paired in
       let alone = around t.before t.after b (subst (λ bs. (k : ℕ) → times k (places_of bs) ≤ 1) t.found apart) in
       let both : Some t.owner ≡ Some o = sym (owner_here t.before t.after b alone.0) ∙ p.owns o _ is refl in
       let name : t.owner ≡ o = cc in
@@ -296,11 +296,11 @@ module _ {T S : Type 0} where
       let ahead = subst (λ k. OfOthers k t.before) name (others old b t.before parts.own parts.ahead alone.0) in
       let behind = subst (λ k. OfOthers k t.after) name (others old b t.after parts.own parts.behind alone.1) in
       let same = same_but new old o _ (t.before ++ t.after) links (All-append (λ (c : BlockedAt T). c.owner ≢ o) t.before t.after ahead behind) in
-      let names : named new (t.before ++ t.after) ≡ named old t.before ++ named old t.after =
+      let names : under_tickets new (t.before ++ t.after) ≡ under_tickets old t.before ++ under_tickets old t.after =
       named_kept new old (t.before ++ t.after) same ∙ map-append (under_ticket old) t.before t.after in
       let becomes = subst (λ i. IfSome i (λ i. live_sends new ≡ remove (live_sends old) i.ticket)) is live in
       record {
-        paired = subst (λ bs. Paired bs new) (sym t.rest) (record {
+        paired = subst (λ bs. Pairing bs new) (sym t.rest) (record {
           held = held_kept new old (t.before ++ t.after) same (All-append (HasLink old) t.before t.after parts.ahead parts.behind);
           owns = λ k i h held_back.
               let ne : k ≢ o = λ e.
@@ -312,12 +312,12 @@ module _ {T S : Type 0} where
               sym (owner_without t.before t.after b i.message other) ∙ found;
         });
         holds = record {
-          before = named old t.before;
-          after = named old t.after;
-          found = ap (named old) t.found ∙ map-append (under_ticket old) t.before (b ∷ t.after)
-              ∙ ap (λ (i : Option Link). let c : Blocked T = record { ticket = ticket_or_zero i; message = message } in named old t.before ++ c ∷ named old t.after)
+          before = under_tickets old t.before;
+          after = under_tickets old t.after;
+          found = ap (under_tickets old) t.found ∙ map-append (under_ticket old) t.before (b ∷ t.after)
+              ∙ ap (λ (i : Option Link). let c : Blocked T = record { ticket = ticket_or_zero i; message = message } in under_tickets old t.before ++ c ∷ under_tickets old t.after)
               (ap (link_at old) name ∙ is);
           first = others_under old ticket o t.before only ahead parts.ahead;
-          becomes = λ i. record { queued = t.same i; blocked = (ap (named new) t.rest ∙ names) i; space = t.same_space i; sends = becomes i };
+          becomes = λ i. record { queued = t.same i; blocked = (ap (under_tickets new) t.rest ∙ names) i; space = t.same_space i; sends = becomes i };
         };
       }

@@ -1,11 +1,11 @@
 -- The chain of the live sends stays one of those that aren't due and then those that are.
-use Rattle.std.proofs.Common.{◌≡◌, ℕ, ◌==◌, Bool, true, false, List, [], ◌∷◌, ◌++◌, Option, Some, refl, sym, if◌then◌else◌, ap, ap₂, subst, ◌∙◌, inl, inr, IsSome}
+use Rattle.std.proofs.Common.{◌≡◌, ℕ, ◌==◌, Bool, true, false, List, [], ◌∷◌, ◌++◌, Option, Some, refl, sym, if◌then◌else◌, ap, ap₂, subst, ◌∙◌, inl, inr}
 use Rattle.std.proofs.lemmas.Bool.{cases_Bool}
 use Rattle.std.proofs.lemmas.List.{append_assoc}
 use Rattle.std.specs.Option.{option_or}
-use Rattle.flume_state.proofs.Chains.{found, without, first_place, item, found_some}
+use Rattle.flume_state.proofs.Chains.{without, first_place, item}
 use Rattle.flume_state.specs.declared.sends.LiveSend.{LiveSend}
-use Rattle.flume_state.specs.layout.Ticketed.{Ticketed, put_ahead}
+use Rattle.flume_state.specs.layout.Ticketed.{put_ahead}
 use Rattle.flume_state.specs.layout.SendLayout.{Element, EachDueIs, SendLayout}
 use Rattle.flume_state.proofs.EntryParts.{Apart, first-push, first_same}
 use Rattle.flume_state.proofs.PlacedLemmas.{put_ahead_between}
@@ -14,29 +14,29 @@ use Rattle.flume_state.proofs.ByTicket.{under}
 module _ {S : Type 0} where
   pub lined_append : (due : Bool) (xs ys : List (Element S)) → EachDueIs due xs → EachDueIs due ys → EachDueIs due (xs ++ ys)
   lined_append due [] ys h k = k
-  lined_append due (x ∷ xs) ys h k = (h.0, h.1, lined_append due xs ys h.2 k)
+  lined_append due (x ∷ xs) ys h k = (h.0, lined_append due xs ys h.1 k)
 
   lined_back : (due : Bool) (xs ys : List (Element S)) → EachDueIs due (xs ++ ys) → EachDueIs due ys
   lined_back due [] ys h = h
-  lined_back due (x ∷ xs) ys h = lined_back due xs ys h.2
+  lined_back due (x ∷ xs) ys h = lined_back due xs ys h.1
 
   -- one between others is replaced
   lined_put : (due : Bool) (xs ys : List (Element S)) (x : Element S) (p t : ℕ) (w : LiveSend S) → w.notice.due ≡ due
       → EachDueIs due (xs ++ x ∷ ys) → EachDueIs due (xs ++ item p (under t w) ∷ ys)
-  lined_put due [] ys x p t w e h = (refl, e, h.2)
-  lined_put due (y ∷ xs) ys x p t w e h = (h.0, h.1, lined_put due xs ys x p t w e h.2)
+  lined_put due [] ys x p t w e h = (e, h.1)
+  lined_put due (y ∷ xs) ys x p t w e h = (h.0, lined_put due xs ys x p t w e h.1)
 
   -- one between others is left out
   lined_cut : (due : Bool) (xs ys : List (Element S)) (x : Element S) → EachDueIs due (xs ++ x ∷ ys) → EachDueIs due (xs ++ ys)
-  lined_cut due [] ys x h = h.2
-  lined_cut due (y ∷ xs) ys x h = (h.0, h.1, lined_cut due xs ys x h.2)
+  lined_cut due [] ys x h = h.1
+  lined_cut due (y ∷ xs) ys x h = (h.0, lined_cut due xs ys x h.1)
 
   pub lined_without : (due : Bool) (xs : List (Element S)) (p : ℕ) → EachDueIs due xs → EachDueIs due (without xs p)
   lined_without due [] p h = h
   lined_without due (x ∷ xs) p h =
       elim (x.place == p) as (λ b. EachDueIs due (if b then without xs p else x ∷ without xs p)) [
-        | true ↦ lined_without due xs p h.2
-        | false ↦ (h.0, h.1, lined_without due xs p h.2)
+        | true ↦ lined_without due xs p h.1
+        | false ↦ (h.0, lined_without due xs p h.1)
       ]
 
   -- one that isn't due stands among those that aren't
@@ -49,7 +49,7 @@ module _ {S : Type 0} where
       → EachDueIs true late → x.element.value.notice.due ≡ false → QuietSide before after quiet late x
   quiet_side before after [] late x is all due =
       let here : EachDueIs true (x ∷ after) = lined_back true before (x ∷ after) (subst (EachDueIs true) (sym is) all) in
-      let there : x.element.value.notice.due ≡ true = here.1 in
+      let there : x.element.value.notice.due ≡ true = here.0 in
       absurd (let no : ⊥ = cc in no)
   quiet_side [] after (q ∷ quiet) late x is all due =
       let head : q ≡ x = cc in
@@ -76,32 +76,17 @@ module _ {S : Type 0} where
   due_side before after [] late x is none due = record { between = before; ahead = refl; behind = sym is }
   due_side [] after (q ∷ quiet) late x is none due =
       let head : q ≡ x = cc in
-      let there : x.element.value.notice.due ≡ false = ap (λ (y : Element S). y.element.value.notice.due) (sym head) ∙ none.1 in
+      let there : x.element.value.notice.due ≡ false = ap (λ (y : Element S). y.element.value.notice.due) (sym head) ∙ none.0 in
       absurd (let no : ⊥ = cc in no)
   due_side (b ∷ before) after (q ∷ quiet) late x is none due =
       let head : b ≡ q = cc in
       let tail : before ++ x ∷ after ≡ quiet ++ late = cc in
-      let r = due_side before after quiet late x tail none.2 due in
+      let r = due_side before after quiet late x tail none.1 due in
       record {
         between = r.between;
         ahead = ap₂ (λ (y : Element S) (ys : List (Element S)). y ∷ ys) head r.ahead;
         behind = r.behind;
       }
-
-  -- each element has a ticket
-  pub labelled : (items : List (Element S)) (d : Option ℕ) (p : ℕ) (e : Ticketed (LiveSend S)) → found items p ≡ Some e → SendLayout items d → IsSome e.label
-  labelled items d p e at l =
-      let f = found_some items p e at in
-      elim (cases_Bool e.value.notice.due) [
-        | inl due ↦ (
-            let r = due_side f.before f.after l.quiet l.late (item p e) (sym f.is ∙ l.parts) l.none_due due in
-            (lined_back true r.between (item p e ∷ f.after) (subst (EachDueIs true) r.behind l.all_due)).0
-            )
-        | inr quiet ↦ (
-            let r = quiet_side f.before f.after l.quiet l.late (item p e) (sym f.is ∙ l.parts) l.all_due quiet in
-            (lined_back false f.before (item p e ∷ r.between) (subst (EachDueIs false) r.ahead l.none_due)).0
-            )
-      ]
 
   -- a send is written, and is due where it was
   pub written_lined : (before after : List (Element S)) (p t : ℕ) (v w : LiveSend S) (d : Option ℕ) → w.notice.due ≡ v.notice.due
@@ -145,7 +130,7 @@ module _ {S : Type 0} where
             ∙ ap (λ (xs : List (Element S)). xs ++ last) (sym (append_assoc before r.between l.late))
             ∙ append_assoc (before ++ r.between) l.late last;
         none_due = lined_cut false before r.between (item p (under t v)) (subst (EachDueIs false) r.ahead l.none_due);
-        all_due = lined_append true l.late last l.all_due (refl, is, tt);
+        all_due = lined_append true l.late last l.all_due (is, tt);
         first = ap (λ o. option_or o (Some p)) l.first ∙ sym (first-push l.late (item p (under t w)));
       }
 
@@ -163,7 +148,7 @@ module _ {S : Type 0} where
     quiet = l.quiet ++ item p (under t w) ∷ [];
     late = l.late;
     parts = put_is items d (item p (under t w)) l apart ∙ sym (append_assoc l.quiet (item p (under t w) ∷ []) l.late);
-    none_due = lined_append false l.quiet (item p (under t w) ∷ []) l.none_due (refl, e, tt);
+    none_due = lined_append false l.quiet (item p (under t w) ∷ []) l.none_due (e, tt);
     all_due = l.all_due;
     first = l.first;
   }

@@ -1,15 +1,14 @@
 -- What each method of the live sends leaves of their chain, and of the map that it is seen as.
-use Rattle.std.proofs.Common.{◌≡◌, ℕ, true, false, List, [], ◌∷◌, ◌++◌, Option, Some, None, refl, sym, if◌then◌else◌, ap, ap₂, subst, ◌∙◌, arith, append-nil, nat_eq}
+use Rattle.std.proofs.Common.{◌≡◌, ◌==◌, ℕ, true, false, List, [], ◌∷◌, ◌++◌, Option, Some, None, refl, sym, if◌then◌else◌, ap, ap₂, subst, ◌∙◌, arith, append-nil, nat_eq}
 use Rattle.std.specs.FinMap.{get, insert, remove}
 use Rattle.std.specs.Option.{option_or, option_eq}
-use Rattle.flume_state.proofs.Chains.{without, place_after, item, without-append, with_value_at}
+use Rattle.flume_state.proofs.Chains.{times, without, place_after, item, without-append, with_value_at}
 use Rattle.flume_state.specs.declared.sends.LiveSend.{LiveSend}
 use Rattle.flume_state.specs.Sends.{changed, send_due_in, NoDueSend}
 use Rattle.flume_state.specs.layout.SendLayout.{Element, by_ticket, EachDueIs, SendLayout}
-use Rattle.flume_state.specs.layout.Ticketed.{place_of, ticket_times, put_ahead}
-use Rattle.flume_model.specs.Log.{is_ticket}
+use Rattle.flume_state.specs.layout.Ticketed.{place_of, tickets, put_ahead}
 use Rattle.flume_state.proofs.SendsLaws.{changed_none}
-use Rattle.flume_state.proofs.TicketLemmas.{tickets_both, times_none}
+use Rattle.flume_state.proofs.TicketLemmas.{times_both, times_none}
 use Rattle.flume_state.proofs.ByTicket.{under, value_of, get_by_ticket, value_none, by_ticket_insert, by_ticket_changed, by_ticket_moved, by_ticket_removed, Stands, stands_without, stands_written, stands_again}
 use Rattle.flume_state.specs.layout.EntryLayout.{boundary_without}
 use Rattle.flume_state.proofs.EntryParts.{Apart, off_first, no_first}
@@ -66,7 +65,7 @@ module _ {S : Type 0} where
       → Apart items → place_of t items ≡ None
       → by_ticket (put_ahead items d (item p (under t w))) ≡ insert (by_ticket items) t w
   put_view items d t p w l apart none =
-      let both = ap (ticket_times t) l.parts ∙ tickets_both t l.quiet l.late in
+      let both = ap (λ xs. times t (tickets xs)) l.parts ∙ times_both (λ y. y.element.label) t l.quiet l.late in
       let nowhere = times_none t items none in
       ap by_ticket (put_is items d (item p (under t w)) l apart)
       ∙ by_ticket_insert t p w l.quiet l.late (value_none t l.quiet (omega arith))
@@ -97,9 +96,9 @@ module _ {S : Type 0} where
   quiet_value : (t : ℕ) (xs : List (Element S)) → EachDueIs false xs → send_due_in (value_of t xs) ≡ false
   quiet_value t [] h = refl
   quiet_value t (x ∷ xs) h =
-      elim (is_ticket t x.element.label) as (λ b. send_due_in (if b then Some x.element.value else value_of t xs) ≡ false) [
-        | true ↦ h.1
-        | false ↦ quiet_value t xs h.2
+      elim (x.element.label == t) as (λ b. send_due_in (if b then Some x.element.value else value_of t xs) ≡ false) [
+        | true ↦ h.0
+        | false ↦ quiet_value t xs h.1
       ]
 
   -- no send is due where there is no first one

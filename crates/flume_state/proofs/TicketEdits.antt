@@ -7,7 +7,7 @@ use Rattle.flume_state.specs.layout.Ticketed.{Ticketed, Agrees}
 use Rattle.flume_state.specs.layout.Places.{PlaceMap}
 use Rattle.flume_state.proofs.SendsLaws.{get-remove_same}
 use Rattle.flume_state.proofs.TicketMaps.{insert-remove}
-use Rattle.flume_state.proofs.TicketLemmas.{Amid, plain_out, plain_in, ticketed_out, ticketed_in, own, is_its, times_none, put_amid, without_amid, without_fresh}
+use Rattle.flume_state.proofs.TicketLemmas.{Amid, ticketed_out, ticketed_in, own, times_none, put_amid, without_amid, without_fresh}
 
 module _ {E : Type 0} where
   -- the map stays where an element is taken out, and one with its place and its ticket is put in
@@ -15,16 +15,11 @@ module _ {E : Type 0} where
       → Amid next rest (item k f) → f.label ≡ e.label → Agrees items m → Agrees next m
   replaced items rest next m k e f at to same a =
       let fresh = without_fresh items rest (item k e) at (a.apart k) in
-      elim e.label as (λ (o : Option ℕ). e.label ≡ o → Agrees next m) [
-        | None ↦ λ plain. plain_in next rest (item k f) m to (same ∙ plain) fresh (plain_out items rest (item k e) m at plain a)
-        | Some t ↦ λ has. (
-            let left = ticketed_out items rest (item k e) m at t has a in
-            let new = sym (left.found t) ∙ get-remove_same m t in
-            let here = a.found t ∙ own items rest (item k e) m at t (is_its t e.label has) (times_none t rest new) in
-            subst (λ n. Agrees next n) (insert-remove m t k here)
-            (ticketed_in next rest (item k f) (remove m t) to t (same ∙ has) new fresh left)
-            )
-      ] refl
+      let left = ticketed_out items rest (item k e) m at e.label refl a in
+      let new = sym (left.found e.label) ∙ get-remove_same m e.label in
+      let here = a.found e.label ∙ own items rest (item k e) m at e.label refl (times_none e.label rest new) in
+      subst (λ n. Agrees next n) (insert-remove m e.label k here)
+      (ticketed_in next rest (item k f) (remove m e.label) to e.label same new fresh left)
 
   -- the map stays where an element goes behind all others
   pub moved_agrees : (items : List (Placed (Ticketed E))) (m : PlaceMap) (k : ℕ) → Agrees items m → Agrees (moved_back items k) m

@@ -11,7 +11,7 @@ use Rattle.flume_state.specs.Notices.{due_now}
 use Rattle.flume_state.specs.Sends.{SendMap, changed, accepted_now, noticed_send}
 use Rattle.flume_model.specs.Entries.{all_woken, entry_of, without, round_for, round_for_fills}
 use Rattle.flume_model.specs.Entries.{passes_on, leave_fills, waiting_count}
-use Rattle.flume_state.specs.Receivers.{Entries, new_receiver, after_fill}
+use Rattle.flume_state.specs.Receivers.{EntryList, new_receiver, after_fill}
 use Rattle.flume_state.specs.State.{State, with_nothing_left}
 
 module _ {T S : Type 0} where
@@ -90,7 +90,7 @@ module _ {T S : Type 0} where
       else without_receiver ticket s
 
   -- the state with these entries, and the peak that they make
-  abbrev pub with_peak : Entries T S → State T S → State T S
+  abbrev pub with_peak : EntryList T S → State T S → State T S
   with_peak entries s = record s { entries = entries; peak = max s.peak (waiting_count entries) }
 
   -- what an end that left leaves: nothing once both have disconnected; and where the channel was

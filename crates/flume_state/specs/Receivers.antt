@@ -19,8 +19,8 @@ use Rattle.flume_state.specs.declared.entries.ReceiverStatus.TheVariants.{Waitin
 use Rattle.flume_state.specs.declared.entries.ReceiverStatus.TheVariants.{Woken as IsWoken}
 
 -- the entries of a state
-abbrev pub Entries : Type 0 → Type 0 → Type 0
-Entries T S = List (Entry T (Notice S))
+abbrev pub EntryList : Type 0 → Type 0 → Type 0
+EntryList T S = List (Entry T (Notice S))
 
 -- the queue after a wake round: its front is taken where the round filled a receiver
 abbrev pub after_fill : {T : Type 0} → Option ℕ → List T → List T
@@ -72,7 +72,7 @@ module _ {T S : Type 0} where
   }
 
   -- the entries with the notice of a ticket changed
-  abbrev pub noticed_receiver : (Notice S → Notice S) → ℕ → Entries T S → Entries T S
+  abbrev pub noticed_receiver : (Notice S → Notice S) → ℕ → EntryList T S → EntryList T S
   noticed_receiver f t [] = []
   noticed_receiver f t (e ∷ entries) =
       if e.ticket == t then record e { notice = f e.notice } ∷ entries
@@ -83,18 +83,18 @@ module _ {T S : Type 0} where
   status_of e = status_by e.kind e.mark
 
   -- how the receiver with a ticket stands
-  abbrev pub receiver_status : ℕ → Entries T S → Option ReceiverStatus
+  abbrev pub receiver_status : ℕ → EntryList T S → Option ReceiverStatus
   receiver_status t entries = option_map status_of (entry_of t entries)
 
   -- no parked receiver is due
-  abbrev pub NoDueReceiver : Entries T S → Type 0
+  abbrev pub NoDueReceiver : EntryList T S → Type 0
   NoDueReceiver entries = All (λ e. e.notice.due ≡ false) entries
 
   -- one that was due, under this ticket, is due no more
-  pub record NamesReceiver (old new : Entries T S) (ticket : ℕ) : Type 0 where
-    pub before : Entries T S
+  pub record NamesReceiver (old new : EntryList T S) (ticket : ℕ) : Type 0 where
+    pub before : EntryList T S
     pub entry : Entry T (Notice S)
-    pub later : Entries T S
+    pub later : EntryList T S
     pub found : old ≡ before ++ entry ∷ later
     pub is_it : entry.ticket ≡ ticket
     pub was_due : entry.notice.due ≡ true

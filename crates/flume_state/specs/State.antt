@@ -7,7 +7,7 @@ use Rattle.flume_state.specs.Messages.{Blocked}
 use Rattle.flume_state.specs.Sends.{SendMap}
 use Rattle.flume_model.specs.declared.entry.Entry.{Entry}
 use Rattle.flume_model.specs.Parked.{LogEntry}
-use Rattle.flume_state.specs.Receivers.{Entries}
+use Rattle.flume_state.specs.Receivers.{EntryList}
 
 -- the state of a channel
 pub record State (T S : Type 0) : Type 0 where
@@ -22,7 +22,7 @@ pub record State (T S : Type 0) : Type 0 where
   pub space : ℕ
   -- the live send tickets, the parked receivers, and the next ticket
   pub sends : SendMap S
-  pub entries : Entries T S
+  pub entries : EntryList T S
   pub next : ℕ
   -- the most receivers that waited at once
   pub peak : ℕ

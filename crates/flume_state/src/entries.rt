@@ -17,6 +17,7 @@ use flume_model::entry::Mark;
 use flume_model::step::Kind;
 use std::alloc::{AllocError, Allocator};
 use std::marker::Model;
+use std::mem;
 
 /// What decides how a parked receiver is answered.
 #[derive(Clone, Copy, Drop)]
@@ -118,7 +119,7 @@ fn boundary_without(boundary: Option<u32>, place: u32, next: Option<u32>) -> Opt
 }
 
 impl<T, S, A: Allocator> Model for Entries<T, S, A> {
-    ghost use Rattle.flume_state.specs.Receivers.{Entries as EntryList};
+    ghost use Rattle.flume_state.specs.Receivers.{EntryList};
     ghost use Rattle.flume_state.specs.layout.EntryLayout.{entries_in, EntryLayout};
 
     ghost Value = { EntryList T S };
@@ -167,8 +168,8 @@ impl<T: Drop, S: Drop, A: Allocator + Copy> Entries<T, S, A> {
     }
 
     /// Parks a receiver under this ticket, behind all others. It waits, and isn't due. All room for
-    /// what happens to it later is made here. With no memory left, under a ticket under which one
-    /// is parked, or under the greatest number, which is no ticket, nothing changes.
+    /// what happens to it later is made here. With no memory left, or under a ticket under which
+    /// one is parked, nothing changes.
     pub fn park(&mut self, ticket: u64, kind: Kind, signal: S) -> Result<(), AllocError>
         ensures parked { OnOk result (self.new ≡ self.old ++ new_receiver ticket kind signal ∷ []) }
         ensures unchanged { OnErr result (self.new ≡ self.old) }
@@ -176,7 +177,7 @@ impl<T: Drop, S: Drop, A: Allocator + Copy> Entries<T, S, A> {
         let notice = Notice { signal, due: false };
         let mark = Mark::Waiting;
         let parked = Parked { kind, mark, notice };
-        match self.chain.insert_ticket(None, ticket, parked) {
+        match self.chain.insert(None, ticket, parked) {
             Ok(place) => {
                 self.due = self.due.or(Some(place));
                 self.waits = self.waits.or(Some(place));
@@ -215,7 +216,9 @@ impl<T: Drop, S: Drop, A: Allocator + Copy> Entries<T, S, A> {
     {
         let place = self.chain.find(ticket)?;
         let next = self.chain.next(place);
-        let Parked { mark, .. } = self.chain.remove(place)?;
+        let parked = self.chain.get_mut(place)?;
+        let mark = mem::replace(&mut parked.mark, Mark::Waiting);
+        self.chain.discard(place);
         self.due = boundary_without(self.due, place, next);
         self.waits = boundary_without(self.waits, place, next);
         if let Mark::Waiting = mark {

@@ -1,22 +1,22 @@
 //! The state of a channel. This is the inside of `flume_core`, the only library that calls it: it
 //! may change whenever `flume_core` does.
 //!
-//! - `line`: the messages, queued and blocked, and the tickets of blocked sends. `messages` and
-//!   `sends` are its two halves, `maybe_place` the label of a message.
+//! - `line`: the messages, queued and blocked, and the live sends. `messages` and `sends` are its
+//!   two halves, `maybe_place` the label of a message.
 //! - `entries`: the parked receivers, and which of them a new message wakes.
 //! - `notice`: the signal of a ticket, and whether its owner is to be told.
-//! - `ticketed`, `maybe_ticket`, `places`: chains in which an element with a ticket is found
-//!   through a table of places.
+//! - `ticketed`, `places`: chains in which an element is found by its ticket, through a table of
+//!   places.
 //!
-//! The definitions in `specs/` are cited by every contract that speaks of a channel's state:
-//! `State.antt` is what a contract sees of a channel, `Effects.antt` what each step leaves of it,
-//! and `Due.antt` whose ticket becomes due.
+//! The definitions in `specs/`, beside its folder `layout/`, are cited by every contract that
+//! speaks of a channel's state: `State.antt` is what a contract sees of a channel, `Effects.antt`
+//! what each step leaves of it, and `Due.antt` whose ticket becomes due. Those in `specs/layout/`
+//! are for this crate alone: how the lists of a state lie in their chains.
 #![tactic(auto)]
 
 pub mod entries;
 pub mod line;
 pub mod maybe_place;
-pub mod maybe_ticket;
 pub mod messages;
 pub mod notice;
 pub mod places;

@@ -29,7 +29,7 @@ impl<T, S, A: Allocator> Model for Line<T, S, A> {
     ghost use Rattle.std.specs.Coded.{codes};
     ghost use Rattle.flume_state.specs.Messages.{Messages};
     ghost use Rattle.flume_state.specs.Sends.{send_map_code};
-    ghost use Rattle.flume_state.specs.layout.Pairing.{Paired, named, live_sends};
+    ghost use Rattle.flume_state.specs.layout.Pairing.{Pairing, live_sends, under_tickets};
 
     ghost Value = { Messages T S };
 
@@ -37,12 +37,12 @@ impl<T, S, A: Allocator> Model for Line<T, S, A> {
 
     ghost view = { λ s. record {
       queued = s.messages.queued;
-      blocked = named s.sends s.messages.blocked;
+      blocked = under_tickets s.sends s.messages.blocked;
       space = s.messages.space;
       sends = live_sends s.sends;
     } };
 
-    ghost invariant = { λ s. Paired s.messages.blocked s.sends };
+    ghost invariant = { λ s. Pairing s.messages.blocked s.sends };
 }
 
 // `queued_len`, `blocked_len`, `room`, `push_queued`, `take_queued` and `drain_queued` are those of
@@ -110,9 +110,8 @@ impl<T: Drop, S: Drop, A: Allocator + Copy> Line<T, S, A> {
     }
 
     /// Puts a message behind all others, as one that blocks under this ticket, which is live from
-    /// now on, with this signal and nothing due. With no memory left, a ticket that is live
-    /// already, or the greatest number, which is no ticket, the message comes back, and the line
-    /// stays as it was.
+    /// now on, with this signal and nothing due. With no memory left, or a ticket that is live
+    /// already, the message comes back, and the line stays as it was.
     pub fn block(&mut self, ticket: u64, message: T, signal: S) -> Result<(), T>
         ensures blocked { OnOk result (self.new ≡ record self.old {
           blocked = self.old.blocked ++ record { ticket = ticket; message = message } ∷ [];

@@ -3,9 +3,9 @@ ghost use Rattle.std.specs.Prelude.{◌≡◌, ◌≢◌, ◌<◌, ◌≤◌, �
 ghost use Rattle.std.specs.Prelude.{IfNone, IfSome, IfOk, IfErr, OnOk, OnErr, IsOk, map};
 ghost use Rattle.std.specs.List.{All};
 ghost use Rattle.std.specs.Option.{option_and_then};
-ghost use Rattle.flume_chain.specs.Chained.{found, place_after, places, times};
+ghost use Rattle.flume_chain.specs.Chained.{found, place_after, times};
 ghost use Rattle.flume_state.specs.layout.MessageLayout.{AdmitsOwner, TakesOut, message_count};
-ghost use Rattle.flume_state.specs.layout.Pairing.{HasLink, link_at, live_sends, named};
+ghost use Rattle.flume_state.specs.layout.Pairing.{HasLink, link_at, live_sends, under_tickets};
 ghost use Rattle.flume_state.specs.Effects.{with_all_due};
 
 use crate::maybe_place::MaybePlace;
@@ -55,14 +55,6 @@ fn first_without<T: Drop, A: Allocator>(
     first
 }
 
-// No two messages have the same place. Does nothing.
-#[inline(always)]
-fn chain_facts<T: Drop, A: Allocator>(chain: &Chain<MaybePlace, T, A>)
-    ensures apart { (k : ℕ) → times k (places chain.now.items) ≤ 1 }
-{
-    let _ = chain.get(0);
-}
-
 // The owner of the message at a place. `None` where none stands there, or it is queued.
 #[inline(always)]
 fn owner_at<T: Drop, A: Allocator>(chain: &Chain<MaybePlace, T, A>, place: u32) -> Option<u32>
@@ -98,7 +90,7 @@ impl<T: Drop, A: Allocator + Copy> MessageChain<T, A> {
     pub fn facts(&self)
         ensures apart { (k : ℕ) → times k (map (λ b. b.place) self.now.blocked) ≤ 1 }
     {
-        chain_facts(&self.chain);
+        self.chain.facts();
     }
 
     /// How many messages are queued. It reads counts, whatever the length.
@@ -138,7 +130,7 @@ impl<T: Drop, A: Allocator + Copy> MessageChain<T, A> {
         ensures returned { IfErr result (λ back. back ≡ message) }
         ensures unchanged { OnErr result (self.new ≡ self.old) }
     {
-        chain_facts(&self.chain);
+        self.chain.facts();
         let label = MaybePlace::none();
         let element = Labelled {
             label,
@@ -164,7 +156,7 @@ impl<T: Drop, A: Allocator + Copy> MessageChain<T, A> {
         ensures returned { IfErr result (λ back. back ≡ message) }
         ensures unchanged { OnErr result (self.new ≡ self.old) }
     {
-        chain_facts(&self.chain);
+        self.chain.facts();
         let Some(label) = MaybePlace::of(owner) else {
             return Err(message);
         };
@@ -191,7 +183,7 @@ impl<T: Drop, A: Allocator + Copy> MessageChain<T, A> {
         ensures none_blocked { IfNone result (self.old.blocked ≡ []) }
         ensures unchanged { IfNone result (self.new ≡ self.old) }
     {
-        chain_facts(&self.chain);
+        self.chain.facts();
         let place = self.blocked?;
         let owner = owner_at(&self.chain, place)?;
         self.chain.set_label(place, MaybePlace::none());
@@ -234,10 +226,10 @@ impl<T: Drop, A: Allocator + Copy> MessageChain<T, A> {
     pub fn mark_blocked<S: Drop>(&self, sends: &mut Sends<S, A>)
         requires owned { All (HasLink sends.old) self.now.blocked }
         ensures marked { live_sends sends.new
-            ≡ with_all_due (named sends.old self.now.blocked) (live_sends sends.old) }
+            ≡ with_all_due (under_tickets sends.old self.now.blocked) (live_sends sends.old) }
         ensures links { (k : ℕ) → link_at sends.new k ≡ link_at sends.old k }
     {
-        chain_facts(&self.chain);
+        self.chain.facts();
         let mut next = self.blocked;
         while let Some(place) = next {
             if let Some(owner) = owner_at(&self.chain, place) {
@@ -254,7 +246,7 @@ impl<T: Drop, A: Allocator + Copy> MessageChain<T, A> {
         ensures absent { IfNone result (All (λ b. b.place ≢ place) self.old.blocked) }
         ensures unchanged { IfNone result (self.new ≡ self.old) }
     {
-        chain_facts(&self.chain);
+        self.chain.facts();
         owner_at(&self.chain, place)?;
         let first = first_without(&self.chain, self.blocked, place);
         let element = self.chain.remove(place)?;

@@ -15,7 +15,7 @@ use crate::ticketed::TicketChain;
 use std::alloc::{AllocError, Allocator};
 use std::marker::Model;
 
-/// A send that blocked and hasn't asked yet how it ended.
+/// A send that blocked and hasn't learned yet how it ended.
 #[derive(Drop)]
 pub struct LiveSend<S> {
     /// Whether its message was taken into the queue.
@@ -24,9 +24,9 @@ pub struct LiveSend<S> {
     pub notice: Notice<S>,
 }
 
-/// A live send, and the place of its message. Once this was accepted, the place says nothing.
+/// A live send, with the place of its message. Once this was accepted, the place says nothing.
 #[derive(Drop)]
-pub struct Owner<S> {
+pub struct PlacedSend<S> {
     /// Where its message stands in the chain of messages, while it is blocked.
     pub message: u32,
     /// The send.
@@ -40,7 +40,7 @@ pub struct Sends<S, A: Allocator> {
     // `next_due` reads one place, whatever the length. The first ones stand in the order in which
     // they blocked or were named, but nothing reads that order: they are found by their tickets.
     // The order of blocked messages is that of their chain.
-    chain: TicketChain<Owner<S>, A>,
+    chain: TicketChain<PlacedSend<S>, A>,
     // The place of the first that is due.
     due: Option<u32>,
 }
@@ -79,8 +79,8 @@ impl<S: Drop, A: Allocator + Copy> Sends<S, A> {
 
     /// Makes `ticket` live, with its message blocked and nothing due, and returns its place, which
     /// no other has. The place of its message is to be set. All room for what happens to it later
-    /// is made here. With no memory left, a ticket that is live already, or the greatest number,
-    /// which is no ticket, nothing changes. No caller gives either of these.
+    /// is made here. With no memory left, or a ticket that is live already, nothing changes. No
+    /// caller gives such a ticket.
     #[inline(always)]
     pub fn block(&mut self, ticket: u64, signal: S) -> Result<u32, AllocError>
         ensures live { OnOk result (live_sends self.new
@@ -98,8 +98,8 @@ impl<S: Drop, A: Allocator + Copy> Sends<S, A> {
             accepted: false,
             notice,
         };
-        let owner = Owner { message: 0, send };
-        match self.chain.insert_ticket(self.due, ticket, owner) {
+        let placed = PlacedSend { message: 0, send };
+        match self.chain.insert(self.due, ticket, placed) {
             Ok(place) => Ok(place),
             Err(_) => Err(AllocError),
         }
@@ -114,10 +114,10 @@ impl<S: Drop, A: Allocator + Copy> Sends<S, A> {
             then option_map (at_message message) (link_at self.old k) else link_at self.old k }
     {
         self.chain.facts();
-        let Some(owner) = self.chain.get_mut(place) else {
+        let Some(placed) = self.chain.get_mut(place) else {
             return;
         };
-        owner.message = message;
+        placed.message = message;
     }
 
     /// The place of the send with this ticket, and that of its message, while this is blocked.
@@ -133,11 +133,11 @@ impl<S: Drop, A: Allocator + Copy> Sends<S, A> {
     {
         self.chain.facts();
         let place = self.chain.find(ticket)?;
-        let owner = self.chain.get(place)?;
-        if owner.send.accepted {
+        let placed = self.chain.get(place)?;
+        if placed.send.accepted {
             return None;
         }
-        Some((place, owner.message))
+        Some((place, placed.message))
     }
 
     /// Whether the message of a live ticket was accepted. `None` where the ticket isn't live.
@@ -178,10 +178,10 @@ impl<S: Drop, A: Allocator + Copy> Sends<S, A> {
         let Some(place) = self.chain.find(ticket) else {
             return;
         };
-        let Some(owner) = self.chain.get_mut(place) else {
+        let Some(placed) = self.chain.get_mut(place) else {
             return;
         };
-        owner.send.notice.signal = signal;
+        placed.send.notice.signal = signal;
     }
 
     /// The message of the send at this place was taken into the queue: its ticket is accepted, and
@@ -217,12 +217,12 @@ impl<S: Drop, A: Allocator + Copy> Sends<S, A> {
             then option_map (accepting accepts) (link_at self.old k) else link_at self.old k }
     {
         self.chain.facts();
-        let Some(owner) = self.chain.get_mut(place) else {
+        let Some(placed) = self.chain.get_mut(place) else {
             return;
         };
-        let was_due = owner.send.notice.due;
-        owner.send.accepted = accepts | owner.send.accepted;
-        owner.send.notice.due = true;
+        let was_due = placed.send.notice.due;
+        placed.send.accepted = accepts | placed.send.accepted;
+        placed.send.notice.due = true;
         if !was_due {
             self.chain.move_back(place);
             self.due = self.due.or(Some(place));
@@ -256,7 +256,7 @@ impl<S: Drop, A: Allocator + Copy> Sends<S, A> {
         if self.due == Some(place) {
             self.due = self.chain.next(place);
         }
-        self.chain.remove(place);
+        self.chain.discard(place);
     }
 
     /// A live ticket that was due, and now isn't: it is named once. `None` where none is due, and
@@ -291,8 +291,8 @@ impl<S: Drop, A: Allocator + Copy> Sends<S, A> {
         self.chain.facts();
         let place = self.due?;
         let ticket = self.chain.ticket(place)?;
-        let owner = self.chain.get_mut(place)?;
-        owner.send.notice.due = false;
+        let placed = self.chain.get_mut(place)?;
+        placed.send.notice.due = false;
         self.due = self.chain.next(place);
         Some(ticket)
     }

@@ -6,12 +6,10 @@ ghost use Rattle.std.specs.Prelude.{option_copied, ◌↔◌};
 ghost use Rattle.std.specs.Option.{option_map, option_copied_mut};
 ghost use Rattle.flume_chain.specs.Chained.{Placed, found, without};
 ghost use Rattle.flume_chain.specs.Chained.{place_after, times, places};
-ghost use Rattle.flume_state.specs.layout.Ticketed.{place_of, ticket_times, put_ahead};
-ghost use Rattle.flume_state.specs.layout.Ticketed.{ticket_in, Ticketed};
+ghost use Rattle.flume_state.specs.layout.Ticketed.{Ticketed, tickets, place_of, put_ahead};
 ghost use Rattle.std.specs.Borrow.{sem};
 ghost use Rattle.flume_state.specs.layout.TicketedLends.{lends_value};
 
-use crate::maybe_ticket::MaybeTicket;
 use crate::places::Places;
 use flume_chain::chain::Chain;
 use flume_chain::labelled::Labelled;
@@ -21,7 +19,7 @@ use std::marker::Model;
 /// Elements in order. Each has a place, and was put in with a ticket.
 #[derive(Drop)]
 pub struct TicketChain<E, A: Allocator> {
-    chain: Chain<MaybeTicket, E, A>,
+    chain: Chain<u64, E, A>,
     // Where each ticket stands.
     places: Places<A>,
 }
@@ -44,15 +42,14 @@ impl<E: Drop, A: Allocator + Copy> TicketChain<E, A> {
     ///
     /// ```
     /// let mut chain = TicketChain::new(alloc);
-    /// let _ = chain.insert_ticket(None, 7, 'a');    // Ok(0)
-    /// let _ = chain.insert_ticket(Some(0), 8, 'b'); // Ok(1), ahead of 'a'
-    /// chain.find(7);                                // Some(0)
-    /// chain.next(1);                                // Some(0)
+    /// let _ = chain.insert(None, 7, 'a');    // Ok(0)
+    /// let _ = chain.insert(Some(0), 8, 'b'); // Ok(1), ahead of 'a'
+    /// chain.find(7);                         // Some(0)
+    /// chain.next(1);                         // Some(0)
     /// ```
     #[inline(always)]
     pub fn new(alloc: A) -> Self
         ensures empty { result.items ≡ [] }
-        ensures room { result.room ≡ 0 }
     {
         TicketChain {
             chain: Chain::new(alloc),
@@ -64,7 +61,7 @@ impl<E: Drop, A: Allocator + Copy> TicketChain<E, A> {
     /// Does nothing.
     #[inline(always)]
     pub fn facts(&self)
-        ensures single { (t : ℕ) → ticket_times t self.now.items ≤ 1 }
+        ensures single { (t : ℕ) → times t (tickets self.now.items) ≤ 1 }
         ensures apart { (k : ℕ) → times k (places self.now.items) ≤ 1 }
     {
         let _ = self.chain.len();
@@ -87,12 +84,12 @@ impl<E: Drop, A: Allocator + Copy> TicketChain<E, A> {
         self.chain.get(place)
     }
 
-    /// The ticket of the element at a place. `None` where none stands there, or it has none.
+    /// The ticket of the element at a place. `None` where none stands there.
     #[inline(always)]
     pub fn ticket(&self, place: u32) -> Option<u64>
-        ensures ticket { result ≡ ticket_in (found self.now.items place) }
+        ensures ticket { result ≡ option_map (λ e. e.label) (found self.now.items place) }
     {
-        self.chain.label(place)?.get()
+        self.chain.label(place).copied()
     }
 
     /// The value at a place, to be written. `None` where none stands there.
@@ -119,28 +116,27 @@ impl<E: Drop, A: Allocator + Copy> TicketChain<E, A> {
 
     /// Puts a value with a ticket ahead of that at a place, or behind all others where no place is
     /// given or none stands there, and returns its own place, which no other has. With no memory
-    /// left, a ticket that an element has, the greatest number, which is no ticket, or
-    /// 4,294,967,295 elements standing, the value comes back, and the chain stays as it was.
-    pub fn insert_ticket(&mut self, next: Option<u32>, ticket: u64, value: E) -> Result<u32, E>
+    /// left, a ticket that an element has, or 4,294,967,295 elements standing, the value comes
+    /// back, and the chain stays as it was.
+    pub fn insert(&mut self, next: Option<u32>, ticket: u64, value: E) -> Result<u32, E>
         ensures inserted { IfOk result (λ place. self.new.items ≡ put_ahead self.old.items next
-            (record { place = place; element = record { label = Some ticket; value = value } })) }
+            (record { place = place; element = record { label = ticket; value = value } })) }
         ensures fresh { IfOk result (λ place. found self.old.items place ≡ None) }
         ensures new_ticket { OnOk result (place_of ticket self.old.items ≡ None) }
         ensures fits { OnOk result (length self.new.items ≤ 4294967295) }
-        ensures room { OnOk result (0 < self.old.room → self.new.room + 1 ≡ self.old.room) }
         ensures returned { IfErr result (λ back. back ≡ value) }
         ensures unchanged { OnErr result (self.new ≡ self.old) }
     {
         if self.places.get(ticket).is_some() {
             return Err(value);
         }
-        let Some(held) = MaybeTicket::of(ticket) else {
-            return Err(value);
-        };
         if self.places.insert(ticket, 0).is_err() {
             return Err(value);
         }
-        let element = Labelled { label: held, value };
+        let element = Labelled {
+            label: ticket,
+            value,
+        };
         match push(&mut self.chain, next, element) {
             Ok(place) => {
                 let _ = self.places.insert(ticket, place);
@@ -161,33 +157,27 @@ impl<E: Drop, A: Allocator + Copy> TicketChain<E, A> {
             → self.new.items ≡ without self.old.items place
             ++ record { place = place; element = e } ∷ [] }
         ensures stood { result ≡ true ↔ IsSome (found self.old.items place) }
-        ensures room { self.new.room ≡ self.old.room }
         ensures unchanged { result ≡ false → self.new ≡ self.old }
     {
         self.chain.move_back(place)
     }
 
-    /// Takes out the element at a place, which then names none, and its ticket finds none. The
-    /// others keep their order and their places. `None` where none stands there, and then nothing
-    /// changes. Takes no memory.
+    /// Drops the element at a place, which then names none, and its ticket finds none. The others
+    /// keep their order and their places. Nothing changes where none stands there. Takes no memory.
     #[inline(always)]
-    pub fn remove(&mut self, place: u32) -> Option<E>
-        ensures found { result ≡ option_map (λ e. e.value) (found self.old.items place) }
-        ensures taken { OnSome result (self.new.items ≡ without self.old.items place) }
-        ensures room { OnSome result (self.new.room ≡ self.old.room + 1) }
-        ensures unchanged { IfNone result (self.new ≡ self.old) }
+    pub fn discard(&mut self, place: u32)
+        ensures left { self.new.items ≡ without self.old.items place }
     {
-        let element = self.chain.remove(place)?;
-        if let Some(ticket) = element.label.get() {
-            self.places.remove(ticket);
-        }
-        Some(element.value)
+        let Some(ticket) = self.ticket(place) else {
+            return;
+        };
+        self.places.remove(ticket);
+        self.chain.discard(place);
     }
 
     /// Takes out all elements. Takes no memory.
     pub fn clear(&mut self)
         ensures empty { self.new.items ≡ [] }
-        ensures room { self.new.room ≡ self.old.room + length self.old.items }
     {
         self.chain.clear();
         self.places.clear();

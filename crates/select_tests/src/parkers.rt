@@ -136,7 +136,7 @@ fn fire<R: Wait>(rt: &R, parker: &Parker, wakes: u32) {
 
 // A clock that counts its readings, and fires the parker at one of them, so often.
 #[derive(Clone, Copy)]
-struct Firing<'a, R> {
+struct FiringClock<'a, R> {
     rt: &'a R,
     parker: &'a Parker,
     readings: &'a AtomicU64,
@@ -144,9 +144,9 @@ struct Firing<'a, R> {
     fires: u32,
 }
 
-impl<R: Wait> Wait for Firing<'_, R> {}
+impl<R: Wait> Wait for FiringClock<'_, R> {}
 
-impl<R: Wait> Clock for Firing<'_, R> {
+impl<R: Wait> Clock for FiringClock<'_, R> {
     fn monotonic(&self) -> io::Result<Duration> {
         let reading = self.readings.fetch_add(1, Ordering::SeqCst);
         if reading == self.nap.fires_at {
@@ -170,16 +170,16 @@ impl<R: Wait> Clock for Firing<'_, R> {
 // Waits once, and reads the clock as often as it should.
 fn takes_a_nap<R: Wait + Abort>(rt: &R, parker: &Parker, nap: Nap, fires: u32) {
     let readings = AtomicU64::new(0);
-    let firing = Firing {
+    let clock = FiringClock {
         rt,
         parker,
         readings: &readings,
         nap,
         fires,
     };
-    let now = Instant::now(&firing).expect(rt, "this clock can be read");
+    let now = Instant::now(&clock).expect(rt, "this clock can be read");
     let deadline = now.checked_add(Duration::from_millis(HOUR)).unwrap_or(now);
-    parker.wait_until(&firing, deadline);
+    parker.wait_until(&clock, deadline);
     is(rt, readings.into_inner(), nap.readings);
 }
 

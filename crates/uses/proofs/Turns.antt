@@ -6,16 +6,28 @@ use Rattle.flume_model.specs.declared.step.Reply.{Reply}
 use Rattle.flume_model.specs.Log.{Log}
 use Rattle.flume_state.specs.State.{State}
 use Rattle.flume_calls.specs.AtRest.{IsCall}
+use Rattle.flume_calls.specs.Turns.{Turned}
 use Rattle.uses.specs.Lent.{Leads, Makes, Others}
 
 module _ {T A S : Type 0} where
-  -- a call is one step
-  pub by_call : {N B : Type 0} {rings : B → ℕ → S → B → Type 0} {step : Step T}
+  module _ {N B : Type 0} {rings : B → ℕ → S → B → Type 0} {step : Step T}
       {table : Reply T A → N → Type 0} {outcomes : State T S → State T S → N → Type 0}
-      {old new : State T S} {bell rung : B} {answer : N}
-      → IsCall rings step table outcomes old bell new rung answer → Others A old new
-  by_call {step = step} call =
-      ((step, call.turn.reply) ∷ [], λ o log s. call.stands o _ (call.turn.stepped o log s))
+      {old new : State T S} {bell rung : B} {answer : N} where
+    -- a call of one step made it
+    pub made_by : IsCall A rings (λ s t told. Turned {A = A} step table s t told × outcomes s t told) old bell new rung answer
+        → Makes A step table old new answer
+    made_by call =
+        let turn = call.turn.0 in
+        record {
+          reply = turn.reply;
+          leads = λ o log s. call.stands o _ (turn.stepped o log s);
+          answered = turn.answered;
+        }
+
+    -- so to another it is some steps
+    pub by_call : IsCall A rings (λ s t told. Turned {A = A} step table s t told × outcomes s t told) old bell new rung answer
+        → Others A old new
+    by_call call = let made = made_by call in ((step, made.reply) ∷ [], made.leads)
 
   -- some steps, and then others
   pub chain : {old mid new : State T S} (a b : Log T A) → Leads old a mid → Leads mid b new

@@ -62,7 +62,7 @@ impl<T: Drop, R: Waits, A: Allocator + Copy> Shared<T, R, A> {
         ensures registered { result.1 ≡ None → Covers cx.new (λ s. s ≡ task.now.source.id) }
         ensures kept { Keeps cx.old cx.new }
     {
-        match locked.make_all(SendMany { messages }, &mut SignalBell { rt: self.rt }) {
+        match locked.make(SendMany { messages }, &mut SignalBell { rt: self.rt }) {
             Ok(()) => (VecDeque::new(self.alloc), Some(Ok(()))),
             Err(TrySendError::Full(rest)) => {
                 let (first, behind) = parted(rest);

@@ -1,6 +1,7 @@
 //! The turns of a receive.
 ghost use Rattle.std.specs.Prelude.{◌≡◌};
 ghost use Rattle.flume_calls.specs.Turns.{Turned};
+ghost use Rattle.flume_calls.specs.Batches.{by_step};
 ghost use Rattle.flume_calls.specs.ReceiveTurns.{IsFirst, IsParking, IsAgain, IsntRefused};
 ghost use Rattle.flume_calls.specs.ReceiveTurns.{after_try_recv, after_recv, after_parked_receive};
 ghost use Rattle.flume_calls.specs.ReceiveTurns.{step_of_parked_receive};
@@ -138,13 +139,12 @@ impl<T: Drop, S: Drop, A: Allocator + Copy> Turn<T, S, A> for FirstReceive {
 
     type Answer = RecvNext<T>;
 
-    ghost step = { λ _. TryRecv };
+    ghost does = { λ _ old new next. Turned {A = A} TryRecv after_try_recv old new next
+        × FirstReceiveOutcome old new next };
 
-    ghost table = { λ _. after_try_recv };
+    ghost leads = { λ _ old new next does. by_step does.0 };
 
     ghost answers = { λ _ next. IsFirst next × IsntRefused next };
-
-    ghost outcome = { λ _. FirstReceiveOutcome };
 
     #[inline(always)]
     fn apply(self, chan: &mut Chan<T, S, A>) -> RecvNext<T> {
@@ -171,13 +171,12 @@ impl<T: Drop, S: Drop, A: Allocator + Copy> Turn<T, S, A> for ParkReceive<S> {
 
     type Answer = RecvNext<T>;
 
-    ghost step = { λ turn. Recv turn.kind };
+    ghost does = { λ turn old new next. Turned {A = A} (Recv turn.kind) after_recv old new next
+        × ParkReceiveOutcome turn.kind turn.signal old new next };
 
-    ghost table = { λ _. after_recv };
+    ghost leads = { λ _ old new next does. by_step does.0 };
 
     ghost answers = { λ _. IsParking };
-
-    ghost outcome = { λ turn. ParkReceiveOutcome turn.kind turn.signal };
 
     fn apply(self, chan: &mut Chan<T, S, A>) -> RecvNext<T> {
         match chan.recv(self.kind, self.signal) {
@@ -204,13 +203,14 @@ pub struct AgainReceive<S> {
 impl<T: Drop, S: Drop, A: Allocator + Copy> Turn<T, S, A> for AgainReceive<S> {
     type Answer = RecvNext<T>;
 
-    ghost step = { λ turn. step_of_parked_receive turn.call turn.late };
+    ghost does = { λ turn old new next.
+        Turned {A = A} (step_of_parked_receive turn.call turn.late)
+        (after_parked_receive turn.call turn.late) old new next
+        × AgainReceiveOutcome turn.call turn.late turn.signal old new next };
 
-    ghost table = { λ turn. after_parked_receive turn.call turn.late };
+    ghost leads = { λ _ old new next does. by_step does.0 };
 
     ghost answers = { λ turn next. IsAgain turn.call turn.late next × IsntRefused next };
-
-    ghost outcome = { λ turn. AgainReceiveOutcome turn.call turn.late turn.signal };
 
     // A ticket that the channel doesn't know ends the receive as a closed channel does. A call
     // keeps its ticket until it is spent, so this happens only to a call that is asked of another

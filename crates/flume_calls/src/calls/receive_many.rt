@@ -4,13 +4,13 @@ ghost use Rattle.std.specs.Prelude.{vec_len, vec_capacity};
 ghost use Rattle.flume_model.specs.declared.step.Step.TheVariants.{TryRecv};
 ghost use Rattle.flume_state.specs.State.{message_count};
 ghost use Rattle.flume_calls.specs.ManyReceives.{Takes, TakesAll, AnswersMore, IsWithin};
-ghost use Rattle.flume_calls.specs.ManyReceives.{MoreTable, FirstManyTable, AndMoreTable};
+ghost use Rattle.flume_calls.specs.ManyReceives.{MoreTable, FirstManyTable, AndMore};
 ghost use Rattle.flume_calls.specs.ManyReceives.{given, with_more};
-ghost use Rattle.flume_calls.specs.ManyReceives.{FirstManyOutcome, MoreOutcome};
+ghost use Rattle.flume_calls.specs.ManyReceives.{FirstManyOutcome};
 ghost use Rattle.flume_calls.specs.ReceiveTurns as receive;
+ghost use Rattle.flume_calls.specs.Batches.{IsBatch, both_lead, by_steps};
 
 use super::receive::RecvNext;
-use crate::batch::Batch;
 use crate::turn::Turn;
 use flume_core::chan::Chan;
 use flume_core::error::RecvTimeoutError::{Disconnected, NoMemory};
@@ -35,17 +35,17 @@ pub struct FirstReceiveMany<T, A: Allocator> {
     pub most: usize,
 }
 
-impl<T: Drop, S: Drop, A: Allocator + Copy> Batch<T, S, A> for FirstReceiveMany<T, A> {
+impl<T: Drop, S: Drop, A: Allocator + Copy> Turn<T, S, A> for FirstReceiveMany<T, A> {
     type Answer = ManyNext<T, A>;
 
-    ghost table = { λ batch made answer.
-        FirstManyTable batch.into.items made answer.into.items answer.next };
+    ghost does = { λ turn old new answer. IsBatch {A = A} (λ made answer.
+        FirstManyTable turn.into.items made answer.into.items answer.next) old new answer
+        × FirstManyOutcome turn.into turn.most old new answer.next };
 
-    ghost answers = { λ batch answer.
-        receive.IsFirst answer.next × IsWithin batch.most answer.next };
+    ghost leads = { λ _ old new answer does. by_steps does.0 };
 
-    ghost outcome = { λ batch old new answer.
-        FirstManyOutcome batch.into batch.most old new answer.next };
+    ghost answers = { λ turn answer.
+        receive.IsFirst answer.next × IsWithin turn.most answer.next };
 
     fn apply(self, chan: &mut Chan<T, S, A>) -> ManyNext<T, A> {
         let FirstReceiveMany { mut into, most } = self;
@@ -77,17 +77,17 @@ pub struct MoreReceives<T, A: Allocator> {
     pub most: usize,
 }
 
-impl<T: Drop, S: Drop, A: Allocator + Copy> Batch<T, S, A> for MoreReceives<T, A> {
+impl<T: Drop, S: Drop, A: Allocator + Copy> Turn<T, S, A> for MoreReceives<T, A> {
     type Answer = (Vec<T, A>, usize);
 
-    ghost table = { λ batch made answer.
-        MoreTable batch.into.items made answer.0.items answer.1 };
+    ghost does = { λ turn old new answer. IsBatch {A = A} (λ made answer.
+        MoreTable turn.into.items made answer.0.items answer.1) old new answer
+        × TakesAll turn.most (message_count old) answer.1 answer.0 };
 
-    ghost answers = { λ batch answer. (answer.1 ≤ batch.most)
-        × (vec_len answer.0 ≡ vec_len batch.into + answer.1) };
+    ghost leads = { λ _ old new answer does. by_steps does.0 };
 
-    ghost outcome = { λ batch old _ answer.
-        TakesAll batch.most (message_count old) answer.1 answer.0 };
+    ghost answers = { λ turn answer. (answer.1 ≤ turn.most)
+        × (vec_len answer.0 ≡ vec_len turn.into + answer.1) };
 
     fn apply(self, chan: &mut Chan<T, S, A>) -> (Vec<T, A>, usize) {
         let MoreReceives { mut into, most } = self;
@@ -108,7 +108,7 @@ pub struct ReceiveAndMore<C, T, A: Allocator> {
     pub ghost room: { vec_len into < vec_capacity into },
 }
 
-impl<T, S, A, C> Batch<T, S, A> for ReceiveAndMore<C, T, A>
+impl<T, S, A, C> Turn<T, S, A> for ReceiveAndMore<C, T, A>
 where
     T: Drop,
     S: Drop,
@@ -117,14 +117,14 @@ where
 {
     type Answer = ManyNext<T, A>;
 
-    ghost table = { λ batch made answer. AndMoreTable (C.step batch.turn) (C.table batch.turn)
-        batch.into.items batch.more made answer.into.items answer.next };
+    ghost does = { λ turn old new answer. AndMore A (C.does turn.turn) turn.into turn.more
+        old new answer.into answer.next };
 
-    ghost answers = { λ batch answer. AnswersMore (C.answers batch.turn) batch.into
-        batch.more answer.into answer.next };
+    ghost leads = { λ turn old new answer does.
+        both_lead (C.leads turn.turn old does.between does.first does.turn).1 does.led };
 
-    ghost outcome = { λ batch old new answer. MoreOutcome (C.outcome batch.turn)
-        batch.into batch.more old new answer.into answer.next };
+    ghost answers = { λ turn answer. AnswersMore (C.answers turn.turn) turn.into
+        turn.more answer.into answer.next };
 
     fn apply(self, chan: &mut Chan<T, S, A>) -> ManyNext<T, A> {
         let ReceiveAndMore {

@@ -2,6 +2,7 @@
 ghost use Rattle.std.specs.Prelude.{◌≡◌, ◌↔◌, IsTrue};
 ghost use Rattle.flume_core.specs.Waiting.{IsHeldBack};
 ghost use Rattle.flume_calls.specs.Turns.{Turned};
+ghost use Rattle.flume_calls.specs.Batches.{by_step};
 ghost use Rattle.flume_calls.specs.SendTurns.{IsFirst, IsParking, IsAgain, step_of_parked_send};
 ghost use Rattle.flume_calls.specs.SendTurns.{after_try_send, after_send, after_parked_send};
 ghost use Rattle.flume_calls.specs.SendOutcomes.{FirstSendOutcome, ParkSendOutcome};
@@ -146,13 +147,13 @@ impl<T: Drop, S: Drop, A: Allocator + Copy> Turn<T, S, A> for FirstSend<T> {
 
     type Answer = SendNext<T>;
 
-    ghost step = { λ turn. TrySend turn.message };
+    ghost does = { λ turn old new next.
+        Turned {A = A} (TrySend turn.message) after_try_send old new next
+        × FirstSendOutcome turn.message old new next };
 
-    ghost table = { λ _. after_try_send };
+    ghost leads = { λ _ old new next does. by_step does.0 };
 
     ghost answers = { λ turn. IsFirst turn.message };
-
-    ghost outcome = { λ turn. FirstSendOutcome turn.message };
 
     #[inline(always)]
     fn apply(self, chan: &mut Chan<T, S, A>) -> SendNext<T> {
@@ -180,13 +181,13 @@ impl<T: Drop, S: Drop, A: Allocator + Copy> Turn<T, S, A> for ParkSend<T, S> {
 
     type Answer = SendNext<T>;
 
-    ghost step = { λ turn. Send turn.message };
+    ghost does = { λ turn old new next.
+        Turned {A = A} (Send turn.message) after_send old new next
+        × ParkSendOutcome A turn.message turn.signal old new next };
 
-    ghost table = { λ _. after_send };
+    ghost leads = { λ _ old new next does. by_step does.0 };
 
     ghost answers = { λ turn. IsParking turn.message };
-
-    ghost outcome = { λ turn. ParkSendOutcome A turn.message turn.signal };
 
     fn apply(self, chan: &mut Chan<T, S, A>) -> SendNext<T> {
         match chan.send(self.message, self.signal) {
@@ -215,13 +216,13 @@ pub struct AgainSend<S> {
 impl<T: Drop, S: Drop, A: Allocator + Copy> Turn<T, S, A> for AgainSend<S> {
     type Answer = SendNext<T>;
 
-    ghost step = { λ turn. step_of_parked_send turn.call turn.late };
+    ghost does = { λ turn old new next. Turned {A = A} (step_of_parked_send turn.call turn.late)
+        (after_parked_send turn.call turn.late) old new next
+        × AgainSendOutcome A turn.call turn.late turn.signal old new next };
 
-    ghost table = { λ turn. after_parked_send turn.call turn.late };
+    ghost leads = { λ _ old new next does. by_step does.0 };
 
     ghost answers = { λ turn. IsAgain turn.call turn.late };
-
-    ghost outcome = { λ turn. AgainSendOutcome A turn.call turn.late turn.signal };
 
     // A ticket that the channel doesn't know ends the send with `Ok`: each error of a send hands
     // its message back, and here there is none. A call keeps its ticket until it is spent, so this

@@ -1,8 +1,9 @@
 //! The sends of a list of messages, one after another.
 ghost use Rattle.std.specs.Prelude.{◌≡◌, ◌∷◌, ◌<◌};
 ghost use Rattle.std.specs.VecDeque.{deque_len, deque_capacity};
+ghost use Rattle.flume_calls.specs.Batches.{IsBatch, by_steps};
 
-use crate::batch::Batch;
+use crate::turn::Turn;
 use flume_core::chan::Chan;
 use flume_core::error::TrySendError;
 use flume_model::step::Reply;
@@ -27,16 +28,18 @@ pub struct SendMany<T, A: Allocator> {
     pub messages: VecDeque<T, A>,
 }
 
-impl<T: Drop, S: Drop, A: Allocator + Copy> Batch<T, S, A> for SendMany<T, A> {
+impl<T: Drop, S: Drop, A: Allocator + Copy> Turn<T, S, A> for SendMany<T, A> {
     ghost use Rattle.flume_calls.specs.ManySends.{SendsMany, LeavesRest, SendManyOutcome};
 
     type Answer = Result<(), TrySendError<VecDeque<T, A>>>;
 
-    ghost table = { λ batch. SendsMany batch.messages.items };
+    ghost does = { λ turn old new answer.
+        IsBatch {A = A} (SendsMany turn.messages.items) old new answer
+        × SendManyOutcome turn.messages.items old new answer };
 
-    ghost answers = { λ batch. LeavesRest batch.messages.items };
+    ghost leads = { λ _ old new answer does. by_steps does.0 };
 
-    ghost outcome = { λ batch. SendManyOutcome batch.messages.items };
+    ghost answers = { λ turn. LeavesRest turn.messages.items };
 
     #[inline(always)]
     fn apply(self, chan: &mut Chan<T, S, A>) -> Result<(), TrySendError<VecDeque<T, A>>> {

@@ -152,6 +152,17 @@ impl<L: Drop, E: Drop, A: Allocator> Links<L, E, A> {
         node.take()
     }
 
+    /// Drops the element at a place, where one stands.
+    #[inline(always)]
+    pub fn discard(&mut self, place: u32)
+        ensures discarded { Linked self.old self.new (next_at self.old) (previous_at self.old)
+            (with (element_at self.old) place None) self.old.free }
+    {
+        if let Some(node) = self.nodes.get_mut(place as usize) {
+            node.discard();
+        }
+    }
+
     // Writes what is the place after a place.
     #[inline(always)]
     fn set_next(&mut self, place: u32, next: u32)

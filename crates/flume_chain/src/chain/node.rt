@@ -2,15 +2,17 @@
 ghost use Rattle.std.specs.Prelude.{◌≡◌, Some, None, option_copied, IsSome};
 ghost use Rattle.std.specs.Borrow.{Lends, sem};
 ghost use Rattle.std.specs.Option.{option_map};
-ghost use Rattle.flume_chain.specs.Links.{next_of, previous_of, element_of, with_value_of, relabelled};
+ghost use Rattle.flume_chain.specs.Links.{next_of, previous_of, element_of, with_value_of};
+ghost use Rattle.flume_chain.specs.Links.{relabelled};
 
 use crate::labelled::Labelled;
 use std::mem;
 use std::mem::size_of;
 
-/// A node: free, or of an element, its label and its value. Both kinds have the places before and
-/// after it, at which a free one has the next free one's. The label lies beside these: with a label of
-/// 4 bytes, the node of a value of 8 bytes takes 24.
+/// A node: free, or of an element, its label and its value. That of an element has the places
+/// before and after it. `next` of a free one is the place of the next free one, and its `previous`
+/// says nothing. The label lies beside these: with a label of 4 bytes, the node of a value of 8
+/// bytes takes 24.
 #[derive(Drop)]
 pub(super) enum Node<L, E> {
     Free {
@@ -145,6 +147,19 @@ impl<L: Drop, E: Drop> Node<L, E> {
             Node::Free { .. } => None,
             Node::Stands { label, value, .. } => Some(Labelled { label, value }),
         }
+    }
+
+    /// Drops the element, where it has one, and leaves the places before and after it.
+    #[inline(always)]
+    pub fn discard(&mut self)
+        ensures discarded { element_of self.new ≡ None }
+        ensures next { next_of self.new ≡ next_of self.old }
+        ensures previous { previous_of self.new ≡ previous_of self.old }
+    {
+        *self = Node::Free {
+            previous: self.previous(),
+            next: self.next(),
+        };
     }
 
     /// Takes the element of a node that has one out, and leaves the places before and after it.

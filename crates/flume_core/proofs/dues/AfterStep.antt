@@ -16,7 +16,7 @@ use Rattle.flume_model.specs.Entries.{again, entry_of, passes_on, without}
 use Rattle.flume_state.specs.Messages.{Blocked}
 use Rattle.flume_state.specs.Notices.{due_now, with_signal}
 use Rattle.flume_state.specs.Sends.{blocked, noticed_send, with_notice}
-use Rattle.flume_state.specs.Receivers.{Entries, new_receiver, noticed_receiver, waits_on}
+use Rattle.flume_state.specs.Receivers.{EntryList, new_receiver, noticed_receiver, waits_on}
 use Rattle.flume_state.specs.State.{State}
 use Rattle.flume_state.specs.Effects.{Returns, after_end_dropped, after_withdrawal, after_wake_round, after_take, without_receiver, with_peak, after_admissions, with_capacity}
 use Rattle.flume_state.specs.Due.{BecomesDue, SendDue, ReceiverDue, blocked_in, closed_between, receiver_due_in, waits_by}
@@ -168,7 +168,7 @@ module _ {T S A : Type 0} where
     receivers = λ u. by_case u (eqb t u) refl;
   }
     where
-      asked : Entries T S
+      asked : EntryList T S
       asked = noticed_receiver (waits_on given) t old.entries
 
       by_case : (u : ℕ) (b : Bool) → eqb t u ≡ b → ReceiverDue (eqb t u) (entry_of u old.entries) (entry_of u (again t asked))
@@ -214,7 +214,7 @@ module _ {T S A : Type 0} where
       Claim : State T S → Type 0
       Claim s = BecomesDue old step reply s
 
-      receiver_at : (es : Entries T S) → ReceiversDue old.entries es
+      receiver_at : (es : EntryList T S) → ReceiversDue old.entries es
           → (t : ℕ) → ReceiverDue (waits_by step reply t) (entry_of t old.entries) (entry_of t es)
       receiver_at es due t = subst (λ w. ReceiverDue w (entry_of t old.entries) (entry_of t es)) (sym (idle t)) (due t)
 

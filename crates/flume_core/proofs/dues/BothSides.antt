@@ -10,7 +10,7 @@ use Rattle.flume_model.specs.Entries.{entry_of, round_for, without}
 use Rattle.flume_model.proofs.EntryLists.{entry_last, none_same, tickets_round}
 use Rattle.flume_state.specs.Notices.{due_now, with_signal}
 use Rattle.flume_state.specs.Sends.{SendMap, blocked, noticed_send, with_notice}
-use Rattle.flume_state.specs.Receivers.{Entries, new_receiver}
+use Rattle.flume_state.specs.Receivers.{EntryList, new_receiver}
 use Rattle.flume_state.specs.Due.{SendDue, ReceiverDue}
 use Rattle.flume_state.proofs.SendsLaws.{get-insert_same, get-insert_other, get-remove_same, get-remove_other}
 use Rattle.flume_state.proofs.SendsLaws.{get-changed_same, get-changed_other}
@@ -50,11 +50,11 @@ module _ {S : Type 0} where
 
 module _ {T S : Type 0} where
   -- who is due of these receivers, where none of them waits on or again
-  abbrev pub ReceiversDue : Entries T S → Entries T S → Type 0
+  abbrev pub ReceiversDue : EntryList T S → EntryList T S → Type 0
   ReceiversDue old new = (t : ℕ) → ReceiverDue false (entry_of t old) (entry_of t new)
 
   -- one that leaves
-  pub gone_receivers : (es : Entries T S) (k : ℕ) → entry_of k (without k es) ≡ None → ReceiversDue es (without k es)
+  pub gone_receivers : (es : EntryList T S) (k : ℕ) → entry_of k (without k es) ≡ None → ReceiversDue es (without k es)
   gone_receivers es k alone t =
       ⊎_elim (λ e.
       subst (λ y. ReceiverDue false (entry_of t es) y) (sym (ap (λ u. entry_of u (without k es)) e ∙ alone)) refl)
@@ -62,7 +62,7 @@ module _ {T S : Type 0} where
       (receiver_kept (entry_of t es))) (cases_eq t k)
 
   -- one that parks
-  pub new_receivers : (es : Entries T S) (k : ℕ) (kind : Kind) (signal : S) → entry_of k es ≡ None
+  pub new_receivers : (es : EntryList T S) (k : ℕ) (kind : Kind) (signal : S) → entry_of k es ≡ None
       → ReceiversDue es (es ++ new_receiver k kind signal ∷ [])
   new_receivers es k kind signal none t =
       let x = new_receiver k kind signal in
@@ -73,12 +73,12 @@ module _ {T S : Type 0} where
       (receiver_kept (entry_of t es))) (cases_eq t k)
 
   -- a wake round gives no receiver a ticket that none had
-  none_round_for : (t : ℕ) (queue : List T) (es : Entries T S) → entry_of t es ≡ None → entry_of t (round_for due_now queue es) ≡ None
+  none_round_for : (t : ℕ) (queue : List T) (es : EntryList T S) → entry_of t es ≡ None → entry_of t (round_for due_now queue es) ≡ None
   none_round_for t [] es none = none
   none_round_for t (front ∷ queue) es none = none_same t es _ (sym (tickets_round due_now front es)) none
 
   -- one that leaves and passes its wake on
-  pub passed_receivers : (queue : List T) (es : Entries T S) (k : ℕ) → entry_of k (without k es) ≡ None
+  pub passed_receivers : (queue : List T) (es : EntryList T S) (k : ℕ) → entry_of k (without k es) ≡ None
       → ReceiversDue es (round_for due_now queue (without k es))
   passed_receivers queue es k alone t =
       ⊎_elim (λ e.

@@ -9,7 +9,7 @@ use Rattle.flume_model.specs.declared.entry.Mark.TheVariants.{Waiting, Woken, Fi
 use Rattle.flume_model.specs.Entries.{all_woken, entry_of, round, round_for, without, again}
 use Rattle.flume_state.specs.declared.notice.Notice.{Notice}
 use Rattle.flume_state.specs.Notices.{due_now}
-use Rattle.flume_state.specs.Receivers.{Entries, noticed_receiver}
+use Rattle.flume_state.specs.Receivers.{EntryList, noticed_receiver}
 use Rattle.flume_state.specs.Due.{ReceiverDue, receiver_due_in}
 use Rattle.flume_model.proofs.EntryLists.{again_cases, entry_last, ticket_of}
 use Rattle.flume_core.proofs.dues.OneTicket.{receiver_kept, receiver_woken}
@@ -42,7 +42,7 @@ module _ {T N : Type 0} where
 
 module _ {T S : Type 0} where
   -- another receiver's notice is changed
-  pub entry_noticed : (f : Notice S → Notice S) (t u : ℕ) (es : Entries T S) → eqb u t ≡ false
+  pub entry_noticed : (f : Notice S → Notice S) (t u : ℕ) (es : EntryList T S) → eqb u t ≡ false
       → entry_of t (noticed_receiver f u es) ≡ entry_of t es
   entry_noticed f t u [] other = refl
   entry_noticed f t u (e ∷ es) other = by_case (eqb e.ticket u) refl (entry_noticed f t u es other)
@@ -55,7 +55,7 @@ module _ {T S : Type 0} where
       by_case false differ rest = simp differ (ap (cond (eqb e.ticket t) (Some e)) rest)
 
   -- leaving a receiver out also leaves out how its notice was changed
-  pub without_noticed : (f : Notice S → Notice S) (t : ℕ) (es : Entries T S) → without t (noticed_receiver f t es) ≡ without t es
+  pub without_noticed : (f : Notice S → Notice S) (t : ℕ) (es : EntryList T S) → without t (noticed_receiver f t es) ≡ without t es
   without_noticed f t [] = refl
   without_noticed f t (e ∷ es) = by_case (eqb e.ticket t) refl (without_noticed f t es)
     where
@@ -65,7 +65,7 @@ module _ {T S : Type 0} where
       by_case false differ rest = simp differ (ap (λ l. e ∷ l) rest)
 
   -- one whose notice was told isn't due
-  pub noticed_idle : (f : Notice S → Notice S) → ((n : Notice S) → (f n).due ≡ false) → (t : ℕ) (es : Entries T S)
+  pub noticed_idle : (f : Notice S → Notice S) → ((n : Notice S) → (f n).due ≡ false) → (t : ℕ) (es : EntryList T S)
       → receiver_due_in (entry_of t (noticed_receiver f t es)) ≡ false
   noticed_idle f told t [] = refl
   noticed_idle f told t (e ∷ es) = by_case (eqb e.ticket t) refl (noticed_idle f told t es)
@@ -76,7 +76,7 @@ module _ {T S : Type 0} where
       by_case false differ rest = simp differ rest
 
   -- one that isn't due isn't due either where it waits again
-  pub again_idle : (t : ℕ) (es : Entries T S) → entry_of t (without t es) ≡ None → receiver_due_in (entry_of t es) ≡ false
+  pub again_idle : (t : ℕ) (es : EntryList T S) → entry_of t (without t es) ≡ None → receiver_due_in (entry_of t es) ≡ false
       → receiver_due_in (entry_of t (again t es)) ≡ false
   again_idle t es alone idle =
       again_cases (λ l. receiver_due_in (entry_of t l) ≡ false) t es idle
@@ -89,7 +89,7 @@ module _ {T S : Type 0} where
       ap receiver_due_in last ∙ sym (ap receiver_due_in found) ∙ idle)
 
   -- who is due after a wake round
-  pub round_due : (t : ℕ) (front : T) (es : Entries T S) → ReceiverDue false (entry_of t es) (entry_of t (round due_now front es))
+  pub round_due : (t : ℕ) (front : T) (es : EntryList T S) → ReceiverDue false (entry_of t es) (entry_of t (round due_now front es))
   round_due t front [] = refl
   round_due t front (e ∷ es) = by_mark e.kind e.mark (eqb e.ticket t) refl (round_due t front es)
     where
@@ -111,13 +111,13 @@ module _ {T S : Type 0} where
       by_mark k (Filled m) false other rest = simp other rest
 
   -- who is due after a wake round that comes only if something is queued
-  pub round_for_due : (t : ℕ) (queue : List T) (es : Entries T S)
+  pub round_for_due : (t : ℕ) (queue : List T) (es : EntryList T S)
       → ReceiverDue false (entry_of t es) (entry_of t (round_for due_now queue es))
   round_for_due t [] es = receiver_kept (entry_of t es)
   round_for_due t (front ∷ queue) es = round_due t front es
 
   -- who is due where all that wait are woken
-  pub all_woken_due : (t : ℕ) (es : Entries T S) → ReceiverDue false (entry_of t es) (entry_of t (all_woken due_now es))
+  pub all_woken_due : (t : ℕ) (es : EntryList T S) → ReceiverDue false (entry_of t es) (entry_of t (all_woken due_now es))
   all_woken_due t [] = refl
   all_woken_due t (e ∷ es) = by_mark e.mark (eqb e.ticket t) refl (all_woken_due t es)
     where

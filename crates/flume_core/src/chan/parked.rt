@@ -149,7 +149,7 @@ impl<T: Drop, S: Drop, A: Allocator + Copy> Chan<T, S, A> {
     #[inline(always)]
     pub(super) fn wake(&mut self) -> Option<u64>
         ensures fills { result ≡ round_for_fills self.old.queue self.old.entries }
-        ensures rounded { self.new ≡ after_wake_round self.old }
+        ensures round { self.new ≡ after_wake_round self.old }
     {
         self.entries.wake(&mut self.line)
     }

@@ -160,7 +160,7 @@ impl<T: Drop, S: Drop, A: Allocator + Copy> Chan<T, S, A> {
     // Where nothing is queued, the first blocked message is the front.
     #[inline(always)]
     fn bring_to_front(&mut self)
-        ensures fronted { self.new ≡ with_front self.old }
+        ensures front { self.new ≡ with_front self.old }
     {
         if self.line.queued_len() == 0 {
             self.admit();

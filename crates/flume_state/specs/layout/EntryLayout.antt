@@ -2,7 +2,6 @@
 -- nor are due, then those that are due, then those that wait.
 use Rattle.std.specs.Prelude.{◌≡◌, ℕ, ◌≤◌, ◌==◌, Bool, true, false, ⊤, if◌then◌else◌}
 use Rattle.std.specs.Prelude.{List, [], ◌∷◌, ◌++◌, Option, Some, None, length}
-use Rattle.std.specs.Option.{unwrap_or}
 use Rattle.flume_chain.specs.Chained.{Placed, times, places, first_place}
 use Rattle.flume_model.specs.Entries.{is_waiting, waiting_count, marked}
 use Rattle.flume_model.specs.declared.entry.Entry.{Entry}
@@ -11,7 +10,7 @@ use Rattle.flume_model.specs.declared.entry.Mark.TheVariants.{Waiting, Filled}
 use Rattle.flume_state.specs.declared.entries.Parked.{Parked}
 use Rattle.flume_state.specs.declared.notice.Notice.{Notice}
 use Rattle.flume_state.specs.layout.Ticketed.{Ticketed}
-use Rattle.flume_state.specs.Receivers.{Entries, waits_on}
+use Rattle.flume_state.specs.Receivers.{EntryList, waits_on}
 
 -- a boundary once the element at a place, which has this one behind it, has left
 abbrev pub boundary_without : Option ℕ → ℕ → Option ℕ → Option ℕ
@@ -40,23 +39,22 @@ module _ {T S : Type 0} where
   -- an element of the chain as an entry
   abbrev pub entry_in : Placed (Ticketed (Parked T S)) → Entry T (Notice S)
   entry_in x = record {
-    ticket = unwrap_or x.element.label 0;
+    ticket = x.element.label;
     kind = x.element.value.kind;
     mark = x.element.value.mark;
     notice = x.element.value.notice;
   }
 
   -- the elements of the chain as entries
-  abbrev pub entries_in : List (Placed (Ticketed (Parked T S))) → Entries T S
+  abbrev pub entries_in : List (Placed (Ticketed (Parked T S))) → EntryList T S
   entries_in [] = []
   entries_in (x ∷ items) = entry_in x ∷ entries_in items
 
-  -- each has a ticket, and waits, and is due, as these say
+  -- each waits, and is due, as these say
   abbrev pub Each : Bool → Bool → List (Placed (Ticketed (Parked T S))) → Type 0
   Each waits due [] = ⊤
   Each waits due (x ∷ items) =
-      (x.element.label ≡ Some (unwrap_or x.element.label 0))
-      × (is_waiting x.element.value.mark ≡ waits)
+      (is_waiting x.element.value.mark ≡ waits)
       × (x.element.value.notice.due ≡ due)
       × Each waits due items
 

@@ -4,7 +4,7 @@ use Rattle.std.specs.Prelude.{Option, Some, None, if◌then◌else◌}
 use Rattle.std.specs.List.{All}
 use Rattle.std.specs.Option.{option_map}
 use Rattle.flume_chain.specs.Chained.{Placed, found}
-use Rattle.flume_state.specs.declared.sends.Owner.{Owner}
+use Rattle.flume_state.specs.declared.sends.PlacedSend.{PlacedSend}
 use Rattle.flume_state.specs.layout.Ticketed.{Ticketed}
 use Rattle.flume_state.specs.layout.SendLayout.{Element, by_ticket}
 use Rattle.flume_state.specs.layout.MessageLayout.{BlockedAt}
@@ -13,7 +13,7 @@ use Rattle.flume_state.specs.Sends.{SendMap}
 
 -- the sends of a channel in the order of their chain, each with the place of its message
 abbrev pub SendList : Type 0 → Type 0
-SendList S = List (Placed (Ticketed (Owner S)))
+SendList S = List (Placed (Ticketed (PlacedSend S)))
 
 -- what of a send its message is tied to: the ticket, the message's place, and whether the message
 -- was accepted
@@ -37,7 +37,7 @@ ticket_or_zero (Some l) = l.ticket
 
 module _ {S : Type 0} where
   -- a send without the place of its message
-  abbrev pub send_in : Placed (Ticketed (Owner S)) → Element S
+  abbrev pub send_in : Placed (Ticketed (PlacedSend S)) → Element S
   send_in x = record {
     place = x.place;
     element = record { label = x.element.label; value = x.element.value.send };
@@ -51,18 +51,17 @@ module _ {S : Type 0} where
   abbrev pub live_sends : SendList S → SendMap S
   live_sends items = by_ticket (sends_in items)
 
-  -- the link of a send that may be there
-  abbrev pub link_in : Option (Ticketed (Owner S)) → Option Link
-  link_in None = None
-  link_in (Some e) = option_map (λ ticket. record {
-    ticket = ticket;
+  -- the link of a send
+  abbrev pub link_of : Ticketed (PlacedSend S) → Link
+  link_of e = record {
+    ticket = e.label;
     message = e.value.message;
     accepted = e.value.send.accepted;
-  }) e.label
+  }
 
   -- the link of the send at a place
   abbrev pub link_at : SendList S → ℕ → Option Link
-  link_at items k = link_in (found items k)
+  link_at items k = option_map link_of (found items k)
 
 -- the owner of the first of these blocked messages that has this place
 abbrev pub owner_at : {T : Type 0} → List (BlockedAt T) → ℕ → Option ℕ
@@ -78,8 +77,8 @@ module _ {T S : Type 0} where
   }
 
   -- blocked messages, each under the ticket of its send
-  abbrev pub named : SendList S → List (BlockedAt T) → List (Blocked T)
-  named sends blocked = map (under_ticket sends) blocked
+  abbrev pub under_tickets : SendList S → List (BlockedAt T) → List (Blocked T)
+  under_tickets sends blocked = map (under_ticket sends) blocked
 
   -- the owner of a blocked message is a live send that isn't accepted and names its place
   pub record HasLink (sends : SendList S) (b : BlockedAt T) : Type 0 where
@@ -89,7 +88,7 @@ module _ {T S : Type 0} where
 
   -- each blocked message has a send that isn't accepted, and each such send a blocked message; and
   -- they name each other's places
-  pub record Paired (blocked : List (BlockedAt T)) (sends : SendList S) : Type 0 where
+  pub record Pairing (blocked : List (BlockedAt T)) (sends : SendList S) : Type 0 where
     pub held : All (HasLink sends) blocked
     pub owns : (k : ℕ) (l : Link) → link_at sends k ≡ Some l → l.accepted ≡ false
         → owner_at blocked l.message ≡ Some k

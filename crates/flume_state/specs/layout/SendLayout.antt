@@ -1,6 +1,6 @@
 -- For this crate alone: how the live sends lie in their chain, those that aren't due first.
 use Rattle.std.specs.Prelude.{◌≡◌, ℕ, Bool, true, false, ◌||◌, List, [], ◌∷◌, ◌++◌}
-use Rattle.std.specs.Prelude.{Option, Some, None, IsSome, ⊤}
+use Rattle.std.specs.Prelude.{Option, ⊤}
 use Rattle.std.specs.Ordering.{nat_cmp}
 use Rattle.std.specs.FinMap.{FinMap, empty, insert}
 use Rattle.flume_chain.specs.Chained.{Placed, first_place}
@@ -8,18 +8,12 @@ use Rattle.flume_state.specs.layout.Ticketed.{Ticketed}
 use Rattle.flume_state.specs.Notices.{due_now}
 use Rattle.flume_state.specs.declared.sends.LiveSend.{LiveSend}
 
-module _ {X : Type 0} where
-  -- the map with a value under a ticket, if there is one
-  abbrev pub put_under : FinMap nat_cmp X → Option ℕ → X → FinMap nat_cmp X
-  put_under m None v = m
-  put_under m (Some t) v = insert m t v
+-- the values of the elements, each under its ticket
+abbrev pub by_ticket : {X : Type 0} → List (Placed (Ticketed X)) → FinMap nat_cmp X
+by_ticket [] = empty
+by_ticket (x ∷ items) = insert (by_ticket items) x.element.label x.element.value
 
-  -- the values of the elements that have a ticket, each under its ticket
-  abbrev pub by_ticket : List (Placed (Ticketed X)) → FinMap nat_cmp X
-  by_ticket [] = empty
-  by_ticket (x ∷ items) = put_under (by_ticket items) x.element.label x.element.value
-
--- an element of the chain of the live sends
+-- a live send of the chain, without the place of its message
 abbrev pub Element : Type 0 → Type 0
 Element S = Placed (Ticketed (LiveSend S))
 
@@ -28,11 +22,10 @@ module _ {S : Type 0} where
   abbrev pub due_accepting : Bool → LiveSend S → LiveSend S
   due_accepting accepts s = record { accepted = accepts || s.accepted; notice = due_now s.notice }
 
-  -- each element has a ticket, and is due or not
+  -- each element is due or not
   abbrev pub EachDueIs : Bool → List (Element S) → Type 0
   EachDueIs due [] = ⊤
-  EachDueIs due (x ∷ xs) =
-      IsSome x.element.label × (x.element.value.notice.due ≡ due) × EachDueIs due xs
+  EachDueIs due (x ∷ xs) = (x.element.value.notice.due ≡ due) × EachDueIs due xs
 
   -- the elements are those that aren't due, and then those that are, of which the first is at this
   -- place

@@ -1,33 +1,24 @@
--- For this crate alone: the elements of a chain in order, of which some have a ticket.
-use Rattle.std.specs.Prelude.{◌≡◌, ℕ, ◌+◌, ◌≤◌, if◌then◌else◌}
-use Rattle.std.specs.Prelude.{List, [], ◌∷◌, ◌++◌, Option, Some, None}
+-- For this crate alone: the elements of a chain in order, each with a ticket.
+use Rattle.std.specs.Prelude.{◌≡◌, ◌==◌, ℕ, ◌≤◌, if◌then◌else◌}
+use Rattle.std.specs.Prelude.{List, [], ◌∷◌, ◌++◌, Option, Some, None, map}
 use Rattle.std.specs.FinMap.{get}
-use Rattle.flume_model.specs.Log.{is_ticket}
 use Rattle.flume_chain.specs.Chained.{Placed, put_before, times, places}
 use Rattle.flume_chain.specs.declared.labelled.Labelled.{Labelled}
 use Rattle.flume_state.specs.layout.Places.{PlaceMap}
 
--- an element: its label is its ticket, if it has one
+-- an element: its label is its ticket
 abbrev pub Ticketed : Type 0 → Type 0
-Ticketed E = Labelled (Option ℕ) E
+Ticketed E = Labelled ℕ E
 
 module _ {E : Type 0} where
-  -- the ticket of an element that may be there
-  abbrev pub ticket_in : Option (Ticketed E) → Option ℕ
-  ticket_in None = None
-  ticket_in (Some e) = e.label
+  -- the tickets of some elements
+  abbrev pub tickets : List (Placed (Ticketed E)) → List ℕ
+  tickets items = map (λ (x : Placed (Ticketed E)). x.element.label) items
 
   -- the place of the first element with a ticket
   abbrev pub place_of : ℕ → List (Placed (Ticketed E)) → Option ℕ
   place_of t [] = None
-  place_of t (x ∷ items) =
-      if is_ticket t x.element.label then Some x.place else place_of t items
-
-  -- how many elements have a ticket
-  abbrev pub ticket_times : ℕ → List (Placed (Ticketed E)) → ℕ
-  ticket_times t [] = 0
-  ticket_times t (x ∷ items) =
-      (if is_ticket t x.element.label then 1 else 0) + ticket_times t items
+  place_of t (x ∷ items) = if x.element.label == t then Some x.place else place_of t items
 
   -- the elements with one more: ahead of that at a place, or behind all others where no place is
   -- given or none stands there
@@ -39,5 +30,5 @@ module _ {E : Type 0} where
   -- places
   pub record Agrees (items : List (Placed (Ticketed E))) (table : PlaceMap) : Type 0 where
     pub found : (t : ℕ) → get table t ≡ place_of t items
-    pub single : (t : ℕ) → ticket_times t items ≤ 1
+    pub single : (t : ℕ) → times t (tickets items) ≤ 1
     pub apart : (k : ℕ) → times k (places items) ≤ 1

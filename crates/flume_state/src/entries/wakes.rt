@@ -116,7 +116,8 @@ impl<T: Drop, S: Drop, A: Allocator + Copy> Entries<T, S, A> {
         self.tell_first()
     }
 
-    // What `next_due` does where some receiver is due, out of line.
+    // What `next_due` does where the two places differ, out of line. It compares them again, so that
+    // its contract needs no premise.
     #[cold]
     #[inline(never)]
     fn tell_first(&mut self) -> Option<u64>

@@ -9,4 +9,4 @@ returns-clause-came g c =
     let next = c.call_all-list.result.next in
     tried_came c.args.most c.args.into.now.items c.call_all-list.result.into.items next c.tried_receives.result
     (from_list c.args.most _ _ _ next (ap (λ list. list.items) c.replace-list.ensures.value)
-    (first_grows c.args.most _ _ next came.made.answered came.answers.1)) c.tried_receives.ensures.came
+    (first_grows c.args.most _ _ next came.made.turn.0.answered came.answers.1)) c.tried_receives.ensures.came

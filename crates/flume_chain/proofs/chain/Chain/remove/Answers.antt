@@ -1,7 +1,6 @@
-use Rattle.std.proofs.Common.{◌-◌, ◌++◌, ◌∷◌, length, length-append, sym, ap, ◌∙◌, arith}
-use Rattle.flume_chain.specs.Chained.{found, without}
-use Rattle.flume_chain.proofs.Tables.{item}
-use Rattle.flume_chain.proofs.Kept.{none_taken, same_kept, same_chain, kept_items, found_split, beside_taken, take_holds, taken_items, walked}
+use Rattle.std.proofs.Common.{ap, ◌∙◌}
+use Rattle.flume_chain.specs.Chained.{found}
+use Rattle.flume_chain.proofs.Kept.{none_taken, same_kept, same_chain, kept_items, beside_emptied, left_kept, left_items}
 use Rattle.flume_chain.proofs.chain.Chain.remove.Goals as goal
 
 pub invariant_of-self : goal.invariant_of-self
@@ -21,32 +20,18 @@ returns-in_default-clause-unchanged g c =
 
 pub bypass-requires-clause-next : goal.bypass-requires-clause-next
 bypass-requires-clause-next g c =
-    let k = c.self.invariant in
-    let r = found_split c.self.inside.links k.items k.frees c.args.place c.in-Some.element k.holds c.in-Some.ensures.element in
-    (beside_taken c.self.inside.links c.take.new.self k.items k.frees c.args.place c.in-Some.element r k.holds c.take.ensures.taken).next
+    (beside_emptied c.self.inside.links c.take.new.self c.self.inside.len c.args.place c.in-Some.element c.self.invariant
+    c.in-Some.ensures.element c.take.ensures.taken).next
 
 pub bypass-requires-clause-previous : goal.bypass-requires-clause-previous
 bypass-requires-clause-previous g c =
-    let k = c.self.invariant in
-    let r = found_split c.self.inside.links k.items k.frees c.args.place c.in-Some.element k.holds c.in-Some.ensures.element in
-    (beside_taken c.self.inside.links c.take.new.self k.items k.frees c.args.place c.in-Some.element r k.holds c.take.ensures.taken).previous
+    (beside_emptied c.self.inside.links c.take.new.self c.self.inside.len c.args.place c.in-Some.element c.self.invariant
+    c.in-Some.ensures.element c.take.ensures.taken).previous
 
 pub invariant_of-self-2 : goal.invariant_of-self-2
 invariant_of-self-2 g c =
-    let k = c.self.invariant in
-    let r = found_split c.self.inside.links k.items k.frees c.args.place c.in-Some.element k.holds c.in-Some.ensures.element in
-    record {
-      items = r.before ++ r.after;
-      frees = c.args.place ∷ k.frees;
-      holds = take_holds c.self.inside.links c.take.new.self c.bypass.new.self k.items k.frees c.args.place c.in-Some.element r
-          k.holds c.take.ensures.taken c.bypass.ensures.linked;
-      count =
-          let a = length-append r.before r.after in
-          let b = length-append r.before (item c.args.place c.in-Some.element ∷ r.after) in
-          let n = ap length r.is in
-          let m = k.count in
-          omega arith;
-    }
+    left_kept c.self.inside.links c.take.new.self c.self.inside.len c.args.place c.in-Some.element c.self.invariant
+    c.in-Some.ensures.element c.take.ensures.taken c.bypass.new.self c.bypass.ensures.linked
 
 pub returns-clause-found : goal.returns-clause-found
 returns-clause-found g c =
@@ -55,14 +40,5 @@ returns-clause-found g c =
 
 pub returns-clause-taken : goal.returns-clause-taken
 returns-clause-taken g c =
-    let k = c.self.invariant in
-    let r = found_split c.self.inside.links k.items k.frees c.args.place c.in-Some.element k.holds c.in-Some.ensures.element in
-    let a = length-append r.before r.after in
-    let b = length-append r.before (item c.args.place c.in-Some.element ∷ r.after) in
-    let n = ap length r.is in
-    let m = k.count in
-    walked c.bypass.new.self (c.self.inside.len - 1) (r.before ++ r.after) (c.args.place ∷ k.frees)
-    (take_holds c.self.inside.links c.take.new.self c.bypass.new.self k.items k.frees c.args.place c.in-Some.element r
-    k.holds c.take.ensures.taken c.bypass.ensures.linked) (omega arith)
-    ∙ sym (taken_items c.self.inside.links k.items k.frees c.args.place c.in-Some.element r k.holds)
-    ∙ ap (λ l. without l c.args.place) (kept_items c.self.inside.links c.self.inside.len c.args.self.now c.self.invariant c.self.view_is)
+    left_items c.self.inside.links c.take.new.self c.self.inside.len c.args.place c.in-Some.element c.self.invariant
+    c.in-Some.ensures.element c.take.ensures.taken c.bypass.new.self c.bypass.ensures.linked c.args.self.now c.self.view_is

@@ -10,6 +10,6 @@ returns-clause-some g c =
     let space = ap (λ l. l.space) taken in
     let sends = ap (λ l. l.sends) taken in (
       c.take_queued.new.self.queued,
-      rw (← c.bring_to_front.ensures.fronted, ← c.self.view_is) queue,
-      c.refill.ensures.refilled ∙ rw (← c.bring_to_front.ensures.fronted, ← c.self.view_is, same, space, sends) refl,
+      rw (← c.bring_to_front.ensures.front, ← c.self.view_is) queue,
+      c.refill.ensures.refilled ∙ rw (← c.bring_to_front.ensures.front, ← c.self.view_is, same, space, sends) refl,
     )

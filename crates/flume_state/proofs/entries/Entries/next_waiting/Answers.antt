@@ -1,7 +1,6 @@
-use Rattle.std.proofs.Common.{◌≡◌, Some, None, ap, ap₂, sym, ◌∙◌, option_map, unwrap_or}
+use Rattle.std.proofs.Common.{Some, ap, ap₂, sym, ◌∙◌, option_map}
 use Rattle.flume_state.specs.layout.EntryLayout.{first_waiting}
-use Rattle.flume_state.specs.layout.Ticketed.{ticket_in}
-use Rattle.flume_state.proofs.EntryParts.{read_value}
+use Rattle.flume_state.proofs.EntryParts.{read_some, read_value}
 use Rattle.flume_state.proofs.EntryDues.{nobody_waits, waits_at, waits_first}
 use Rattle.flume_state.proofs.entries.Entries.next_waiting.Goals as goal
 
@@ -14,15 +13,14 @@ returns-in_err-place g c = record {
 pub returns-in_err-ticket : goal.returns-in_err-ticket
 returns-in_err-ticket g c =
     let w = waits_at _ _ _ _ _ c.self.invariant c.in_ok-place.was in
-    let none : None ≡ Some (unwrap_or w.element.label 0) = c.in_err-ticket.ensures.ticket ∙ ap ticket_in w.here ∙ w.class.0 in
-    absurd cc
+    absurd (read_some _ _ _ w.here c.in_err-ticket.ensures.ticket)
 
 pub returns : goal.returns
 returns g c =
     let w = waits_at _ _ _ _ _ c.self.invariant c.in_ok-place.was in
-    let value = read_value _ _ _ w.here c.in_ok-parked.ensures.found in
-    let ticket : Some c.in_ok-ticket.ticket ≡ w.element.label = c.in_ok-ticket.ensures.ticket ∙ ap ticket_in w.here in
+    let value = read_value _ _ _ _ w.here c.in_ok-parked.ensures.found in
+    let ticket = read_value _ _ _ _ w.here c.in_ok-ticket.ensures.ticket in
     record {
-      first = ap₂ (λ t p. Some (t, p.kind)) (ap (λ o. unwrap_or o 0) ticket) value
+      first = ap₂ (λ t p. Some (t, p.kind)) ticket value
           ∙ sym (ap (option_map (λ e. (e.ticket, e.kind))) (ap first_waiting (sym c.self.view_is) ∙ waits_first _ _ _ _ _ c.self.invariant w));
     }

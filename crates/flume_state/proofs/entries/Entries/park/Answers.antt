@@ -11,10 +11,10 @@ pub invariant_of-self : goal.invariant_of-self
 invariant_of-self g c =
     let e = c.in-Ok.ensures in
     rw (e.inserted, c.or-self-inside.ensures, c.or-self-inside-in-Ok.ensures)
-    (sorted_push _ _ _ _ _ _ c.self.invariant e.fresh (refl, refl, refl) (rw e.inserted at e.fits))
+    (sorted_push _ _ _ _ _ _ c.self.invariant e.fresh (refl, refl) (rw e.inserted at e.fits))
 
 pub returns-clause-parked : goal.returns-clause-parked
-returns-clause-parked g c = elim c.match-insert_ticket.branch [
+returns-clause-parked g c = elim c.match-insert.branch [
   | in-Ok w ↦ rw (w.result-is, w.self-is, w.in-Ok.ensures.inserted)
       (entries-append c.self.inside.chain.items _ ∙ ap (λ l. l ++ new_receiver c.args.ticket c.args.kind c.args.signal ∷ []) c.self.view_is)
   | in-Err w ↦ rw w.result-is tt

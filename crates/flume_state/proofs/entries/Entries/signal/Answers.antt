@@ -6,7 +6,7 @@ use Rattle.flume_state.proofs.entries.Entries.signal.Goals as goal
 
 pub returns-in_err-place : goal.returns-in_err-place
 returns-in_err-place g c =
-    let none = nobody _ _ _ _ c.args.ticket c.self.invariant (sym c.in_err-place.ensures.place) in
+    let none = nobody c.args.ticket _ (sym c.in_err-place.ensures.place) in
     record {
       signal = ap option_copied c.from_residual.ensures
           ∙ sym (ap (option_map (λ e. e.notice.signal)) (ap (entry_of c.args.ticket) (sym c.self.view_is) ∙ none));
@@ -14,13 +14,13 @@ returns-in_err-place g c =
 
 pub returns-in_err-parked : goal.returns-in_err-parked
 returns-in_err-parked g c =
-    let s = seated _ _ _ _ c.args.ticket _ c.self.invariant (sym c.in_ok-place.ensures.place) in
-    absurd (read_some _ _ s.here c.in_err-parked.ensures.found)
+    let s = seated _ c.args.ticket _ c.self.invariant.apart (sym c.in_ok-place.ensures.place) in
+    absurd (read_some _ _ _ s.here c.in_err-parked.ensures.found)
 
 pub returns : goal.returns
 returns g c =
-    let s = seated _ _ _ _ c.args.ticket _ c.self.invariant (sym c.in_ok-place.ensures.place) in
-    let value = read_value _ _ _ s.here c.in_ok-parked.ensures.found in
+    let s = seated _ c.args.ticket _ c.self.invariant.apart (sym c.in_ok-place.ensures.place) in
+    let value = read_value _ _ _ _ s.here c.in_ok-parked.ensures.found in
     record {
       signal = ap (λ p. Some p.notice.signal) value
           ∙ sym (ap (option_map (λ e. e.notice.signal)) (ap (entry_of c.args.ticket) (sym c.self.view_is) ∙ s.entry));

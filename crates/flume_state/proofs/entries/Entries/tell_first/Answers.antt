@@ -1,7 +1,6 @@
-use Rattle.std.proofs.Common.{◌≡◌, None, Some, ap, not, sym, ◌∙◌, subst, unwrap_or}
+use Rattle.std.proofs.Common.{ap, not, sym, subst}
 use Rattle.flume_state.specs.Receivers.{NoDueReceiver}
-use Rattle.flume_state.specs.layout.Ticketed.{ticket_in}
-use Rattle.flume_state.proofs.EntryParts.{read_value}
+use Rattle.flume_state.proofs.EntryParts.{read_some, read_value}
 use Rattle.flume_state.proofs.EntryTold.{dues_at, none_due, one_boundary, sorted_told, tells, two_boundaries}
 use Rattle.flume_state.proofs.entries.Entries.tell_first.Goals as goal
 
@@ -13,17 +12,17 @@ returns-then-eq-clause-none_due g c =
 pub returns-in_err-ticket-clause-none_due : goal.returns-in_err-ticket-clause-none_due
 returns-in_err-ticket-clause-none_due g c =
     let d = dues_at _ _ _ _ _ c.self.invariant (two_boundaries _ _ (sym c.if-eq.ensures)) c.in_ok-place.was in
-    let none : None ≡ Some (unwrap_or d.element.label 0) = c.in_err-ticket.ensures.ticket ∙ ap ticket_in d.here ∙ d.class.0 in
-    absurd cc
+    absurd (read_some _ _ _ d.here c.in_err-ticket.ensures.ticket)
 
 pub invariant_of-self-2 : goal.invariant_of-self-2
 invariant_of-self-2 g c =
     let d = dues_at _ _ _ _ _ c.self.invariant (two_boundaries _ _ (sym c.if-eq.ensures)) c.in_ok-place.was in
-    let value = read_value _ _ _ d.here c.in_ok-parked.ensures.value in
+    let value = read_value _ _ _ _ d.here c.in_ok-parked.ensures.value in
     rw (value, c.next-next.ensures.next) (sorted_told _ _ _ _ _ c.self.invariant d)
 
 pub returns-clause-told : goal.returns-clause-told
 returns-clause-told g c =
     let d = dues_at _ _ _ _ _ c.self.invariant (two_boundaries _ _ (sym c.if-eq.ensures)) c.in_ok-place.was in
-    let value = read_value _ _ _ d.here c.in_ok-parked.ensures.value in
-    rw value (tells _ _ _ _ _ _ _ c.self.invariant d c.self.view_is (sym (c.in_ok-ticket.ensures.ticket ∙ ap ticket_in d.here)))
+    let value = read_value _ _ _ _ d.here c.in_ok-parked.ensures.value in
+    let ticket = read_value _ _ _ _ d.here c.in_ok-ticket.ensures.ticket in
+    rw (value, ticket) (tells _ _ _ _ _ _ c.self.invariant d c.self.view_is)

@@ -10,34 +10,34 @@ use Rattle.flume_state.proofs.entries.Entries.wait_on.Goals as goal
 
 pub returns-in_default-clause-waits : goal.returns-in_default-clause-waits
 returns-in_default-clause-waits g c free =
-    let none = nobody _ _ _ _ c.args.ticket c.self.invariant (sym c.find.ensures.place ∙ c.in_default.is) in
+    let none = nobody c.args.ticket _ (sym c.find.ensures.place ∙ c.in_default.is) in
     asks_none (waits_on c.args.signal) c.args.ticket c.args.self.now (ap (entry_of c.args.ticket) (sym c.self.view_is) ∙ none)
 
 pub returns-in_default-get_mut-clause-waits : goal.returns-in_default-get_mut-clause-waits
 returns-in_default-get_mut-clause-waits g c =
-    let q = seated _ _ _ _ c.args.ticket _ c.self.invariant (sym c.find.ensures.place ∙ c.in-Some.is) in
-    absurd (read_some _ _ q.here c.in_default-get_mut.ensures.value)
+    let q = seated _ c.args.ticket _ c.self.invariant.apart (sym c.find.ensures.place ∙ c.in-Some.is) in
+    absurd (read_some _ _ _ q.here c.in_default-get_mut.ensures.value)
 
 pub invariant_of-self-then-not-ask_again : goal.invariant_of-self-then-not-ask_again
 invariant_of-self-then-not-ask_again g c =
-    let q = seated _ _ _ _ c.args.ticket _ c.self.invariant (sym c.find.ensures.place ∙ c.in-Some.is) in
-    let value = read_value _ _ _ q.here c.in-Some-get_mut.ensures.value in
+    let q = seated _ c.args.ticket _ c.self.invariant.apart (sym c.find.ensures.place ∙ c.in-Some.is) in
+    let value = read_value _ _ _ _ q.here c.in-Some-get_mut.ensures.value in
     let asked = c.ask_again.ensures.asked ∙ ap (λ p. after_asking p.mark c.args.signal p) value in
     let asleep = ap (λ p. is_woken p.mark) (sym value) ∙ sym c.ask_again.ensures.woken ∙ c.if-not-ask_again.true in
     rw asked (asks_sorted _ _ _ _ _ _ c.args.signal _ c.self.invariant q refl asleep)
 
 pub returns-then-not-ask_again-clause-waits : goal.returns-then-not-ask_again-clause-waits
 returns-then-not-ask_again-clause-waits g c =
-    let q = seated _ _ _ _ c.args.ticket _ c.self.invariant (sym c.find.ensures.place ∙ c.in-Some.is) in
-    let value = read_value _ _ _ q.here c.in-Some-get_mut.ensures.value in
+    let q = seated _ c.args.ticket _ c.self.invariant.apart (sym c.find.ensures.place ∙ c.in-Some.is) in
+    let value = read_value _ _ _ _ q.here c.in-Some-get_mut.ensures.value in
     let asked = c.ask_again.ensures.asked ∙ ap (λ p. after_asking p.mark c.args.signal p) value in
     let asleep = ap (λ p. is_woken p.mark) (sym value) ∙ sym c.ask_again.ensures.woken ∙ c.if-not-ask_again.true in
     rw asked (asks_entries _ _ _ c.args.signal _ _ q c.self.view_is refl asleep)
 
 pub returns-then-not-ask_again-clause-filled : goal.returns-then-not-ask_again-clause-filled
 returns-then-not-ask_again-clause-filled g c =
-    let q = seated _ _ _ _ c.args.ticket _ c.self.invariant (sym c.find.ensures.place ∙ c.in-Some.is) in
-    let value = read_value _ _ _ q.here c.in-Some-get_mut.ensures.value in
+    let q = seated _ c.args.ticket _ c.self.invariant.apart (sym c.find.ensures.place ∙ c.in-Some.is) in
+    let value = read_value _ _ _ _ q.here c.in-Some-get_mut.ensures.value in
     let asked = c.ask_again.ensures.asked ∙ ap (λ p. after_asking p.mark c.args.signal p) value in
     rw asked (asks_filled _ _ _ c.args.signal _ _ q c.self.view_is refl)
 
@@ -46,8 +46,8 @@ overflow_add-self g c = omega (arith, waits_few _ _ _ _ c.self.invariant)
 
 pub invariant_of-self-2 : goal.invariant_of-self-2
 invariant_of-self-2 g c =
-    let q = seated _ _ _ _ c.args.ticket _ c.self.invariant (sym c.find.ensures.place ∙ c.in-Some.is) in
-    let value = read_value _ _ _ q.here c.in-Some-get_mut.ensures.value in
+    let q = seated _ c.args.ticket _ c.self.invariant.apart (sym c.find.ensures.place ∙ c.in-Some.is) in
+    let value = read_value _ _ _ _ q.here c.in-Some-get_mut.ensures.value in
     let asked = c.ask_again.ensures.asked ∙ ap (λ p. after_asking p.mark c.args.signal p) value in
     let woken = ap (λ p. is_woken p.mark) (sym value) ∙ sym c.ask_again.ensures.woken ∙ c.if-not-ask_again.false in
     let back = moved _ _ _ _ _ _ q c.move_back.ensures.stood c.move_back.ensures.moved in
@@ -56,8 +56,8 @@ invariant_of-self-2 g c =
 
 pub returns-clause-waits : goal.returns-clause-waits
 returns-clause-waits g c free =
-    let q = seated _ _ _ _ c.args.ticket _ c.self.invariant (sym c.find.ensures.place ∙ c.in-Some.is) in
-    let value = read_value _ _ _ q.here c.in-Some-get_mut.ensures.value in
+    let q = seated _ c.args.ticket _ c.self.invariant.apart (sym c.find.ensures.place ∙ c.in-Some.is) in
+    let value = read_value _ _ _ _ q.here c.in-Some-get_mut.ensures.value in
     let asked = c.ask_again.ensures.asked ∙ ap (λ p. after_asking p.mark c.args.signal p) value in
     let woken = ap (λ p. is_woken p.mark) (sym value) ∙ sym c.ask_again.ensures.woken ∙ c.if-not-ask_again.false in
     let back = moved _ _ _ _ _ _ q c.move_back.ensures.stood c.move_back.ensures.moved in
@@ -65,7 +65,7 @@ returns-clause-waits g c free =
 
 pub returns-clause-filled : goal.returns-clause-filled
 returns-clause-filled g c =
-    let q = seated _ _ _ _ c.args.ticket _ c.self.invariant (sym c.find.ensures.place ∙ c.in-Some.is) in
-    let value = read_value _ _ _ q.here c.in-Some-get_mut.ensures.value in
+    let q = seated _ c.args.ticket _ c.self.invariant.apart (sym c.find.ensures.place ∙ c.in-Some.is) in
+    let value = read_value _ _ _ _ q.here c.in-Some-get_mut.ensures.value in
     let woken = ap (λ p. is_woken p.mark) (sym value) ∙ sym c.ask_again.ensures.woken ∙ c.if-not-ask_again.false in
     rw (woken_empty _ _ _ _ _ q c.self.view_is refl woken) tt

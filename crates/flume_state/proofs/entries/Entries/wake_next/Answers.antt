@@ -15,7 +15,7 @@ returns-in_default g c = record {
 pub returns-in_default-get_mut : goal.returns-in_default-get_mut
 returns-in_default-get_mut g c =
     let w = waits_at _ _ _ _ _ c.self.invariant c.in-Some.is in
-    absurd (read_some _ _ w.here c.in_default-get_mut.ensures.value)
+    absurd (read_some _ _ _ w.here c.in_default-get_mut.ensures.value)
 
 pub overflow_sub-self : goal.overflow_sub-self
 overflow_sub-self g c = waits_some _ _ _ _ _ _ (waits_at _ _ _ _ _ c.self.invariant c.in-Some.is)
@@ -23,13 +23,13 @@ overflow_sub-self g c = waits_some _ _ _ _ _ _ (waits_at _ _ _ _ _ c.self.invari
 pub invariant_of-self-2 : goal.invariant_of-self-2
 invariant_of-self-2 g c =
     let w = waits_at _ _ _ _ _ c.self.invariant c.in-Some.is in
-    let value = read_value _ _ _ w.here c.in-Some-get_mut.ensures.value in
+    let value = read_value _ _ _ _ w.here c.in-Some-get_mut.ensures.value in
     rw (value, c.next-next.ensures.next) (sorted_woken _ _ _ _ _ c.args.mark c.self.invariant w c.requires.awake)
 
 pub returns : goal.returns
 returns g c =
     let w = waits_at _ _ _ _ _ c.self.invariant c.in-Some.is in
-    let value = read_value _ _ _ w.here c.in-Some-get_mut.ensures.value in
+    let value = read_value _ _ _ _ w.here c.in-Some-get_mut.ensures.value in
     record {
       woken = ap (λ p. entries_in (with_value_at c.in-Some.place c.self.inside.chain.items (woken_value c.args.mark p))) value
           ∙ woken_entries _ _ _ _ _ c.args.mark c.self.invariant w ∙ ap (with_first_marked due_now c.args.mark) c.self.view_is;

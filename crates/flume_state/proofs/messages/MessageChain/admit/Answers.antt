@@ -8,7 +8,7 @@ use Rattle.flume_state.proofs.messages.MessageChain.admit.Goals as goal
 
 pub returns-in_err-owner-clause-none_blocked : goal.returns-in_err-owner-clause-none_blocked
 returns-in_err-owner-clause-none_blocked g c =
-    let r = admitted _ _ _ _ _ _ _ _ c.self.invariant c.self.view_is c.chain_facts.ensures.apart c.in_ok-place.was refl refl in
+    let r = admitted _ _ _ _ _ _ _ _ c.self.invariant c.self.view_is c.facts.ensures.apart c.in_ok-place.was refl refl in
     let both : Some r.owner ≡ None = sym r.is_first ∙ sym c.in_err-owner.ensures.owner in
     absurd (let no : ⊥ = cc in no)
 
@@ -17,7 +17,7 @@ owner_leaves : (g : Over) (c : goal.After-self-2-1 g) → c.set_label.new.self.i
 owner_leaves g c = c.set_label.ensures.labelled ∙ ap (with_label_at c.in_ok-place.place c.self.inside.chain.items) c.none.ensures.none
 
 admits : (g : Over) (c : goal.After-self-2-1 g) → Admitted c.self.inside.chain.items c.set_label.new.self.items c.next-self-inside.result (c.self.inside.blocked_len - 1) (space_of c.self.inside.chain) c.in_ok-place.place c.args.self.now
-admits g c = admitted _ _ _ _ _ _ _ _ c.self.invariant c.self.view_is c.chain_facts.ensures.apart c.in_ok-place.was (owner_leaves g c) c.next-self-inside.ensures.next
+admits g c = admitted _ _ _ _ _ _ _ _ c.self.invariant c.self.view_is c.facts.ensures.apart c.in_ok-place.was (owner_leaves g c) c.next-self-inside.ensures.next
 
 pub invariant_of-self : goal.invariant_of-self
 invariant_of-self g c = (admits g c).layout

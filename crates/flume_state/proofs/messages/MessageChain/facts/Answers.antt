@@ -2,4 +2,4 @@ use Rattle.flume_state.proofs.Withdrawals.{blocked_apart}
 use Rattle.flume_state.proofs.messages.MessageChain.facts.Goals as goal
 
 pub returns : goal.returns
-returns g c = record { apart = blocked_apart _ _ _ c.self.view_is c.chain_facts.ensures.apart }
+returns g c = record { apart = blocked_apart _ _ _ c.self.view_is c.facts.ensures.apart }

@@ -1,7 +1,7 @@
 -- The walk goes from one blocked message to the next, and marks the send of each.
 use Rattle.std.proofs.Common.{ap, arith}
 use Rattle.flume_state.specs.Effects.{with_all_due}
-use Rattle.flume_state.specs.layout.Pairing.{live_sends, named}
+use Rattle.flume_state.specs.layout.Pairing.{live_sends, under_tickets}
 use Rattle.flume_state.proofs.MessageMarks.{Marks, Stepped, left_from, walk_begins, walk_steps, walk_ends}
 use Rattle.flume_state.proofs.messages.MessageChain.mark_blocked.Given.{Over}
 use Rattle.flume_state.proofs.messages.MessageChain.mark_blocked.Goals as goal
@@ -15,8 +15,8 @@ loop-next-init g c =
 -- where the walk is, one more is marked
 stepped : (g : Over) (c : goal.After-next-next g)
     → Stepped c.self.inside.chain.items c.in-Some.place c.args.sends.now c.loop-next.sends
-    (with_all_due (named c.args.sends.now c.args.self.now.blocked) (live_sends c.args.sends.now))
-stepped g c = walk_steps c.self.inside.chain.items c.loop-next.next c.in-Some.place _ c.loop-next.sends _ c.chain_facts.ensures.apart c.loop-next.invariant c.in-Some.is
+    (with_all_due (under_tickets c.args.sends.now c.args.self.now.blocked) (live_sends c.args.sends.now))
+stepped g c = walk_steps c.self.inside.chain.items c.loop-next.next c.in-Some.place _ c.loop-next.sends _ c.facts.ensures.apart c.loop-next.invariant c.in-Some.is
 
 pub loop-next-smaller : goal.loop-next-smaller
 loop-next-smaller g c =

@@ -24,4 +24,4 @@ returns-in-Ok-clause-pushed g c =
 
 pub returns-in-Ok-clause-fresh : goal.returns-in-Ok-clause-fresh
 returns-in-Ok-clause-fresh g c =
-    absent _ _ _ _ c.self.view_is c.chain_facts.ensures.apart (ap (option_and_then (λ e. e.label)) (sym c.in-Ok.ensures.fresh))
+    absent _ _ _ _ c.self.view_is c.facts.ensures.apart (ap (option_and_then (λ e. e.label)) (sym c.in-Ok.ensures.fresh))

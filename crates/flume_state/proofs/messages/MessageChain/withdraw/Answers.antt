@@ -7,12 +7,12 @@ use Rattle.flume_state.proofs.messages.MessageChain.withdraw.Goals as goal
 
 pub returns-in_err-owner_at-clause-absent : goal.returns-in_err-owner_at-clause-absent
 returns-in_err-owner_at-clause-absent g c =
-    rw c.from_residual.ensures (absent _ _ _ _ c.self.view_is c.chain_facts.ensures.apart c.in_err-owner_at.ensures.owner)
+    rw c.from_residual.ensures (absent _ _ _ _ c.self.view_is c.facts.ensures.apart c.in_err-owner_at.ensures.owner)
 
 pub returns-in_err-element-clause-absent : goal.returns-in_err-element-clause-absent
 returns-in_err-element-clause-absent g c =
     rw c.from_residual-in_err-element.ensures
-    (absent _ _ _ _ c.self.view_is c.chain_facts.ensures.apart (ap (option_and_then (λ e. e.label)) c.in_err-element.ensures.found))
+    (absent _ _ _ _ c.self.view_is c.facts.ensures.apart (ap (option_and_then (λ e. e.label)) c.in_err-element.ensures.found))
 
 pub invariant_of-self : goal.invariant_of-self
 invariant_of-self g c = rw c.in_err-element.ensures.unchanged c.self.invariant
@@ -24,7 +24,7 @@ message_leaves : (g : Over) (c : goal.After-self-1 g)
     → Withdrawn c.self.inside.chain.items c.remove.new.self.items c.first_without-first.result (c.self.inside.blocked_len - 1) (space_of c.self.inside.chain) c.args.place c.args.self.now
 message_leaves g c =
     let e = c.first_without-first.ensures in
-    withdraws _ _ _ _ _ _ _ _ _ c.self.invariant c.self.view_is c.chain_facts.ensures.apart c.in_ok-owner_at.ensures.owner (e.next, e.same) c.in_ok-element.ensures.taken
+    withdraws _ _ _ _ _ _ _ _ _ c.self.invariant c.self.view_is c.facts.ensures.apart c.in_ok-owner_at.ensures.owner (e.next, e.same) c.in_ok-element.ensures.taken
 
 pub invariant_of-self-2 : goal.invariant_of-self-2
 invariant_of-self-2 g c = (message_leaves g c).layout
@@ -36,5 +36,5 @@ returns-clause-taken g c =
     let both = sym r.is ∙ sym e.found in
     let same : r.element.value ≡ c.in_ok-element.element.value = cc in
     let space : space_of c.self.inside.chain ≡ space_of c.remove.new.self =
-    space_without c.self.inside.chain c.remove.new.self c.args.place r.element (c.chain_facts.ensures.apart _) r.is e.taken e.room in
+    space_without c.self.inside.chain c.remove.new.self c.args.place r.element (c.facts.ensures.apart _) r.is e.taken e.room in
     rw (← same) (subst (λ n. TakesOut c.args.self.now (messages_of c.remove.new.self.items n) c.args.place r.element.value) space r.takes)

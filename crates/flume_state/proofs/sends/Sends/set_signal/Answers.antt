@@ -26,9 +26,9 @@ pub returns-clause-live : goal.returns-clause-live
 returns-clause-live g c =
     let s = seat_at _ _ _ _ c.facts.ensures.apart c.facts.ensures.single (sym c.find.ensures.place ∙ c.in-Some.is) c.in-Some-get_mut.ensures.value in
     rw (sym c.self.view_is)
-    (live_written c.self.inside.chain.items _ _ c.in-Some-get_mut.owner.now _ (with_notice (with_signal (Some c.args.signal))) refl s.stands)
+    (live_written c.self.inside.chain.items _ _ c.in-Some-get_mut.placed.now _ (with_notice (with_signal (Some c.args.signal))) refl s.stands)
 
 pub returns-clause-links : goal.returns-clause-links
 returns-clause-links g c =
     let s = seat_at _ _ _ _ c.facts.ensures.apart c.facts.ensures.single (sym c.find.ensures.place ∙ c.in-Some.is) c.in-Some-get_mut.ensures.value in
-    rw (sym c.self.view_is) (link_kept _ _ _ c.in-Some-get_mut.owner.now _ refl s.is)
+    rw (sym c.self.view_is) (link_kept _ _ _ c.in-Some-get_mut.placed.now _ refl s.is)

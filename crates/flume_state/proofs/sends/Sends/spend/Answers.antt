@@ -3,7 +3,7 @@ use Rattle.flume_chain.specs.Chained.{without}
 use Rattle.flume_state.specs.layout.SendLayout.{SendLayout}
 use Rattle.flume_state.specs.layout.Pairing.{sends_in}
 use Rattle.flume_state.proofs.SendSteps.{spent_kept, bounded_same, bounded_other}
-use Rattle.flume_state.proofs.Links.{taken_out, without_sends, after_sends, apart_sends, spent}
+use Rattle.flume_state.proofs.Links.{without_sends, after_sends, apart_sends, spent}
 use Rattle.flume_state.proofs.sends.Sends.spend.Goals as goal
 use Rattle.flume_state.proofs.sends.Sends.spend.Goals.{then-eq, else-eq}
 
@@ -14,8 +14,8 @@ invariant_of-self g c =
       | then-eq w ↦ ap (λ i. i.chain) w.self-inside-is
       | else-eq w ↦ ap (λ i. i.chain) w.self-inside-is
     ] in
-    let e = rw same at c.remove.ensures in
-    let taken = ap sends_in (taken_out c.self.inside.chain _ c.args.place _ e.found e.taken e.unchanged) ∙ without_sends items c.args.place in
+    let e = rw same at c.discard.ensures in
+    let taken = ap sends_in e.left ∙ without_sends items c.args.place in
     let kept = SendLayout (without (sends_in items) c.args.place) in
     let left = spent_kept (sends_in items) c.self.inside.due c.args.place (apart_sends items c.facts.ensures.apart) c.self.invariant in
     elim c.if-eq.branch [
@@ -34,7 +34,6 @@ returns g c =
       | then-eq w ↦ ap (λ i. i.chain) w.self-inside-is
       | else-eq w ↦ ap (λ i. i.chain) w.self-inside-is
     ] in
-    let e = rw same at c.remove.ensures in
-    let taken = taken_out c.self.inside.chain _ c.args.place _ e.found e.taken e.unchanged in
-    let s = spent items _ c.args.place _ c.self.invariant c.facts.ensures.apart c.facts.ensures.single taken in
+    let e = rw same at c.discard.ensures in
+    let s = spent items _ c.args.place c.facts.ensures.apart c.facts.ensures.single e.left in
     rw (sym c.self.view_is) (record { live = s.live; link = s.link; none = s.none })

@@ -9,41 +9,50 @@ unblocked : (live accepted : Bool) (o : Option Bool) → live ≡ false → o �
 unblocked false accepted o dead is blocked = cc
 unblocked true accepted o dead is blocked = cc
 
-pub returns-in-NoTicket-clause-outcome : goal.returns-in-NoTicket-clause-outcome
-returns-in-NoTicket-clause-outcome g c = rw (← c.call.view_is) (record {
-  waits = search rules;
-  replaced = search rules;
-  accepted = search rules;
-  no_ticket = search rules;
-  taken_in = λ led _.
-      let run = rw c.in-NoTicket.is at (c.withdraw_send.ensures.step led.0 led.1 led.2).run.0 in
-      unblocked _ _ _ run (led.2.sends_are c.call.inside.ticket);
-  timeout = search rules;
-  disconnected = search rules;
-})
+pub returns-in-NoTicket-clause-does : goal.returns-in-NoTicket-clause-does
+returns-in-NoTicket-clause-does g c = rw (← c.call.view_is) (
+  search rules,
+  record {
+    waits = search rules;
+    replaced = search rules;
+    accepted = search rules;
+    no_ticket = search rules;
+    taken_in = λ led _.
+        let run = rw c.in-NoTicket.is at (c.withdraw_send.ensures.step led.0 led.1 led.2).run.0 in
+        unblocked _ _ _ run (led.2.sends_are c.call.inside.ticket);
+    timeout = search rules;
+    disconnected = search rules;
+  },
+)
 
-pub returns-in-NoTicket-poll_send-clause-outcome : goal.returns-in-NoTicket-poll_send-clause-outcome
-returns-in-NoTicket-poll_send-clause-outcome g c = rw (← c.call-else-late.view_is) (record {
-  waits = search rules;
-  replaced = search rules;
-  accepted = search rules;
-  no_ticket = search rules;
-  taken_in = λ led _.
-      let run = rw c.in-NoTicket-poll_send.is at (c.poll_send.ensures.step led.0 led.1 led.2).run.0 in
-      unblocked _ _ _ run (led.2.sends_are c.call-else-late.inside.ticket);
-  timeout = search rules;
-  disconnected = search rules;
-})
+pub returns-in-NoTicket-poll_send-clause-does : goal.returns-in-NoTicket-poll_send-clause-does
+returns-in-NoTicket-poll_send-clause-does g c = rw (← c.call-else-late.view_is) (
+  search rules,
+  record {
+    waits = search rules;
+    replaced = search rules;
+    accepted = search rules;
+    no_ticket = search rules;
+    taken_in = λ led _.
+        let run = rw c.in-NoTicket-poll_send.is at (c.poll_send.ensures.step led.0 led.1 led.2).run.0 in
+        unblocked _ _ _ run (led.2.sends_are c.call-else-late.inside.ticket);
+    timeout = search rules;
+    disconnected = search rules;
+  },
+)
 
-pub returns-in-Returned-poll_send-clause-outcome : goal.returns-in-Returned-poll_send-clause-outcome
-returns-in-Returned-poll_send-clause-outcome g c = record {
-  waits = search rules;
-  replaced = search rules;
-  accepted = search rules;
-  no_ticket = search rules;
-  taken_in = search rules;
-  timeout = search rules;
-  disconnected = λ back e.
-      let found : Returns c.args.chan.now c.poll_send.new.self c.args.self.call back c.in-Returned-poll_send.closed = search rules in
-      (c.in-Returned-poll_send.closed, found, λ led. (c.in-Returned-poll_send.ensures.step led.0 led.1 led.2).run.0.2);
-}
+pub returns-in-Returned-poll_send-clause-does : goal.returns-in-Returned-poll_send-clause-does
+returns-in-Returned-poll_send-clause-does g c = (
+  search rules,
+  record {
+    waits = search rules;
+    replaced = search rules;
+    accepted = search rules;
+    no_ticket = search rules;
+    taken_in = search rules;
+    timeout = search rules;
+    disconnected = λ back e.
+        let found : Returns c.args.chan.now c.poll_send.new.self c.args.self.call back c.in-Returned-poll_send.closed = search rules in
+        (c.in-Returned-poll_send.closed, found, λ led. (c.in-Returned-poll_send.ensures.step led.0 led.1 led.2).run.0.2);
+  },
+)

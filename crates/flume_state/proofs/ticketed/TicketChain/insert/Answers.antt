@@ -1,10 +1,10 @@
-use Rattle.std.proofs.Common.{◌≡◌, None, sym, ap, ◌∙◌}
+use Rattle.std.proofs.Common.{◌≡◌, None, refl, sym, ap, ◌∙◌}
 use Rattle.std.specs.FinMap.{get, remove}
 use Rattle.flume_chain.proofs.ChainLaws.{none_placed}
 use Rattle.flume_state.proofs.TicketLemmas.{put_amid, ticketed_in}
 use Rattle.flume_state.proofs.TicketMaps.{written_over, stored, no_place}
 use Rattle.flume_state.proofs.SendsLaws.{remove-insert}
-use Rattle.flume_state.proofs.ticketed.TicketChain.insert_ticket.Goals as goal
+use Rattle.flume_state.proofs.ticketed.TicketChain.insert.Goals as goal
 
 pub invariant_of-self-in-Ok : goal.invariant_of-self-in-Ok
 invariant_of-self-in-Ok g c =
@@ -13,7 +13,7 @@ invariant_of-self-in-Ok g c =
     let held = stored _ _ _ _ _ c.if-is_err.ensures.value c.insert.ensures.inserted in
     let placed = written_over _ _ _ _ _ _ _ held c.insert-in-Ok.ensures.inserted c.insert-in-Ok.ensures.absent in
     rw (c.in-Ok.ensures.inserted) (rw placed
-    (ticketed_in _ _ _ _ (put_amid c.self.inside.chain.items c.args.next _) c.args.ticket c.in-Some.ensures.ticket
+    (ticketed_in _ _ _ _ (put_amid c.self.inside.chain.items c.args.next _) c.args.ticket refl
     (sym (c.self.invariant.found c.args.ticket) ∙ new) (none_placed _ _ c.in-Ok.ensures.fresh) c.self.invariant))
 
 pub invariant_of-self-in-Err : goal.invariant_of-self-in-Err

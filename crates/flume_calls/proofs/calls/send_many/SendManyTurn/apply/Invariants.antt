@@ -3,7 +3,7 @@ use Rattle.std.specs.VecDeque.{deque_len}
 use Rattle.flume_state.specs.State.{message_count}
 use Rattle.flume_calls.specs.Batches.{IsBatch}
 use Rattle.flume_calls.specs.ManySends.{SendsMany, IsRest}
-use Rattle.flume_calls.proofs.calls.send_many.SendManyBatch.apply.Given as goal
+use Rattle.flume_calls.proofs.calls.send_many.SendManyTurn.apply.Given as goal
 
 -- every batch from here is the end of a batch of the call, and what it leaves is what the call leaves; where there was
 -- space for all there is space for the others

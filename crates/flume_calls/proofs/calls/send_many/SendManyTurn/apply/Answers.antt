@@ -4,7 +4,7 @@ use Rattle.flume_model.specs.declared.step.Reply.TheVariants.{NoMemory}
 use Rattle.flume_calls.specs.ManySends.{NoneLeft, IsFull, IsClosed, IsRefused}
 use Rattle.flume_calls.specs.Batches.{NoSteps}
 use Rattle.flume_calls.proofs.ManySends.{taken_in, one_step, all_left, first_sent, one_at_most, refused}
-use Rattle.flume_calls.proofs.calls.send_many.SendManyBatch.apply.Goals as goal
+use Rattle.flume_calls.proofs.calls.send_many.SendManyTurn.apply.Goals as goal
 
 pub loop-message-preserved : goal.loop-message-preserved
 loop-message-preserved g c =
@@ -21,13 +21,15 @@ loop-message-preserved g c =
           omega arith;
     }
 
-pub returns-in-Full-clause-batch : goal.returns-in-Full-clause-batch
-returns-in-Full-clause-batch g c =
+pub returns-in-Full-clause-does : goal.returns-in-Full-clause-does
+returns-in-Full-clause-does g c =
     let items = c.in-Some.ensures.items in
     let same : c.in-Full.back ≡ c.in-Some.message = c.in-Full.ensures.comes in
-    let left = rw same at c.put_back.ensures.items in
-    c.loop-message.invariant.from_here _ _
-    (rw items (one_step (rw same at c.in-Full.ensures.step) (rw same at c.in-Full.ensures.dues) (IsFull left)))
+    let left = rw same at c.put_back.ensures.items in (
+      c.loop-message.invariant.from_here _ _
+          (rw items (one_step (rw same at c.in-Full.ensures.step) (rw same at c.in-Full.ensures.dues) (IsFull left))),
+      search rules,
+    )
 
 pub returns-in-Full-clause-answers : goal.returns-in-Full-clause-answers
 returns-in-Full-clause-answers g c =
@@ -36,13 +38,15 @@ returns-in-Full-clause-answers g c =
     let left = rw same at c.put_back.ensures.items in
     c.loop-message.invariant.rest _ (rw items (all_left _ _ _ left))
 
-pub returns-in-Closed-clause-batch : goal.returns-in-Closed-clause-batch
-returns-in-Closed-clause-batch g c =
+pub returns-in-Closed-clause-does : goal.returns-in-Closed-clause-does
+returns-in-Closed-clause-does g c =
     let items = c.in-Some.ensures.items in
     let same : c.in-Closed.back ≡ c.in-Some.message = c.in-Closed.ensures.comes in
-    let left = rw same at c.put_back-in-Closed.ensures.items in
-    c.loop-message.invariant.from_here _ _
-    (rw items (one_step (rw same at c.in-Closed.ensures.step) (rw same at c.in-Closed.ensures.dues) (IsClosed left)))
+    let left = rw same at c.put_back-in-Closed.ensures.items in (
+      c.loop-message.invariant.from_here _ _
+          (rw items (one_step (rw same at c.in-Closed.ensures.step) (rw same at c.in-Closed.ensures.dues) (IsClosed left))),
+      search rules,
+    )
 
 pub returns-in-Closed-clause-answers : goal.returns-in-Closed-clause-answers
 returns-in-Closed-clause-answers g c =
@@ -51,16 +55,21 @@ returns-in-Closed-clause-answers g c =
     let left = rw same at c.put_back-in-Closed.ensures.items in
     c.loop-message.invariant.rest _ (rw items (all_left _ _ _ left))
 
-pub returns-in-NoMemory-Some-clause-batch : goal.returns-in-NoMemory-Some-clause-batch
-returns-in-NoMemory-Some-clause-batch g c =
+pub returns-in-NoMemory-Some-clause-does : goal.returns-in-NoMemory-Some-clause-does
+returns-in-NoMemory-Some-clause-does g c =
     let items = c.in-Some.ensures.items in
     let comes = c.in-NoMemory-Some.ensures.comes in
     let same : c.in-NoMemory-Some.back ≡ c.in-Some.message = cc in
     let left = rw same at c.put_back-in-NoMemory-Some.ensures.items in
     let step = rw c.in-NoMemory-Some.field-0-is at c.in-NoMemory-Some.ensures.step in
     let dues = rw c.in-NoMemory-Some.field-0-is at c.in-NoMemory-Some.ensures.dues in
-    c.loop-message.invariant.from_here _ _
-    (rw items (one_step (rw same at step) (rw same at dues) (IsRefused left)))
+    let said = c.in-NoMemory-Some.is ∙ ap NoMemory (c.in-NoMemory-Some.field-0-is ∙ ap Some same) in (
+      c.loop-message.invariant.from_here _ _
+          (rw items (one_step (rw same at step) (rw same at dues) (IsRefused left))),
+      refused c.args.chan.now c.loop-message.chan c.try_send.new.self c.args.self.messages.items c.loop-message.messages.items _
+          (c.in-NoMemory-Some.ensures.unchanged tt) (λ space. c.try_send.ensures.succeeds space said)
+          (rw c.in-Some.ensures.items (omega arith)) c.loop-message.invariant.fits,
+    )
 
 pub returns-in-NoMemory-Some-clause-answers : goal.returns-in-NoMemory-Some-clause-answers
 returns-in-NoMemory-Some-clause-answers g c =
@@ -70,16 +79,7 @@ returns-in-NoMemory-Some-clause-answers g c =
     let left = rw same at c.put_back-in-NoMemory-Some.ensures.items in
     c.loop-message.invariant.rest _ (rw items (all_left _ _ _ left))
 
-pub returns-clause-batch : goal.returns-clause-batch
-returns-clause-batch g c =
+pub returns-clause-does : goal.returns-clause-does
+returns-clause-does g c =
     let none : c.loop-message.messages.items ≡ [] = search rules in
-    c.loop-message.invariant.from_here _ _ (record { made = _; led = NoSteps; answered = rw none NoneLeft })
-
-pub returns-in-NoMemory-Some-clause-outcome : goal.returns-in-NoMemory-Some-clause-outcome
-returns-in-NoMemory-Some-clause-outcome g c =
-    let comes = c.in-NoMemory-Some.ensures.comes in
-    let same : c.in-NoMemory-Some.back ≡ c.in-Some.message = cc in
-    let said = c.in-NoMemory-Some.is ∙ ap NoMemory (c.in-NoMemory-Some.field-0-is ∙ ap Some same) in
-    refused c.args.chan.now c.loop-message.chan c.try_send.new.self c.args.self.messages.items c.loop-message.messages.items _
-    (c.in-NoMemory-Some.ensures.unchanged tt) (λ space. c.try_send.ensures.succeeds space said)
-    (rw c.in-Some.ensures.items (omega arith)) c.loop-message.invariant.fits
+    (c.loop-message.invariant.from_here _ _ (record { made = _; led = NoSteps; answered = rw none NoneLeft }), search rules)

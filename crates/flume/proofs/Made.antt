@@ -1,0 +1,20 @@
+-- What a turn of one step did is a step that some run goes on with.
+use Rattle.flume_model.specs.declared.step.Step.{Step}
+use Rattle.flume_model.specs.declared.step.Reply.{Reply}
+use Rattle.flume_state.specs.State.{State}
+use Rattle.flume_calls.specs.Turns.{Turned}
+use Rattle.flume.specs.Turning.{HasDone, HasMade}
+
+module _ {T S A N : Type 0} {step : Step T} {table : Reply T A → N → Type 0}
+    {outcome : State T S → State T S → N → Type 0} {answer : N} where
+  -- the step was made
+  pub step_made : HasDone A (λ old new told. Turned {A = A} step table old new told × outcome old new told) answer → HasMade step table answer
+  step_made done =
+      let turn = done.turn.0 in
+      record {
+        opening = done.opening;
+        log = done.log;
+        reply = turn.reply;
+        run = (turn.stepped done.opening done.log done.represents).run;
+        answered = turn.answered;
+      }
