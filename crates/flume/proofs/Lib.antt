@@ -2,5 +2,7 @@ mod InTime
 mod Made
 mod ManyReceives
 mod ManySendCalls
+mod ManySteps
 pub mod Outlives
+mod ReceivePolls
 mod SendPolls

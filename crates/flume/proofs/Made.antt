@@ -1,9 +1,11 @@
 -- What a turn of one step did is a step that some run goes on with.
+use Rattle.std.proofs.Common.{◌≡◌}
 use Rattle.flume_model.specs.declared.step.Step.{Step}
 use Rattle.flume_model.specs.declared.step.Reply.{Reply}
 use Rattle.flume_state.specs.State.{State}
 use Rattle.flume_calls.specs.Turns.{Turned}
 use Rattle.flume.specs.Turning.{HasDone, HasMade}
+use Rattle.flume.specs.CallSteps.{HasReplied}
 
 module _ {T S A N : Type 0} {step : Step T} {table : Reply T A → N → Type 0}
     {outcome : State T S → State T S → N → Type 0} {answer : N} where
@@ -15,6 +17,21 @@ module _ {T S A N : Type 0} {step : Step T} {table : Reply T A → N → Type 0}
         opening = done.opening;
         log = done.log;
         reply = turn.reply;
-        run = (turn.stepped done.opening done.log done.represents).run;
+        run = (turn.stepped.extends done.opening done.log done.represents).run;
+        answered = turn.answered;
+      }
+
+module _ {T S A N : Type 0} {step : Step T} {told : N → Reply T A}
+    {outcome : State T S → State T S → N → Type 0} {answer : N} where
+  -- the step was made, and its reply is the one that the answer tells
+  pub step_replied : HasDone A (λ old new n. Turned {A = A} step (λ reply n. reply ≡ told n) old new n × outcome old new n) answer
+      → HasReplied step (told answer)
+  step_replied done =
+      let turn = done.turn.0 in
+      record {
+        opening = done.opening;
+        log = done.log;
+        reply = turn.reply;
+        run = (turn.stepped.extends done.opening done.log done.represents).run;
         answered = turn.answered;
       }

@@ -1,20 +1,34 @@
--- A receive of many through its gate: what it leaves of the list, and that it isn't late with no deadline.
-use Rattle.std.proofs.Common.{◌≡◌, ◌≢◌, ℕ, ◌+◌, Bool, true, false, List, [], ◌∷◌, ◌++◌, length, Result, Ok, Err, IfOk, OnErr, refl, sym, ap, ◌∙◌, ◌↔◌, subst, arith}
+-- A receive of many through its gate: what it leaves of the list, the steps that it made, and that it isn't late with no deadline.
+use Rattle.std.proofs.Common.{◌≡◌, ◌≢◌, ℕ, ◌+◌, Bool, true, false, List, [], ◌∷◌, ◌++◌, length, Result, Ok, Err, IfOk, OnErr, refl, sym, ap, ◌∙◌, subst, arith, ◌<◌, ◌⊎◌, inl, inr, Vec, vec_len, vec_capacity}
 use Rattle.std.proofs.lemmas.List.{append-nil}
 use Rattle.flume_model.specs.declared.step.Step.{Step}
 use Rattle.flume_model.specs.declared.step.Reply.{Reply}
 use Rattle.flume_core.specs.declared.error.RecvError.{RecvError}
+use Rattle.flume_core.specs.declared.error.RecvError.TheVariants as recv
 use Rattle.flume_core.specs.declared.error.TryRecvError.{TryRecvError}
 use Rattle.flume_core.specs.declared.error.RecvTimeoutError.{RecvTimeoutError}
-use Rattle.flume_core.specs.declared.error.RecvTimeoutError.TheVariants.{Timeout}
+use Rattle.flume_core.specs.declared.error.RecvTimeoutError.TheVariants.{Timeout, NoMemory}
 use Rattle.flume_calls.specs.declared.calls.receive.RecvNext.{RecvNext}
 use Rattle.flume_calls.specs.declared.calls.receive.RecvNext.TheVariants.{Done, NeedSignal, Park, Refused}
 use Rattle.flume_deadline.specs.declared.Deadline.{Deadline}
 use Rattle.flume_deadline.specs.declared.Deadline.TheVariants.{Never}
+use Rattle.flume_model.specs.declared.step.Step.TheVariants.{Recv}
+use Rattle.flume_model.specs.declared.step.Kind.TheVariants.{Block}
 use Rattle.flume_calls.specs.ReceiveTurns as turn
 use Rattle.flume_calls.specs.ReceiveGates as gate
 use Rattle.flume_calls.specs.ManyReceives.{Gives, given, with_more, IsWithin, FirstManyTable, Some, None, NoRoom}
+use Rattle.flume.specs.CallSteps.{tried_receive, untimed_receive}
 use Rattle.flume.specs.ManyCalls.{Came, GrowsBy, AnswersMany, IsntDone}
+use Rattle.flume.specs.ManySteps.{LacksRoom, TakesFirst, MakesMany, FindsNone, ReceivesMany}
+use Rattle.flume.specs.ManySteps as steps
+use Rattle.flume.proofs.ManySteps.{first_none}
+
+-- what a receive with no deadline answers to an end with this
+pub waited_none : {N : Type 0} (n : N) (ended : Result N RecvTimeoutError) (result : Result N RecvError) → ended ≡ untimed_receive result
+    → ended ≡ Ok n → result ≡ Ok n
+waited_none n ended (Ok m) is same = cc
+waited_none n ended (Err recv.Disconnected) is same = absurd (let none : ⊥ = cc in none)
+waited_none n ended (Err recv.NoMemory) is same = absurd (let none : ⊥ = cc in none)
 
 module _ {T : Type 0} where
   -- a turn and what was taken behind it leave this of the list
@@ -68,16 +82,15 @@ module _ {T : Type 0} where
 
   -- what a receive of many with no deadline says of the list
   pub waited_came : (most : ℕ) (before after : List T) (ended : Result ℕ RecvTimeoutError) (result : Result ℕ RecvError)
-      → IfOk ended (λ count. Came most before after count) → ((count : ℕ) → (ended ≡ Ok count) ↔ (result ≡ Ok count))
+      → IfOk ended (λ count. Came most before after count) → ended ≡ untimed_receive result
       → IfOk result (λ count. Came most before after count)
-  waited_came most before after ended (Ok count) came is =
-      subst (λ e. IfOk e (λ count. Came most before after count)) ((is count).1 refl) came
+  waited_came most before after ended (Ok count) came is = subst (λ e. IfOk e (λ count. Came most before after count)) is came
   waited_came most before after ended (Err e) came is = tt
 
   -- what a tried receive of many says of the list
   pub tried_came : (most : ℕ) (before after : List T) (next : RecvNext ℕ) (result : Result ℕ TryRecvError) → GrowsBy most before after next
-      → ((count : ℕ) → (next ≡ Done (Ok count)) ↔ (result ≡ Ok count)) → IfOk result (λ count. Came most before after count)
-  tried_came most before after next (Ok count) grows is = subst (λ n. GrowsBy most before after n) ((is count).1 refl) grows
+      → next ≡ tried_receive result → IfOk result (λ count. Came most before after count)
+  tried_came most before after next (Ok count) grows is = subst (λ n. GrowsBy most before after n) is grows
   tried_came most before after next (Err e) grows is = tt
 
   -- a turn that may park answers as one does, with how many came
@@ -139,10 +152,15 @@ module _ {T : Type 0} where
   same_of most before after (Ok count) grows = tt
   same_of most before after (Err e) grows = grows
 
-module _ {G T : Type 0} (deadline : G → Deadline) (most : G → ℕ) (items : G → List T) where
+module _ {G T A : Type 0} (deadline : G → Deadline) (most : G → ℕ) (into : G → Vec T A) where
+  -- what the list holds
+  abbrev items : G → List T
+  items gate = (into gate).items
+
   -- what the first turn of a receive of many does to its gate
   abbrev Firsts : G → G → RecvNext ℕ → Type 0
   Firsts old new next = (deadline new ≡ deadline old) × (most new ≡ most old) × turn.IsFirst next × GrowsBy (most old) (items old) (items new) next
+      × TakesFirst A (items old) (items new) next × LacksRoom (into old) (most old) next
 
   -- what making its parker does to it
   abbrev Arms : G → G → Bool → Type 0
@@ -151,11 +169,13 @@ module _ {G T : Type 0} (deadline : G → Deadline) (most : G → ℕ) (items : 
   -- what the turn that may park does to it
   abbrev Parks : G → G → RecvNext ℕ → Type 0
   Parks old new next = (deadline new ≡ deadline old) × (most new ≡ most old) × turn.IsParking next × GrowsBy (most old) (items old) (items new) next
+      × MakesMany {T = T} A (Recv Block) turn.after_recv next
 
   -- what a turn of the parked call does to it
   abbrev Agains : G → ℕ → Bool → G → RecvNext ℕ → Type 0
   Agains old ticket late new next = (deadline new ≡ deadline old) × (most new ≡ most old) × turn.IsAgain ticket late next × turn.IsntRefused next
       × GrowsBy (most old) (items old) (items new) next
+      × MakesMany {T = T} A (turn.step_of_parked_receive ticket late) (turn.after_parked_receive ticket late) next
 
   -- what waiting does to it
   abbrev Waits : G → G → Bool → Type 0
@@ -196,3 +216,29 @@ module _ {G T : Type 0} (deadline : G → Deadline) (most : G → ℕ) (items : 
   whole_in_time (gate.Unarmed f a e) never late = absurd (let none : ⊥ = cc in none)
   whole_in_time (gate.AtPark f a p) never late = subst (λ r. turn.IsParking (Done r)) late p.2
   whole_in_time (gate.Parked f a p rest) never late = parked_in_time rest (p.0 ∙ a.0 ∙ f.0 ∙ never) late
+
+  -- the turn that ended the parked call
+  parked_made : {old new : G} {ticket : ℕ} {result : Result ℕ RecvTimeoutError} → gate.ParkedReceive Agains Waits old ticket new result
+      → (asked : ℕ) × (late : Bool)
+      × MakesMany {T = T} A (turn.step_of_parked_receive asked late) (turn.after_parked_receive asked late) (Done result)
+  parked_made (gate.Asked a) = (_, false, a.5)
+  parked_made (gate.Withdrawn a b e) = absurd a.3
+  parked_made (gate.Late a w b) = (_, true, b.5)
+  parked_made (gate.Waited a w rest) = parked_made rest
+
+  -- how the whole call ended
+  pub whole_made : {old new : G} {result : Result ℕ RecvTimeoutError} → gate.WholeReceive Firsts Arms Parks Agains Waits old new result
+      → ReceivesMany A (items old) (items new) result
+  whole_made (gate.AtFirst f) = steps.AtFirst f.4
+  whole_made (gate.Unarmed f a e) = steps.Unarmed (first_none f.4) e
+  whole_made (gate.AtPark f a p) = steps.AtPark (first_none f.4) p.4
+  whole_made (gate.Parked f a p rest) = let last = parked_made rest in steps.AtAgain (first_none f.4) last.0 last.1 last.2
+
+  -- where the whole call found no memory, it lacked room, or none was there
+  pub whole_room : {old new : G} {result : Result ℕ RecvTimeoutError} → gate.WholeReceive Firsts Arms Parks Agains Waits old new result
+      → result ≡ Err NoMemory
+      → (vec_capacity (into old) < vec_len (into old) + most old) ⊎ FindsNone T A
+  whole_room {old} (gate.AtFirst f) said = inl (subst (λ r. LacksRoom (into old) (most old) (Done r)) said f.5)
+  whole_room (gate.Unarmed f a e) said = inr (first_none f.4)
+  whole_room (gate.AtPark f a p) said = inr (first_none f.4)
+  whole_room (gate.Parked f a p rest) said = inr (first_none f.4)

@@ -1,11 +1,11 @@
 -- What is left of a list after some of its messages were sent.
-use Rattle.std.proofs.Common.{◌≡◌, ◌<◌, ◌+◌, List, [], ◌∷◌, ◌++◌, length, Option, Some, None, Result, Ok, Err, refl, sym, ◌∙◌, ap, subst, inl, inr, append_assoc, arith}
+use Rattle.std.proofs.Common.{◌≡◌, ◌≢◌, ◌<◌, ◌+◌, List, [], ◌∷◌, ◌++◌, length, Option, Some, None, Result, Ok, Err, refl, sym, ◌∙◌, ap, subst, inl, inr, append_assoc, arith}
 use Rattle.std.proofs.lemmas.List.{append-nil, length-append}
 use Rattle.flume_core.specs.declared.error.SendError.{SendError}
 use Rattle.flume_core.specs.declared.error.SendError.TheVariants.{Disconnected, NoMemory}
 use Rattle.flume_calls.specs.ManySends.{IsRest}
 use Rattle.flume_calls.specs.declared.polled.send.PolledSend.{PolledSend}
-use Rattle.flume_calls.specs.declared.polled.send.PolledSend.TheVariants.{Finished}
+use Rattle.flume_calls.specs.declared.polled.send.PolledSend.TheVariants.{Unsent, Parked, Finished}
 use Rattle.flume.specs.ManySendCalls.{IsRestAfterWait, IsEndOf, LeavesList, PollLeaves}
 use Rattle.flume.proofs.SendPolls.{Answer, back_of}
 
@@ -82,22 +82,6 @@ module _ {T : Type 0} where
   list_end messages left (Some (Err (Disconnected back))) last = behind_first messages (back ∷ left) left back last refl
   list_end messages left (Some (Err (NoMemory back))) last = behind_first messages (back ∷ left) left back last refl
 
-  -- the same of a poll that first polls a send
-  pub poll_end : (send : PolledSend T) (messages left : List T) (answer : Answer T) → PollLeaves send messages left answer → IsEndOf messages left
-  poll_end send messages left answer (inl same) = ([], sym same.1)
-  poll_end send messages left answer (inr leaves) = list_end messages left answer leaves
-
-  -- where the send had ended, the poll went on to the list
-  pub past_send : (send : PolledSend T) (messages left : List T) (answer : Answer T) → send ≡ Finished → PollLeaves send messages left answer
-      → LeavesList messages left answer
-  past_send send messages left answer over (inl same) = absurd (same.0 over)
-  past_send send messages left answer over (inr leaves) = leaves
-
-  -- where all went well so far, the poll went on to the list
-  pub past_ok : (send : PolledSend T) (messages left : List T) → PollLeaves send messages left (Some (Ok tt)) → LeavesList messages left (Some (Ok tt))
-  past_ok send messages left (inl same) = absurd (same.2 refl)
-  past_ok send messages left (inr leaves) = leaves
-
   -- what a poll leaves of what an earlier one left
   pub next_leaves : (all now left : List T) (answer : Answer T) → IsEndOf all now → LeavesList now left answer → LeavesList all left answer
   next_leaves all now left None last leaves = (leaves.0, last_of_last all now (leaves.0 ∷ left) last leaves.1)
@@ -105,6 +89,54 @@ module _ {T : Type 0} where
   next_leaves all now left (Some (Ok sent)) last (inr one) = inr (one.0, last_of_last all now (one.0 ∷ left) last one.1)
   next_leaves all now left (Some (Err (Disconnected back))) last more = last_of_last all now (back ∷ left) last more
   next_leaves all now left (Some (Err (NoMemory back))) last more = last_of_last all now (back ∷ left) last more
+
+  -- what is behind a message of a list that begins with a kept one is the end of the others
+  behind_kept : (kept : T) (messages left : List T) (one : T) → IsEndOf (kept ∷ messages) (one ∷ left) → IsEndOf messages left
+  behind_kept kept messages left one ([], is) = ([], let same : messages ≡ left = cc in same)
+  behind_kept kept messages left one (first ∷ sent, is) =
+      behind_first messages (one ∷ left) left one (sent, let same : messages ≡ sent ++ one ∷ left = cc in same) refl
+
+  -- of a list that begins with a kept message and that a poll was sending, the last of the others are left
+  kept_end : (kept : T) (messages left : List T) (answer : Answer T) → LeavesList (kept ∷ messages) left answer → IsEndOf messages left
+  kept_end kept messages left None leaves = behind_kept kept messages left leaves.0 leaves.1
+  kept_end kept messages left (Some (Ok sent)) (inl none) =
+      subst (λ left. IsEndOf messages left) (sym none) (messages, sym (append-nil messages))
+  kept_end kept messages left (Some (Ok sent)) (inr one) = behind_kept kept messages left one.0 one.1
+  kept_end kept messages left (Some (Err (Disconnected back))) last = behind_kept kept messages left back last
+  kept_end kept messages left (Some (Err (NoMemory back))) last = behind_kept kept messages left back last
+
+  -- the same of a poll that first polls a send
+  pub poll_end : (send : PolledSend T) (messages left : List T) (answer : Answer T) → PollLeaves send messages left answer → IsEndOf messages left
+  poll_end (Unsent kept) messages left answer leaves = kept_end kept messages left answer leaves
+  poll_end (Parked ticket) messages left answer (inl same) = ([], sym same.0)
+  poll_end (Parked ticket) messages left answer (inr leaves) = list_end messages left answer leaves
+  poll_end Finished messages left answer leaves = list_end messages left answer leaves
+
+  -- where the send had ended, the poll sent of the list
+  pub past_send : (send : PolledSend T) (messages left : List T) (answer : Answer T) → send ≡ Finished → PollLeaves send messages left answer
+      → LeavesList messages left answer
+  past_send send messages left answer over leaves = subst (λ send. PollLeaves send messages left answer) over leaves
+
+  -- where the send ended well, the poll went on to the list
+  pub went_on : (send : PolledSend T) (messages left : List T) (answer : Answer T) → LeavesList messages left answer
+      → PollLeaves send messages left answer
+  went_on (Unsent kept) messages left answer leaves = next_leaves (kept ∷ messages) messages left answer (kept ∷ [], refl) leaves
+  went_on (Parked ticket) messages left answer leaves = inr leaves
+  went_on Finished messages left answer leaves = leaves
+
+  -- where the send waits or fails, the list is as it was
+  pub stopped : (send : PolledSend T) (messages : List T) (answer : Answer T) → answer ≢ Some (Ok tt)
+      → (send ≡ Finished → answer ≡ Some (Ok tt))
+      → ((message : T) → send ≡ Unsent message → (error : SendError T) → answer ≡ Some (Err error) → back_of error ≡ message)
+      → PollLeaves send messages messages answer
+  stopped (Unsent kept) messages None unfit over came = (kept, ([], refl))
+  stopped (Unsent kept) messages (Some (Ok sent)) unfit over came = absurd (unfit refl)
+  stopped (Unsent kept) messages (Some (Err (Disconnected back))) unfit over came =
+      ([], ap (λ m. m ∷ messages) (sym (came kept refl (Disconnected back) refl)))
+  stopped (Unsent kept) messages (Some (Err (NoMemory back))) unfit over came =
+      ([], ap (λ m. m ∷ messages) (sym (came kept refl (NoMemory back) refl)))
+  stopped (Parked ticket) messages answer unfit over came = inl (refl, unfit)
+  stopped Finished messages answer unfit over came = absurd (unfit (over refl))
 
   -- a poll that sent some of the list leaves fewer
   pub fewer : (messages left : List T) → 0 < length messages → LeavesList messages left (Some (Ok tt)) → length left < length messages

@@ -1,5 +1,6 @@
--- A poll of a send that is ready has ended it; where its message wasn't offered before, what comes back is that message.
-use Rattle.std.proofs.Common.{◌≡◌, Option, Some, None, Result, Ok, Err, ◌∙◌, ap}
+-- A poll of a send that is ready has ended it, and one that is pending has parked it; where its message wasn't offered
+-- before, what comes back is that message.
+use Rattle.std.proofs.Common.{◌≡◌, ℕ, Bool, true, false, Option, Some, None, Result, Ok, Err, ◌∙◌, refl, ap, subst}
 use Rattle.flume_state.specs.State.{State}
 use Rattle.flume_core.specs.declared.error.SendError.{SendError}
 use Rattle.flume_core.specs.declared.error.SendError.TheVariants.{Disconnected, NoMemory}
@@ -7,13 +8,18 @@ use Rattle.flume_core.specs.declared.error.SendTimeoutError.TheVariants as timed
 use Rattle.flume_calls.specs.declared.calls.send.SendNext.{SendNext}
 use Rattle.flume_calls.specs.declared.calls.send.SendNext.TheVariants.{Done, NeedSignal, Park}
 use Rattle.flume_calls.specs.declared.polled.send.PolledSend.{PolledSend}
-use Rattle.flume_calls.specs.declared.polled.send.PolledSend.TheVariants.{Unsent, Finished}
-use Rattle.flume_calls.specs.SendTurns.{IsFirst, IsParking}
+use Rattle.flume_calls.specs.declared.polled.send.PolledSend.TheVariants.{Unsent, Parked, Finished}
+use Rattle.flume_calls.specs.SendTurns.{IsFirst, IsParking, IsAgain}
 use Rattle.flume_calls.specs.PolledSends.{settles_send, SendPoll, Over, Tries, Parks, Asks}
 
 -- what a poll answers
 abbrev pub Answer : Type 0 → Type 0
 Answer T = Option (Result (Unit {0}) (SendError T))
+
+-- a turn of a parked send that waits on keeps its ticket
+same_ticket : (T : Type 0) (ticket : ℕ) (late : Bool) (same : ℕ) → IsAgain {T = T} ticket late (Park same) → same ≡ ticket
+same_ticket T ticket false same again = again
+same_ticket T ticket true same again = absurd again
 
 module _ {T : Type 0} where
   -- the message that an error holds
@@ -31,6 +37,21 @@ module _ {T : Type 0} where
   settled (NeedSignal back) after answer is result ready = is.0
   settled (Park ticket) after answer is result ready =
       let waits : answer ≡ None = is.1 in absurd (let none : ⊥ = cc in none)
+
+  -- a send whose poll is pending is parked, by its turn
+  waiting : (next : SendNext T) (after : PolledSend T) (answer : Answer T) → settles_send next after answer → answer ≡ None
+      → (ticket : ℕ) × (next ≡ Park ticket) × (after ≡ Parked ticket)
+  waiting (Done (Ok sent)) after answer is none =
+      let ready : answer ≡ Some (Ok tt) = is.1 in absurd (let no : ⊥ = cc in no)
+  waiting (Done (Err (timed.Disconnected back))) after answer is none =
+      let ready : answer ≡ Some (Err (Disconnected back)) = is.1 in absurd (let no : ⊥ = cc in no)
+  waiting (Done (Err (timed.NoMemory back))) after answer is none =
+      let ready : answer ≡ Some (Err (NoMemory back)) = is.1 in absurd (let no : ⊥ = cc in no)
+  waiting (Done (Err (timed.Timeout back))) after answer is none =
+      let ready : answer ≡ Some (Err (NoMemory back)) = is.1 in absurd (let no : ⊥ = cc in no)
+  waiting (NeedSignal back) after answer is none =
+      let ready : answer ≡ Some (Err (NoMemory back)) = is.1 in absurd (let no : ⊥ = cc in no)
+  waiting (Park ticket) after answer is none = (ticket, refl, is.0)
 
   -- what comes back by a first turn
   first_back : (message : T) (next : SendNext T) → IsFirst message next → (after : PolledSend T) (answer : Answer T)
@@ -68,6 +89,27 @@ module _ {T S A : Type 0} {send after : PolledSend T} {signal : Option S} {old n
       settled next after answer settles result ready
   ended (Asks late ticket next is held signalled turned again outcome settles) result ready =
       settled next after answer settles result ready
+
+  -- a send whose poll is pending is parked
+  pub is_parked : SendPoll A send signal old new after answer → answer ≡ None → (ticket : ℕ) × (after ≡ Parked ticket)
+  is_parked (Over is same finished ok) none = absurd (let no : ⊥ = cc in no)
+  is_parked (Tries message next is given turned first outcome settles) none =
+      let parked = waiting next after answer settles none in (parked.0, parked.2)
+  is_parked (Parks message next given is some turned parking outcome settles) none =
+      let parked = waiting next after answer settles none in (parked.0, parked.2)
+  is_parked (Asks late ticket next is held signalled turned again outcome settles) none =
+      let parked = waiting next after answer settles none in (parked.0, parked.2)
+
+  -- one that was parked waits on under its ticket
+  pub stays : SendPoll A send signal old new after answer → (ticket : ℕ) → send ≡ Parked ticket → answer ≡ None → after ≡ Parked ticket
+  stays (Over is same finished ok) ticket parked none = absurd (let no : ⊥ = cc in no)
+  stays (Tries message next is given turned first outcome settles) ticket parked none = absurd (let no : ⊥ = cc in no)
+  stays (Parks message next given is some turned parking outcome settles) ticket parked none = absurd (let no : ⊥ = cc in no)
+  stays (Asks late t next is held signalled turned again outcome settles) ticket parked none =
+      let now = waiting next after answer settles none in
+      let same : t ≡ ticket = cc in
+      let kept = same_ticket T t late now.0 (subst (λ next. IsAgain t late next) now.1 again) in
+      now.2 ∙ ap Parked (kept ∙ same)
 
   -- a send that has ended answers that it is sent
   pub is_over : SendPoll A send signal old new after answer → send ≡ Finished → answer ≡ Some (Ok tt)

@@ -1,8 +1,10 @@
 -- Iterators over received messages, and drains.
 use Rattle.std.specs.Prelude.{◌≡◌, ◌≢◌, ◌↔◌, ℕ, ◌+◌, ◌-◌, ◌^◌, Bool, true, false, List}
 use Rattle.std.specs.Prelude.{Option, Some, None, IsSome, IsNone, Result, Ok, Err}
+use Rattle.std.specs.Result.{result_ok, result_err}
 use Rattle.flume_deadline.specs.declared.Deadline.{Deadline}
 use Rattle.flume_deadline.specs.declared.Deadline.TheVariants.{Never}
+use Rattle.flume_deadline.specs.Deadlines.{CanBeAhead}
 use Rattle.flume_model.specs.declared.step.Reply.{Reply}
 use Rattle.flume_model.specs.declared.step.Reply.TheVariants.{Drained}
 use Rattle.flume_model.specs.declared.step.Reply.TheVariants as reply
@@ -11,6 +13,7 @@ use Rattle.flume_core.specs.declared.error.RecvError.TheVariants as recv_error
 use Rattle.flume_core.specs.declared.error.RecvTimeoutError.{RecvTimeoutError}
 use Rattle.flume_core.specs.declared.error.RecvTimeoutError.TheVariants as timeout
 use Rattle.flume_core.specs.declared.error.NoMemory.{NoMemory}
+use Rattle.flume.specs.GateSteps.{Receives}
 
 -- what a contract sees of an iterator over received messages
 pub record Receiving : Type 0 where
@@ -48,7 +51,7 @@ receiving_until channel deadline =
     record { channel = channel; deadline = deadline; end = None; left = 2 ^ 64 - 1 }
 
 -- one `next` of it, which gave this
-pub record GoesOnInTime {T : Type 0} (old : ReceivingUntil) (item : Option T)
+pub record GoesOnInTime {T : Type 0} (A : Type 0) (old : ReceivingUntil) (item : Option T)
     (new : ReceivingUntil) : Type 0 where
   pub channel : new.channel ≡ old.channel
   pub deadline : new.deadline ≡ old.deadline
@@ -57,6 +60,11 @@ pub record GoesOnInTime {T : Type 0} (old : ReceivingUntil) (item : Option T)
   pub end : IsSome new.end ↔ IsNone item
   -- one without a deadline is never late
   pub late : new.end ≡ Some timeout.Timeout → old.deadline ≢ Never
+  -- unless it ended at the deadline, the clock showed a time before it
+  pub ahead : new.end ≢ Some timeout.Timeout → CanBeAhead old.deadline
+  -- and a receive answered so
+  pub made : new.end ≢ Some timeout.Timeout → (answer : Result T RecvTimeoutError)
+      × Receives A old.deadline answer × (item ≡ result_ok answer) × (new.end ≡ result_err answer)
 
 module _ {T : Type 0} where
   -- whether a receive was refused because memory ran out

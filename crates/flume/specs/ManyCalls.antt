@@ -1,6 +1,5 @@
 -- Receives of many messages, as their callers see them.
-use Rattle.std.specs.Prelude.{◌≡◌, ℕ, ◌≤◌, List, ◌++◌, length, Option, Some, Result, Ok}
-use Rattle.flume_core.specs.declared.error.RecvError.{RecvError}
+use Rattle.std.specs.Prelude.{◌≡◌, ℕ, ◌≤◌, List, ◌++◌, length, Ok}
 use Rattle.flume_calls.specs.declared.calls.receive.RecvNext.{RecvNext}
 use Rattle.flume_calls.specs.declared.calls.receive.RecvNext.TheVariants.{Done}
 use Rattle.flume_calls.specs.ManyReceives.{with_more}
@@ -32,8 +31,3 @@ module _ {T : Type 0} where
   abbrev pub IsntDone : RecvNext T → Type 0
   IsntDone (Done result) = ⊥
   IsntDone next = Unit {0}
-
-  -- what a poll leaves of the list, by its answer
-  abbrev pub PollGrows : ℕ → List T → List T → Option (Result ℕ RecvError) → Type 0
-  PollGrows most before after (Some (Ok count)) = Came most before after count
-  PollGrows most before after _ = after ≡ before

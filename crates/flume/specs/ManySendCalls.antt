@@ -4,7 +4,7 @@ use Rattle.std.specs.Prelude.{◌++◌}
 use Rattle.flume_core.specs.declared.error.SendError.{SendError}
 use Rattle.flume_core.specs.declared.error.SendError.TheVariants.{Disconnected, NoMemory}
 use Rattle.flume_calls.specs.declared.polled.send.PolledSend.{PolledSend}
-use Rattle.flume_calls.specs.declared.polled.send.PolledSend.TheVariants.{Finished}
+use Rattle.flume_calls.specs.declared.polled.send.PolledSend.TheVariants.{Unsent, Parked, Finished}
 
 module _ {T : Type 0} where
   -- What is left of these messages after one of them waited: that one and all behind it. The first
@@ -31,10 +31,12 @@ module _ {T : Type 0} where
   LeavesList messages left (Some (Err (Disconnected back))) = IsEndOf messages (back ∷ left)
   LeavesList messages left (Some (Err (NoMemory back))) = IsEndOf messages (back ∷ left)
 
-  -- the same of a poll that first polls this send: where that one waits or fails the list is as it
-  -- was
+  -- The same of a poll that first polls this send, as a sink does that keeps it. Its message goes
+  -- before the list. Of one that is parked only the channel knows the message: where that one waits
+  -- on, or comes back, the list is as it was.
   abbrev pub PollLeaves : PolledSend T → List T → List T
       → Option (Result (Unit {0}) (SendError T)) → Type 0
-  PollLeaves send messages left answer =
-      ((send ≢ Finished) × (left ≡ messages) × (answer ≢ Some (Ok tt)))
-      ⊎ LeavesList messages left answer
+  PollLeaves (Unsent message) messages left answer = LeavesList (message ∷ messages) left answer
+  PollLeaves (Parked ticket) messages left answer =
+      ((left ≡ messages) × (answer ≢ Some (Ok tt))) ⊎ LeavesList messages left answer
+  PollLeaves Finished messages left answer = LeavesList messages left answer

@@ -1,7 +1,8 @@
 //! What an end answers where its call has ended: tables of values, which know of no lock.
-ghost use Rattle.std.specs.Prelude.{◌≡◌, ◌≢◌, ◌↔◌, ℕ, Vec, Ok, Err};
+ghost use Rattle.std.specs.Prelude.{◌≡◌, ◌≢◌, ◌↔◌, Vec, Ok, Err};
 ghost use Rattle.std.specs.declared.collections.VecDeque.{VecDeque};
 ghost use Rattle.flume_calls.specs.ReceiveTurns as receive;
+ghost use Rattle.flume.specs.CallSteps as answer;
 ghost use Rattle.flume.specs.Endings.{NeverParks};
 
 use flume_calls::calls::{RecvNext, SendNext};
@@ -15,14 +16,7 @@ use std::collections::VecDeque;
 #[inline(always)]
 pub(crate) fn tried_send<T: Drop>(turn: SendNext<T>) -> Result<(), TrySendError<T>>
     requires never_parks { NeverParks turn }
-    ensures sent { (turn ≡ SendNext.Done (Ok tt)) ↔ (result ≡ Ok tt) }
-    ensures full { (back : T) → (turn ≡ SendNext.NeedSignal back)
-        ↔ (result ≡ Err (TrySendError.Full back)) }
-    ensures disconnected { (back : T)
-        → (turn ≡ SendNext.Done (Err (SendTimeoutError.Disconnected back)))
-        ↔ (result ≡ Err (TrySendError.Disconnected back)) }
-    ensures no_memory { (back : T) → (turn ≡ SendNext.Done (Err (SendTimeoutError.NoMemory back)))
-        ↔ (result ≡ Err (TrySendError.NoMemory back)) }
+    ensures turn { turn ≡ answer.tried_send result }
 {
     match turn {
         SendNext::Done(Ok(())) => Ok(()),
@@ -67,11 +61,7 @@ pub(crate) fn waited_send<T: Drop>(
     ended: Result<(), SendTimeoutError<T>>,
 ) -> Result<(), SendError<T>>
     requires in_time { (back : T) → ended ≢ Err (SendTimeoutError.Timeout back) }
-    ensures sent { (ended ≡ Ok tt) ↔ (result ≡ Ok tt) }
-    ensures disconnected { (back : T) → (ended ≡ Err (SendTimeoutError.Disconnected back))
-        ↔ (result ≡ Err (SendError.Disconnected back)) }
-    ensures no_memory { (back : T) → (ended ≡ Err (SendTimeoutError.NoMemory back))
-        ↔ (result ≡ Err (SendError.NoMemory back)) }
+    ensures ended { ended ≡ answer.untimed_send result }
 {
     match ended {
         Ok(()) => Ok(()),
@@ -81,39 +71,14 @@ pub(crate) fn waited_send<T: Drop>(
     }
 }
 
-/// What a tried receive answers, by its one turn.
+/// What a tried receive answers, by its one turn: of a message, or of how many came.
 #[inline(always)]
 pub(crate) fn tried_receive<T: Drop>(turn: RecvNext<T>) -> Result<T, TryRecvError>
     requires first { receive.IsFirst turn }
-    requires served { receive.IsntRefused turn }
-    ensures message { (message : T) → (turn ≡ RecvNext.Done (Ok message)) ↔ (result ≡ Ok message) }
-    ensures empty { (turn ≡ RecvNext.NeedSignal) ↔ (result ≡ Err TryRecvError.Empty) }
-    ensures disconnected { (turn ≡ RecvNext.Done (Err RecvTimeoutError.Disconnected))
-        ↔ (result ≡ Err TryRecvError.Disconnected) }
-    ensures never_no_memory { result ≢ Err TryRecvError.NoMemory }
+    ensures turn { turn ≡ answer.tried_receive result }
 {
     match turn {
-        RecvNext::Done(Ok(message)) => Ok(message),
-        RecvNext::Done(Err(RecvTimeoutError::Disconnected)) => Err(TryRecvError::Disconnected),
-        RecvNext::NeedSignal => Err(TryRecvError::Empty),
-        RecvNext::Done(Err(RecvTimeoutError::Timeout | RecvTimeoutError::NoMemory))
-        | RecvNext::Park(_)
-        | RecvNext::Refused(_) => unreachable!(),
-    }
-}
-
-/// What a tried receive of many answers, by its one turn.
-pub(crate) fn tried_receives(turn: RecvNext<usize>) -> Result<usize, TryRecvError>
-    requires first { receive.IsFirst turn }
-    ensures came { (count : ℕ) → (turn ≡ RecvNext.Done (Ok count)) ↔ (result ≡ Ok count) }
-    ensures empty { (turn ≡ RecvNext.NeedSignal) ↔ (result ≡ Err TryRecvError.Empty) }
-    ensures disconnected { (turn ≡ RecvNext.Done (Err RecvTimeoutError.Disconnected))
-        ↔ (result ≡ Err TryRecvError.Disconnected) }
-    ensures no_memory { (turn ≡ RecvNext.Done (Err RecvTimeoutError.NoMemory))
-        ↔ (result ≡ Err TryRecvError.NoMemory) }
-{
-    match turn {
-        RecvNext::Done(Ok(count)) => Ok(count),
+        RecvNext::Done(Ok(came)) => Ok(came),
         RecvNext::Done(Err(RecvTimeoutError::Disconnected)) => Err(TryRecvError::Disconnected),
         RecvNext::Done(Err(RecvTimeoutError::NoMemory)) => Err(TryRecvError::NoMemory),
         RecvNext::NeedSignal => Err(TryRecvError::Empty),
@@ -126,11 +91,7 @@ pub(crate) fn tried_receives(turn: RecvNext<usize>) -> Result<usize, TryRecvErro
 #[inline(always)]
 pub(crate) fn waited_receive<T: Drop>(ended: Result<T, RecvTimeoutError>) -> Result<T, RecvError>
     requires in_time { ended ≢ Err RecvTimeoutError.Timeout }
-    ensures message { (message : T) → (ended ≡ Ok message) ↔ (result ≡ Ok message) }
-    ensures disconnected { (ended ≡ Err RecvTimeoutError.Disconnected)
-        ↔ (result ≡ Err RecvError.Disconnected) }
-    ensures no_memory { (ended ≡ Err RecvTimeoutError.NoMemory)
-        ↔ (result ≡ Err RecvError.NoMemory) }
+    ensures ended { ended ≡ answer.untimed_receive result }
 {
     match ended {
         Ok(message) => Ok(message),

@@ -3,6 +3,8 @@ ghost use Rattle.std.specs.Prelude.{◌≡◌, ◌≢◌, ◌↔◌, IsTrue, Som
 ghost use Rattle.std.specs.Iterator.{at_most};
 ghost use Rattle.flume_deadline.specs.declared.Deadline.{Deadline};
 ghost use Rattle.flume_deadline.specs.declared.Deadline.TheVariants.{At, Never};
+ghost use Rattle.flume_deadline.specs.Deadlines.{IsAfter, CanBeAhead};
+ghost use Rattle.flume.specs.GateSteps.{Receives};
 ghost use Rattle.flume.specs.Iterators.{receiving_until, GoesOnInTime};
 
 use crate::gate::Gate;
@@ -87,7 +89,8 @@ impl<T: Drop, R: Waits, A: Allocator + Copy> Receiver<T, R, A> {
     /// assert_eq!(rt; messages.ended(), Ok(()));
     /// ```
     pub fn iter_timeout(&self, timeout: Duration) -> DeadlineIter<'_, T, R, A>
-        ensures new { (deadline : Deadline) × (result ≡ receiving_until self.now deadline) }
+        ensures new { (deadline : Deadline) × IsAfter timeout deadline
+            × (result ≡ receiving_until self.now deadline) }
     {
         DeadlineIter::over(self, Deadline::after(self.runtime(), timeout))
     }
@@ -144,6 +147,8 @@ fn receive<T: Drop, R: Waits, A: Allocator + Copy>(
     deadline: Deadline,
 ) -> Result<T, RecvTimeoutError>
     ensures late { result ≡ Err RecvTimeoutError.Timeout → deadline ≢ Never }
+    ensures ahead { result ≢ Err RecvTimeoutError.Timeout → CanBeAhead deadline }
+    ensures made { result ≢ Err RecvTimeoutError.Timeout → Receives A deadline result }
 {
     let rt = receiver.runtime();
     if deadline.is_reached(rt) {
@@ -156,7 +161,7 @@ fn receive<T: Drop, R: Waits, A: Allocator + Copy>(
 impl<'a, T: Drop, R: Waits, A: Allocator + Copy> Iterator for DeadlineIter<'a, T, R, A> {
     type Item = T;
 
-    ghost next_gives = { GoesOnInTime };
+    ghost next_gives = { GoesOnInTime A };
 
     ghost remaining = { λ it. at_most it.left };
 

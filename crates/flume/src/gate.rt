@@ -1,9 +1,8 @@
 //! The gate of the ends: each turn of a call is made under the channel's lock, and the call waits
 //! on a parker of its own.
-ghost use Rattle.std.specs.Prelude.{◌≡◌, ◌≢◌, ⊤, Bool, true, false};
-ghost use Rattle.flume_deadline.specs.declared.Deadline.TheVariants.{Never};
-ghost use Rattle.flume_calls.specs.SendTurns as send;
-ghost use Rattle.flume_calls.specs.ReceiveTurns as receive;
+ghost use Rattle.std.specs.Prelude.{◌≡◌, ⊤};
+ghost use Rattle.flume.specs.GateSteps.{Arms, WaitsUpTo, SendFirst, SendPark, SendAgain};
+ghost use Rattle.flume.specs.GateSteps.{ReceiveFirst, ReceivePark, ReceiveAgain};
 
 use crate::shared::{Shared, Waits};
 use crate::signal::{Parker, Signal};
@@ -50,15 +49,15 @@ impl<T: Drop, R: Waits, A: Allocator + Copy> SendGate<T> for Gate<'_, T, R, A> {
 
     type Signal = Signal<A>;
 
-    ghost firsts = { λ old message new next. (new ≡ old) × send.IsFirst message next };
+    ghost firsts = { SendFirst A };
 
-    ghost arms = { λ old new _. new ≡ old };
+    ghost arms = { Arms };
 
-    ghost parks = { λ old message new next. (new ≡ old) × send.IsParking message next };
+    ghost parks = { SendPark A };
 
-    ghost agains = { λ old ticket late new next. (new ≡ old) × send.IsAgain ticket late next };
+    ghost agains = { SendAgain A };
 
-    ghost waits = { λ old new late. (new ≡ old) × (late ≡ true → old ≢ Never) };
+    ghost waits = { WaitsUpTo };
 
     #[inline(always)]
     fn first(&mut self, message: T) -> SendNext<T> {
@@ -92,17 +91,15 @@ impl<T: Drop, R: Waits, A: Allocator + Copy> RecvGate<T> for Gate<'_, T, R, A> {
 
     type Signal = Signal<A>;
 
-    ghost firsts = { λ old new next.
-        (new ≡ old) × receive.IsFirst next × receive.IsntRefused next };
+    ghost firsts = { ReceiveFirst A };
 
-    ghost arms = { λ old new _. new ≡ old };
+    ghost arms = { Arms };
 
-    ghost parks = { λ old new next. (new ≡ old) × receive.IsParking next };
+    ghost parks = { ReceivePark A };
 
-    ghost agains = { λ old ticket late new next.
-        (new ≡ old) × receive.IsAgain ticket late next × receive.IsntRefused next };
+    ghost agains = { ReceiveAgain A };
 
-    ghost waits = { λ old new late. (new ≡ old) × (late ≡ true → old ≢ Never) };
+    ghost waits = { WaitsUpTo };
 
     ghost is_armed = { λ _. ⊤ };
 

@@ -99,6 +99,7 @@ mod send_many;
 mod sender;
 mod shared;
 pub mod signal;
+mod single;
 mod task;
 mod weak;
 

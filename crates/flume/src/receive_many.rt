@@ -1,9 +1,13 @@
 //! Receives of many messages: each call takes what is there, under one lock.
-ghost use Rattle.std.specs.Prelude.{◌≡◌, ◌≢◌, ◌<◌, true, Err, IfOk, OnErr, vec_len, vec_capacity};
+ghost use Rattle.std.specs.Prelude.{◌≡◌, ◌≢◌, ◌⊎◌, ◌+◌, ◌<◌, true, Ok, Err, IfOk, OnErr};
+ghost use Rattle.std.specs.Prelude.{vec_len, vec_capacity};
 ghost use Rattle.flume_deadline.specs.declared.Deadline.TheVariants.{Never};
+ghost use Rattle.flume.specs.CallSteps as answer;
 ghost use Rattle.flume.specs.ManyCalls.{Came, GrowsBy, AnswersMany, IsntDone};
+ghost use Rattle.flume.specs.ManySteps.{TakesFirst, FindsNone, ReceivesMany};
+ghost use Rattle.flume.specs.Turning.{HasDone};
 
-use crate::answers::{tried_receives, waited_receive};
+use crate::answers::{tried_receive, waited_receive};
 use crate::receiver::Receiver;
 use crate::shared::{Shared, Waits};
 use crate::signal::{Parker, Signal};
@@ -42,15 +46,23 @@ impl<T: Drop, R: Waits, A: Allocator + Copy> Receiver<T, R, A> {
     /// assert_eq!(rt; rx.try_recv_many(&mut messages, 2), Err(TryRecvError::Empty));
     /// ```
     pub fn try_recv_many(&self, into: &mut Vec<T, A>, most: usize) -> Result<usize, TryRecvError>
+        ensures made { 0 < most
+            → TakesFirst A into.old.items into.new.items (answer.tried_receive result) }
         ensures came { IfOk result (Came most into.old.items into.new.items) }
         ensures unchanged { OnErr result (into.new.items ≡ into.old.items) }
+        ensures none { most ≡ 0 → result ≡ Ok 0 }
+        ensures no_memory { result ≡ Err TryRecvError.NoMemory
+            → vec_capacity into.old < vec_len into.old + most }
     {
+        if most == 0 {
+            return Ok(0);
+        }
         let list = replace(into, Vec::new(self.shared().alloc));
         let ManyNext { into: list, next } = self
             .shared()
             .call_all(FirstReceiveMany { into: list, most });
         *into = list;
-        tried_receives(next)
+        tried_receive(next)
     }
 
     /// Takes messages as `try_recv_many` does, and waits while none is there. Once one has come it
@@ -73,8 +85,13 @@ impl<T: Drop, R: Waits, A: Allocator + Copy> Receiver<T, R, A> {
     /// assert_eq!(rt; rx.recv_many(&mut messages, 64), Err(RecvError::Disconnected));
     /// ```
     pub fn recv_many(&self, into: &mut Vec<T, A>, most: usize) -> Result<usize, RecvError>
+        ensures made { 0 < most → ReceivesMany A into.old.items into.new.items
+            (answer.untimed_receive result) }
         ensures came { IfOk result (Came most into.old.items into.new.items) }
         ensures unchanged { OnErr result (into.new.items ≡ into.old.items) }
+        ensures none { most ≡ 0 → result ≡ Ok 0 }
+        ensures no_memory { result ≡ Err RecvError.NoMemory
+            → (vec_capacity into.old < vec_len into.old + most) ⊎ FindsNone T A }
     {
         waited_receive(self.many_by(into, most, Deadline::Never))
     }
@@ -96,8 +113,12 @@ impl<T: Drop, R: Waits, A: Allocator + Copy> Receiver<T, R, A> {
         most: usize,
         deadline: Instant,
     ) -> Result<usize, RecvTimeoutError>
+        ensures made { 0 < most → ReceivesMany A into.old.items into.new.items result }
         ensures came { IfOk result (Came most into.old.items into.new.items) }
         ensures unchanged { OnErr result (into.new.items ≡ into.old.items) }
+        ensures none { most ≡ 0 → result ≡ Ok 0 }
+        ensures no_memory { result ≡ Err RecvTimeoutError.NoMemory
+            → (vec_capacity into.old < vec_len into.old + most) ⊎ FindsNone T A }
     {
         self.many_by(into, most, Deadline::At(deadline))
     }
@@ -118,8 +139,12 @@ impl<T: Drop, R: Waits, A: Allocator + Copy> Receiver<T, R, A> {
         most: usize,
         timeout: Duration,
     ) -> Result<usize, RecvTimeoutError>
+        ensures made { 0 < most → ReceivesMany A into.old.items into.new.items result }
         ensures came { IfOk result (Came most into.old.items into.new.items) }
         ensures unchanged { OnErr result (into.new.items ≡ into.old.items) }
+        ensures none { most ≡ 0 → result ≡ Ok 0 }
+        ensures no_memory { result ≡ Err RecvTimeoutError.NoMemory
+            → (vec_capacity into.old < vec_len into.old + most) ⊎ FindsNone T A }
     {
         let deadline = Deadline::after(self.runtime(), timeout);
         self.many_by(into, most, deadline)
@@ -132,8 +157,12 @@ impl<T: Drop, R: Waits, A: Allocator + Copy> Receiver<T, R, A> {
         most: usize,
         deadline: Deadline,
     ) -> Result<usize, RecvTimeoutError>
+        ensures made { 0 < most → ReceivesMany A into.old.items into.new.items result }
         ensures came { IfOk result (Came most into.old.items into.new.items) }
         ensures unchanged { OnErr result (into.new.items ≡ into.old.items) }
+        ensures none { most ≡ 0 → result ≡ Ok 0 }
+        ensures no_memory { result ≡ Err RecvTimeoutError.NoMemory
+            → (vec_capacity into.old < vec_len into.old + most) ⊎ FindsNone T A }
         ensures in_time { deadline ≡ Never → result ≢ Err RecvTimeoutError.Timeout }
     {
         if most == 0 {
@@ -175,6 +204,7 @@ impl<T: Drop, R: Waits, A: Allocator + Copy> ManyGate<'_, T, R, A> {
         ensures deadline { self.new.deadline ≡ self.old.deadline }
         ensures most { self.new.most ≡ self.old.most }
         ensures answers { AnswersMany (C.answers turn) result }
+        ensures made { AnswersMany (HasDone A (C.does turn)) result }
         ensures grows { GrowsBy self.old.most self.old.into.items self.new.into.items result }
         ensures room { IsntDone result → vec_len self.new.into < vec_capacity self.new.into }
     {
@@ -188,6 +218,9 @@ impl<T: Drop, R: Waits, A: Allocator + Copy> ManyGate<'_, T, R, A> {
 
 impl<T: Drop, R: Waits, A: Allocator + Copy> RecvGate<usize> for ManyGate<'_, T, R, A> {
     ghost use Rattle.flume_calls.specs.ReceiveTurns as receive;
+    ghost use Rattle.flume_model.specs.declared.step.Kind.TheVariants.{Block};
+    ghost use Rattle.flume_model.specs.declared.step.Step.TheVariants.{Recv};
+    ghost use Rattle.flume.specs.ManySteps.{LacksRoom, MakesMany};
 
     type Waiter = Arc<Parker, A>;
 
@@ -195,19 +228,23 @@ impl<T: Drop, R: Waits, A: Allocator + Copy> RecvGate<usize> for ManyGate<'_, T,
 
     ghost firsts = { λ old new next.
         (new.deadline ≡ old.deadline) × (new.most ≡ old.most) × receive.IsFirst next
-        × GrowsBy old.most old.into.items new.into.items next };
+        × GrowsBy old.most old.into.items new.into.items next
+        × TakesFirst A old.into.items new.into.items next × LacksRoom old.into old.most next };
 
     ghost arms = { λ old new _. (new.deadline ≡ old.deadline) × (new.most ≡ old.most)
         × (new.into.items ≡ old.into.items) };
 
     ghost parks = { λ old new next.
         (new.deadline ≡ old.deadline) × (new.most ≡ old.most) × receive.IsParking next
-        × GrowsBy old.most old.into.items new.into.items next };
+        × GrowsBy old.most old.into.items new.into.items next
+        × MakesMany {T = T} A (Recv Block) receive.after_recv next };
 
     ghost agains = { λ old ticket late new next.
         (new.deadline ≡ old.deadline) × (new.most ≡ old.most)
         × receive.IsAgain ticket late next × receive.IsntRefused next
-        × GrowsBy old.most old.into.items new.into.items next };
+        × GrowsBy old.most old.into.items new.into.items next
+        × MakesMany {T = T} A (receive.step_of_parked_receive ticket late)
+        (receive.after_parked_receive ticket late) next };
 
     ghost waits = { λ old new late.
         (new.deadline ≡ old.deadline) × (new.most ≡ old.most)

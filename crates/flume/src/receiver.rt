@@ -1,5 +1,14 @@
 //! The receivers of a channel.
-ghost use Rattle.std.specs.Prelude.{◌≡◌, ◌≢◌, ℕ, ◌==◌, Err};
+ghost use Rattle.std.specs.Prelude.{◌≡◌, ◌≢◌, ℕ, ◌==◌, IfOk, Err};
+ghost use Rattle.flume_calls.specs.ReceiveTurns.{after_try_recv};
+ghost use Rattle.flume_calls.specs.Singles.{after_set_capacity};
+ghost use Rattle.flume_deadline.specs.declared.Deadline.{Deadline};
+ghost use Rattle.flume_deadline.specs.Deadlines.{IsAfter};
+ghost use Rattle.flume.specs.CallSteps.{HasReplied};
+ghost use Rattle.flume.specs.CallSteps as answer;
+ghost use Rattle.flume.specs.GateSteps.{Receives};
+ghost use Rattle.flume.specs.Iterators.{after_drain};
+ghost use Rattle.flume.specs.Turning.{HasMade};
 ghost use Rattle.flume.specs.Iterators.{receiving_from};
 
 use crate::answers::{tried_receive, waited_receive};
@@ -9,10 +18,10 @@ use crate::iterators::{Iter, TryIter};
 use crate::shared::{Shared, Waits};
 use flume_calls::calls::FirstReceive;
 use flume_calls::gates::recv_over;
-use flume_calls::single::{AskCapacity, AskNumber, AskTruth, Single};
+use flume_calls::single::{AskNumber, AskTruth, Single};
 use flume_core::error::{CapacityError, NoMemory, RecvError, RecvTimeoutError, TryRecvError};
 use flume_deadline::Deadline;
-use flume_model::step::Reply;
+use flume_model::step::{Reply, Step};
 use std::alloc::{AllocError, Allocator, Global};
 use std::fmt;
 use std::marker::Model;
@@ -52,6 +61,7 @@ impl<T: Drop, R: Waits, A: Allocator + Copy> Receiver<T, R, A> {
     /// assert_eq!(rt; rx.try_recv(), Err(TryRecvError::Disconnected));
     /// ```
     pub fn try_recv(&self) -> Result<T, TryRecvError>
+        ensures made { HasMade {A = A} Step.TryRecv after_try_recv (answer.tried_receive result) }
         ensures never_no_memory { result ≢ Err TryRecvError.NoMemory }
     {
         tried_receive(self.shared.call(FirstReceive))
@@ -67,7 +77,9 @@ impl<T: Drop, R: Waits, A: Allocator + Copy> Receiver<T, R, A> {
     /// drop(tx);
     /// assert_eq!(rt; rx.recv(), Err(RecvError::Disconnected));
     /// ```
-    pub fn recv(&self) -> Result<T, RecvError> {
+    pub fn recv(&self) -> Result<T, RecvError>
+        ensures made { Receives A Deadline.Never (answer.untimed_receive result) }
+    {
         let mut gate = Gate::new(&self.shared, Deadline::Never);
         waited_receive(recv_over(&self.shared.rt, &mut gate))
     }
@@ -82,7 +94,9 @@ impl<T: Drop, R: Waits, A: Allocator + Copy> Receiver<T, R, A> {
     /// let now = Instant::now(&rt)?;
     /// assert_eq!(rt; rx.recv_deadline(now), Err(RecvTimeoutError::Timeout));
     /// ```
-    pub fn recv_deadline(&self, deadline: Instant) -> Result<T, RecvTimeoutError> {
+    pub fn recv_deadline(&self, deadline: Instant) -> Result<T, RecvTimeoutError>
+        ensures made { Receives A (Deadline.At deadline) result }
+    {
         let mut gate = Gate::new(&self.shared, Deadline::At(deadline));
         recv_over(&self.shared.rt, &mut gate)
     }
@@ -95,7 +109,10 @@ impl<T: Drop, R: Waits, A: Allocator + Copy> Receiver<T, R, A> {
     /// tx.send(42)?;
     /// assert_eq!(rt; rx.recv_timeout(Duration::from_millis(100)), Ok(42));
     /// ```
-    pub fn recv_timeout(&self, timeout: Duration) -> Result<T, RecvTimeoutError> {
+    pub fn recv_timeout(&self, timeout: Duration) -> Result<T, RecvTimeoutError>
+        ensures made { (deadline : Deadline) × IsAfter timeout deadline
+            × Receives A deadline result }
+    {
         let deadline = Deadline::after(&self.shared.rt, timeout);
         let mut gate = Gate::new(&self.shared, deadline);
         recv_over(&self.shared.rt, &mut gate)
@@ -149,8 +166,10 @@ impl<T: Drop, R: Waits, A: Allocator + Copy> Receiver<T, R, A> {
     /// assert_eq!(rt; messages.next(), Some(1));
     /// assert_eq!(rt; rx.len(), 0);
     /// ```
-    pub fn drain(&self) -> Result<Drain<'_, T, A>, NoMemory> {
-        Drain::answer(self.shared.call(Single::Drain))
+    pub fn drain(&self) -> Result<Drain<'_, T, A>, NoMemory>
+        ensures made { HasMade {A = A} Step.Drain after_drain result }
+    {
+        Drain::answer(self.shared.single(Single::Drain))
     }
 
     /// The runtime value that the ends keep.
@@ -165,23 +184,31 @@ impl<T: Drop, R: Waits, A: Allocator + Copy> Receiver<T, R, A> {
     }
 
     /// How many messages are queued.
-    pub fn len(&self) -> usize {
-        self.shared.call(AskNumber::Len)
+    pub fn len(&self) -> usize
+        ensures made { HasReplied {T = T} {A = A} Step.Len (Reply.Number result) }
+    {
+        self.shared.number(AskNumber::Len)
     }
 
     /// Whether no message is queued.
-    pub fn is_empty(&self) -> bool {
-        self.shared.call(AskTruth::IsEmpty)
+    pub fn is_empty(&self) -> bool
+        ensures made { HasReplied {T = T} {A = A} Step.IsEmpty (Reply.Truth result) }
+    {
+        self.shared.truth(AskTruth::IsEmpty)
     }
 
     /// Whether the channel is bounded, and as many messages are queued as it holds.
-    pub fn is_full(&self) -> bool {
-        self.shared.call(AskTruth::IsFull)
+    pub fn is_full(&self) -> bool
+        ensures made { HasReplied {T = T} {A = A} Step.IsFull (Reply.Truth result) }
+    {
+        self.shared.truth(AskTruth::IsFull)
     }
 
     /// How many messages the channel holds; `None` of an unbounded one.
-    pub fn capacity(&self) -> Option<usize> {
-        self.shared.call(AskCapacity)
+    pub fn capacity(&self) -> Option<usize>
+        ensures made { HasReplied {T = T} {A = A} Step.Capacity (Reply.Capacity result) }
+    {
+        self.shared.capacity()
     }
 
     /// Sets how many messages the channel holds from now on. Raised, it lets blocked sends in, as
@@ -200,23 +227,32 @@ impl<T: Drop, R: Waits, A: Allocator + Copy> Receiver<T, R, A> {
     /// assert_eq!(rt; tx.try_send(2), Ok(()));
     /// assert_eq!(rt; tx.capacity(), Some(2));
     /// ```
-    pub fn set_capacity(&self, capacity: usize) -> Result<(), CapacityError> {
+    pub fn set_capacity(&self, capacity: usize) -> Result<(), CapacityError>
+        ensures made { HasMade {T = T} {A = A} (Step.SetCapacity capacity)
+            after_set_capacity result }
+    {
         self.shared.set_capacity(capacity)
     }
 
     /// How many senders live.
-    pub fn sender_count(&self) -> usize {
-        self.shared.call(AskNumber::SenderCount)
+    pub fn sender_count(&self) -> usize
+        ensures made { HasReplied {T = T} {A = A} Step.SenderCount (Reply.Number result) }
+    {
+        self.shared.number(AskNumber::SenderCount)
     }
 
     /// How many receivers live.
-    pub fn receiver_count(&self) -> usize {
-        self.shared.call(AskNumber::ReceiverCount)
+    pub fn receiver_count(&self) -> usize
+        ensures made { HasReplied {T = T} {A = A} Step.ReceiverCount (Reply.Number result) }
+    {
+        self.shared.number(AskNumber::ReceiverCount)
     }
 
     /// Whether all receivers, or all senders, have been dropped.
-    pub fn is_disconnected(&self) -> bool {
-        self.shared.call(AskTruth::IsDisconnected)
+    pub fn is_disconnected(&self) -> bool
+        ensures made { HasReplied {T = T} {A = A} Step.IsDisconnected (Reply.Truth result) }
+    {
+        self.shared.truth(AskTruth::IsDisconnected)
     }
 
     /// Whether both receive from channels of the same number.
@@ -256,9 +292,12 @@ impl<T: Drop, R: Waits, A: Allocator + Copy> Receiver<T, R, A> {
 impl<T: Drop, R: Waits, A: Allocator + Copy> Clone for Receiver<T, R, A> {
     ghost is_clone = { λ receiver copy. copy ≡ receiver };
 
-    fn clone(&self) -> Result<Self, AllocError> {
+    fn clone(&self) -> Result<Self, AllocError>
+        ensures same { IfOk result (λ copy. copy ≡ self.now) }
+        ensures made { IfOk result (λ _. HasReplied {T = T} {A = A} Step.CloneReceiver Reply.Done) }
+    {
         let shared = Arc::try_clone(&self.shared)?;
-        match shared.call(Single::CloneReceiver) {
+        match shared.single(Single::CloneReceiver) {
             Reply::Done => Ok(Receiver { shared }),
             _ => Err(AllocError),
         }
@@ -274,6 +313,6 @@ impl<T: Drop, R: Waits, A: Allocator + Copy> fmt::Debug for Receiver<T, R, A> {
 impl<T: Drop, R: Waits, A: Allocator + Copy> Drop for Receiver<T, R, A> {
     fn drop(self) {
         let Self { shared } = self;
-        shared.call(Single::DropReceiver);
+        shared.single(Single::DropReceiver);
     }
 }

@@ -1,10 +1,15 @@
 //! Waiting for the first of several sends and receives, on channels of whatever messages.
 ghost use Rattle.std.specs.Prelude.{◌≡◌, ◌≢◌, ◌<◌, ℕ, IfOk, IfSome, Err, true};
 ghost use Rattle.flume_core.specs.declared.error.SelectError.{SelectError};
+ghost use Rattle.flume.specs.declared.select.send.SendState.{SendState};
+ghost use Rattle.flume.specs.declared.select.receive.ReceiveState.{ReceiveState};
 ghost use Rattle.flume.specs.Selecting.{IsValue, first_arm};
 ghost use Rattle.flume_deadline.specs.declared.Deadline.TheVariants.{Never};
 
+mod adding;
 mod arms;
+mod each;
+mod error;
 mod receive;
 mod send;
 
@@ -12,7 +17,9 @@ use crate::receiver::Receiver;
 use crate::sender::Sender;
 use crate::shared::Waits;
 use crate::signal::Parker;
-pub use arms::{Arm, Arms, AtLeastOneArm};
+pub use arms::{Arm, ArmTurns, Arms, ArmsOn, AtLeastOneArm, ListedArm};
+pub use each::Each;
+pub use error::EachError;
 use flume_calls::gates::{ArmNext, SelectGate, select_over, try_select_over};
 pub use flume_core::error::SelectError;
 use flume_core::error::{NoMemory, RecvError, SendError};
@@ -85,6 +92,8 @@ impl<'a, V, L: Arms<V, A> + Drop, A: Allocator + Copy> Selector<'a, V, L, A> {
     where
         F: FnOnce(Result<(), SendError<T>>) -> V + Drop,
         ensures before { result.arms.0 ≡ self.entry.arms }
+        ensures channel { result.arms.1.sender.now ≡ sender.now }
+        ensures unstarted { result.arms.1.state ≡ SendState.Unstarted message }
         ensures mapper { result.arms.1.mapper ≡ mapper }
         ensures start { result.start ≡ self.entry.start }
     {
@@ -102,6 +111,8 @@ impl<'a, V, L: Arms<V, A> + Drop, A: Allocator + Copy> Selector<'a, V, L, A> {
     where
         F: FnOnce(Result<T, RecvError>) -> V + Drop,
         ensures before { result.arms.0 ≡ self.entry.arms }
+        ensures channel { result.arms.1.receiver.now ≡ receiver.now }
+        ensures unstarted { result.arms.1.state ≡ ReceiveState.Unstarted }
         ensures mapper { result.arms.1.mapper ≡ mapper }
         ensures start { result.start ≡ self.entry.start }
     {
@@ -128,12 +139,12 @@ impl<'a, V, L: AtLeastOneArm<V, A> + Drop, A: Allocator + Copy> Selector<'a, V, 
     /// likely. Without it arm 0 begins.
     pub fn with_rng<G: Rng>(self, rng: &mut G) -> Self
         ensures arms { result.arms ≡ self.entry.arms }
-        ensures within { result.start < L.count }
+        ensures within { result.start < L.count (L.mappers result.arms) }
         ensures drawn { ⟦<Range<usize> as SampleRange<usize>>⟧.draws
-            (record { start = 0; end = L.count })
+            (record { start = 0; end = L.count (L.mappers self.entry.arms) })
             (G.stream rng.old) result.start (G.stream rng.new) }
     {
-        let start = rng.random_range(0..self.arms.count());
+        let start = rng.random_range(0..self.arms.total());
         Selector { start, ..self }
     }
 
@@ -225,9 +236,9 @@ impl<'a, V, L: AtLeastOneArm<V, A>, A: Allocator + Copy> SelectGate for Selector
     ghost kept = { λ selector.
         (L.mappers selector.arms, selector.start, selector.deadline) };
 
-    ghost count = { λ _. L.count };
+    ghost count = { λ kept. L.count kept.0 };
 
-    ghost start = { λ kept. first_arm L.count kept.1 };
+    ghost start = { λ kept. first_arm (L.count kept.0) kept.1 };
 
     ghost holds = { λ selector. L.has_completed selector.arms };
 
@@ -244,7 +255,7 @@ impl<'a, V, L: AtLeastOneArm<V, A>, A: Allocator + Copy> SelectGate for Selector
     }
 
     fn start(&self) -> usize {
-        if self.start < self.arms.count() {
+        if self.start < self.arms.total() {
             self.start
         } else {
             0

@@ -1,5 +1,13 @@
 //! The senders of a channel.
 ghost use Rattle.std.specs.Prelude.{◌≡◌, ◌≢◌, ℕ, ◌==◌, IfOk, Err};
+ghost use Rattle.flume_calls.specs.SendTurns.{after_try_send};
+ghost use Rattle.flume_calls.specs.Singles.{after_set_capacity};
+ghost use Rattle.flume_deadline.specs.declared.Deadline.{Deadline};
+ghost use Rattle.flume_deadline.specs.Deadlines.{IsAfter};
+ghost use Rattle.flume.specs.CallSteps.{HasReplied};
+ghost use Rattle.flume.specs.CallSteps as answer;
+ghost use Rattle.flume.specs.GateSteps.{Sends};
+ghost use Rattle.flume.specs.Turning.{HasMade};
 
 use crate::answers::{tried_send, waited_send};
 use crate::gate::Gate;
@@ -7,10 +15,10 @@ use crate::shared::{Shared, Waits};
 use crate::weak::WeakSender;
 use flume_calls::calls::FirstSend;
 use flume_calls::gates::send_over;
-use flume_calls::single::{AskCapacity, AskNumber, AskTruth, Single};
+use flume_calls::single::{AskNumber, AskTruth, Single};
 use flume_core::error::{CapacityError, NoMemory, SendError, SendTimeoutError, TrySendError};
 use flume_deadline::Deadline;
-use flume_model::step::Reply;
+use flume_model::step::{Reply, Step};
 use std::alloc::{AllocError, Allocator, Global};
 use std::fmt;
 use std::marker::Model;
@@ -52,6 +60,8 @@ impl<T: Drop, R: Waits, A: Allocator + Copy> Sender<T, R, A> {
     /// assert_eq!(rt; tx.try_send(3), Err(TrySendError::Disconnected(3)));
     /// ```
     pub fn try_send(&self, message: T) -> Result<(), TrySendError<T>>
+        ensures made { HasMade {A = A} (Step.TrySend message) after_try_send
+            (answer.tried_send result) }
         ensures full { (back : T) → result ≡ Err (TrySendError.Full back) → back ≡ message }
         ensures disconnected { (back : T) → result ≡ Err (TrySendError.Disconnected back)
             → back ≡ message }
@@ -72,6 +82,7 @@ impl<T: Drop, R: Waits, A: Allocator + Copy> Sender<T, R, A> {
     /// assert_eq!(rt; tx.send(43), Err(SendError::Disconnected(43)));
     /// ```
     pub fn send(&self, message: T) -> Result<(), SendError<T>>
+        ensures made { Sends A Deadline.Never message (answer.untimed_send result) }
         ensures no_memory { (back : T) → result ≡ Err (SendError.NoMemory back) → back ≡ message }
     {
         let mut gate = Gate::new(&self.shared, Deadline::Never);
@@ -91,6 +102,7 @@ impl<T: Drop, R: Waits, A: Allocator + Copy> Sender<T, R, A> {
     /// assert_eq!(rt; late, Err(SendTimeoutError::Timeout(2)));
     /// ```
     pub fn send_deadline(&self, message: T, deadline: Instant) -> Result<(), SendTimeoutError<T>>
+        ensures made { Sends A (Deadline.At deadline) message result }
         ensures no_memory { (back : T) → result ≡ Err (SendTimeoutError.NoMemory back)
             → back ≡ message }
     {
@@ -107,6 +119,8 @@ impl<T: Drop, R: Waits, A: Allocator + Copy> Sender<T, R, A> {
     /// assert_eq!(rt; rx.recv(), Ok(1));
     /// ```
     pub fn send_timeout(&self, message: T, timeout: Duration) -> Result<(), SendTimeoutError<T>>
+        ensures made { (deadline : Deadline) × IsAfter timeout deadline
+            × Sends A deadline message result }
         ensures no_memory { (back : T) → result ≡ Err (SendTimeoutError.NoMemory back)
             → back ≡ message }
     {
@@ -122,23 +136,31 @@ impl<T: Drop, R: Waits, A: Allocator + Copy> Sender<T, R, A> {
     }
 
     /// How many messages are queued.
-    pub fn len(&self) -> usize {
-        self.shared.call(AskNumber::Len)
+    pub fn len(&self) -> usize
+        ensures made { HasReplied {T = T} {A = A} Step.Len (Reply.Number result) }
+    {
+        self.shared.number(AskNumber::Len)
     }
 
     /// Whether no message is queued.
-    pub fn is_empty(&self) -> bool {
-        self.shared.call(AskTruth::IsEmpty)
+    pub fn is_empty(&self) -> bool
+        ensures made { HasReplied {T = T} {A = A} Step.IsEmpty (Reply.Truth result) }
+    {
+        self.shared.truth(AskTruth::IsEmpty)
     }
 
     /// Whether the channel is bounded, and as many messages are queued as it holds.
-    pub fn is_full(&self) -> bool {
-        self.shared.call(AskTruth::IsFull)
+    pub fn is_full(&self) -> bool
+        ensures made { HasReplied {T = T} {A = A} Step.IsFull (Reply.Truth result) }
+    {
+        self.shared.truth(AskTruth::IsFull)
     }
 
     /// How many messages the channel holds; `None` of an unbounded one.
-    pub fn capacity(&self) -> Option<usize> {
-        self.shared.call(AskCapacity)
+    pub fn capacity(&self) -> Option<usize>
+        ensures made { HasReplied {T = T} {A = A} Step.Capacity (Reply.Capacity result) }
+    {
+        self.shared.capacity()
     }
 
     /// Sets how many messages the channel holds from now on. Raised, it lets blocked sends in, as
@@ -157,23 +179,32 @@ impl<T: Drop, R: Waits, A: Allocator + Copy> Sender<T, R, A> {
     /// assert_eq!(rt; tx.try_send(2), Ok(()));
     /// assert_eq!(rt; tx.capacity(), Some(2));
     /// ```
-    pub fn set_capacity(&self, capacity: usize) -> Result<(), CapacityError> {
+    pub fn set_capacity(&self, capacity: usize) -> Result<(), CapacityError>
+        ensures made { HasMade {T = T} {A = A} (Step.SetCapacity capacity)
+            after_set_capacity result }
+    {
         self.shared.set_capacity(capacity)
     }
 
     /// How many senders live.
-    pub fn sender_count(&self) -> usize {
-        self.shared.call(AskNumber::SenderCount)
+    pub fn sender_count(&self) -> usize
+        ensures made { HasReplied {T = T} {A = A} Step.SenderCount (Reply.Number result) }
+    {
+        self.shared.number(AskNumber::SenderCount)
     }
 
     /// How many receivers live.
-    pub fn receiver_count(&self) -> usize {
-        self.shared.call(AskNumber::ReceiverCount)
+    pub fn receiver_count(&self) -> usize
+        ensures made { HasReplied {T = T} {A = A} Step.ReceiverCount (Reply.Number result) }
+    {
+        self.shared.number(AskNumber::ReceiverCount)
     }
 
     /// Whether all receivers, or all senders, have been dropped.
-    pub fn is_disconnected(&self) -> bool {
-        self.shared.call(AskTruth::IsDisconnected)
+    pub fn is_disconnected(&self) -> bool
+        ensures made { HasReplied {T = T} {A = A} Step.IsDisconnected (Reply.Truth result) }
+    {
+        self.shared.truth(AskTruth::IsDisconnected)
     }
 
     /// A sender that doesn't count: the channel may close while it is there. `NoMemory`: there are
@@ -231,9 +262,12 @@ impl<T: Drop, R: Waits, A: Allocator + Copy> Clone for Sender<T, R, A> {
 
     // Std's signature of `clone` leaves no choice of the error. `NoMemory` converts into it, so `?`
     // takes both.
-    fn clone(&self) -> Result<Self, AllocError> {
+    fn clone(&self) -> Result<Self, AllocError>
+        ensures same { IfOk result (λ copy. copy ≡ self.now) }
+        ensures made { IfOk result (λ _. HasReplied {T = T} {A = A} Step.CloneSender Reply.Done) }
+    {
         let shared = Arc::try_clone(&self.shared)?;
-        match shared.call(Single::CloneSender) {
+        match shared.single(Single::CloneSender) {
             Reply::Done => Ok(Sender { shared }),
             _ => Err(AllocError),
         }
@@ -249,6 +283,6 @@ impl<T: Drop, R: Waits, A: Allocator + Copy> fmt::Debug for Sender<T, R, A> {
 impl<T: Drop, R: Waits, A: Allocator + Copy> Drop for Sender<T, R, A> {
     fn drop(self) {
         let Self { shared } = self;
-        shared.call(Single::DropSender);
+        shared.single(Single::DropSender);
     }
 }

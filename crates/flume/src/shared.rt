@@ -1,9 +1,11 @@
 //! What all ends of a channel share.
 ghost use Rattle.std.specs.Prelude.{◌≡◌, ◌+◌, ◌<◌, None, vec_len, vec_capacity};
 ghost use Rattle.futures.specs.Task.{Covers, Keeps};
-ghost use Rattle.flume.specs.ManyCalls.{PollGrows};
+ghost use Rattle.flume_model.specs.declared.step.Step.TheVariants as step;
+ghost use Rattle.flume_calls.specs.Singles.{after_set_capacity};
 ghost use Rattle.flume.specs.Polling.{HasPolled};
-ghost use Rattle.flume.specs.Turning.{HasDone};
+ghost use Rattle.flume.specs.ReceivePolls.{HasPolledMany};
+ghost use Rattle.flume.specs.Turning.{HasDone, HasMade};
 
 use crate::signal::{Parker, Signal, YIELDS};
 use crate::task::Task;
@@ -156,10 +158,15 @@ impl<T: Drop, R: Waits, A: Allocator + Copy> Shared<T, R, A> {
 
     /// Sets the capacity of the channel, which the calls that are to wait go by from then on.
     #[inline(never)]
-    pub(crate) fn set_capacity(&self, capacity: usize) -> Result<(), CapacityError> {
+    pub(crate) fn set_capacity(&self, capacity: usize) -> Result<(), CapacityError>
+        ensures made { HasMade {T = T} {A = A} (step.SetCapacity capacity)
+            after_set_capacity result }
+    {
         // Both places are written under one lock: of two calls at once the later one's capacity
         // stays in both.
-        let mut locked = self.lock();
+        let mut guard = self.lock();
+        let locked = &mut *guard;
+        locked.facts();
         let answer = locked.make(SetCapacity { capacity }, &mut SignalBell { rt: self.rt });
         if answer.is_ok() {
             self.capacity_hint.store(capacity as u64, Ordering::SeqCst);
@@ -247,7 +254,7 @@ impl<T: Drop, R: Waits, A: Allocator + Copy> Shared<T, R, A> {
         task: &Task,
         cx: &mut Context<'_>,
     ) -> Option<P::Answer>
-        ensures row { HasPolled P.polls call.old call.new result }
+        ensures row { HasPolled A P.polls call.old call.new result }
         ensures registered { result ≡ None → Covers cx.new (λ s. s ≡ task.now.source.id) }
         ensures kept { Keeps cx.old cx.new }
     {
@@ -264,10 +271,11 @@ impl<T: Drop, R: Waits, A: Allocator + Copy> Shared<T, R, A> {
         task: &Task,
         cx: &mut Context<'_>,
     ) -> Option<P::Answer>
-        ensures row { HasPolled P.polls call.old call.new result }
+        ensures row { HasPolled A P.polls call.old call.new result }
         ensures registered { result ≡ None → Covers cx.new (λ s. s ≡ task.now.source.id) }
         ensures kept { Keeps cx.old cx.new }
     {
+        locked.facts();
         let mut signal = None;
         if locked.would_wait(call) {
             if let Some(waker) = task.waker(locked.parked_signal(call), cx) {
@@ -290,7 +298,8 @@ impl<T: Drop, R: Waits, A: Allocator + Copy> Shared<T, R, A> {
         more: usize,
     ) -> (Vec<T, A>, Option<Result<usize, RecvError>>)
         requires room { vec_len into < vec_capacity into }
-        ensures grows { PollGrows (more + 1) into.items result.0.items result.1 }
+        ensures polled { HasPolledMany A (more + 1) into.items call.old result.0.items call.new
+            result.1 }
         ensures registered { result.1 ≡ None → Covers cx.new (λ s. s ≡ task.now.source.id) }
         ensures kept { Keeps cx.old cx.new }
     {

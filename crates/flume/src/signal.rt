@@ -1,6 +1,7 @@
 //! What a parked call leaves with the channel, and what wakes it.
-ghost use Rattle.std.specs.Prelude.{◌≡◌, ◌≢◌, true, IfSome};
+ghost use Rattle.std.specs.Prelude.{◌≡◌, ◌≢◌, true, false, IfSome};
 ghost use Rattle.flume_deadline.specs.declared.Deadline.{Deadline};
+ghost use Rattle.flume_deadline.specs.Deadlines.{CanBeAhead};
 
 use flume_deadline::{Deadline, left_until};
 use futures::task::Waker;
@@ -110,6 +111,7 @@ impl Parker {
     #[inline(always)]
     pub(crate) fn wait_up_to<R: Wait + Clock>(&self, rt: &R, deadline: Deadline) -> bool
         ensures late { result ≡ true → deadline ≢ Deadline.Never }
+        ensures ahead { result ≡ false → CanBeAhead deadline }
     {
         if deadline.is_reached(rt) {
             return true;

@@ -1,11 +1,12 @@
 //! The senders that don't count.
 ghost use Rattle.std.specs.Prelude.{◌≡◌, ◌≢◌, ◌↔◌, ℕ, IfOk, IfSome, IsErr, Ok, Some, None};
+ghost use Rattle.flume.specs.CallSteps.{HasReplied, upgrade_reply};
 
 use crate::sender::Sender;
 use crate::shared::{Shared, Waits};
 use flume_calls::single::Single;
 use flume_core::error::NoMemory;
-use flume_model::step::Reply;
+use flume_model::step::{Reply, Step};
 use std::alloc::{AllocError, Allocator, Global};
 use std::fmt;
 use std::marker::Model;
@@ -46,9 +47,11 @@ impl<T: Drop, R: Waits, A: Allocator + Copy> WeakSender<T, R, A> {
     /// ```
     pub fn upgrade(&self) -> Result<Option<Sender<T, R, A>>, NoMemory>
         ensures same { IfOk result (λ sender. IfSome sender (λ s. s ≡ self.now)) }
+        ensures made { IfOk result (λ sender.
+            HasReplied {T = T} {A = A} Step.CloneSender (upgrade_reply sender)) }
     {
         let shared = Arc::try_clone(&self.shared)?;
-        let reply = shared.call(Single::CloneSender);
+        let reply = shared.single(Single::CloneSender);
         upgraded(reply, shared)
     }
 }

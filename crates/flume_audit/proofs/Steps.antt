@@ -14,7 +14,8 @@ use Rattle.flume_core.specs.PossibleReply.{PossibleReply}
 use Rattle.flume_core.proofs.Views.{queue_at_log}
 use Rattle.flume_audit.specs.declared.receipt.Receipt.{Receipt}
 use Rattle.flume_audit.specs.Recorded.{History}
-use Rattle.flume_audit.specs.Weights.{SameReply, GoesByMessages, DrainedWithin, history_weight}
+use Rattle.flume_model.specs.Replies.{SameReply}
+use Rattle.flume_audit.specs.Weights.{GoesByMessages, DrainedWithin, history_weight}
 use Rattle.flume_audit.specs.Weights.{receipts_weight}
 
 -- what a list grew to after it had got more room

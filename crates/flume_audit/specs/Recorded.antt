@@ -1,14 +1,14 @@
 -- What a contract sees of a book, and what a step through it leaves.
-use Rattle.std.specs.Prelude.{◌≡◌, ◌≤◌, ℕ, List, [], ◌∷◌, ◌++◌, length, reverse, Option}
+use Rattle.std.specs.Prelude.{◌≡◌, ℕ, List, [], ◌∷◌, ◌++◌, length, reverse, Option}
 use Rattle.flume_model.specs.declared.step.Step.{Step}
 use Rattle.flume_model.specs.declared.step.Reply.{Reply}
 use Rattle.flume_model.specs.Log.{opens}
 use Rattle.flume_state.specs.State.{State, new_state}
 use Rattle.flume_state.specs.Due.{BecomesDue}
-use Rattle.flume_core.specs.Represents.{Represents, Extends, ChangesNothing}
-use Rattle.flume_core.specs.PossibleReply.{PossibleReply}
+use Rattle.flume_core.specs.Represents.{Represents}
+use Rattle.flume_core.specs.Transitions.{IsTransition}
 use Rattle.flume_audit.specs.declared.receipt.Receipt.{Receipt}
-use Rattle.flume_audit.specs.Weights.{SameReply}
+use Rattle.flume_model.specs.Replies.{SameReply}
 
 -- steps with their replies, the oldest first
 abbrev pub History : Type 0 → Type 0 → Type 0
@@ -35,14 +35,12 @@ module _ {T A : Type 0} where
   IsChannelOfHistory book =
       Represents {A = A} (opens book.opening 1) (reverse book.history) book.channel
 
-  -- one core step of the channel, with its reply; the channel keeps the room that it has
+  -- one core step of the channel, with its reply: what `run` says of each of its steps holds of it,
+  -- and who is due after it was due before, or became due by it
   pub record IsCoreStep (old : State T (Unit {0})) (step : Step T) (reply : Reply T A)
       (new : State T (Unit {0})) : Type 0 where
-    pub stands : Extends old step reply new
+    pub stepped : IsTransition old step reply new
     pub dues : BecomesDue old step reply new
-    pub comes : PossibleReply step reply
-    pub unchanged : ChangesNothing step reply → new ≡ old
-    pub space : old.space ≤ new.space
 
   -- a step through a book by a seat: the channel makes it, and it stands with the channel's reply
   -- at the end of the history, and with its number there in the seat; the seat's copy of the reply

@@ -1,16 +1,12 @@
--- What steps with their replies weigh, and when two replies are the same.
+-- What steps with their replies weigh.
 use Rattle.std.specs.Prelude.{◌≡◌, ◌≤◌, ℕ, List, length, sum_by}
 use Rattle.flume_model.specs.declared.step.Step.{Step}
 use Rattle.flume_model.specs.declared.step.Reply.{Reply}
 use Rattle.flume_model.specs.declared.step.Reply.TheVariants.{Drained}
+use Rattle.flume_model.specs.Replies.{SameReply}
 use Rattle.flume_audit.specs.declared.receipt.Receipt.{Receipt}
 
 module _ {T A : Type 0} where
-  -- the same reply: two drained lists are the same by their messages, wherever they are kept
-  abbrev pub SameReply : Reply T A → Reply T A → Type 0
-  SameReply (Drained list) (Drained other) = list.items ≡ other.items
-  SameReply reply other = reply ≡ other
-
   -- a drained list has at most so many messages
   abbrev pub DrainedWithin : ℕ → Reply T A → Type 0
   DrainedWithin most (Drained list) = length list.items ≤ most

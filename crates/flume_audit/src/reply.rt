@@ -1,6 +1,7 @@
 //! Copies of replies.
 ghost use Rattle.std.specs.Prelude.{◌≡◌, ◌≤◌, [], length, vec_capacity, vec_len};
-ghost use Rattle.flume_audit.specs.Weights.{SameReply, DrainedWithin};
+ghost use Rattle.flume_model.specs.Replies.{SameReply};
+ghost use Rattle.flume_audit.specs.Weights.{DrainedWithin};
 
 use flume_core::chan::Chan;
 use flume_model::step::{Reply, Step};

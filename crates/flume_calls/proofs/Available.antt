@@ -1,5 +1,5 @@
 -- While a message is queued or blocked there is a front, and taking it leaves one less.
-use Rattle.std.proofs.Common.{◌≡◌, ℕ, ◌+◌, ◌<◌, Bool, not, true, false, if◌then◌else◌, List, [], ◌∷◌, ◌++◌, length, refl, sym, ap, ◌∙◌, subst}
+use Rattle.std.proofs.Common.{◌≡◌, ℕ, ◌+◌, ◌≤◌, ◌<◌, Bool, not, true, false, if◌then◌else◌, List, [], ◌∷◌, ◌++◌, length, refl, sym, ap, ◌∙◌, subst}
 use Rattle.std.proofs.Common.{arith}
 use Rattle.std.proofs.lemmas.List.{length-append, map-append, append_assoc}
 use Rattle.flume_model.specs.Limits.{is_full}
@@ -11,7 +11,9 @@ use Rattle.flume_state.specs.Messages.{Blocked}
 use Rattle.flume_state.specs.State.{State, message_count}
 use Rattle.flume_state.specs.Effects.{with_front, with_front_of, after_admission, after_admission_of, after_refill, after_take}
 use Rattle.flume_state.specs.Due.{BecomesDue}
-use Rattle.flume_core.specs.Represents.{Extends, IsReachable}
+use Rattle.flume_core.specs.Represents.{Extends, IsReachable, IsRefusal}
+use Rattle.flume_core.specs.PossibleReply.{PossibleReply}
+use Rattle.flume_core.specs.Transitions.{IsTransition}
 use Rattle.flume_calls.specs.Batches.{StepsBetween, NoSteps, FirstStep}
 use Rattle.flume_calls.specs.ManyReceives.{Takes}
 
@@ -70,11 +72,23 @@ module _ {T S : Type 0} where
       let kept : message_count (with_front s) ≡ message_count s = front_keeps s in omega arith
 
 module _ {T A S : Type 0} where
+  -- what a `try_recv` says of itself is what a list of steps says of it: it wants no memory
+  pub received : {old new : State T S} {reply : Reply T A} → Extends old TryRecv reply new → (IsReachable A old → BecomesDue old TryRecv reply new)
+      → PossibleReply TryRecv reply → old.space ≤ new.space → (IsRefusal reply → new ≡ old) → IsTransition old TryRecv reply new
+  received {old} extends dues comes space unchanged = record {
+    extends = extends;
+    dues = dues;
+    comes = comes;
+    space = space;
+    refused = λ back is. rw is at comes;
+    unchanged = unchanged;
+  }
+
   -- one more step behind those that lead there
   pub one_more : {old between new : State T S} {made : List (Step T × Reply T A)} {step : Step T} {reply : Reply T A} → StepsBetween old made between
-      → Extends between step reply new → (IsReachable A between → BecomesDue between step reply new) → StepsBetween old (made ++ (step, reply) ∷ []) new
-  one_more NoSteps stepped dues = FirstStep stepped dues NoSteps
-  one_more (FirstStep first due rest) stepped dues = FirstStep first due (one_more rest stepped dues)
+      → IsTransition between step reply new → StepsBetween old (made ++ (step, reply) ∷ []) new
+  one_more NoSteps stepped = FirstStep stepped NoSteps
+  one_more (FirstStep first rest) stepped = FirstStep first (one_more rest stepped)
 
 module _ {T S : Type 0} where
   -- a step that takes the front leaves one less
@@ -89,11 +103,10 @@ module _ {T S : Type 0} where
 module _ {T S : Type 0} (A : Type 0) where
   -- one more message is taken
   pub takes_one : {old between new : State T S} {before items after : List T} {count : ℕ} (message : T) → Takes A old before count between items
-      → Extends {A = A} between TryRecv (Got message) new → (IsReachable A between → BecomesDue {A = A} between TryRecv (Got message) new)
-      → after ≡ items ++ message ∷ [] → Takes A old before (count + 1) new after
-  takes_one {old} {between} {new} {before} message took stepped dues is = record {
+      → IsTransition {A = A} between TryRecv (Got message) new → after ≡ items ++ message ∷ [] → Takes A old before (count + 1) new after
+  takes_one {old} {between} {new} {before} message took stepped is = record {
     taken = took.taken ++ message ∷ [];
-    led = subst (λ made. StepsBetween old made new) (sym (map-append (λ m. (TryRecv, Got m)) took.taken (message ∷ []))) (one_more took.led stepped dues);
+    led = subst (λ made. StepsBetween old made new) (sym (map-append (λ m. (TryRecv, Got m)) took.taken (message ∷ []))) (one_more took.led stepped);
     items = is ∙ ap (λ items. items ++ message ∷ []) took.items ∙ append_assoc before took.taken (message ∷ []);
     number = let more : length (took.taken ++ message ∷ []) ≡ length took.taken + 1 = length-append took.taken (message ∷ []) in
         let number = took.number in omega arith;

@@ -12,5 +12,5 @@ module _ {T A S : Type 0} where
   pub led_log : {old new : State T S} {made : List (Step T × Reply T A)} → StepsBetween old made new
       → (opening : Opening) (log : Log T A) → Represents opening log old → Represents opening (goes_on log made) new
   led_log NoSteps opening log stands = stands
-  led_log (FirstStep {step = step} {reply = reply} stepped dues rest) opening log stands =
-      led_log rest opening ((step, reply) ∷ log) (stepped opening log stands)
+  led_log (FirstStep {step = step} {reply = reply} stepped rest) opening log stands =
+      led_log rest opening ((step, reply) ∷ log) (stepped.extends opening log stands)

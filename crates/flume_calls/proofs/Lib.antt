@@ -1,6 +1,8 @@
 mod Got
 mod DueCounts
 mod Ringing
+mod WhoIsDue
+mod EachRung
 pub mod Leading
 mod Available
 mod ManyReceiving

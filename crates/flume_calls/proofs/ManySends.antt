@@ -1,5 +1,5 @@
 -- A batch of sends, from its first step on.
-use Rattle.std.proofs.Common.{◌≡◌, ℕ, ◌+◌, ◌<◌, ◌≤◌, Option, Some, None, List, [], ◌∷◌, ◌++◌, length, Result, Err, sym, ap, subst, arith}
+use Rattle.std.proofs.Common.{◌≡◌, ◌≢◌, ◌∙◌, ℕ, ◌+◌, ◌<◌, ◌≤◌, Option, Some, None, List, [], ◌∷◌, ◌++◌, length, Result, Err, sym, ap, subst, arith}
 use Rattle.std.proofs.Math.Nat.{lt_of_not-le}
 use Rattle.std.proofs.lemmas.List.{length-append}
 use Rattle.flume_model.specs.Entries.{round_for_fills}
@@ -9,10 +9,12 @@ use Rattle.std.specs.declared.collections.VecDeque.{VecDeque}
 use Rattle.flume_model.specs.declared.step.Step.{Step}
 use Rattle.flume_model.specs.declared.step.Step.TheVariants.{TrySend}
 use Rattle.flume_model.specs.declared.step.Reply.{Reply}
-use Rattle.flume_model.specs.declared.step.Reply.TheVariants.{Sent}
+use Rattle.flume_model.specs.declared.step.Reply.TheVariants.{Sent, NoMemory as NoRoom}
 use Rattle.flume_state.specs.State.{State, message_count}
 use Rattle.flume_state.specs.Due.{BecomesDue}
-use Rattle.flume_core.specs.Represents.{Extends, IsReachable}
+use Rattle.flume_core.specs.Represents.{Extends, IsReachable, IsRefusal}
+use Rattle.flume_core.specs.PossibleReply.{PossibleReply}
+use Rattle.flume_core.specs.Transitions.{IsTransition}
 use Rattle.flume_core.specs.declared.error.TrySendError.{TrySendError}
 use Rattle.flume_core.specs.declared.error.TrySendError.TheVariants.{NoMemory}
 use Rattle.flume_calls.specs.Batches.{NoSteps, FirstStep, IsBatch}
@@ -23,24 +25,39 @@ abbrev Answer : Type 0 → Type 0 → Type 0
 Answer T A = Result (Unit {0}) (TrySendError (VecDeque T A))
 
 module _ {T A S : Type 0} where
+  -- what a `try_send` says of itself is what a list of steps says of it
+  pub offered : {old new : State T S} {message : T} {reply : Reply T A} → Extends old (TrySend message) reply new
+      → (IsReachable A old → BecomesDue old (TrySend message) reply new) → PossibleReply (TrySend message) reply → old.space ≤ new.space
+      → (message_count old < old.space → reply ≢ NoRoom (Some message)) → (IsRefusal reply → new ≡ old)
+      → IsTransition old (TrySend message) reply new
+  offered {old} extends dues comes space succeeds unchanged = record {
+    extends = extends;
+    dues = dues;
+    comes = comes;
+    space = space;
+    refused = λ back is.
+        let same = rw is at comes in
+        let none : old.space < message_count old + 1 = lt_of_not-le (λ more. succeeds (omega arith) (is ∙ ap NoRoom same)) in
+        omega arith;
+    unchanged = unchanged;
+  }
+
   -- the first message is taken in, and the batch goes on with the others
   pub taken_in : {old between new : State T S} {message : T} {rest : List T} {filled : Option ℕ} {answer : Answer T A}
-      → Extends {A = A} old (TrySend message) (Sent filled) between
-      → (IsReachable A old → BecomesDue {A = A} old (TrySend message) (Sent filled) between)
+      → IsTransition {A = A} old (TrySend message) (Sent filled) between
       → IsBatch {A = A} (SendsMany rest) between new answer → IsBatch {A = A} (SendsMany (message ∷ rest)) old new answer
-  taken_in {filled = filled} stepped dues batch = record {
+  taken_in {filled = filled} stepped batch = record {
     made = _ ∷ batch.made;
-    led = FirstStep stepped dues batch.led;
+    led = FirstStep stepped batch.led;
     answered = TakenIn filled batch.answered;
   }
 
   -- the batch is one step
   pub one_step : {old new : State T S} {step : Step T} {reply : Reply T A} {messages : List T} {answer : Answer T A}
-      → Extends old step reply new → (IsReachable A old → BecomesDue old step reply new)
-      → SendsMany messages ((step, reply) ∷ []) answer → IsBatch {A = A} (SendsMany messages) old new answer
-  one_step stepped dues answered = record {
+      → IsTransition old step reply new → SendsMany messages ((step, reply) ∷ []) answer → IsBatch {A = A} (SendsMany messages) old new answer
+  one_step stepped answered = record {
     made = _ ∷ [];
-    led = FirstStep stepped dues NoSteps;
+    led = FirstStep stepped NoSteps;
     answered = answered;
   }
 

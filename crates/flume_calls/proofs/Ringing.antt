@@ -34,6 +34,18 @@ module _ {S : Type 0} where
   told_signal None = refl
   told_signal (Some send) = refl
 
+  -- telling a ticket keeps the signal of each send
+  signals_told : (m : SendMap S) (k t : ℕ)
+      → option_map (λ send. send.notice.signal) (get (noticed_send no_longer_due k m) t) ≡ option_map (λ send. send.notice.signal) (get m t)
+  signals_told m k t = go (eqb t k) refl
+    where
+      go : (b : Bool) → eqb t k ≡ b
+          → option_map (λ send. send.notice.signal) (get (noticed_send no_longer_due k m) t) ≡ option_map (λ send. send.notice.signal) (get m t)
+      go true e =
+          let same : t ≡ k = eqb-true t k e in
+          rw same (ap (option_map (λ send. send.notice.signal)) (get-changed_same m k send_not_due) ∙ told_signal (get m k))
+      go false e = ap (option_map (λ send. send.notice.signal)) (get-changed_other m k send_not_due t (eqb-false t k e))
+
   -- to tell twice is to tell once
   told_twice : (o : Option (LiveSend S)) → option_map send_not_due (option_map send_not_due o) ≡ option_map send_not_due o
   told_twice None = refl
@@ -93,14 +105,12 @@ module _ {T S : Type 0} where
   named_signal old new t (Receive tells is) =
       some_signal _ _ (found_signal old.entries tells.before tells.entry tells.later t tells.found tells.is_it)
 
-  -- one that is named keeps its signal
-  named_keeps : (old new : State T S) (t : ℕ) → Names old new t → signal_of new t ≡ signal_of old t
-  named_keeps old new t (Send due is) =
-      let sends : get new.sends t ≡ option_map send_not_due (get old.sends t) =
-      ap (λ s. get s.sends t) is ∙ get-changed_same old.sends t send_not_due in
-      let same = ap (option_map (λ send. send.notice.signal)) sends ∙ told_signal (get old.sends t) in
+  -- naming one keeps each ticket's signal
+  pub named_keeps : (old new : State T S) (k : ℕ) → Names old new k → (t : ℕ) → signal_of new t ≡ signal_of old t
+  named_keeps old new k (Send due is) t =
+      let same = ap (λ s. option_map (λ send. send.notice.signal) (get s.sends t)) is ∙ signals_told old.sends k t in
       let entries : new.entries ≡ old.entries = ap (λ s. s.entries) is in λ i. signal_or (same i) (entry_signal t (entries i))
-  named_keeps old new t (Receive tells is) =
+  named_keeps old new k (Receive tells is) t =
       let sends : new.sends ≡ old.sends = ap (λ s. s.sends) is in
       let kept : entry_signal t new.entries ≡ entry_signal t old.entries =
       ap (entry_signal t) tells.told ∙ signal_kept tells.before tells.entry tells.later t ∙ sym (ap (entry_signal t) tells.found) in
@@ -110,13 +120,13 @@ module _ {T S : Type 0} where
   pub left_signal : (old new : State T S) (t : ℕ) → Names old new t
       → (signal : S) × (signal_of old t ≡ Some signal) × (signal_of new t ≡ Some signal)
   left_signal old new t named =
-      let left = named_signal old new t named in (left.0, left.1, named_keeps old new t named ∙ left.1)
+      let left = named_signal old new t named in (left.0, left.1, named_keeps old new t named t ∙ left.1)
 
   -- one that was named has a signal
   pub still_signal : (old new : State T S) (t : ℕ) → Names old new t → signal_of new t ≢ None
   still_signal old new t named none =
       let signal = named_signal old new t named in
-      let kept = named_keeps old new t named in
+      let kept = named_keeps old new t named t in
       let there : signal_of old t ≡ Some signal.0 = signal.1 in absurd (let none : ⊥ = cc in none)
 
   -- a state that is another but for its sends and entries is so with its own ones

@@ -4,8 +4,7 @@ use Rattle.flume_model.specs.declared.step.Step.{Step}
 use Rattle.flume_model.specs.declared.step.Reply.{Reply}
 use Rattle.flume_model.specs.Log.{Log}
 use Rattle.flume_state.specs.State.{State}
-use Rattle.flume_state.specs.Due.{BecomesDue}
-use Rattle.flume_core.specs.Represents.{Extends, IsReachable}
+use Rattle.flume_core.specs.Transitions.{IsTransition}
 use Rattle.flume_calls.specs.Turns.{Turned}
 
 module _ {T A : Type 0} where
@@ -16,15 +15,13 @@ module _ {T A : Type 0} where
 
   module _ {S : Type 0} where
     -- The steps lead from the state before to the state after, with these replies, the first first.
-    -- Each reply is one that the abstract channel gives there. Who is due at the end was due before
-    -- and still is, or became due by one of these steps and still is.
+    -- What `run` says of each of its steps holds of each of these.
     pub data StepsBetween : State T S → List (Step T × Reply T A) → State T S → Type 0 where
       -- there is no step
       NoSteps : {s : State T S} → StepsBetween s [] s
       -- one step, and then the others
       FirstStep : {old between new : State T S} {step : Step T} {reply : Reply T A}
-          {later : List (Step T × Reply T A)} → Extends old step reply between
-          → (IsReachable A old → BecomesDue old step reply between)
+          {later : List (Step T × Reply T A)} → IsTransition old step reply between
           → StepsBetween between later new → StepsBetween old ((step, reply) ∷ later) new
 
   module _ {S N : Type 0} where
@@ -46,16 +43,16 @@ module _ {T S A : Type 0} where
   pub both_lead : {old between new : State T S} {made more : List (Step T × Reply T A)}
       → StepsBetween old made between → StepsBetween between more new → LeadsTo A old new
   both_lead {more = more} NoSteps rest = (more, rest)
-  both_lead (FirstStep {step = step} {reply = reply} stepped dues later) rest =
+  both_lead (FirstStep {step = step} {reply = reply} stepped later) rest =
       let made = both_lead later rest in
-      ((step, reply) ∷ made.0, FirstStep stepped dues made.1)
+      ((step, reply) ∷ made.0, FirstStep stepped made.1)
 
 module _ {T S A N : Type 0} where
   -- a turn of one step is made of it
   abbrev pub by_step : {step : Step T} {table : Reply T A → N → Type 0} {old new : State T S}
       {answer : N} → Turned step table old new answer → LeadsTo A old new
   by_step {step = step} turn =
-      ((step, turn.reply) ∷ [], FirstStep turn.stepped turn.dues NoSteps)
+      ((step, turn.reply) ∷ [], FirstStep turn.stepped NoSteps)
 
   -- a turn of several steps is made of them
   abbrev pub by_steps : {table : List (Step T × Reply T A) → N → Type 0} {old new : State T S}

@@ -11,6 +11,7 @@ pub mod SendGates
 pub mod ReceiveGates
 pub mod SelectGates
 pub mod Rings
+pub mod EachIsRung
 pub mod Polls
 pub mod PolledReceives
 pub mod PolledSends

@@ -3,8 +3,8 @@ use Rattle.std.specs.Prelude.{◌≡◌, ℕ}
 use Rattle.flume_model.specs.declared.step.Step.{Step}
 use Rattle.flume_model.specs.declared.step.Reply.{Reply}
 use Rattle.flume_state.specs.State.{State}
-use Rattle.flume_state.specs.Due.{BecomesDue}
-use Rattle.flume_core.specs.Represents.{Extends, IsReachable, SameLogs}
+use Rattle.flume_core.specs.Represents.{SameLogs}
+use Rattle.flume_core.specs.Transitions.{IsTransition}
 use Rattle.flume_calls.specs.Rings.{Rings}
 
 module _ {T S : Type 0} (A : Type 0) where
@@ -12,9 +12,9 @@ module _ {T S : Type 0} (A : Type 0) where
   pub data AtMostOneStep (old new : State T S) : Type 0 where
     -- it made none, and is as it was
     NoStep : new ≡ old → AtMostOneStep old new
-    -- it made this one: who is due after it was due before and still is, or became due by it
-    OneStep : (step : Step T) → (reply : Reply T A) → Extends old step reply new
-        → (IsReachable A old → BecomesDue old step reply new) → AtMostOneStep old new
+    -- it made this one, of which holds what `run` says of each of its steps
+    OneStep : (step : Step T) → (reply : Reply T A) → IsTransition old step reply new
+        → AtMostOneStep old new
 
 module _ {T S B : Type 0} (A : Type 0) (rings : B → ℕ → S → B → Type 0) where
   -- One poll, and then one ring of the bell for each ticket that it made due: from the channel and

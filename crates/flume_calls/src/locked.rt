@@ -2,14 +2,15 @@
 ghost use Rattle.std.specs.Prelude.{◌≡◌, ◌↔◌, IsTrue, IsSome, None, length};
 ghost use Rattle.std.specs.Option.{option_copied, option_and_then};
 ghost use Rattle.flume_model.specs.Log.{opens};
-ghost use Rattle.flume_model.specs.Entries.{waiting_count};
+ghost use Rattle.flume_model.specs.Entries.{waiting_count, woken_count};
 ghost use Rattle.flume_state.specs.Sends.{NoDueSend};
 ghost use Rattle.flume_state.specs.Receivers.{NoDueReceiver};
 ghost use Rattle.flume_state.specs.State.{State, new_state};
 ghost use Rattle.flume_state.specs.Signals.{signal_of};
 ghost use Rattle.flume_core.specs.Represents.{IsReachable};
-ghost use Rattle.flume_core.specs.StateFacts.{ChannelFacts};
+ghost use Rattle.flume_core.specs.StateFacts.{ChannelFacts, NobodyIsStuck};
 ghost use Rattle.flume_calls.specs.AtRest.{IsAtRest, IsCall};
+ghost use Rattle.flume_calls.specs.EachIsRung.{EachIsRung};
 ghost use Rattle.flume_calls.specs.Polls.{IsPollCall};
 
 use crate::due::{Bell, fire_due};
@@ -62,10 +63,12 @@ impl<T: Drop, S: Drop, A: Allocator + Copy> Locked<T, S, A> {
         }
     }
 
-    /// What holds of the channel whenever its lock is free. Does nothing.
+    /// What holds of the channel whenever its lock is free. Once every receiver that was woken has
+    /// looked, nobody waits for what is there already (`rest`). Does nothing.
     pub fn facts(&self)
         ensures led { IsReachable A self.now }
         ensures facts { ChannelFacts self.now }
+        ensures rest { woken_count self.now.entries ≡ 0 → NobodyIsStuck self.now }
         ensures no_send_is_due { NoDueSend self.now.sends }
         ensures no_receiver_is_due { NoDueReceiver self.now.entries }
     {
@@ -74,10 +77,13 @@ impl<T: Drop, S: Drop, A: Allocator + Copy> Locked<T, S, A> {
 
     // What a call passes that doesn't park is `inline(always)`, here and in the turns, so that such
     // a call is one piece of code. What is done once something is parked or due is out of line.
-    /// Makes the turn, and rings once for each ticket that is due then.
+    /// Makes the turn, and rings once for each ticket that is due then: so for each call that may
+    /// go on by it (`each_is_rung`), as one whose message was accepted, or a receiver that was
+    /// woken.
     #[inline(always)]
     pub fn make<C: Turn<T, S, A>, B: Bell<S>>(&mut self, turn: C, bell: &mut B) -> C::Answer
         ensures call { IsCall A B.rings (C.does turn) self.old bell.old self.new bell.new result }
+        ensures each_is_rung { EachIsRung B.rings self.old bell.old self.new bell.new }
         ensures answers { C.answers turn result }
     {
         let answer = turn.apply(&mut self.chan);
@@ -119,7 +125,8 @@ impl<T: Drop, S: Drop, A: Allocator + Copy> Locked<T, S, A> {
         }
     }
 
-    /// Polls the call, and rings once for each ticket that is due then.
+    /// Polls the call, and rings once for each ticket that is due then: so for each call that may
+    /// go on by it.
     #[inline(always)]
     pub fn poll<P: Polled<T, S, A>, B: Bell<S>>(
         &mut self,
@@ -130,6 +137,7 @@ impl<T: Drop, S: Drop, A: Allocator + Copy> Locked<T, S, A> {
         ensures call { IsPollCall A B.rings
             (λ between. P.polls polled.old signal.old self.old between polled.new result)
             self.old bell.old self.new bell.new }
+        ensures each_is_rung { EachIsRung B.rings self.old bell.old self.new bell.new }
         ensures pending { result ≡ None → IsSome signal.old }
     {
         let answer = polled.poll(&mut self.chan, signal);

@@ -4,9 +4,9 @@ use Rattle.std.specs.Vec.{vec_len}
 use Rattle.flume_chain.specs.declared.chain.links.Links.{Links}
 use Rattle.flume_chain.specs.declared.labelled.Labelled.{Labelled}
 use Rattle.flume_chain.specs.Links.{end, with, next_at, previous_at, element_at, Linked, HasNode}
-use Rattle.flume_chain.specs.Chained.{once, Placed, Chained, Table, Holds, IsChain, places, found, listed, moved_back, walk, table_of, chain_of}
+use Rattle.flume_chain.specs.Chained.{once, Placed, Chained, Table, Holds, IsChain, places, found, listed, moved_back, table_of, chain_of}
 use Rattle.flume_chain.proofs.Rings.{once_same, with_same}
-use Rattle.flume_chain.proofs.Tables.{item, Split, with_again}
+use Rattle.flume_chain.proofs.Tables.{walk_in, item, Split, with_again}
 use Rattle.flume_chain.proofs.Steps.{linked_table, emptied, bypassed, filled, last_below, takes, puts_last}
 use Rattle.flume_chain.proofs.Kept.{found_split, taken_items, walked, kept_items}
 use Rattle.flume_chain.proofs.Puts.{with_twice}
@@ -163,7 +163,7 @@ module _ {L E Z : Type 0} (old mid : Links L E Z) (n c : ℕ) (e : (Labelled L E
       }
 
   -- and so the chain has that element behind all others
-  pub moved_items : (v : Chained (Labelled L E)) → chain_of old n ≡ v → (new : Links L E Z) → LinkedLast new → walk (table_of new) new.first n ≡ moved_back v.items c
+  pub moved_items : (v : Chained (Labelled L E)) → chain_of old n ≡ v → (new : Links L E Z) → LinkedLast new → walk_in (table_of new) new.first n ≡ moved_back v.items c
   unfolding moved_kept
   moved_items v view new last =
       let m = moved_kept new last in

@@ -7,10 +7,10 @@ use Rattle.std.proofs.lemmas.List.{map-append, get_or_past}
 use Rattle.flume_chain.specs.declared.chain.links.Links.{Links}
 use Rattle.flume_chain.specs.declared.labelled.Labelled.{Labelled}
 use Rattle.flume_chain.specs.Links.{end, no_node, element_of, with, next_at, previous_at, element_at, Linked, Same}
-use Rattle.flume_chain.specs.Chained.{once, times, Placed, Chained, Table, Holds, IsChain, places, without, put_before, walk, table_of, room_of, chain_of, first_place, place_after}
+use Rattle.flume_chain.specs.Chained.{once, times, Placed, Chained, Table, Holds, IsChain, places, without, put_before, table_of, room_of, chain_of, first_place, place_after}
 use Rattle.flume_chain.proofs.Rings.{Ring, times-append, once_same}
 use Rattle.flume_chain.proofs.Splices.{around}
-use Rattle.flume_chain.proofs.Tables.{item, walk_is, Split, found_some, without_at, put_before_at, after_at, heads, ring_of}
+use Rattle.flume_chain.proofs.Tables.{walk_in, item, walk_is, Split, found_some, without_at, put_before_at, after_at, heads, ring_of}
 use Rattle.flume_chain.proofs.Steps.{linked_table, emptied, bypassed, none_free, ring_below, takes}
 
 module _ {X : Type 0} where
@@ -125,14 +125,14 @@ module _ {L E Z : Type 0} where
   pub same_chain : (old new : Links L E Z) (n : ℕ) (v : Chained (Labelled L E)) → Same old new → chain_of old n ≡ v → chain_of new n ≡ v
   same_chain old new n v h is =
       (λ i. record {
-        items = walk ((same_table old new h) i) (((same_table old new h) i).next end) n;
+        items = walk_in ((same_table old new h) i) (((same_table old new h) i).next end) n;
         room = min (h.capacity i) end - n;
       }) ∙ is
 
   -- the elements that the links hold are those of the chain
   pub walked : (s : Links L E Z) (n : ℕ) (items : List (Placed (Labelled L E))) (frees : List ℕ) → Holds (table_of s) items frees → n ≡ length items
-      → walk (table_of s) s.first n ≡ items
-  walked s n items frees h e = ap (λ m. walk (table_of s) s.first m) e ∙ walk_is (table_of s) items frees h
+      → walk_in (table_of s) s.first n ≡ items
+  walked s n items frees h e = ap (λ m. walk_in (table_of s) s.first m) e ∙ walk_is (table_of s) items frees h
 
   -- the elements that are kept are those of the chain
   pub kept_items : (s : Links L E Z) (n : ℕ) (v : Chained (Labelled L E)) (k : IsChain s n) → chain_of s n ≡ v → k.items ≡ v.items
@@ -264,14 +264,14 @@ module _ {L E Z : Type 0} (old mid : Links L E Z) (n c : ℕ) (e : Labelled L E)
     left_kept = record { items = split.before ++ split.after; frees = c ∷ k.frees; holds = left_holds; count = one_fewer }
 
     -- in their order
-    pub left_items : (v : Chained (Labelled L E)) → chain_of old n ≡ v → walk (table_of new) new.first (n - 1) ≡ without v.items c
+    pub left_items : (v : Chained (Labelled L E)) → chain_of old n ≡ v → walk_in (table_of new) new.first (n - 1) ≡ without v.items c
     left_items v view =
         walked new (n - 1) (split.before ++ split.after) (c ∷ k.frees) left_holds one_fewer
         ∙ sym (taken_items old k.items k.frees c e split k.holds) ∙ ap (λ l. without l c) (kept_items old n v k view)
 
     -- and as many may stand
     pub left_room : (v : Chained (Labelled L E)) → chain_of old n ≡ v
-        → room_of new (n - 1) + length (walk (table_of new) new.first (n - 1)) ≡ v.room + length v.items
+        → room_of new (n - 1) + length (walk_in (table_of new) new.first (n - 1)) ≡ v.room + length v.items
     left_room v view =
         let left = ap length (walked new (n - 1) (split.before ++ split.after) (c ∷ k.frees) left_holds one_fewer) in
         let stood = ap length (kept_items old n v k view) in

@@ -118,17 +118,21 @@ module _ {E : Type 0} where
       (map_with (found xs) x.place (Some x.element) (places xs) (omega arith)
       ∙ found_each xs (λ k. let more = h k in omega arith))
 
+  -- the elements met in the links of a table
+  abbrev pub walk_in : Table E → ℕ → ℕ → List (Placed E)
+  walk_in t k n = walk t.next t.element k n
+
   -- the walk from behind a place on is the elements behind it
   pub walk_from : (t : Table E) (xs : List (Placed E)) (p : ℕ) → map t.next (p ∷ places xs) ≡ places xs ++ end ∷ []
-      → map t.element (places xs) ≡ map (λ (x : Placed E). Some x.element) xs → walk t (t.next p) (length xs) ≡ xs
+      → map t.element (places xs) ≡ map (λ (x : Placed E). Some x.element) xs → walk_in t (t.next p) (length xs) ≡ xs
   walk_from t [] p f h = refl
   walk_from t (x ∷ xs) p f h =
       let next : t.next p ≡ x.place = cc in
       let value : t.element x.place ≡ Some x.element = cc in
       let tails : map t.next (x.place ∷ places xs) ≡ places xs ++ end ∷ [] = cc in
       let values : map t.element (places xs) ≡ map (λ (y : Placed E). Some y.element) xs = cc in
-      ap (λ q. walk t q (suc (length xs))) next
-      ∙ ap (λ o. listed x.place o (walk t (t.next x.place) (length xs))) value
+      ap (λ q. walk_in t q (suc (length xs))) next
+      ∙ ap (λ o. listed x.place o (walk_in t (t.next x.place) (length xs))) value
       ∙ ap (λ (l : List (Placed E)). x ∷ l) (walk_from t xs x.place tails values)
 
   -- the elements and the places of a table stand in a ring
@@ -145,7 +149,7 @@ module _ {E : Type 0} where
   }
 
   -- the walk through the links of a table is its elements
-  pub walk_is : (t : Table E) (items : List (Placed E)) (frees : List ℕ) → Holds t items frees → walk t (t.next end) (length items) ≡ items
+  pub walk_is : (t : Table E) (items : List (Placed E)) (frees : List ℕ) → Holds t items frees → walk_in t (t.next end) (length items) ≡ items
   walk_is t items frees h =
       let r = ring_of t items frees h in
       walk_from t items end h.forward

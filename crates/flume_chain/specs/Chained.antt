@@ -85,10 +85,11 @@ module _ {E : Type 0} where
   abbrev pub moved_back : List (Placed E) → ℕ → List (Placed E)
   moved_back xs k = without xs k ++ listed k (found xs k) []
 
-  -- the elements met from a place on in so many steps
-  abbrev pub walk : Table E → ℕ → ℕ → List (Placed E)
-  walk t k zero = []
-  walk t k (suc n) = listed k (t.element k) (walk t (t.next k) n)
+  -- the elements met from a place on in so many steps, where `next` is the place after each, and
+  -- `element` what stands there
+  abbrev pub walk : (ℕ → ℕ) → (ℕ → Option E) → ℕ → ℕ → List (Placed E)
+  walk next element k zero = []
+  walk next element k (suc n) = listed k (element k) (walk next element (next k) n)
 
   -- the table is one of these elements and these free places: `end` closes both into rings, and
   -- each place below the size is of one element or free
@@ -119,7 +120,7 @@ module _ {L E Z : Type 0} where
 
   -- the chain of n elements in these links
   abbrev pub chain_of : Links L E Z → ℕ → Chained (Labelled L E)
-  chain_of s n = record { items = walk (table_of s) s.first n; room = room_of s n }
+  chain_of s n = record { items = walk (next_at s) (element_at s) s.first n; room = room_of s n }
 
   -- these links are of n elements and of the free places
   pub record IsChain (s : Links L E Z) (n : ℕ) : Type 0 where

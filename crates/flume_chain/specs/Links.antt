@@ -1,4 +1,5 @@
--- For this crate alone: what the contracts of a chain's links say, by look-ups at each place.
+-- What the contracts of a chain's links say, by look-ups at each place. Of these the view of a chain
+-- has `next_at` and `element_at`; no contract above this crate names one.
 use Rattle.std.specs.Prelude.{◌≡◌, ◌≢◌, ℕ, suc, ◌<◌, ◌≤◌, ◌==◌, Option, Some, None, if◌then◌else◌}
 use Rattle.std.specs.Prelude.{slice_index_or}
 use Rattle.std.specs.Vec.{vec_len, vec_capacity, with_item}

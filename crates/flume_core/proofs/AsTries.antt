@@ -22,10 +22,8 @@ module _ {T A S : Type 0} where
     run = (reply, h.run.1);
     capacity_is = rw e h.capacity_is;
     greatest_is = rw e h.greatest_is;
-    queued = h.queued;
-    line_is = rw e h.line_is;
-    queue_is = h.queue_is;
-    boundary_is = rw e h.boundary_is;
+    queue_is = rw e h.queue_is;
+    blocked_are = rw e h.blocked_are;
     sends_are = rw e h.sends_are;
     entries_are = rw e h.entries_are;
     peak_is = rw e h.peak_is;

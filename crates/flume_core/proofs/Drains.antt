@@ -17,7 +17,7 @@ use Rattle.flume_state.specs.State.{State, offers_of}
 use Rattle.flume_core.specs.Represents.{Represents}
 use Rattle.flume_state.specs.Effects.{after_admissions, after_admissions_of}
 use Rattle.flume_model.proofs.order.LineSteps.{line_drains, apart_in_line, line_over}
-use Rattle.flume_core.proofs.Views.{mark, status, status_is, greatest_kept, queued_length, queue_at_log, offered_messages, line_length, nil_by}
+use Rattle.flume_core.proofs.Views.{mark, status, status_is, greatest_kept, queued_length, queue_at_log, offered_messages, line_length, nil_by, line_is, queued}
 use Rattle.flume_core.proofs.Marks.{marks_moved_in}
 use Rattle.flume_core.proofs.Stands.{stands_as, stands_open, stands_over, fits_as, over_same, none_live}
 use Rattle.flume_core.proofs.Stands.{peak_kept, none_parked}
@@ -129,8 +129,8 @@ module _ {T A S : Type 0} where
   -- the blocked messages of a state have tickets apart
   pub apart_blocked : {o : Opening} {log : Log T A} {s : State T S} → Represents o log s → ApartFrom s.blocked
   apart_blocked {o} {log} {s} h before b later e =
-      (apart_in_line o log h.run h.queued (offers_of before) (offers_of later) b.ticket b.message
-      (h.line_is ∙ ap (λ l. h.queued ++ l) (ap offers_of e ∙ map-append _ before (b ∷ later)))).1
+      (apart_in_line o log h.run (queued h) (offers_of before) (offers_of later) b.ticket b.message
+      ((line_is h) ∙ ap (λ l. (queued h) ++ l) (ap offers_of e ∙ map-append _ before (b ∷ later)))).1
 
   -- all queued messages are handed out, and blocked ones move in
   pub drains : (o : Opening) (past : Log T A) (p : Step T × Reply T A) (old new : State T S) (list : List T) → Represents o past old
@@ -150,7 +150,7 @@ module _ {T A S : Type 0} where
           let fit = fits_as o past p (Drains list) h.run reply e in
           let still_open = over_same past p (Drains list) e refl ∙ open_ in
           let left : line (p ∷ past) ≡ offers_of at.moved ++ offers_of at.later =
-          line_drains o past p list h.queued (offers_of old.blocked) h.run e open_ h.line_is
+          line_drains o past p list (queued h) (offers_of old.blocked) h.run e open_ (line_is h)
           (queued_length h ∙ sym (ap length (fit ∙ queue_at_log h)))
           ∙ ap offers_of at.parts ∙ map-append _ at.moved at.later in
           let n = length at.moved in

@@ -1,6 +1,5 @@
 -- The headline, of a state and the log that it stands for.
 use Rattle.std.proofs.Common.{◌≡◌, Bool, true, false, List, [], ◌∷◌, ◌++◌, map, take, drop, refl, sym, ap, subst, ◌∙◌}
-use Rattle.std.proofs.Math.Seq.{take-append_seam, drop-append_seam}
 use Rattle.flume_model.specs.Log.{Log, Opening, Offer, HandOut, Shown, FilledIn}
 use Rattle.flume_model.specs.Offers.{kept, hand_outs}
 use Rattle.flume_model.specs.Counts.{is_over}
@@ -14,7 +13,8 @@ use Rattle.flume_core.specs.Represents.{Represents}
 use Rattle.flume_core.specs.Headline.{Headline}
 use Rattle.flume_model.proofs.fills.FillsOrder.{in_order}
 use Rattle.flume_core.proofs.Bare.{bare_held}
-use Rattle.flume_core.proofs.Views.{entry_at_log, queued_length, line_messages}
+use Rattle.flume_core.proofs.Views.{entry_at_log, line_messages, boundary_is}
+use Rattle.flume_model.proofs.order.Kept.{line_is_open}
 use Rattle.flume_model.proofs.order.LineSteps.{line_over}
 use Rattle.flume_core.proofs.StateFacts.{woken_cover, queued_bounded}
 
@@ -24,11 +24,6 @@ front_nil [] ys e = refl
 front_nil (x ∷ xs) ys e = cc
 
 module _ {T A S : Type 0} where
-  -- while an end is there, the queued and the blocked offers are the kept ones that weren't handed out
-  left_is : (o : Opening) (log : Log T A) (s : State T S) (h : Represents o log s) → is_over log ≡ false
-      → h.queued ++ offers_of s.blocked ≡ drop (hand_outs log) (kept log)
-  left_is o log s h open_ = sym h.line_is ∙ rw open_ refl
-
   -- the queue is the kept offers from the hand-outs on, up to the boundary
   queue_is_front : (o : Opening) (log : Log T A) (s : State T S) → Represents o log s
       → s.queue ≡ messages (take (boundary o log) (drop (hand_outs log) (kept log)))
@@ -41,15 +36,13 @@ module _ {T A S : Type 0} where
       go true over =
           let none : messages (line log) ≡ [] = ap messages (line_over log over) in
           let empty_ : s.queue ≡ [] = front_nil s.queue (map (λ b. b.message) s.blocked) (sym (line_messages h) ∙ none) in
-          rw (← h.boundary_is, empty_) refl
-      go false open_ =
-          rw (sym (left_is o log s h open_), ← h.boundary_is, ← queued_length h, take-append_seam h.queued (offers_of s.blocked)) h.queue_is
+          rw (← boundary_is h, empty_) refl
+      go false open_ = h.queue_is ∙ ap (λ l. messages (take (boundary o log) l)) (line_is_open log open_)
 
   -- the blocked messages are the rest of them, while an end is there
   blocked_are_rest : (o : Opening) (log : Log T A) (s : State T S) → Represents o log s → is_over log ≡ false
       → offers_of s.blocked ≡ drop (boundary o log) (drop (hand_outs log) (kept log))
-  blocked_are_rest o log s h open_ =
-      rw (sym (left_is o log s h open_), ← h.boundary_is, ← queued_length h, drop-append_seam h.queued (offers_of s.blocked)) refl
+  blocked_are_rest o log s h open_ = h.blocked_are ∙ ap (drop (boundary o log)) (line_is_open log open_)
 
   -- a hand-out is of the same message by the entries of the state as by those of the log
   same_hand_out : (o : Opening) (log : Log T A) (s : State T S) → Represents o log s

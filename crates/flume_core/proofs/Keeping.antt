@@ -20,7 +20,7 @@ use Rattle.flume_model.proofs.EntryShape.{told_filled}
 use Rattle.flume_model.proofs.Fits.{not_over_yet}
 use Rattle.flume_model.proofs.order.Kept.{keeps_line}
 use Rattle.flume_model.proofs.order.LineSteps.{line_stays, line_over}
-use Rattle.flume_core.proofs.Views.{SameMarks, status, status_is, greatest_kept, line_length, nil_by}
+use Rattle.flume_core.proofs.Views.{SameMarks, status, status_is, greatest_kept, line_length, nil_by, line_is, queued}
 use Rattle.flume_core.proofs.Stands.{peak_kept, none_parked, stands_as, stands_open, stands_over, open_not_over, none_live, over_same}
 use Rattle.flume_core.proofs.Stands.{still_live}
 
@@ -86,8 +86,8 @@ module _ {T A S : Type 0} where
       stands_as o (p ∷ past) new _ is (stands_open o past p done old _ h reply e open_ record {
         capacity_is = sym (all.capacity_same old.capacity);
         greatest_is = greatest_kept h;
-        queued = h.queued;
-        line_is = line_stays o past p h.run (ap keeps_line e ∙ all.keeps) before open_ ∙ h.line_is;
+        queued = queued h;
+        line_is = line_stays o past p h.run (ap keeps_line e ∙ all.keeps) before open_ ∙ line_is h;
         queue_is = h.queue_is;
         length_is = sym (all.queued_same old.capacity _ (length old.queue));
         marks = λ t. marks t ∙ status_is h t

@@ -18,7 +18,7 @@ use Rattle.flume_model.proofs.Tickets.{has_ticket-append}
 use Rattle.flume_model.proofs.order.LineSteps.{apart_in_line}
 use Rattle.flume_state.proofs.SendsLaws.{get-insert_same, get-insert_other, get-remove_same, get-remove_other, get-changed_same}
 use Rattle.flume_state.proofs.SendsLaws.{get-changed_other}
-use Rattle.flume_core.proofs.Views.{mark, status, status_is}
+use Rattle.flume_core.proofs.Views.{mark, status, status_is, line_is, queued}
 use Rattle.flume_core.proofs.Stands.{still_live, not_live_now}
 
 -- a ticket just issued waits
@@ -131,9 +131,9 @@ module _ {T A S : Type 0} where
       → old.blocked ≡ b ∷ later → (q : ℕ)
       → mark (changed old.sends b.ticket accepted_now) q ≡ status (is_live past q && true) (has_ticket q (offers_of later))
   marks_admitted o past old b later h at q =
-      let place : line past ≡ h.queued ++ ([] ++ record { message = b.message; ticket = Some b.ticket } ∷ offers_of later) =
-      h.line_is ∙ ap (λ l. h.queued ++ offers_of l) at in
-      let gone = (apart_in_line o past h.run h.queued [] (offers_of later) b.ticket b.message place).1 in
+      let place : line past ≡ (queued h) ++ ([] ++ record { message = b.message; ticket = Some b.ticket } ∷ offers_of later) =
+      line_is h ∙ ap (λ l. (queued h) ++ offers_of l) at in
+      let gone = (apart_in_line o past h.run (queued h) [] (offers_of later) b.ticket b.message place).1 in
       marks_moved_in old.sends (is_live past) b later
       (λ k. status_is h k ∙ ap (λ l. status (is_live past k) (has_ticket k (offers_of l))) at) gone q
       ∙ sym (ap (λ c. status c (has_ticket q (offers_of later))) (and-true (is_live past q)))

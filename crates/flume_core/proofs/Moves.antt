@@ -26,7 +26,7 @@ use Rattle.flume_model.proofs.order.LineSteps.{line_queues, line_blocks, line_wi
 use Rattle.flume_model.proofs.WaitingCounts.{fewer_rounded}
 use Rattle.flume_core.proofs.Bare.{bare_round_for}
 use Rattle.flume_core.proofs.Views.{status, status_is, greatest_kept, room_at_state, none_blocked, none_blocked_waiting}
-use Rattle.flume_core.proofs.Views.{waiting_at_log}
+use Rattle.flume_core.proofs.Views.{waiting_at_log, line_is, queued}
 use Rattle.flume_core.proofs.Marks.{has_without, marks_inserted, marks_removed}
 use Rattle.flume_core.proofs.Stands.{peak_kept, stands_as, stands_open, fits_as, open_not_over, live_not_over, over_same}
 use Rattle.flume_core.proofs.Stands.{still_live}
@@ -63,19 +63,19 @@ module _ {T A S : Type 0} where
       let none : old.blocked ≡ [] = none_blocked_joining h fit.0 in
       let still_open = over_same past p (Queues m filled) e refl ∙ open_ in
       let n = how_many filled in
-      let few : n ≤ length (h.queued ++ x ∷ []) =
-      let long = length_push h.queued x in let one = at_most filled in omega arith in
+      let few : n ≤ length ((queued h) ++ x ∷ []) =
+      let long = length_push (queued h) x in let one = at_most filled in omega arith in
       let left : after_fill (round_for_fills (old.queue ++ m ∷ []) old.entries) (old.queue ++ m ∷ []) ≡ drop n (old.queue ++ m ∷ []) =
       ap (λ f. after_fill f (old.queue ++ m ∷ [])) (sym fills) ∙ unfilled_is filled (old.queue ++ m ∷ []) in
       stands_as o (p ∷ past) new _ is (stands_open o past p (Queues m filled) old _ h reply e still_open record {
         capacity_is = refl;
         greatest_is = greatest_kept h;
-        queued = drop n (h.queued ++ x ∷ []);
+        queued = drop n ((queued h) ++ x ∷ []);
         line_is = line_queues o past p m filled h.run e open_
-            ∙ ap (drop n) (ap (λ l. l ++ x ∷ []) h.line_is ∙ push_front h.queued (offers_of old.blocked) x (ap offers_of none))
-            ∙ drop-append-le n (h.queued ++ x ∷ []) (offers_of old.blocked) few;
-        queue_is = left ∙ ap (drop n) (ap (λ l. l ++ m ∷ []) h.queue_is ∙ sym (map_push _ h.queued x))
-            ∙ drop-map (λ offer. offer.message) n (h.queued ++ x ∷ []);
+            ∙ ap (drop n) (ap (λ l. l ++ x ∷ []) (line_is h) ∙ push_front (queued h) (offers_of old.blocked) x (ap offers_of none))
+            ∙ drop-append-le n ((queued h) ++ x ∷ []) (offers_of old.blocked) few;
+        queue_is = left ∙ ap (drop n) (ap (λ l. l ++ m ∷ []) h.queue_is ∙ sym (map_push _ (queued h) x))
+            ∙ drop-map (λ offer. offer.message) n ((queued h) ++ x ∷ []);
         length_is = ap length left ∙ length-drop n (old.queue ++ m ∷ []) ∙ ap (λ k. k - n) (length_push old.queue m);
         marks = λ t. status_is h t
             ∙ sym (ap (λ b. status b (has_ticket t (offers_of old.blocked))) (still_live false (is_live past t) false refl refl));
@@ -104,10 +104,10 @@ module _ {T A S : Type 0} where
       stands_as o (p ∷ past) new _ is (stands_open o past p (Blocks m old.next) old _ h reply e still_open record {
         capacity_is = refl;
         greatest_is = greatest_kept h;
-        queued = h.queued;
+        queued = queued h;
         line_is = line_blocks o past p m old.next h.run e h.next_is open_
-            ∙ ap (λ l. l ++ record { message = m; ticket = Some old.next } ∷ []) h.line_is
-            ∙ append_assoc h.queued (offers_of old.blocked) _ ∙ ap (λ l. h.queued ++ l) (sym (map_push _ old.blocked b));
+            ∙ ap (λ l. l ++ record { message = m; ticket = Some old.next } ∷ []) (line_is h)
+            ∙ append_assoc (queued h) (offers_of old.blocked) _ ∙ ap (λ l. (queued h) ++ l) (sym (map_push _ old.blocked b));
         queue_is = h.queue_is;
         length_is = refl;
         marks = λ t. marks_inserted h m signal t;
@@ -129,8 +129,8 @@ module _ {T A S : Type 0} where
       stands_as o (p ∷ past) new _ is (stands_open o past p (Accepts t) old _ h reply e still_open record {
         capacity_is = refl;
         greatest_is = greatest_kept h;
-        queued = h.queued;
-        line_is = line_stays o past p h.run (ap keeps_line e) open_ still_open ∙ h.line_is;
+        queued = queued h;
+        line_is = line_stays o past p h.run (ap keeps_line e) open_ still_open ∙ line_is h;
         queue_is = h.queue_is;
         length_is = refl;
         marks = λ q. marks_removed h t q (has_ticket q (offers_of old.blocked)) (λ other. refl);
@@ -150,15 +150,15 @@ module _ {T A S : Type 0} where
   withdraws o past p old new t m before later h reply e at is =
       let fit = fits_as o past p (Withdraws t) h.run reply e in
       let open_ : is_over past ≡ false = live_not_over past t fit.1.0 in
-      let place : line past ≡ h.queued ++ (offers_of before ++ record { message = m; ticket = Some t } ∷ offers_of later) =
-      h.line_is ∙ ap (λ l. h.queued ++ l) (ap offers_of at ∙ map-append _ before _) in
+      let place : line past ≡ (queued h) ++ (offers_of before ++ record { message = m; ticket = Some t } ∷ offers_of later) =
+      line_is h ∙ ap (λ l. (queued h) ++ l) (ap offers_of at ∙ map-append _ before _) in
       let still_open = over_same past p (Withdraws t) e refl ∙ open_ in
       stands_as o (p ∷ past) new _ is (stands_open o past p (Withdraws t) old _ h reply e still_open record {
         capacity_is = refl;
         greatest_is = greatest_kept h;
-        queued = h.queued;
-        line_is = line_withdraws o past p t m h.queued (offers_of before) (offers_of later) h.run e open_ place
-            ∙ ap (λ l. h.queued ++ l) (sym (map-append _ before later));
+        queued = queued h;
+        line_is = line_withdraws o past p t m (queued h) (offers_of before) (offers_of later) h.run e open_ place
+            ∙ ap (λ l. (queued h) ++ l) (sym (map-append _ before later));
         queue_is = h.queue_is;
         length_is = refl;
         marks = λ q. marks_removed h t q (has_ticket q (offers_of (before ++ later)))

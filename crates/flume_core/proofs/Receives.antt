@@ -25,7 +25,7 @@ use Rattle.flume_model.proofs.order.LineSteps.{line_leaves}
 use Rattle.flume_model.proofs.waits.WaitingOpen.{nothing_once_over}
 use Rattle.flume_model.proofs.WaitingCounts.{fewer_without, fewer_after_leave}
 use Rattle.flume_core.proofs.Bare.{bare_without, bare_again, bare_noticed, bare_after_leave}
-use Rattle.flume_core.proofs.Views.{status, status_is, greatest_kept, queued_length}
+use Rattle.flume_core.proofs.Views.{status, status_is, greatest_kept, queued_length, line_is, queued}
 use Rattle.flume_core.proofs.Stands.{stands_as, stands_open, fits_as, open_not_over, over_same, still_live}
 use Rattle.flume_model.proofs.order.Parts.{at_most}
 use Rattle.flume_core.proofs.Stands.{peak_kept}
@@ -132,7 +132,7 @@ module _ {T A S : Type 0} where
       let open_ : is_over past ≡ false = entry_not_over o past t fit.0.entry h.run fit.0.found in
       let still_open = over_same past p (Leaves t filled) e refl ∙ open_ in
       let n = how_many filled in
-      let few : n ≤ length h.queued =
+      let few : n ≤ length (queued h) =
       let long = queued_length h in
       let within : how_many (leave_fills t old.queue old.entries) ≤ length old.queue = leave_within t old.queue old.entries in
       let same : n ≡ how_many (leave_fills t old.queue old.entries) = ap how_many fills in omega arith in
@@ -141,10 +141,10 @@ module _ {T A S : Type 0} where
       stands_as o (p ∷ past) new _ (is ∙ departed_is t old) (stands_open o past p (Leaves t filled) old _ h reply e still_open record {
         capacity_is = refl;
         greatest_is = greatest_kept h;
-        queued = drop n h.queued;
-        line_is = line_leaves o past p t filled h.run e open_ ∙ ap (drop n) h.line_is
-            ∙ drop-append-le n h.queued (offers_of old.blocked) few;
-        queue_is = rest ∙ ap (drop n) h.queue_is ∙ drop-map (λ offer. offer.message) n h.queued;
+        queued = drop n (queued h);
+        line_is = line_leaves o past p t filled h.run e open_ ∙ ap (drop n) (line_is h)
+            ∙ drop-append-le n (queued h) (offers_of old.blocked) few;
+        queue_is = rest ∙ ap (drop n) h.queue_is ∙ drop-map (λ offer. offer.message) n (queued h);
         length_is = ap length rest ∙ length-drop n old.queue;
         marks = λ q. status_is h q
             ∙ sym (ap (λ b. status b (has_ticket q (offers_of old.blocked))) (still_live false (is_live past q) false refl refl));

@@ -16,7 +16,7 @@ use Rattle.flume_state.specs.Effects.{after_admissions, with_capacity}
 use Rattle.flume_core.specs.Represents.{Represents}
 use Rattle.flume_model.proofs.order.Kept.{keeps_line}
 use Rattle.flume_model.proofs.order.LineSteps.{line_stays}
-use Rattle.flume_core.proofs.Views.{status, status_is, queued_length, offered_messages}
+use Rattle.flume_core.proofs.Views.{status, status_is, queued_length, offered_messages, line_is, queued}
 use Rattle.flume_core.proofs.Stands.{stands_as, stands_open, fits_as, over_same, open_not_over, peak_kept, still_live}
 use Rattle.flume_core.proofs.Takes.{full_or_room}
 use Rattle.flume_core.proofs.Drains.{MovedIn, moves_in, marks_all, apart_blocked, fills_none_full}
@@ -45,8 +45,8 @@ module _ {T A S : Type 0} where
       still_open : is_over (p ∷ past) ≡ false
       still_open = over_same past p (Resizes c) e refl ∙ open_
 
-      same : line (p ∷ past) ≡ h.queued ++ offers_of old.blocked
-      same = line_stays o past p h.run (ap keeps_line e) open_ still_open ∙ h.line_is
+      same : line (p ∷ past) ≡ (queued h) ++ offers_of old.blocked
+      same = line_stays o past p h.run (ap keeps_line e) open_ still_open ∙ line_is h
 
       by_room : ((is_full (Some c) (length old.queue) ≡ true) × IsAtCapacity (Some c) (length old.queue))
           ⊎ ((is_full (Some c) (length old.queue) ≡ false) × HasRoom (Some c) (length old.queue))
@@ -55,7 +55,7 @@ module _ {T A S : Type 0} where
           stands_as o (p ∷ past) new set_ (is ∙ fills_none_full set_ full.1) (stands_open o past p (Resizes c) old set_ h reply e still_open record {
             capacity_is = refl;
             greatest_is = refl;
-            queued = h.queued;
+            queued = queued h;
             line_is = same;
             queue_is = h.queue_is;
             length_is = stays_long c (length old.queue) (length (line (p ∷ past))) full.1;
@@ -72,10 +72,10 @@ module _ {T A S : Type 0} where
           let at : MovedIn old.blocked set_ (after_admissions set_) = moves_in old.blocked set_ refl below in
           let parts : offers_of old.blocked ≡ offers_of at.moved ++ offers_of at.later =
           ap offers_of at.parts ∙ map-append _ at.moved at.later in
-          let whole : line (p ∷ past) ≡ (h.queued ++ offers_of at.moved) ++ offers_of at.later =
-          same ∙ ap (λ l. h.queued ++ l) parts ∙ sym (append_assoc h.queued (offers_of at.moved) (offers_of at.later)) in
+          let whole : line (p ∷ past) ≡ ((queued h) ++ offers_of at.moved) ++ offers_of at.later =
+          same ∙ ap (λ l. (queued h) ++ l) parts ∙ sym (append_assoc (queued h) (offers_of at.moved) (offers_of at.later)) in
           let long : length (line (p ∷ past)) ≡ length old.queue + (length at.moved + length at.later) =
-          ap length same ∙ length-append h.queued (offers_of old.blocked)
+          ap length same ∙ length-append (queued h) (offers_of old.blocked)
           ∙ ap₂ (λ a b. a + b) (queued_length h) (ap length parts ∙ length-append (offers_of at.moved) (offers_of at.later)
           ∙ ap₂ (λ a b. a + b) (length-map at.moved _) (length-map at.later _)) in
           let enough : (c ≤ length old.queue + length at.moved) ⊎ (length at.later ≡ 0) =
@@ -83,9 +83,9 @@ module _ {T A S : Type 0} where
           stands_as o (p ∷ past) new _ (is ∙ at.state) (stands_open o past p (Resizes c) old _ h reply e still_open record {
             capacity_is = refl;
             greatest_is = refl;
-            queued = h.queued ++ offers_of at.moved;
+            queued = (queued h) ++ offers_of at.moved;
             line_is = whole;
-            queue_is = ap₂ (λ a b. a ++ b) h.queue_is (sym (offered_messages at.moved)) ∙ sym (map-append _ h.queued (offers_of at.moved));
+            queue_is = ap₂ (λ a b. a ++ b) h.queue_is (sym (offered_messages at.moved)) ∙ sym (map-append _ (queued h) (offers_of at.moved));
             length_is = length-append old.queue _ ∙ ap (λ n. length old.queue + n) (length-map at.moved _)
                 ∙ grows_long c (length old.queue) (length at.moved) (length at.later) at.in_capacity enough
                 ∙ ap (λ n. max (length old.queue) (min c n)) (sym long);

@@ -1,9 +1,10 @@
 -- What a step has to leave of a state for it to stand for the log with that step added.
-use Rattle.std.proofs.Common.{◌≡◌, ℕ, ◌+◌, ◌<◌, ◌≤◌, Bool, true, false, not, ◌&&◌, ◌||◌, eqb, List, [], ◌∷◌, ◌++◌, length, drop, map, max}
+use Rattle.std.proofs.Common.{◌≡◌, ℕ, ◌+◌, ◌<◌, ◌≤◌, Bool, true, false, not, ◌&&◌, ◌||◌, eqb, List, [], ◌∷◌, ◌++◌, length, drop, take, map, max}
 use Rattle.std.proofs.Common.{Option, None, refl, sym, ◌∙◌, ap, ap₂, subst, arith, ne_eqb}
 use Rattle.std.proofs.Math.Bool.{and-true}
 use Rattle.std.proofs.lemmas.Bool.{cond-true, cond-false}
-use Rattle.std.proofs.lemmas.List.{drop_at, length-map}
+use Rattle.std.proofs.Math.Seq.{drop-nil, take-nil}
+use Rattle.std.proofs.lemmas.List.{drop_at, take_at, length-map}
 use Rattle.flume_model.specs.declared.step.Step.{Step}
 use Rattle.flume_model.specs.declared.step.Reply.{Reply}
 use Rattle.flume_model.specs.Log.{Log, Opening, Offer, Change, change}
@@ -21,7 +22,7 @@ use Rattle.flume_core.specs.Represents.{Represents}
 use Rattle.flume_model.proofs.Fits.{Fits, fits}
 use Rattle.flume_model.proofs.order.LineSteps.{line_over}
 use Rattle.flume_model.proofs.waits.WaitingOpen.{nothing_once_over}
-use Rattle.flume_core.proofs.Views.{mark, status, queue_at_log, waiting_within, greatest_kept, nil_mapped}
+use Rattle.flume_core.proofs.Views.{mark, status, queue_at_log, waiting_within, greatest_kept, nil_mapped, boundary_is}
 
 -- what a ticket is, after a change that neither issues nor spends it
 pub still_live : (issued_ live spent : Bool) → issued_ ≡ false → spent ≡ false → (issued_ || (live && not spent)) ≡ live
@@ -107,13 +108,15 @@ module _ {T A S : Type 0} where
       let in_force : new.capacity ≡ capacity o (p ∷ past) =
       by.capacity_is ∙ ap (λ c. capacity_after c done) h.capacity_is ∙ sym (ap (capacity_after (capacity o past)) e) in
       let counted : length new.queue ≡ boundary o (p ∷ past) =
-      by.length_is ∙ ap₂ (λ c n. boundary_after c (length (line (p ∷ past))) n done) in_force h.boundary_is
+      by.length_is ∙ ap₂ (λ c n. boundary_after c (length (line (p ∷ past))) n done) in_force (boundary_is h)
       ∙ sym (cond-false (is_over (p ∷ past)) 0 _ open_
       ∙ ap (boundary_after (capacity o (p ∷ past)) (length (line (p ∷ past))) (boundary o past)) e) in
+      let long : length by.queued ≡ boundary o (p ∷ past) =
+      sym (ap length by.queue_is ∙ length-map by.queued (λ offer. offer.message)) ∙ counted in
+      let front : take (boundary o (p ∷ past)) (line (p ∷ past)) ≡ by.queued =
+      ap (take (boundary o (p ∷ past))) by.line_is ∙ take_at by.queued (offers_of new.blocked) (boundary o (p ∷ past)) long in
       let waiting : blocked o (p ∷ past) ≡ offers_of new.blocked =
-      ap (drop (boundary o (p ∷ past))) by.line_is
-      ∙ drop_at by.queued (offers_of new.blocked) (boundary o (p ∷ past))
-      (sym (ap length by.queue_is ∙ length-map by.queued (λ offer. offer.message)) ∙ counted) in
+      ap (drop (boundary o (p ∷ past))) by.line_is ∙ drop_at by.queued (offers_of new.blocked) (boundary o (p ∷ past)) long in
       let entered : map bare new.entries ≡ entries o (p ∷ past) =
       by.entries_are ∙ sym (cond-false (is_over (p ∷ past)) [] _ open_
       ∙ ap (entries_after (queue o past) closes (entries o past)) e
@@ -122,10 +125,8 @@ module _ {T A S : Type 0} where
         run = (reply, h.run);
         capacity_is = in_force;
         greatest_is = by.greatest_is ∙ ap₂ greater h.greatest_is in_force;
-        queued = by.queued;
-        line_is = by.line_is;
-        queue_is = by.queue_is;
-        boundary_is = counted;
+        queue_is = by.queue_is ∙ sym (ap messages front);
+        blocked_are = sym waiting;
         sends_are = λ t. by.marks t
             ∙ sym (ap (λ b. status b (has_ticket t (blocked o (p ∷ past)))) (live_open past p done t e open_)
             ∙ ap (λ l. status (issues done t || (is_live past t && not (spends done t))) (has_ticket t l)) waiting);
@@ -154,10 +155,10 @@ module _ {T A S : Type 0} where
         run = (reply, h.run);
         capacity_is = in_force;
         greatest_is = same_greatest ∙ greatest_kept h ∙ ap₂ greater h.greatest_is (sym same_capacity ∙ in_force);
-        queued = [];
-        line_is = line_over (p ∷ past) over ∙ sym (ap offers_of no_blocked);
-        queue_is = no_queue;
-        boundary_is = ap length no_queue ∙ sym (cond-true (is_over (p ∷ past)) 0 _ over);
+        queue_is = no_queue ∙ sym (ap (λ l. messages (take (boundary o (p ∷ past)) l)) (line_over (p ∷ past) over)
+            ∙ ap messages (take-nil (boundary o (p ∷ past))));
+        blocked_are = ap offers_of no_blocked ∙ sym (ap (drop (boundary o (p ∷ past))) (line_over (p ∷ past) over)
+            ∙ drop-nil (boundary o (p ∷ past)));
         sends_are = λ t. no_sends t ∙ sym (ap (λ b. status b (has_ticket t (blocked o (p ∷ past)))) (none_live (p ∷ past) t over));
         entries_are = ap (map bare) no_entries ∙ sym (cond-true (is_over (p ∷ past)) [] _ over);
         peak_is =

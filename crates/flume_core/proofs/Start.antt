@@ -14,10 +14,8 @@ module _ {T A S : Type 0} where
         run = tt;
         capacity_is = refl;
         greatest_is = refl;
-        queued = [];
-        line_is = refl;
         queue_is = refl;
-        boundary_is = refl;
+        blocked_are = refl;
         sends_are = λ t. rw get-empty refl;
         entries_are = refl;
         peak_is = refl;

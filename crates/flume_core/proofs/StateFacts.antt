@@ -21,7 +21,7 @@ use Rattle.flume_state.specs.State.{State, accepted_at, offers_of, bare}
 use Rattle.flume_core.specs.Represents.{Represents}
 use Rattle.flume_core.specs.StateFacts.{SendersBlockAtCapacity, ReceiversWaitWhileOpen, WokenCoverQueued}
 use Rattle.flume_core.specs.StateFacts.{QueuedAndWaitingAreBounded, ReceiverTicketsApart, SendTicketsApart, BlockedTicketsRise}
-use Rattle.flume_core.specs.StateFacts.{BlockedSendsAreLive, AcceptedBeforeBlocked, EmptyOnceOver, BlockingWokenByClosing, ChannelFacts}
+use Rattle.flume_core.specs.StateFacts.{BlockedSendsAreLive, AcceptedBeforeBlocked, EmptyOnceOver, BlockingWokenByClosing, ChannelFacts, NobodyIsStuck}
 use Rattle.flume_core.proofs.Bare.{bare_waiting, bare_entry}
 use Rattle.flume_model.proofs.order.Kept.{line_is_open}
 use Rattle.flume_model.proofs.Tickets.{rising_filter}
@@ -29,9 +29,9 @@ use Rattle.flume_core.proofs.BlockedLive.{blocked_are_live}
 use Rattle.flume_model.proofs.order.Runs.{tickets_rise}
 use Rattle.flume_model.proofs.order.TicketLaws.{accepted_below_blocked}
 use Rattle.flume_model.proofs.waits.WaitingLaws.{covered, bounded, waits_while_open, woken_block_while_closed, nothing_once_over}
-use Rattle.flume_model.proofs.waits.WaitingLaws.{entries_apart, sides_apart}
+use Rattle.flume_model.proofs.waits.WaitingLaws.{entries_apart, sides_apart, nobody_stuck}
 use Rattle.flume_core.proofs.Views.{at_capacity, none_blocked_waiting, waiting_at_log, entry_at_log, blocked_is, nil_by, status}
-use Rattle.flume_core.proofs.Views.{line_length, none_mapped, nil_mapped, live_by}
+use Rattle.flume_core.proofs.Views.{line_length, none_mapped, nil_mapped, live_by, boundary_is, line_is, queued}
 
 module _ {T N : Type 0} where
   -- how many stand woken
@@ -82,7 +82,7 @@ module _ {T A S : Type 0} where
   -- while a receiver waits as many stand woken as messages are queued
   pub woken_cover : (o : Opening) (log : Log T A) (s : State T S) → Represents o log s → WokenCoverQueued s
   woken_cover o log s h some =
-      subst₂ (λ a b. a ≤ b) (sym h.boundary_is) (sym (ap woken_count h.entries_are) ∙ bare_woken s.entries)
+      subst₂ (λ a b. a ≤ b) (sym (boundary_is h)) (sym (ap woken_count h.entries_are) ∙ bare_woken s.entries)
       (covered o log h.run (waiting_at_log h ∙ some))
 
   -- what is queued and who waits are bounded
@@ -90,7 +90,7 @@ module _ {T A S : Type 0} where
   queued_bounded o log s h =
       let waiting : waiting_count (entries o log) ≡ waiting_count s.entries =
       sym (ap waiting_count h.entries_are) ∙ bare_waiting s.entries in
-      rw (h.greatest_is, h.peak_is, h.boundary_is, sym waiting) (bounded o log h.run)
+      rw (h.greatest_is, h.peak_is, (boundary_is h), sym waiting) (bounded o log h.run)
 
   -- the tickets of parked receivers are apart
   pub receivers_apart : (o : Opening) (log : Log T A) (s : State T S) → Represents o log s → ReceiverTicketsApart s
@@ -137,11 +137,11 @@ module _ {T A S : Type 0} where
           rw none tt
       by_case false open_ =
           let gone = take (hand_outs log) (kept log) in
-          let all : kept log ≡ (gone ++ h.queued) ++ offers_of s.blocked =
-          sym (take-append-drop (hand_outs log) (kept log)) ∙ ap (λ l. gone ++ l) (sym (line_is_open log open_) ∙ h.line_is)
-          ∙ sym (append_assoc gone h.queued (offers_of s.blocked)) in
+          let all : kept log ≡ (gone ++ (queued h)) ++ offers_of s.blocked =
+          sym (take-append-drop (hand_outs log) (kept log)) ∙ ap (λ l. gone ++ l) (sym (line_is_open log open_) ∙ (line_is h))
+          ∙ sym (append_assoc gone (queued h) (offers_of s.blocked)) in
           let rising = rising_filter (next_ticket o log) (λ offer. not (withdrawn log offer)) (offers log) (tickets_rise o log h.run) in
-          rising_behind (next_ticket o log) (gone ++ h.queued) (offers_of s.blocked) (rw all at rising)
+          rising_behind (next_ticket o log) (gone ++ (queued h)) (offers_of s.blocked) (rw all at rising)
 
   -- each blocked message is of a live send that wasn't accepted
   pub blocked_live : (o : Opening) (log : Log T A) (s : State T S) → Represents o log s → BlockedSendsAreLive s
@@ -164,6 +164,24 @@ module _ {T A S : Type 0} where
         subst₂ IsClosed (sym h.senders_are) (sym h.receivers_are) law.0,
         nil_mapped (λ b. record { message = b.message; ticket = Some b.ticket }) s.blocked (sym (blocked_is h) ∙ law.1),
       )
+
+  -- where nobody stands woken, nobody is stuck
+  pub nobody_is_stuck : (o : Opening) (log : Log T A) (s : State T S) → Represents o log s → woken_count s.entries ≡ 0
+      → NobodyIsStuck s
+  nobody_is_stuck o log s h none =
+      let law = nobody_stuck o log h.run (ap woken_count (sym h.entries_are) ∙ bare_woken s.entries ∙ none) in
+      let long = line_length h in
+      let queued = boundary_is h in
+      record {
+        waiting_receivers = λ some.
+            let open_line = law.waiting_receivers (waiting_at_log h ∙ some) in
+            let nothing : length s.queue + length s.blocked ≡ 0 = sym long ∙ ap length open_line.0 in (
+              nil_by s.queue (λ more. omega arith),
+              nil_by s.blocked (λ more. omega arith),
+              subst₂ IsOpen (sym h.senders_are) (sym h.receivers_are) open_line.1,
+            );
+        blocked_senders = λ some. (at_capacity h some, sym (waiting_at_log h) ∙ (law.blocked_senders (omega arith)).1);
+      }
 
   -- all of these
   pub channel_facts : (o : Opening) (log : Log T A) (s : State T S) → Represents o log s → ChannelFacts s

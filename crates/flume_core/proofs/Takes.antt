@@ -26,7 +26,7 @@ use Rattle.flume_model.proofs.WaitingCounts.{fewer_without}
 use Rattle.flume_core.proofs.Stands.{peak_kept}
 use Rattle.flume_model.proofs.order.Parts.{front_at, open_at}
 use Rattle.flume_model.proofs.order.LineSteps.{line_takes}
-use Rattle.flume_core.proofs.Views.{mark, status, status_is, greatest_kept, queued_length, at_capacity, nil_by}
+use Rattle.flume_core.proofs.Views.{mark, status, status_is, greatest_kept, queued_length, at_capacity, nil_by, line_is, queued}
 use Rattle.flume_core.proofs.Marks.{marks_admitted}
 use Rattle.flume_core.proofs.Stands.{stands_as, stands_open, over_same}
 
@@ -116,9 +116,9 @@ module _ {T A S : Type 0} where
   behind : (o : Opening) (past : Log T A) (old : State T S) (m : T) (rest : List T) → Represents o past old → old.queue ≡ m ∷ rest
       → (x : Offer T) × (queued : List (Offer T)) × (line past ≡ x ∷ (queued ++ offers_of old.blocked)) × (rest ≡ messages queued)
   behind o past old m rest h front =
-      let at = front_at h.queued m rest (sym h.queue_is ∙ front) in
+      let at = front_at (queued h) m rest (sym h.queue_is ∙ front) in
       let same : at.0.message ∷ messages at.1 ≡ m ∷ rest = sym (ap messages at.2) ∙ sym h.queue_is ∙ front in
-      (at.0, at.1, h.line_is ∙ ap (λ l. l ++ offers_of old.blocked) at.2, (let tail : rest ≡ messages at.1 = cc in tail))
+      (at.0, at.1, (line_is h) ∙ ap (λ l. l ++ offers_of old.blocked) at.2, (let tail : rest ≡ messages at.1 = cc in tail))
 
   -- the front message leaves, and no message moves in
   takes_one : (o : Opening) (past : Log T A) (p : Step T × Reply T A) (old new : State T S) (m : T) (receiver : Option ℕ) (rest : List T)
@@ -184,11 +184,11 @@ module _ {T A S : Type 0} where
       let x : Offer T = record { message = b.message; ticket = Some b.ticket } in
       let zero_long : length old.queue ≡ 0 = ap length none in
       let n = queued_length h in
-      let no_offer : h.queued ≡ [] = nil_by h.queued (λ some. omega arith) in
+      let no_offer : (queued h) ≡ [] = nil_by (queued h) (λ some. omega arith) in
       let waits : length old.blocked ≡ suc (length later) = ap length at in
       let full : IsAtCapacity old.capacity 0 = subst (IsAtCapacity old.capacity) zero_long (at_capacity h (omega arith)) in
       stands_as o (p ∷ past) new _ is (taken o past p old _ m receiver x [] h reply e
-      (h.line_is ∙ ap (λ l. l ++ offers_of old.blocked) no_offer ∙ ap offers_of at) refl
+      ((line_is h) ∙ ap (λ l. l ++ offers_of old.blocked) no_offer ∙ ap offers_of at) refl
       (stays_queued old.capacity 0 (0 + length later) (omega arith) (inl full)
       ∙ ap (λ k. max k (capped old.capacity (0 + length later))) (omega arith))
       (marks_admitted o past old b later h at) refl refl refl refl refl refl refl)

@@ -74,10 +74,8 @@ module _ {T A S : Type 0} where
         run = h.run;
         capacity_is = h.capacity_is;
         greatest_is = h.greatest_is;
-        queued = h.queued;
-        line_is = h.line_is;
         queue_is = h.queue_is;
-        boundary_is = h.boundary_is;
+        blocked_are = h.blocked_are;
         sends_are = λ t. marks t ∙ h.sends_are t;
         entries_are = same ∙ h.entries_are;
         peak_is = h.peak_is;

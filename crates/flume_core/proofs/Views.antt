@@ -6,9 +6,9 @@ use Rattle.std.specs.List.{All}
 use Rattle.std.specs.Option.{option_map}
 use Rattle.std.specs.FinMap.{get}
 use Rattle.std.proofs.lemmas.Bool.{or_cases}
-use Rattle.std.proofs.lemmas.List.{drop_at, take_at, length-map, map-append}
+use Rattle.std.proofs.lemmas.List.{length-map, length-take-le, map-append, take-append-drop}
 use Rattle.std.proofs.lemmas.List.Elements.{All-head, All-tail}
-use Rattle.flume_model.specs.Log.{Log, Opening}
+use Rattle.flume_model.specs.Log.{Log, Opening, Offer}
 use Rattle.flume_model.specs.Counts.{senders, receivers}
 use Rattle.flume_model.specs.Line.{line, capacity, greatest, greater, boundary, queue, blocked, messages, is_live}
 use Rattle.flume_model.specs.Entries.{some_wait, waiting_count, entry_of}
@@ -19,7 +19,7 @@ use Rattle.flume_state.specs.Messages.{Blocked}
 use Rattle.flume_state.specs.Sends.{SendMap}
 use Rattle.flume_state.specs.State.{State, offers_of, bare}
 use Rattle.flume_core.specs.Represents.{Represents}
-use Rattle.flume_model.proofs.order.Runs.{blocked_at_capacity, waits_whole}
+use Rattle.flume_model.proofs.order.Runs.{blocked_at_capacity, shape_of, waits_whole}
 use Rattle.flume_core.proofs.Bare.{bare_some_wait, bare_waiting, bare_entry}
 
 -- the greater of a capacity and itself
@@ -106,27 +106,43 @@ module _ {T A : Type 0} where
   peak_covers o (p ∷ past) = omega arith
 
 module _ {T A S : Type 0} where
+  -- the queued offers
+  abbrev pub queued : {o : Opening} {log : Log T A} {s : State T S} → Represents o log s → List (Offer T)
+  queued {o} {log} {s} h = take (boundary o log) (line log)
+
+  -- as many offers are queued as the boundary says
+  many_queued : {o : Opening} {log : Log T A} {s : State T S} (h : Represents o log s) → length (queued h) ≡ boundary o log
+  many_queued {o} {log} {s} h = length-take-le (boundary o log) (line log) (shape_of o log h.run).within
+
   -- as many offers are queued as messages
-  pub queued_length : {o : Opening} {log : Log T A} {s : State T S} (h : Represents o log s) → length h.queued ≡ length s.queue
-  queued_length {o} {log} {s} h = sym (ap length h.queue_is ∙ length-map h.queued (λ offer. offer.message))
+  pub queued_length : {o : Opening} {log : Log T A} {s : State T S} (h : Represents o log s) → length (queued h) ≡ length s.queue
+  queued_length {o} {log} {s} h = sym (ap length h.queue_is ∙ length-map (queued h) (λ offer. offer.message))
+
+  -- and as many messages as the boundary says
+  pub boundary_is : {o : Opening} {log : Log T A} {s : State T S} → Represents o log s → length s.queue ≡ boundary o log
+  boundary_is {o} {log} {s} h = sym (queued_length h) ∙ many_queued h
+
+  -- the queued offers, and behind them the blocked ones, are the line
+  pub line_is : {o : Opening} {log : Log T A} {s : State T S} (h : Represents o log s) → line log ≡ queued h ++ offers_of s.blocked
+  line_is {o} {log} {s} h = sym (take-append-drop (boundary o log) (line log)) ∙ ap (λ l. queued h ++ l) (sym h.blocked_are)
 
   -- the blocked offers
   pub blocked_is : {o : Opening} {log : Log T A} {s : State T S} → Represents o log s → blocked o log ≡ offers_of s.blocked
-  blocked_is {o} {log} {s} h = rw h.line_is (drop_at h.queued (offers_of s.blocked) (boundary o log) (queued_length h ∙ h.boundary_is))
+  blocked_is {o} {log} {s} h = sym h.blocked_are
 
   -- the messages of the line
   pub line_messages : {o : Opening} {log : Log T A} {s : State T S} → Represents o log s
       → messages (line log) ≡ s.queue ++ map (λ b. b.message) s.blocked
   line_messages {o} {log} {s} h =
-      ap messages h.line_is ∙ map-append _ h.queued (offers_of s.blocked)
+      ap messages (line_is h) ∙ map-append _ (queued h) (offers_of s.blocked)
       ∙ ap (λ l. l ++ messages (offers_of s.blocked)) (sym h.queue_is) ∙ ap (λ l. s.queue ++ l) (offered_messages s.blocked)
 
   -- how long the line is
   pub line_length : {o : Opening} {log : Log T A} {s : State T S} → Represents o log s → length
       (line log) ≡ length s.queue + length s.blocked
   line_length {o} {log} {s} h =
-      let sum : length (line log) ≡ length h.queued + length (offers_of s.blocked) =
-      ap length h.line_is ∙ length-append h.queued (offers_of s.blocked) in
+      let sum : length (line log) ≡ length (queued h) + length (offers_of s.blocked) =
+      ap length (line_is h) ∙ length-append (queued h) (offers_of s.blocked) in
       let same = queued_length h in
       let more : length (offers_of s.blocked) ≡ length s.blocked = length-map s.blocked _ in
       omega arith
@@ -141,14 +157,12 @@ module _ {T A S : Type 0} where
       → IsAtCapacity s.capacity (length s.queue)
   at_capacity {o} {log} {s} h some =
       let long = line_length h in
-      let n = h.boundary_is in
-      rw (h.capacity_is, h.boundary_is) (blocked_at_capacity o log h.run (omega arith))
+      let n = boundary_is h in
+      rw (h.capacity_is, (boundary_is h)) (blocked_at_capacity o log h.run (omega arith))
 
   -- the queued messages
   pub queue_at_log : {o : Opening} {log : Log T A} {s : State T S} → Represents o log s → queue o log ≡ s.queue
-  queue_at_log {o} {log} {s} h =
-      ap (λ l. messages (take (boundary o log) l)) h.line_is
-      ∙ ap messages (take_at h.queued (offers_of s.blocked) (boundary o log) (queued_length h ∙ h.boundary_is)) ∙ sym h.queue_is
+  queue_at_log {o} {log} {s} h = sym h.queue_is
 
   -- where a message is queued, the log queues one
   pub some_queued : {o : Opening} {log : Log T A} {s : State T S} → Represents o log s → s.queue ≢ [] → 0 < boundary o log
@@ -156,7 +170,7 @@ module _ {T A S : Type 0} where
     where
       go : (q : List T) → s.queue ≡ q → 0 < boundary o log
       go [] e = absurd (some e)
-      go (m ∷ q) e = let long = ap length e in let n = h.boundary_is in omega arith
+      go (m ∷ q) e = let long = ap length e in let n = boundary_is h in omega arith
 
   -- whether some receiver waits
   pub waiting_at_log : {o : Opening} {log : Log T A} {s : State T S} → Represents o log s → some_wait (entries o log) ≡ some_wait s.entries
@@ -184,7 +198,7 @@ module _ {T A S : Type 0} where
   pub none_blocked_waiting : {o : Opening} {log : Log T A} {s : State T S} → Represents o log s → some_wait s.entries ≡ true → s.blocked ≡ []
   none_blocked_waiting {o} {log} {s} h some =
       let long = line_length h in
-      let n = h.boundary_is in
+      let n = boundary_is h in
       let whole = waits_whole o log h.run (waiting_at_log h ∙ some) in
       nil_by s.blocked (λ more. omega arith)
 
@@ -213,14 +227,14 @@ module _ {T A S : Type 0} where
   -- a queue with room has room in the log
   pub room_at_log : {o : Opening} {log : Log T A} {s : State T S} → Represents o log s
       → HasRoom s.capacity (length s.queue) → HasRoom (capacity o log) (boundary o log)
-  room_at_log {o} {log} {s} h is = subst₂ HasRoom h.capacity_is h.boundary_is is
+  room_at_log {o} {log} {s} h is = subst₂ HasRoom h.capacity_is (boundary_is h) is
 
   -- where the queue has room in the log it has room
   pub room_at_state : {o : Opening} {log : Log T A} {s : State T S} → Represents o log s
       → HasRoom (capacity o log) (boundary o log) → HasRoom s.capacity (length s.queue)
-  room_at_state {o} {log} {s} h is = subst₂ HasRoom (sym h.capacity_is) (sym h.boundary_is) is
+  room_at_state {o} {log} {s} h is = subst₂ HasRoom (sym h.capacity_is) (sym (boundary_is h)) is
 
   -- a queue at capacity is at capacity in the log
   pub full_at_log : {o : Opening} {log : Log T A} {s : State T S} → Represents o log s
       → IsAtCapacity s.capacity (length s.queue) → IsAtCapacity (capacity o log) (boundary o log)
-  full_at_log {o} {log} {s} h is = subst₂ IsAtCapacity h.capacity_is h.boundary_is is
+  full_at_log {o} {log} {s} h is = subst₂ IsAtCapacity h.capacity_is (boundary_is h) is

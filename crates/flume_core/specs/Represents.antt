@@ -1,5 +1,5 @@
 -- What ties a state to a log, and what a step does to that.
-use Rattle.std.specs.Prelude.{◌≡◌, ℕ, Bool, not, if◌then◌else◌, List, ◌∷◌, ◌++◌, length, map}
+use Rattle.std.specs.Prelude.{◌≡◌, ℕ, Bool, not, if◌then◌else◌, ◌∷◌, map}
 use Rattle.std.specs.Prelude.{Option, Some, None}
 use Rattle.flume_model.specs.declared.step.Step.{Step}
 use Rattle.flume_model.specs.declared.step.Step.TheVariants.{Poll, Len, IsEmpty, IsFull, Capacity}
@@ -9,10 +9,9 @@ use Rattle.flume_model.specs.declared.step.Reply.{Reply}
 use Rattle.flume_model.specs.declared.step.Reply.TheVariants.{Full, Closed, NoMemory, Spent}
 use Rattle.flume_model.specs.declared.step.Reply.TheVariants.{NoTicket, Empty, Ended, NoEnd}
 use Rattle.flume_model.specs.declared.step.Reply.TheVariants.{CountFull, Unbounded}
-use Rattle.flume_model.specs.Log.{Log, Opening, Offer}
+use Rattle.flume_model.specs.Log.{Log, Opening}
 use Rattle.flume_model.specs.Counts.{senders, receivers}
-use Rattle.flume_model.specs.Line.{line, capacity, greatest, boundary, blocked, messages}
-use Rattle.flume_model.specs.Line.{next_ticket, is_live}
+use Rattle.flume_model.specs.Line.{capacity, greatest, queue, blocked, next_ticket, is_live}
 use Rattle.flume_model.specs.Parked.{entries, peak}
 use Rattle.flume_model.specs.Channel.{has_ticket}
 use Rattle.flume_model.specs.Replies.{IsRun}
@@ -30,11 +29,8 @@ module _ {T A : Type 0} where
     pub run : IsRun opening log
     pub capacity_is : s.capacity ≡ capacity opening log
     pub greatest_is : s.greatest ≡ greatest opening log
-    -- the queued offers, and behind them the blocked ones, are the line
-    pub queued : List (Offer T)
-    pub line_is : line log ≡ queued ++ offers_of s.blocked
-    pub queue_is : s.queue ≡ messages queued
-    pub boundary_is : length s.queue ≡ boundary opening log
+    pub queue_is : s.queue ≡ queue opening log
+    pub blocked_are : offers_of s.blocked ≡ blocked opening log
     pub sends_are : (t : ℕ) → accepted_at s t ≡ send_status opening log t
     pub entries_are : map bare s.entries ≡ entries opening log
     pub peak_is : s.peak ≡ peak opening log

@@ -67,6 +67,17 @@ module _ {T S : Type 0} where
   BlockingWokenByClosing s =
       block_woken s.entries ≡ true → IsClosed s.senders s.receivers × (s.blocked ≡ [])
 
+  -- Nobody waits for a message or for room that is there: a receiver waits only in an open channel
+  -- that has no message, and a sender is blocked only while the queue is at capacity and no receiver
+  -- waits.
+  pub record NobodyIsStuck (s : State T S) : Type 0 where
+    pub waiting_receivers :
+        some_wait s.entries ≡ true
+        → (s.queue ≡ []) × (s.blocked ≡ []) × IsOpen s.senders s.receivers
+    pub blocked_senders :
+        0 < length s.blocked
+        → IsAtCapacity s.capacity (length s.queue) × (some_wait s.entries ≡ false)
+
   -- all that holds of a state that some run led to
   pub record ChannelFacts (s : State T S) : Type 0 where
     pub senders_block_at_capacity : SendersBlockAtCapacity s

@@ -1,15 +1,19 @@
 //! What holds of the state of a channel.
-ghost use Rattle.std.specs.Prelude.{◌≤◌};
+ghost use Rattle.std.specs.Prelude.{◌≡◌, ◌≤◌};
+ghost use Rattle.flume_model.specs.Entries.{woken_count};
 ghost use Rattle.flume_state.specs.State.{message_count};
 ghost use Rattle.flume_core.specs.Represents.{IsReachable};
-ghost use Rattle.flume_core.specs.StateFacts.{ChannelFacts};
+ghost use Rattle.flume_core.specs.StateFacts.{ChannelFacts, NobodyIsStuck};
 
 use crate::chan::Chan;
 use std::alloc::Allocator;
 
 /// The laws of the state of a channel, which hold where some run led to it: so of one that was made
-/// by `Chan::new` or `Chan::starting_at`, and changed only by its steps and `next_due`. Of any
-/// state, the messages that stand never pass the room that was taken for messages. Does nothing.
+/// by `Chan::new` or `Chan::starting_at`, and changed only by its steps and `next_due`. Once every
+/// receiver that was woken has looked, nobody waits for a message or for room that is there: a
+/// receiver waits only in an open channel that has no message, and a sender is blocked only while
+/// the queue is at capacity and no receiver waits. Of any state, the messages that stand never pass
+/// the room that was taken for messages. Does nothing.
 ///
 /// ```
 /// let mut chan: Chan<u64, u32> = Chan::new(alloc, Some(0));
@@ -18,6 +22,8 @@ use std::alloc::Allocator;
 /// ```
 pub fn facts<T: Drop, S: Drop, A: Allocator + Copy>(chan: &Chan<T, S, A>)
     ensures facts { IsReachable A chan.now → ChannelFacts chan.now }
+    ensures rest { IsReachable A chan.now → woken_count chan.now.entries ≡ 0
+        → NobodyIsStuck chan.now }
     ensures fits { message_count chan.now ≤ chan.now.space }
 {
     let _ = chan.room();

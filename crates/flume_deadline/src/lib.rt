@@ -2,10 +2,11 @@
 //! from it can be proved. A clock that can't be read counts as past each deadline.
 #![tactic(auto)]
 
-ghost use Rattle.std.specs.Prelude.{◌≡◌, ◌≢◌, ◌+◌, ◌≤◌, ◌↔◌, true, IsErr, IsNone, IfSome, Ok};
+ghost use Rattle.std.specs.Prelude.{◌≡◌, ◌≢◌, ℕ, ◌+◌, ◌<◌, ◌≤◌, ◌↔◌, true, false};
+ghost use Rattle.std.specs.Prelude.{IsErr, IsNone, IfSome, Ok};
 ghost use Rattle.std.specs.Duration.{as_nanos};
 ghost use Rattle.std.specs.Time.{instant_nanos, FitsClock};
-ghost use Rattle.flume_deadline.specs.Deadlines.{IsAt};
+ghost use Rattle.flume_deadline.specs.Deadlines.{IsAt, IsAfter, CanBeAhead};
 
 use std::io;
 use std::time::{Clock, Duration, Instant};
@@ -29,7 +30,9 @@ impl Deadline {
     /// let deadline = Deadline::after(&rt, Duration::from_secs(1));
     /// deadline.is_reached(&rt);              // false, within this second
     /// ```
-    pub fn after<R: Clock>(rt: &R, timeout: Duration) -> Deadline {
+    pub fn after<R: Clock>(rt: &R, timeout: Duration) -> Deadline
+        ensures after { IsAfter timeout result }
+    {
         Deadline::past(Instant::now(rt), timeout)
     }
 
@@ -56,7 +59,7 @@ impl Deadline {
     /// Whether it is reached, by the clock. A clock that can't be read counts as past it.
     pub fn is_reached<R: Clock>(self, rt: &R) -> bool
         ensures never { result ≡ true → self ≢ Deadline.Never }
-        ensures reached { self ≡ Deadline.Reached → result ≡ true }
+        ensures ahead { result ≡ false → CanBeAhead self }
     {
         match self {
             Deadline::Never => false,
@@ -67,7 +70,10 @@ impl Deadline {
 }
 
 /// How long it is to the deadline: `None` once it is reached, or where the clock can't be read.
-pub fn left_until<R: Clock>(rt: &R, deadline: Instant) -> Option<Duration> {
+pub fn left_until<R: Clock>(rt: &R, deadline: Instant) -> Option<Duration>
+    ensures left { IfSome result (λ left. (now : ℕ) × (now < instant_nanos deadline)
+        × (as_nanos left + now ≡ instant_nanos deadline)) }
+{
     left_from(Instant::now(rt), deadline)
 }
 

@@ -6,7 +6,7 @@ use Rattle.flume_model.specs.declared.step.Reply.{Reply}
 use Rattle.flume_model.specs.Log.{Offer}
 use Rattle.flume_model.specs.Limits.{HasRoom, IsAtCapacity, IsOpen, IsClosed, IsBounded, most}
 use Rattle.flume_model.specs.Channel.{Channel, TakesIn, TakesNoneIn, IsFront, IsBlocked, has_ticket}
-use Rattle.flume_audit.specs.Weights.{SameReply}
+use Rattle.flume_model.specs.Replies.{SameReply}
 use Rattle.flume_history.specs.SameRuns.{IsWant}
 
 -- a queue has no room at its capacity

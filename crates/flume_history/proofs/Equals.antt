@@ -8,7 +8,7 @@ use Rattle.flume_model.specs.declared.step.Reply.{Reply}
 use Rattle.flume_model.specs.declared.step.Reply.TheVariants.{Sent, Full, Closed, NoMemory, Spent, Pending, Returned, Got, Parked}
 use Rattle.flume_model.specs.declared.step.Reply.TheVariants.{Gone, Drained, Number, Truth, Capacity}
 use Rattle.flume_model.specs.Log.{Log}
-use Rattle.flume_audit.specs.Weights.{SameReply}
+use Rattle.flume_model.specs.Replies.{SameReply}
 use Rattle.flume_history.specs.Equal.{Equals}
 use Rattle.flume_history.specs.Histories.{IsSaidOf}
 use Rattle.flume_history.specs.SameRuns.{IsWant}

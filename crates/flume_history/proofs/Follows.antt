@@ -10,7 +10,7 @@ use Rattle.flume_model.specs.declared.step.Reply.TheVariants.{NoMemory}
 use Rattle.flume_model.specs.Log.{Log, Opening, change, Stays}
 use Rattle.flume_model.specs.Channel.{channel}
 use Rattle.flume_model.specs.Replies.{IsReply, IsRun}
-use Rattle.flume_audit.specs.Weights.{SameReply}
+use Rattle.flume_model.specs.Replies.{SameReply}
 use Rattle.flume_state.specs.State.{State}
 use Rattle.flume_core.specs.Represents.{Represents}
 use Rattle.flume_core.specs.Wanting.{MayWant}

@@ -12,8 +12,8 @@ use Rattle.flume_model.specs.declared.step.Reply.TheVariants.{NoTicket, Got, Emp
 use Rattle.flume_model.specs.declared.step.Reply.TheVariants.{Gone}
 use Rattle.flume_model.specs.Parked.{LogEntry}
 use Rattle.flume_model.specs.Channel.{Channel}
-use Rattle.flume_model.specs.Asking.{IsPolledBlock, IsPolledOther, IsPolledKind, IsPolledMark, IsPolled}
-use Rattle.flume_model.specs.Asking.{IsGoneBlock, IsGoneOther, IsGoneKind, IsGoneMark, IsGone}
+use Rattle.flume_model.specs.Asking.{IsPolledBlock, IsPolledOther, IsPolledMark, IsPolled}
+use Rattle.flume_model.specs.Asking.{IsGoneBlock, IsGoneOther, IsGoneMark, IsGone}
 use Rattle.flume_model.specs.Asking.{IsCollected}
 use Rattle.flume_model.specs.Replies.{IsReply}
 use Rattle.flume_history.proofs.Functions.{ap2}
@@ -102,16 +102,13 @@ module _ {T A : Type 0} (c : Channel T) where
   polled_other Waiting _ h k n o = absurd k
   polled_other _ _ h k n o = absurd h
 
-  -- by its kind
-  polled_kind : (kind : Kind) (mark : Mark T) → Determines A (IsPolledKind c kind mark)
-  polled_kind Block mark = polled_block mark
-  polled_kind _ mark = polled_other
-
-  -- by its mark
+  -- by its mark and its kind
   polled_mark : (kind : Kind) (mark : Mark T) → Determines A (IsPolledMark c kind mark)
   polled_mark kind (Filled held) = collected held
-  polled_mark kind StillWaits = polled_kind kind StillWaits
-  polled_mark kind Woken = polled_kind kind Woken
+  polled_mark Block StillWaits = polled_block StillWaits
+  polled_mark Block Woken = polled_block Woken
+  polled_mark _ StillWaits = polled_other
+  polled_mark _ Woken = polled_other
 
   -- a parked receiver that asks
   pub polled : (found : Option (LogEntry T)) → Determines A (IsPolled c found)
@@ -138,16 +135,13 @@ module _ {T A : Type 0} (c : Channel T) where
   gone_other t (Gone closed filled) _ h k n o = absurd k
   gone_other t _ _ h k n o = absurd h
 
-  -- by its kind
-  gone_kind : (t : ℕ) (kind : Kind) → Determines A (IsGoneKind c t kind)
-  gone_kind t Block = gone_block
-  gone_kind t _ = gone_other t
-
-  -- by its mark
+  -- by its mark and its kind
   gone_mark : (t : ℕ) (kind : Kind) (mark : Mark T) → Determines A (IsGoneMark c t kind mark)
   gone_mark t kind (Filled held) = collected held
-  gone_mark t kind StillWaits = gone_kind t kind
-  gone_mark t kind Woken = gone_kind t kind
+  gone_mark t Block StillWaits = gone_block
+  gone_mark t Block Woken = gone_block
+  gone_mark t _ StillWaits = gone_other t
+  gone_mark t _ Woken = gone_other t
 
   -- a parked receiver that leaves
   pub gone : (t : ℕ) (found : Option (LogEntry T)) → Determines A (IsGone c t found)

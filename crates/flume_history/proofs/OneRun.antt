@@ -13,10 +13,10 @@ use Rattle.flume_model.specs.Log.{Log, Opening}
 use Rattle.flume_model.specs.Entries.{entry_of}
 use Rattle.flume_model.specs.Parked.{LogEntry}
 use Rattle.flume_model.specs.Channel.{Channel, channel}
-use Rattle.flume_model.specs.Asking.{IsPolledKind, IsPolledMark, IsPolled}
-use Rattle.flume_model.specs.Asking.{IsGoneKind, IsGoneMark, IsGone}
+use Rattle.flume_model.specs.Asking.{IsPolledMark, IsPolled}
+use Rattle.flume_model.specs.Asking.{IsGoneMark, IsGone}
 use Rattle.flume_model.specs.Replies.{IsReply, IsRun}
-use Rattle.flume_audit.specs.Weights.{SameReply}
+use Rattle.flume_model.specs.Replies.{SameReply}
 use Rattle.flume_history.specs.SameRuns.{IsWant, SameLog, SameSteps}
 use Rattle.flume_history.proofs.OneBlocked.{one_blocked}
 use Rattle.flume_history.proofs.OneReply.{one_reply}
@@ -28,30 +28,24 @@ module _ {T : Type 0} (A : Type 0) (c : Channel T) (back other : Option T) where
   Alike P = P (NoMemory back) → P (NoMemory other) → back ≡ other
 
   -- a receiver that asks, and wanted memory, hands nothing back
-  polled_kind : (kind : Kind) (mark : Mark T) → Alike (IsPolledKind c kind mark)
-  polled_kind Block StillWaits h k = absurd h
-  polled_kind Block Woken h k = absurd h
-  polled_kind Block (Filled held) h k = absurd h
-  polled_kind _ mark h k = h.1 ∙ sym k.1
-
   polled_mark : (kind : Kind) (mark : Mark T) → Alike (IsPolledMark c kind mark)
   polled_mark kind (Filled held) h k = absurd h
-  polled_mark kind StillWaits h k = polled_kind kind StillWaits h k
-  polled_mark kind Woken h k = polled_kind kind Woken h k
+  polled_mark Block StillWaits h k = absurd h
+  polled_mark Block Woken h k = absurd h
+  polled_mark _ StillWaits h k = h.1 ∙ sym k.1
+  polled_mark _ Woken h k = h.1 ∙ sym k.1
 
   polled : (found : Option (LogEntry T)) → Alike (IsPolled c found)
   polled None h k = absurd h
   polled (Some e) h k = polled_mark e.kind e.mark h k
 
   -- one that leaves wants none
-  gone_kind : (t : ℕ) (kind : Kind) → Alike (IsGoneKind c t kind)
-  gone_kind t Block h k = absurd h
-  gone_kind t _ h k = absurd h
-
   gone_mark : (t : ℕ) (kind : Kind) (mark : Mark T) → Alike (IsGoneMark c t kind mark)
   gone_mark t kind (Filled held) h k = absurd h
-  gone_mark t kind StillWaits h k = gone_kind t kind h k
-  gone_mark t kind Woken h k = gone_kind t kind h k
+  gone_mark t Block StillWaits h k = absurd h
+  gone_mark t Block Woken h k = absurd h
+  gone_mark t _ StillWaits h k = absurd h
+  gone_mark t _ Woken h k = absurd h
 
   gone : (t : ℕ) (found : Option (LogEntry T)) → Alike (IsGone c t found)
   gone t None h k = absurd h

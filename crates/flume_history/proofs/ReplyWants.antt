@@ -10,7 +10,7 @@ use Rattle.flume_model.specs.declared.step.Reply.TheVariants.{NoTicket, Got, Emp
 use Rattle.flume_model.specs.declared.step.Reply.TheVariants.{Parked, Gone, Drained}
 use Rattle.flume_model.specs.declared.step.Reply.TheVariants.{NoEnd, CountFull, Number, Truth}
 use Rattle.flume_model.specs.declared.step.Reply.TheVariants.{Capacity as Bound, Unbounded}
-use Rattle.flume_audit.specs.Weights.{SameReply}
+use Rattle.flume_model.specs.Replies.{SameReply}
 use Rattle.flume_script.specs.ReplyTexts.{reply_text}
 use Rattle.flume_history.specs.SameRuns.{IsWant}
 

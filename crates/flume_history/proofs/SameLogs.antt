@@ -17,7 +17,7 @@ use Rattle.flume_model.specs.Line.{line, capacity, capacity_after, boundary, bou
 use Rattle.flume_model.specs.Line.{blocked, messages, next_ticket, issued, is_live, issues, spends}
 use Rattle.flume_model.specs.Parked.{LogEntry, entries, entries_after, is_closed_after}
 use Rattle.flume_model.specs.Channel.{Channel, channel}
-use Rattle.flume_audit.specs.Weights.{SameReply}
+use Rattle.flume_model.specs.Replies.{SameReply}
 use Rattle.flume_history.specs.SameRuns.{SameLog}
 use Rattle.flume_history.proofs.Functions.{ap2, ap5}
 

@@ -29,7 +29,7 @@ use Rattle.flume_core.specs.Represents.{Represents}
 use Rattle.flume_core.specs.Waiting.{FindsNoRoom}
 use Rattle.flume_core.specs.Wanting.{MayWant}
 use Rattle.flume_core.proofs.Answering.{takes_in, takes_none_in, empty_line}
-use Rattle.flume_core.proofs.Views.{open_at_log, room_at_state, waiting_at_log, line_messages, entry_at_log, room_or_full}
+use Rattle.flume_core.proofs.Views.{boundary_is, open_at_log, room_at_state, waiting_at_log, line_messages, entry_at_log, room_or_full}
 use Rattle.flume_history.specs.Wants.{handed_in}
 
 -- a queue has room or is at capacity
@@ -48,7 +48,7 @@ module _ {T A S : Type 0} {o : Opening} {log : Log T A} {s : State T S} (h : Rep
       let whole : length (messages (line log)) ≡ length s.queue + length (map (λ b. b.message) s.blocked) =
       ap length (line_messages h) ∙ length-append s.queue _ in
       let same = length-map s.blocked (λ b. b.message) in
-      let bound = h.boundary_is in
+      let bound = boundary_is h in
       omega arith
 
   blocked_at_state : boundary o log < length (messages (line log)) → 0 < length s.blocked
@@ -56,7 +56,7 @@ module _ {T A S : Type 0} {o : Opening} {log : Log T A} {s : State T S} (h : Rep
       let whole : length (messages (line log)) ≡ length s.queue + length (map (λ b. b.message) s.blocked) =
       ap length (line_messages h) ∙ length-append s.queue _ in
       let same = length-map s.blocked (λ b. b.message) in
-      let bound = h.boundary_is in
+      let bound = boundary_is h in
       omega arith
 
   -- an offer finds no room in the state where it finds none in the log
@@ -67,7 +67,7 @@ module _ {T A S : Type 0} {o : Opening} {log : Log T A} {s : State T S} (h : Rep
   no_room_at_state (open_, none, full) = (
     open_at_state open_,
     sym (waiting_at_log h) ∙ none,
-    subst₂ IsAtCapacity (sym h.capacity_is) (sym h.boundary_is) full,
+    subst₂ IsAtCapacity (sym h.capacity_is) (sym (boundary_is h)) full,
   )
 
   -- where the line is empty, no message comes to the front
@@ -164,7 +164,7 @@ module _ {T A S : Type 0} {o : Opening} {log : Log T A} {s : State T S} (h : Rep
   )
   want_allowed (Poll t) may =
       rw (entry_at_log h t) (found_so A (channel o log) (entry_of t s.entries) may.0 (blocked_at_log h may.1))
-  want_allowed Drain may = (subst (λ n. 0 < n) h.boundary_is may, refl)
+  want_allowed Drain may = (subst (λ n. 0 < n) (boundary_is h) may, refl)
   want_allowed _ may = absurd may
 
   -- and only there, with the message that was handed in
@@ -191,5 +191,5 @@ module _ {T A S : Type 0} {o : Opening} {log : Log T A} {s : State T S} (h : Rep
       let found = found_only A (channel o log) (entry_of t s.entries) back (rw (entry_at_log h t) at is) in
       ((found.0, blocked_at_state h found.1), found.2)
   want_only (Withdraw t) back is = absurd (gone_none A (channel o log) t _ back is)
-  want_only Drain back is = (subst (λ n. 0 < n) (sym h.boundary_is) is.0, is.1)
+  want_only Drain back is = (subst (λ n. 0 < n) (sym (boundary_is h)) is.0, is.1)
   want_only _ back is = absurd is

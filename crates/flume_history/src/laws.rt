@@ -5,7 +5,7 @@ ghost use Rattle.flume_model.specs.Log.{Log, Opening};
 ghost use Rattle.flume_model.specs.Replies.{IsReply, IsRun};
 ghost use Rattle.flume_model.specs.declared.step.Reply.{Reply};
 ghost use Rattle.flume_model.specs.declared.step.Step.{Step};
-ghost use Rattle.flume_audit.specs.Weights.{SameReply};
+ghost use Rattle.flume_model.specs.Replies.{SameReply};
 ghost use Rattle.flume_state.specs.State.{State};
 ghost use Rattle.flume_core.specs.Represents.{Represents};
 ghost use Rattle.flume_core.specs.Wanting.{MayWant};

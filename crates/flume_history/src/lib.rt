@@ -4,7 +4,7 @@
 //! answers `Run` if a correct channel could have produced the history, and otherwise how many steps
 //! come before the first wrong reply; or `NoMemory`, if the check itself ran out of memory.
 //! `script::check_script` does the same for a text, and says what the wrong reply should have been;
-//! `./check` of the repository runs it.
+//! `./judge` of the repository runs it.
 //!
 //! ```
 //! let history = [

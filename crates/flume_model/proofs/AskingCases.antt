@@ -1,6 +1,6 @@
 -- The cases of how a parked receiver is answered, when it asks and when it leaves.
 use Rattle.flume_model.proofs.Common.{◌≡◌, ℕ, Bool, true, false, [], Option, Some, None, refl, sym, ap, subst, IsPolledBlock, IsPolledOther}
-use Rattle.flume_model.proofs.Common.{IsPolledKind, IsPolledMark, IsPolled, IsGoneOther, IsGoneKind, IsGoneMark, IsGone, Channel, IsFront}
+use Rattle.flume_model.proofs.Common.{IsPolledMark, IsPolled, IsGoneOther, IsGoneBlock, IsGoneMark, IsGone, Channel, IsFront}
 use Rattle.flume_model.proofs.Common.{is_filled, is_woken, entry_of, leave_fills, IsOpen, LogEntry, Mark, Woken, Filled, Kind, Block, Reply}
 use Rattle.flume_model.proofs.Common.{NoMemory, NoTicket, Got, Ended, Gone}
 use Rattle.flume_model.specs.declared.step.Reply.TheVariants.{Waiting}
@@ -50,61 +50,62 @@ module _ {T A : Type 0} where
   polled_block c t P when u StillWaits is _ h = absurd h
   polled_block c t P when u Woken is _ h = absurd h
 
-  -- what holds in each case holds of the reply to one that isn't filled and asks
-  polled_kind : (c : Channel T) (t : ℕ) (P : Reply T A → Type 0) → WhenPolled c t P → (u : Unfilled c t) → (k : Kind) (mark : Mark T)
-      → u.entry.mark ≡ mark → (reply : Reply T A) → IsPolledKind c k mark reply → P reply
-  polled_kind c t P when u Block mark is reply h = polled_block c t P when u mark is reply h
-  polled_kind c t P when u _ mark is reply h = polled_other c t P when u reply h
+  -- what holds in each case holds of the reply to one that asks, by its mark and its kind
+  polled_mark : (c : Channel T) (t : ℕ) (P : Reply T A → Type 0) → WhenPolled c t P → (e : LogEntry T) → entry_of t c.entries ≡ Some e
+      → (k : Kind) (mark : Mark T) → e.mark ≡ mark → (reply : Reply T A) → IsPolledMark c k mark reply → P reply
+  polled_mark c t P when e found k (Filled held) is (Got m) h = subst (λ x. P (Got x)) (sym h) (when.collects e held found is)
+  polled_mark c t P when e found k (Filled held) is _ h = absurd h
+  polled_mark c t P when e found Block StillWaits is reply h =
+      polled_block c t P when (record { entry = e; found = found; empty = ap is_filled is }) StillWaits is reply h
+  polled_mark c t P when e found Block Woken is reply h =
+      polled_block c t P when (record { entry = e; found = found; empty = ap is_filled is }) Woken is reply h
+  polled_mark c t P when e found _ StillWaits is reply h =
+      polled_other c t P when (record { entry = e; found = found; empty = ap is_filled is }) reply h
+  polled_mark c t P when e found _ Woken is reply h =
+      polled_other c t P when (record { entry = e; found = found; empty = ap is_filled is }) reply h
 
   -- what holds in each case holds of the reply to one that asks
   pub polled_cases : (c : Channel T) (t : ℕ) (P : Reply T A → Type 0) (reply : Reply T A) → IsPolled c (entry_of t c.entries) reply
       → WhenPolled c t P → P reply
   polled_cases c t P reply h when = by_entry (entry_of t c.entries) refl reply h
     where
-      by_mark : (e : LogEntry T) → entry_of t c.entries ≡ Some e → (mark : Mark T) → e.mark ≡ mark → (r : Reply T A)
-          → IsPolledMark c e.kind mark r → P r
-      by_mark e found (Filled held) is (Got m) h = subst (λ x. P (Got x)) (sym h) (when.collects e held found is)
-      by_mark e found (Filled held) is _ h = absurd h
-      by_mark e found StillWaits is r h =
-          polled_kind c t P when (record { entry = e; found = found; empty = ap is_filled is }) e.kind StillWaits is r h
-      by_mark e found Woken is r h =
-          polled_kind c t P when (record { entry = e; found = found; empty = ap is_filled is }) e.kind Woken is r h
-
       by_entry : (found : Option (LogEntry T)) → entry_of t c.entries ≡ found → (r : Reply T A) → IsPolled c found r → P r
       by_entry None is NoTicket h = when.unknown
       by_entry None is _ h = absurd h
-      by_entry (Some e) is r h = by_mark e is e.mark refl r h
+      by_entry (Some e) is r h = polled_mark c t P when e is e.kind e.mark refl r h
 
-  -- what holds in each case holds of the reply to one that isn't filled and leaves
-  gone_kind : (c : Channel T) (t : ℕ) (P : Reply T A → Type 0) → WhenGone c t P → Unfilled c t → (k : Kind) (reply : Reply T A)
-      → IsGoneKind c t k reply → P reply
-  gone_kind c t P when u k reply h = by_kind k reply h
-    where
-      other : (r : Reply T A) → IsGoneOther c t r → P r
-      other (Gone closed filled) h = subst (λ f. P (Gone closed f)) (sym h.1) (when.passes_on u closed)
-      other _ h = absurd h
+  -- what holds in each case holds of the reply to one that isn't filled and leaves, where it blocks and where it doesn't
+  gone_block : (c : Channel T) (t : ℕ) (P : Reply T A → Type 0) → WhenGone c t P → Unfilled c t → (reply : Reply T A)
+      → IsGoneBlock c reply → P reply
+  gone_block c t P when u (Got m) h = when.takes u m h
+  gone_block c t P when u (Gone closed filled) h = subst (λ f. P (Gone closed f)) (sym h.2) (when.fills_none u closed h.0)
+  gone_block c t P when u _ h = absurd h
 
-      by_kind : (k : Kind) (r : Reply T A) → IsGoneKind c t k r → P r
-      by_kind Block (Got m) h = when.takes u m h
-      by_kind Block (Gone closed filled) h = subst (λ f. P (Gone closed f)) (sym h.2) (when.fills_none u closed h.0)
-      by_kind Block _ h = absurd h
-      by_kind _ r h = other r h
+  gone_other : (c : Channel T) (t : ℕ) (P : Reply T A → Type 0) → WhenGone c t P → Unfilled c t → (reply : Reply T A)
+      → IsGoneOther c t reply → P reply
+  gone_other c t P when u (Gone closed filled) h = subst (λ f. P (Gone closed f)) (sym h.1) (when.passes_on u closed)
+  gone_other c t P when u _ h = absurd h
+
+  -- what holds in each case holds of the reply to one that leaves, by its mark and its kind
+  gone_mark : (c : Channel T) (t : ℕ) (P : Reply T A → Type 0) → WhenGone c t P → (e : LogEntry T) → entry_of t c.entries ≡ Some e
+      → (k : Kind) (mark : Mark T) → e.mark ≡ mark → (reply : Reply T A) → IsGoneMark c t k mark reply → P reply
+  gone_mark c t P when e found k (Filled held) is (Got m) h = subst (λ x. P (Got x)) (sym h) (when.collects e held found is)
+  gone_mark c t P when e found k (Filled held) is _ h = absurd h
+  gone_mark c t P when e found Block StillWaits is reply h =
+      gone_block c t P when (record { entry = e; found = found; empty = ap is_filled is }) reply h
+  gone_mark c t P when e found Block Woken is reply h =
+      gone_block c t P when (record { entry = e; found = found; empty = ap is_filled is }) reply h
+  gone_mark c t P when e found _ StillWaits is reply h =
+      gone_other c t P when (record { entry = e; found = found; empty = ap is_filled is }) reply h
+  gone_mark c t P when e found _ Woken is reply h =
+      gone_other c t P when (record { entry = e; found = found; empty = ap is_filled is }) reply h
 
   -- what holds in each case holds of the reply to one that leaves
   pub gone_cases : (c : Channel T) (t : ℕ) (P : Reply T A → Type 0) (reply : Reply T A) → IsGone c t (entry_of t c.entries) reply
       → WhenGone c t P → P reply
   gone_cases c t P reply h when = by_entry (entry_of t c.entries) refl reply h
     where
-      by_mark : (e : LogEntry T) → entry_of t c.entries ≡ Some e → (mark : Mark T) → e.mark ≡ mark → (r : Reply T A)
-          → IsGoneMark c t e.kind mark r → P r
-      by_mark e found (Filled held) is (Got m) h = subst (λ x. P (Got x)) (sym h) (when.collects e held found is)
-      by_mark e found (Filled held) is _ h = absurd h
-      by_mark e found StillWaits is r h =
-          gone_kind c t P when (record { entry = e; found = found; empty = ap is_filled is }) e.kind r h
-      by_mark e found Woken is r h =
-          gone_kind c t P when (record { entry = e; found = found; empty = ap is_filled is }) e.kind r h
-
       by_entry : (found : Option (LogEntry T)) → entry_of t c.entries ≡ found → (r : Reply T A) → IsGone c t found r → P r
       by_entry None is NoTicket h = when.unknown
       by_entry None is _ h = absurd h
-      by_entry (Some e) is r h = by_mark e is e.mark refl r h
+      by_entry (Some e) is r h = gone_mark c t P when e is e.kind e.mark refl r h

@@ -18,7 +18,7 @@ pub use Rattle.std.proofs.lemmas.Option.{get_or_from_slice_get, slice_get-get_or
 pub use Rattle.std.proofs.lemmas.Slice.Zip.{AllZip-long, all_zipped_more}
 pub use Rattle.std.specs.List.{slice_get, All, filter, AllZip}
 pub use Rattle.flume_model.specs.AllBlock.{parks_blocking, OnlyBlockingReceivers, IsAtMostCapacity}
-pub use Rattle.flume_model.specs.Asking.{IsPolledBlock, IsPolledOther, IsPolledKind, IsPolledMark, IsPolled, IsGoneOther, IsGoneKind}
+pub use Rattle.flume_model.specs.Asking.{IsPolledBlock, IsPolledOther, IsPolledMark, IsPolled, IsGoneBlock, IsGoneOther}
 pub use Rattle.flume_model.specs.Asking.{IsGoneMark, IsGone}
 pub use Rattle.flume_model.specs.Beginnings.{Holds, HoldsThroughout}
 pub use Rattle.flume_model.specs.Channel.{Channel, IsFront, channel, TakesIn, TakesNoneIn, IsAccepted, IsBlocked, has_ticket}

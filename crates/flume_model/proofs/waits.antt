@@ -4,5 +4,6 @@ pub mod Covering
 pub mod Bounding
 pub mod WaitingOpen
 pub mod WokenBlocks
+pub mod Stuck
 pub mod WaitingLaws
 pub mod WakeRule

@@ -1,7 +1,7 @@
 -- How a parked receiver may be answered when it asks again, and when it leaves.
 use Rattle.std.specs.Prelude.{◌≡◌, ℕ, ◌<◌, [], length, Option, Some, None}
 use Rattle.flume_model.specs.declared.step.Kind.{Kind}
-use Rattle.flume_model.specs.declared.step.Kind.TheVariants.{Block, Plain, Stream, Arm}
+use Rattle.flume_model.specs.declared.step.Kind.TheVariants.{Block}
 use Rattle.flume_model.specs.declared.step.Reply.{Reply}
 use Rattle.flume_model.specs.declared.step.Reply.TheVariants.{NoMemory, NoTicket, Got, Ended}
 use Rattle.flume_model.specs.declared.step.Reply.TheVariants.{Waiting}
@@ -34,18 +34,11 @@ module _ {T A : Type 0} where
   IsPolledOther c Waiting = (c.line ≡ []) × IsOpen c.senders c.receivers
   IsPolledOther c _ = ⊥
 
-  -- by its kind
-  abbrev pub IsPolledKind : Channel T → Kind → Mark T → Reply T A → Type 0
-  IsPolledKind c Block mark reply = IsPolledBlock c mark reply
-  IsPolledKind c Plain mark reply = IsPolledOther c reply
-  IsPolledKind c Stream mark reply = IsPolledOther c reply
-  IsPolledKind c Arm mark reply = IsPolledOther c reply
-
-  -- by its mark, and then by its kind
+  -- by its mark where it is filled, and else by its kind
   abbrev pub IsPolledMark : Channel T → Kind → Mark T → Reply T A → Type 0
   IsPolledMark c kind (Filled held) reply = IsCollected held reply
-  IsPolledMark c kind StillWaits reply = IsPolledKind c kind StillWaits reply
-  IsPolledMark c kind Woken reply = IsPolledKind c kind Woken reply
+  IsPolledMark c Block mark reply = IsPolledBlock c mark reply
+  IsPolledMark c kind mark reply = IsPolledOther c reply
 
   -- a receiver that asks again, where this is its entry
   abbrev pub IsPolled : Channel T → Option (LogEntry T) → Reply T A → Type 0
@@ -66,18 +59,11 @@ module _ {T A : Type 0} where
       (closed ≡ is_closed c.senders c.receivers) × (filled ≡ leave_fills t c.queue c.entries)
   IsGoneOther c t _ = ⊥
 
-  -- by its kind
-  abbrev pub IsGoneKind : Channel T → ℕ → Kind → Reply T A → Type 0
-  IsGoneKind c t Block reply = IsGoneBlock c reply
-  IsGoneKind c t Plain reply = IsGoneOther c t reply
-  IsGoneKind c t Stream reply = IsGoneOther c t reply
-  IsGoneKind c t Arm reply = IsGoneOther c t reply
-
-  -- by its mark, and then by its kind
+  -- by its mark where it is filled, and else by its kind
   abbrev pub IsGoneMark : Channel T → ℕ → Kind → Mark T → Reply T A → Type 0
   IsGoneMark c t kind (Filled held) reply = IsCollected held reply
-  IsGoneMark c t kind StillWaits reply = IsGoneKind c t kind reply
-  IsGoneMark c t kind Woken reply = IsGoneKind c t kind reply
+  IsGoneMark c t Block mark reply = IsGoneBlock c reply
+  IsGoneMark c t kind mark reply = IsGoneOther c t reply
 
   -- a receiver that leaves, where this is its entry
   abbrev pub IsGone : Channel T → ℕ → Option (LogEntry T) → Reply T A → Type 0

@@ -5,7 +5,7 @@ use Rattle.std.specs.Prelude.{◌==◌, ℕ, ◌+◌, Bool, true, false, if◌th
 use Rattle.std.specs.Prelude.{map, Option, Some, None}
 use Rattle.std.specs.List.{list_any}
 use Rattle.flume_model.specs.declared.step.Kind.{Kind}
-use Rattle.flume_model.specs.declared.step.Kind.TheVariants.{Block, Plain, Stream, Arm}
+use Rattle.flume_model.specs.declared.step.Kind.TheVariants.{Block, Stream}
 use Rattle.flume_model.specs.declared.entry.Entry.{Entry}
 use Rattle.flume_model.specs.declared.entry.Mark.{Mark}
 use Rattle.flume_model.specs.declared.entry.Mark.TheVariants.{Waiting, Woken, Filled}
@@ -34,9 +34,8 @@ module _ {T : Type 0} where
 -- the ticket that a round fills from a waiting entry on, where behind that it would fill `on`
 abbrev pub filled_at : Kind → ℕ → Option ℕ → Option ℕ
 filled_at Stream ticket on = on
-filled_at Plain ticket on = None
-filled_at Arm ticket on = None
 filled_at Block ticket on = Some ticket
+filled_at kind ticket on = None
 
 module _ {T N : Type 0} where
   -- some receiver waits
@@ -62,9 +61,8 @@ module _ {T N : Type 0} where
   abbrev pub met : (N → N) → Kind → T → Entry T N → List (Entry T N) → List (Entry T N)
       → List (Entry T N)
   met tell Stream front e as_are goes_on = marked tell Woken e ∷ goes_on
-  met tell Plain front e as_are goes_on = marked tell Woken e ∷ as_are
-  met tell Arm front e as_are goes_on = marked tell Woken e ∷ as_are
   met tell Block front e as_are goes_on = marked tell (Filled front) e ∷ as_are
+  met tell kind front e as_are goes_on = marked tell Woken e ∷ as_are
 
   -- A wake round: it wakes each waiting stream, until it meets a waiting entry of another kind. That
   -- is woken, or, where it blocks, filled with the message at the front of the queue.

@@ -1,4 +1,4 @@
--- Which replies are lawful, and runs.
+-- Which replies are lawful, and runs; and when two replies are the same.
 use Rattle.std.specs.Prelude.{◌≡◌, ◌==◌, ◌<◌, ◌≤◌, ◌⊎◌, true, false, [], ◌∷◌, length, Some}
 use Rattle.std.specs.Prelude.{None}
 use Rattle.flume_model.specs.declared.step.Step.{Step}
@@ -24,6 +24,11 @@ use Rattle.flume_model.specs.Channel.{IsBlocked, channel}
 use Rattle.flume_model.specs.Asking.{IsPolled, IsGone}
 
 module _ {T A : Type 0} where
+  -- the same reply: two drained lists are the same by their messages, wherever they are kept
+  abbrev pub SameReply : Reply T A → Reply T A → Type 0
+  SameReply (Drained list) (Drained other) = list.items ≡ other.items
+  SameReply reply other = reply ≡ other
+
   -- the channel may answer the step so: a step that may be refused because memory ran out has two
   -- such replies, and each other step has one
   abbrev pub IsReply : Channel T → Step T → Reply T A → Type 0

@@ -1,14 +1,15 @@
 -- What holds of the parked receivers of each run.
-use Rattle.std.specs.Prelude.{◌≡◌, ℕ, ◌+◌, ◌<◌, ◌≤◌, Bool, true, false, ◌&&◌, List, [], ◌∷◌, max}
-use Rattle.std.specs.Prelude.{Option, Some, None}
+use Rattle.std.specs.Prelude.{◌≡◌, ℕ, ◌+◌, ◌<◌, ◌≤◌, Bool, true, false, ◌&&◌, List, [], ◌∷◌, length}
+use Rattle.std.specs.Prelude.{max, Option, Some, None}
 use Rattle.std.specs.List.{list_any}
 use Rattle.flume_model.specs.declared.step.Kind.{Kind}
 use Rattle.flume_model.specs.declared.step.Kind.TheVariants.{Block}
 use Rattle.flume_model.specs.declared.entry.Entry.{Entry}
 use Rattle.flume_model.specs.Log.{Log, Opening, was_filled}
 use Rattle.flume_model.specs.Counts.{senders, receivers, is_over}
-use Rattle.flume_model.specs.Line.{line, greatest, boundary, blocked, next_ticket, is_live}
-use Rattle.flume_model.specs.Limits.{IsOpen, IsClosed}
+use Rattle.flume_model.specs.Line.{line, capacity, greatest, boundary, blocked, next_ticket}
+use Rattle.flume_model.specs.Line.{is_live}
+use Rattle.flume_model.specs.Limits.{IsAtCapacity, IsOpen, IsClosed}
 use Rattle.flume_model.specs.Entries.{is_woken, is_filled, some_wait, waiting_count, woken_count}
 use Rattle.flume_model.specs.Entries.{entry_of}
 use Rattle.flume_model.specs.Parked.{LogEntry, entries, peak}
@@ -63,6 +64,18 @@ module _ {T A : Type 0} where
   WaitsWhileOpen opening log =
       some_wait (entries opening log) ≡ true
       → IsOpen (senders log) (receivers log) × (blocked opening log ≡ [])
+
+  -- Nobody waits for a message or for room that is there: a receiver waits only in an open channel
+  -- that has no message, and a sender is blocked only while the queue is at capacity and no receiver
+  -- waits.
+  pub record NobodyStuck (opening : Opening) (log : Log T A) : Type 0 where
+    pub waiting_receivers :
+        some_wait (entries opening log) ≡ true
+        → (line log ≡ []) × IsOpen (senders log) (receivers log)
+    pub blocked_senders :
+        boundary opening log < length (line log)
+        → IsAtCapacity (capacity opening log) (boundary opening log)
+        × (some_wait (entries opening log) ≡ false)
 
   -- a receiver that blocks stands woken only in a closed channel, and only where no sender is
   -- blocked

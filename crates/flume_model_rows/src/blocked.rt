@@ -13,7 +13,7 @@ ghost use Rattle.flume_model.specs.declared.step.Reply.TheVariants.{Returned, No
 ghost use Rattle.flume_model.specs.declared.step.Reply.TheVariants.{Ended, Done, NoEnd, CountFull};
 ghost use Rattle.flume_model.specs.declared.step.Reply.TheVariants.{Number, Truth};
 ghost use Rattle.flume_model.specs.declared.step.Reply.TheVariants.{Capacity as Bound};
-ghost use Rattle.flume_model_rows.specs.Rows.{Runs};
+ghost use Rattle.flume_model_rows.specs.Rows.{Runs, IsNearMiss};
 
 /// Worked rows of blocked sends, of ends and of queries are runs.
 pub fn blocked_rows_are_runs()
@@ -48,87 +48,92 @@ pub fn blocked_rows_are_runs()
         ∷ (Capacity, Bound (Some 2)) ∷ (DropSender, Done) ∷ (IsDisconnected, Truth true) ∷ []) }
 {}
 
-/// Logs of blocked sends, of ends and of queries that miss a run in one place are no runs.
+/// Logs of blocked sends, of ends and of queries are runs but for their last reply.
 pub fn blocked_near_misses_are_no_runs()
     // A message comes back that moved into the queue.
-    ensures returned_after_accepted { ¬ Runs (Some 1) ((Send 1, Sent None) ∷ (Send 2, Pending 1)
+    ensures returned_after_accepted { IsNearMiss (Some 1) ((Send 1, Sent None) ∷ (Send 2, Pending 1)
         ∷ (TryRecv, Got 1) ∷ (WithdrawSend 1, Returned 2 false) ∷ []) }
     // A message is told as taken in that still blocks.
-    ensures accepted_while_blocked { ¬ Runs (Some 1) ((Send 1, Sent None) ∷ (Send 2, Pending 1)
+    ensures accepted_while_blocked { IsNearMiss (Some 1) ((Send 1, Sent None) ∷ (Send 2, Pending 1)
         ∷ (PollSend 1, Accepted) ∷ []) }
     // A sender is told twice that its message was taken in.
-    ensures accepted_twice { ¬ Runs (Some 0) ((Send 1, Pending 1) ∷ (TryRecv, Got 1)
+    ensures accepted_twice { IsNearMiss (Some 0) ((Send 1, Pending 1) ∷ (TryRecv, Got 1)
         ∷ (PollSend 1, Accepted) ∷ (PollSend 1, Accepted) ∷ []) }
     // A sender goes on waiting in a closed channel.
-    ensures waiting_while_closed { ¬ Runs (Some 1) ((Send 1, Sent None) ∷ (Send 2, Pending 1)
+    ensures waiting_while_closed { IsNearMiss (Some 1) ((Send 1, Sent None) ∷ (Send 2, Pending 1)
         ∷ (DropReceiver, Done) ∷ (PollSend 1, Waiting) ∷ []) }
     // A message comes back by a poll while the channel is open.
-    ensures returned_while_open { ¬ Runs (Some 0) ((Send 1, Pending 1)
+    ensures returned_while_open { IsNearMiss (Some 0) ((Send 1, Pending 1)
         ∷ (PollSend 1, Returned 1 false) ∷ []) }
     // Another blocked message comes back than the one with the ticket.
-    ensures another_withdrawn { ¬ Runs (Some 0) ((Send 1, Pending 1) ∷ (Send 2, Pending 2)
+    ensures another_withdrawn { IsNearMiss (Some 0) ((Send 1, Pending 1) ∷ (Send 2, Pending 2)
         ∷ (WithdrawSend 1, Returned 2 false) ∷ []) }
     // A withdrawal from a closed channel tells of an open one.
-    ensures open_told_when_closed { ¬ Runs (Some 0) ((Send 1, Pending 1) ∷ (DropReceiver, Done)
+    ensures open_told_when_closed { IsNearMiss (Some 0) ((Send 1, Pending 1) ∷ (DropReceiver, Done)
         ∷ (WithdrawSend 1, Returned 1 false) ∷ []) }
     // One ticket is issued to two sends.
-    ensures ticket_issued_twice { ¬ Runs (Some 0) ((Send 1, Pending 1) ∷ (Send 2, Pending 1) ∷ []) }
+    ensures ticket_issued_twice { IsNearMiss (Some 0) ((Send 1, Pending 1) ∷ (Send 2, Pending 1)
+        ∷ []) }
     // A ticket is issued again after it was spent.
-    ensures ticket_issued_again { ¬ Runs (Some 0) ((Send 1, Pending 1)
+    ensures ticket_issued_again { IsNearMiss (Some 0) ((Send 1, Pending 1)
         ∷ (WithdrawSend 1, Returned 1 false) ∷ (Send 2, Pending 1) ∷ []) }
     // A live ticket isn't known.
-    ensures no_ticket_while_live { ¬ Runs (Some 0) ((Send 1, Pending 1) ∷ (PollSend 1, NoTicket)
+    ensures no_ticket_while_live { IsNearMiss (Some 0) ((Send 1, Pending 1) ∷ (PollSend 1, NoTicket)
         ∷ []) }
     // A ticket is known that was never issued.
-    ensures waiting_without_ticket { ¬ Runs (Some 0) ((Send 1, Pending 1) ∷ (PollSend 2, Waiting)
-        ∷ []) }
+    ensures waiting_without_ticket { IsNearMiss (Some 0) ((Send 1, Pending 1)
+        ∷ (PollSend 2, Waiting) ∷ []) }
     // A ticket is live once both sides have disconnected.
-    ensures ticket_outlives_both { ¬ Runs (Some 0) ((Send 1, Pending 1) ∷ (DropReceiver, Done)
+    ensures ticket_outlives_both { IsNearMiss (Some 0) ((Send 1, Pending 1) ∷ (DropReceiver, Done)
         ∷ (DropSender, Done) ∷ (PollSend 1, Returned 1 true) ∷ []) }
     // A sender stays blocked below the capacity, which is 1.
-    ensures blocked_below_capacity { ¬ Runs (Some 1) ((Send 1, Sent None) ∷ (Send 2, Pending 1)
+    ensures blocked_below_capacity { IsNearMiss (Some 1) ((Send 1, Sent None) ∷ (Send 2, Pending 1)
         ∷ (TryRecv, Got 1) ∷ (PollSend 1, Waiting) ∷ []) }
     // A take lets no blocked message in, as the length tells, at capacity 1.
-    ensures none_moved_in { ¬ Runs (Some 1) ((Send 1, Sent None) ∷ (Send 2, Pending 1)
+    ensures none_moved_in { IsNearMiss (Some 1) ((Send 1, Sent None) ∷ (Send 2, Pending 1)
         ∷ (TryRecv, Got 1) ∷ (Len, Number 0) ∷ []) }
     // One take moves two messages in, at capacity 1.
-    ensures two_moved_in { ¬ Runs (Some 1) ((Send 1, Sent None) ∷ (Send 2, Pending 1)
+    ensures two_moved_in { IsNearMiss (Some 1) ((Send 1, Sent None) ∷ (Send 2, Pending 1)
         ∷ (Send 3, Pending 2) ∷ (TryRecv, Got 1) ∷ (PollSend 2, Accepted) ∷ []) }
     // The later of two blocked messages moves in.
-    ensures later_moved_in { ¬ Runs (Some 0) ((Send 1, Pending 1) ∷ (Send 2, Pending 2)
+    ensures later_moved_in { IsNearMiss (Some 0) ((Send 1, Pending 1) ∷ (Send 2, Pending 2)
         ∷ (TryRecv, Got 2) ∷ []) }
     // A message is handed out that was withdrawn.
-    ensures withdrawn_handed_out { ¬ Runs (Some 0) ((Send 1, Pending 1)
+    ensures withdrawn_handed_out { IsNearMiss (Some 0) ((Send 1, Pending 1)
         ∷ (WithdrawSend 1, Returned 1 false) ∷ (TryRecv, Got 1) ∷ []) }
     // A send is taken in at the capacity, which is 1.
-    ensures sent_past_capacity { ¬ Runs (Some 1) ((Send 1, Sent None) ∷ (Send 2, Sent None) ∷ []) }
+    ensures sent_past_capacity { IsNearMiss (Some 1) ((Send 1, Sent None) ∷ (Send 2, Sent None)
+        ∷ []) }
     // A send blocks below the capacity, which is 1.
-    ensures pending_below_capacity { ¬ Runs (Some 1) ((Send 1, Pending 1) ∷ []) }
+    ensures pending_below_capacity { IsNearMiss (Some 1) ((Send 1, Pending 1) ∷ []) }
     // A send blocks in a closed channel.
-    ensures pending_while_closed { ¬ Runs (Some 1) ((DropReceiver, Done) ∷ (Send 1, Pending 1)
+    ensures pending_while_closed { IsNearMiss (Some 1) ((DropReceiver, Done) ∷ (Send 1, Pending 1)
         ∷ []) }
     // Tickets are told as spent while some are left.
-    ensures spent_too_early { ¬ Runs (Some 0) ((Send 1, Spent (Some 1)) ∷ []) }
+    ensures spent_too_early { IsNearMiss (Some 0) ((Send 1, Spent (Some 1)) ∷ []) }
     // A sender comes after the last one left.
-    ensures sender_after_last { ¬ Runs (Some 1) ((DropSender, Done) ∷ (CloneSender, Done) ∷ []) }
+    ensures sender_after_last { IsNearMiss (Some 1) ((DropSender, Done) ∷ (CloneSender, Done)
+        ∷ []) }
     // A receiver comes after the last one left.
-    ensures receiver_after_last { ¬ Runs (Some 1) ((DropReceiver, Done) ∷ (CloneReceiver, Done)
+    ensures receiver_after_last { IsNearMiss (Some 1) ((DropReceiver, Done) ∷ (CloneReceiver, Done)
         ∷ []) }
     // No more senders can be counted although there is one.
-    ensures count_full_at_one { ¬ Runs (Some 1) ((CloneSender, CountFull) ∷ []) }
+    ensures count_full_at_one { IsNearMiss (Some 1) ((CloneSender, CountFull) ∷ []) }
     // A count of senders is one off.
-    ensures senders_one_off { ¬ Runs (Some 1) ((CloneSender, Done) ∷ (SenderCount, Number 1) ∷ []) }
-    // A count of receivers is one off.
-    ensures receivers_one_off { ¬ Runs (Some 1) ((DropReceiver, Done) ∷ (ReceiverCount, Number 1)
+    ensures senders_one_off { IsNearMiss (Some 1) ((CloneSender, Done) ∷ (SenderCount, Number 1)
         ∷ []) }
+    // A count of receivers is one off.
+    ensures receivers_one_off { IsNearMiss (Some 1) ((DropReceiver, Done)
+        ∷ (ReceiverCount, Number 1) ∷ []) }
     // A full channel is told as not full.
-    ensures full_denied { ¬ Runs (Some 1) ((TrySend 1, Sent None) ∷ (IsFull, Truth false) ∷ []) }
+    ensures full_denied { IsNearMiss (Some 1) ((TrySend 1, Sent None) ∷ (IsFull, Truth false)
+        ∷ []) }
     // A channel with a message is told as empty.
-    ensures empty_with_message { ¬ Runs (Some 1) ((TrySend 1, Sent None) ∷ (IsEmpty, Truth true)
+    ensures empty_with_message { IsNearMiss (Some 1) ((TrySend 1, Sent None) ∷ (IsEmpty, Truth true)
         ∷ []) }
     // An open channel is told as closed.
-    ensures disconnected_while_open { ¬ Runs (Some 1) ((CloneSender, Done) ∷ (DropSender, Done)
+    ensures disconnected_while_open { IsNearMiss (Some 1) ((CloneSender, Done) ∷ (DropSender, Done)
         ∷ (IsDisconnected, Truth true) ∷ []) }
     // The capacity, which is 1, is told one greater.
-    ensures capacity_one_off { ¬ Runs (Some 1) ((Capacity, Bound (Some 2)) ∷ []) }
+    ensures capacity_one_off { IsNearMiss (Some 1) ((Capacity, Bound (Some 2)) ∷ []) }
 {}

@@ -5,7 +5,7 @@ ghost use Rattle.flume_model.specs.declared.step.Step.TheVariants.{DropReceiver,
 ghost use Rattle.flume_model.specs.declared.step.Reply.TheVariants.{Sent, Full, Closed, NoMemory};
 ghost use Rattle.flume_model.specs.declared.step.Reply.TheVariants.{Got, Empty, Ended, Done, NoEnd};
 ghost use Rattle.flume_model.specs.declared.step.Reply.TheVariants.{Number};
-ghost use Rattle.flume_model_rows.specs.Rows.{Runs};
+ghost use Rattle.flume_model_rows.specs.Rows.{Runs, IsNearMiss};
 
 /// Worked rows are runs.
 pub fn rows_are_runs()
@@ -26,44 +26,46 @@ pub fn rows_are_runs()
         ∷ (DropSender, Done) ∷ (Len, Number 0) ∷ (TryRecv, Ended) ∷ (DropReceiver, NoEnd) ∷ []) }
 {}
 
-/// Logs that miss a run in one place are no runs.
+/// Logs are runs but for their last reply.
 pub fn near_misses_are_no_runs()
     // Another message comes out than went in.
-    ensures wrong_message { ¬ Runs None ((TrySend 42, Sent None) ∷ (TryRecv, Got 43) ∷ []) }
+    ensures wrong_message { IsNearMiss None ((TrySend 42, Sent None) ∷ (TryRecv, Got 43) ∷ []) }
     // The newer message comes out first.
-    ensures newer_first { ¬ Runs None ((TrySend 1, Sent None) ∷ (TrySend 2, Sent None)
+    ensures newer_first { IsNearMiss None ((TrySend 1, Sent None) ∷ (TrySend 2, Sent None)
         ∷ (TryRecv, Got 2) ∷ []) }
     // One message comes out twice.
-    ensures handed_out_twice { ¬ Runs None ((TrySend 1, Sent None) ∷ (TryRecv, Got 1)
+    ensures handed_out_twice { IsNearMiss None ((TrySend 1, Sent None) ∷ (TryRecv, Got 1)
         ∷ (TryRecv, Got 1) ∷ []) }
     // Nothing is found where a message is queued.
-    ensures empty_while_queued { ¬ Runs None ((TrySend 42, Sent None) ∷ (TryRecv, Empty) ∷ []) }
+    ensures empty_while_queued { IsNearMiss None ((TrySend 42, Sent None) ∷ (TryRecv, Empty) ∷ []) }
     // The end is told while a message is queued.
-    ensures ended_while_queued { ¬ Runs None ((TrySend 42, Sent None) ∷ (DropSender, Done)
+    ensures ended_while_queued { IsNearMiss None ((TrySend 42, Sent None) ∷ (DropSender, Done)
         ∷ (TryRecv, Ended) ∷ []) }
     // The end is told in an open channel.
-    ensures ended_while_open { ¬ Runs None ((TryRecv, Ended) ∷ []) }
+    ensures ended_while_open { IsNearMiss None ((TryRecv, Ended) ∷ []) }
     // A send is refused below the capacity, which is 2.
-    ensures full_below_capacity { ¬ Runs (Some 2) ((TrySend 1, Sent None) ∷ (TrySend 2, Full 2)
+    ensures full_below_capacity { IsNearMiss (Some 2) ((TrySend 1, Sent None) ∷ (TrySend 2, Full 2)
         ∷ []) }
     // A send is taken in at the capacity, which is 2.
-    ensures sent_at_capacity { ¬ Runs (Some 2) ((TrySend 1, Sent None) ∷ (TrySend 2, Sent None)
+    ensures sent_at_capacity { IsNearMiss (Some 2) ((TrySend 1, Sent None) ∷ (TrySend 2, Sent None)
         ∷ (TrySend 3, Sent None) ∷ []) }
     // A send is taken in although no receiver lives.
-    ensures sent_while_closed { ¬ Runs None ((DropReceiver, Done) ∷ (TrySend 1, Sent None) ∷ []) }
+    ensures sent_while_closed { IsNearMiss None ((DropReceiver, Done) ∷ (TrySend 1, Sent None)
+        ∷ []) }
     // A send is told of a closed channel while both ends live.
-    ensures closed_while_open { ¬ Runs None ((TrySend 1, Closed 1) ∷ []) }
+    ensures closed_while_open { IsNearMiss None ((TrySend 1, Closed 1) ∷ []) }
     // Another message comes back than was handed in.
-    ensures another_returned { ¬ Runs None ((DropReceiver, Done) ∷ (TrySend 1, Closed 2) ∷ []) }
+    ensures another_returned { IsNearMiss None ((DropReceiver, Done) ∷ (TrySend 1, Closed 2) ∷ []) }
     // A receiver leaves although none is left.
-    ensures done_at_zero { ¬ Runs None ((DropReceiver, Done) ∷ (DropReceiver, Done) ∷ []) }
+    ensures done_at_zero { IsNearMiss None ((DropReceiver, Done) ∷ (DropReceiver, Done) ∷ []) }
     // No sender is told of while one lives.
-    ensures no_end_at_one { ¬ Runs None ((DropSender, NoEnd) ∷ []) }
+    ensures no_end_at_one { IsNearMiss None ((DropSender, NoEnd) ∷ []) }
     // A message is left once both sides have disconnected.
-    ensures left_when_over { ¬ Runs None ((TrySend 1, Sent None) ∷ (DropReceiver, Done)
+    ensures left_when_over { IsNearMiss None ((TrySend 1, Sent None) ∷ (DropReceiver, Done)
         ∷ (DropSender, Done) ∷ (TryRecv, Got 1) ∷ []) }
     // A number is one off.
-    ensures one_off { ¬ Runs None ((TrySend 1, Sent None) ∷ (Len, Number 2) ∷ []) }
+    ensures one_off { IsNearMiss None ((TrySend 1, Sent None) ∷ (Len, Number 2) ∷ []) }
     // A receive is refused because memory ran out while no sender is blocked.
-    ensures refused_receive { ¬ Runs None ((TrySend 1, Sent None) ∷ (TryRecv, NoMemory None) ∷ []) }
+    ensures refused_receive { IsNearMiss None ((TrySend 1, Sent None) ∷ (TryRecv, NoMemory None)
+        ∷ []) }
 {}

@@ -1,5 +1,5 @@
 //! Scripts: the steps of a channel as text. `run_script` reads them, makes them on a new channel,
-//! and answers a text with a line for each reply; `./run` of the repository prints it.
+//! and answers a text with a line for each reply; `./play` of the repository prints it.
 //!
 //! `reading` parses the lines, `writing` has the texts of the replies. The contract of `run_script`
 //! says which text it answers to which input.

@@ -6,11 +6,12 @@ use Rattle.flume_state.specs.Notices.{due_now}
 use Rattle.flume_state.specs.Sends.{SendMap, noticed_send}
 use Rattle.flume_state.specs.Effects.{with_all_due}
 use Rattle.flume_state.specs.layout.MessageLayout.{Message, BlockedAt, MessageList, blocked_ahead, blocked_of, messages_of, MessageLayout}
-use Rattle.flume_state.specs.layout.Pairing.{HasLink, SendList, link_at, live_sends, under_tickets, ticket_or_zero}
+use Rattle.flume_state.specs.layout.Pairing.{HasLink, SendList, link_at, live_sends, under_tickets}
 use Rattle.flume_state.proofs.EntryParts.{Apart, alone, front_at, no_first}
 use Rattle.flume_state.proofs.PlacedLemmas.{found_here}
 use Rattle.flume_state.proofs.MessageLemmas.{laid}
 use Rattle.flume_state.proofs.MessageSteps.{owner_at}
+use Rattle.flume_state.proofs.Pairs.{ticket_by}
 
 module _ {E : Type 0} where
   -- how many elements stand from a place on
@@ -58,7 +59,7 @@ module _ {T S : Type 0} where
       record {
         held = All-tail (HasLink initial) _ bs w.held;
         links = λ k. marked.1 k ∙ w.links k;
-        marks = ap (with_all_due (under_tickets initial bs)) (live ∙ ap (λ o. noticed_send due_now (ticket_or_zero o) (live_sends sends)) (sym one.is)) ∙ w.marks;
+        marks = ap (with_all_due (under_tickets initial bs)) (live ∙ ap (λ n. noticed_send due_now n (live_sends sends)) (sym (ticket_by initial owner _ one.is))) ∙ w.marks;
       }
 
   -- the walk has come to a place, from which on those are left that are to be marked

@@ -1,6 +1,8 @@
 -- Blocked messages and their sends, which name each other's places, under the methods of a line.
 use Rattle.std.proofs.Common.{◌≡◌, ◌≢◌, ℕ, ◌≤◌, ◌==◌, Bool, true, false, List, [], ◌∷◌, ◌++◌, Option, Some, None, refl, sym, ap, ap₂, subst, ◌∙◌, inl, inr, arith, if◌then◌else◌, map, All, option_map, IfSome}
 use Rattle.std.specs.FinMap.{remove}
+use Rattle.std.specs.Option.{option_map_or}
+use Rattle.flume_chain.specs.Chained.{found}
 use Rattle.std.proofs.lemmas.Bool.{cases_eq, eq-eqb, ne_eqb, eqb-false}
 use Rattle.std.proofs.lemmas.List.{map-append}
 use Rattle.std.proofs.lemmas.List.Elements.{All-nil, All-cons, All-head, All-tail, All-append, All-push, All-map}
@@ -8,7 +10,7 @@ use Rattle.flume_state.proofs.Chains.{times, times-append, once_same, once_none}
 use Rattle.flume_state.specs.Messages.{Blocked, Messages, Admits, TakesBack}
 use Rattle.flume_state.specs.Sends.{SendMap, changed, accepted_now}
 use Rattle.flume_state.specs.layout.MessageLayout.{BlockedAt, MessageList, AdmitsOwner, TakesOut}
-use Rattle.flume_state.specs.layout.Pairing.{SendList, Link, link_at, at_message, accepting, owner_at, ticket_or_zero, under_ticket, under_tickets, live_sends, HasLink, Pairing}
+use Rattle.flume_state.specs.layout.Pairing.{SendList, Link, link_of, link_at, at_message, accepting, owner_at, ticket_at, under_ticket, under_tickets, live_sends, HasLink, Pairing}
 
 -- the places of blocked messages
 abbrev pub places_of : {T : Type 0} → List (BlockedAt T) → List ℕ
@@ -102,6 +104,23 @@ module _ {S : Type 0} where
   removed_at None t new old none live = absurd (let no : ⊥ = cc in no)
   removed_at (Some l) t new old is live = live ∙ ap (remove old) (let same : l.ticket ≡ t = cc in same)
 
+-- the ticket in a link, or 0 where there is none
+abbrev ticket_or_zero : Option Link → ℕ
+ticket_or_zero None = 0
+ticket_or_zero (Some l) = l.ticket
+
+module _ {S : Type 0} where
+  -- the ticket of a send is that in its link
+  ticket_is : (sends : SendList S) (k : ℕ) → ticket_at sends k ≡ ticket_or_zero (link_at sends k)
+  ticket_is sends k =
+      elim (found sends k) as (λ o. option_map_or (λ e. e.label) o 0 ≡ ticket_or_zero (option_map link_of o)) [ None ↦ refl | Some e ↦ refl ]
+
+  pub ticket_by : (sends : SendList S) (k : ℕ) (l : Link) → link_at sends k ≡ Some l → ticket_at sends k ≡ l.ticket
+  ticket_by sends k l is = ticket_is sends k ∙ ap ticket_or_zero is
+
+  ticket_kept : (new old : SendList S) (k : ℕ) → link_at new k ≡ link_at old k → ticket_at new k ≡ ticket_at old k
+  ticket_kept new old k same = ticket_is new k ∙ ap ticket_or_zero same ∙ sym (ticket_is old k)
+
 module _ {T S : Type 0} where
   -- what a contract sees of these messages and these sends
   abbrev pub line_of : MessageList T → SendList S → Messages T S
@@ -120,8 +139,8 @@ module _ {T S : Type 0} where
   pub named_kept : (new old : SendList S) (bs : List (BlockedAt T)) → SameLinks new old bs → under_tickets new bs ≡ under_tickets old bs
   named_kept new old [] same = refl
   named_kept new old (b ∷ bs) same =
-      ap₂ (λ (l : Option Link) (rest : List (Blocked T)). let c : Blocked T = record { ticket = ticket_or_zero l; message = b.message } in c ∷ rest)
-      {x = link_at new b.owner} {y = link_at old b.owner} (All-head (λ (c : BlockedAt T). link_at new c.owner ≡ link_at old c.owner) b bs same)
+      ap₂ (λ (n : ℕ) (rest : List (Blocked T)). let c : Blocked T = record { ticket = n; message = b.message } in c ∷ rest)
+      (ticket_kept new old b.owner (All-head (λ (c : BlockedAt T). link_at new c.owner ≡ link_at old c.owner) b bs same))
       (named_kept new old bs (All-tail (λ (c : BlockedAt T). link_at new c.owner ≡ link_at old c.owner) b bs same))
 
   -- and has its send as before
@@ -210,8 +229,8 @@ module _ {T S : Type 0} where
         holds = record {
           first = record { ticket = own.ticket; message = a.message };
           leaves = ap (under_tickets old) a.leaves
-              ∙ ap₂ (λ (i : Option Link) (bs : List (Blocked T)). let c : Blocked T = record { ticket = ticket_or_zero i; message = a.message } in c ∷ bs)
-              own.is (sym (named_kept new old m.blocked same));
+              ∙ ap₂ (λ (n : ℕ) (bs : List (Blocked T)). let c : Blocked T = record { ticket = n; message = a.message } in c ∷ bs)
+              (ticket_by old _ _ own.is) (sym (named_kept new old m.blocked same));
           becomes = λ i. record { queued = a.joins i; blocked = under_tickets new m.blocked; space = a.same_space i; sends = becomes i };
         };
       }
@@ -240,8 +259,8 @@ module _ {T S : Type 0} where
           ];
         });
         holds = ap (under_tickets new) is ∙ map-append (under_ticket new) l.blocked (b ∷ [])
-            ∙ ap₂ (λ (bs : List (Blocked T)) (i : Option Link). let c : Blocked T = record { ticket = ticket_or_zero i; message = message } in bs ++ c ∷ [])
-            (named_kept new old l.blocked same) made;
+            ∙ ap₂ (λ (bs : List (Blocked T)) (n : ℕ). let c : Blocked T = record { ticket = n; message = message } in bs ++ c ∷ [])
+            (named_kept new old l.blocked same) (ticket_by new o _ made);
       }
 
   -- where the sends with a ticket were accepted, no blocked message is under it
@@ -250,7 +269,7 @@ module _ {T S : Type 0} where
   none_under sends t bs known held =
       All-map (λ b. b.ticket ≢ t) (under_ticket sends) bs (λ k d lt e.
       let h = held k d lt in
-      let no : false ≡ true = known _ _ h.is (ap ticket_or_zero (sym h.is) ∙ e) in
+      let no : false ≡ true = known _ _ h.is (sym (ticket_by sends _ _ h.is) ∙ e) in
       absurd (let none : ⊥ = cc in none))
 
   -- where one send alone has a ticket, no message of another is under it
@@ -258,7 +277,7 @@ module _ {T S : Type 0} where
       → OfOthers o bs → All (HasLink sends) bs → All (λ b. b.ticket ≢ t) (under_tickets sends bs)
   others_under sends t o bs only other held =
       All-map (λ b. b.ticket ≢ t) (under_ticket sends) bs (λ k d lt e.
-      let h = held k d lt in other k d lt (only _ _ h.is (ap ticket_or_zero (sym h.is) ∙ e)))
+      let h = held k d lt in other k d lt (only _ _ h.is (sym (ticket_by sends _ _ h.is) ∙ e)))
 
   -- the message of a send that isn't accepted is blocked
   pub is_blocked : (sends : SendList S) (bs : List (BlockedAt T)) (o ticket place : ℕ) → Pairing bs sends
@@ -315,8 +334,8 @@ module _ {T S : Type 0} where
           before = under_tickets old t.before;
           after = under_tickets old t.after;
           found = ap (under_tickets old) t.found ∙ map-append (under_ticket old) t.before (b ∷ t.after)
-              ∙ ap (λ (i : Option Link). let c : Blocked T = record { ticket = ticket_or_zero i; message = message } in under_tickets old t.before ++ c ∷ under_tickets old t.after)
-              (ap (link_at old) name ∙ is);
+              ∙ ap (λ (n : ℕ). let c : Blocked T = record { ticket = n; message = message } in under_tickets old t.before ++ c ∷ under_tickets old t.after)
+              (ap (ticket_at old) name ∙ ticket_by old o _ is);
           first = others_under old ticket o t.before only ahead parts.ahead;
           becomes = λ i. record { queued = t.same i; blocked = (ap (under_tickets new) t.rest ∙ names) i; space = t.same_space i; sends = becomes i };
         };

@@ -11,7 +11,8 @@
 //! The definitions in `specs/`, beside its folder `layout/`, are cited by every contract that
 //! speaks of a channel's state: `State.antt` is what a contract sees of a channel, `Effects.antt`
 //! what each step leaves of it, and `Due.antt` whose ticket becomes due. Those in `specs/layout/`
-//! are for this crate alone: how the lists of a state lie in their chains.
+//! say how the lists of a state lie in their chains, and how a contract sees them there. No contract
+//! above this crate names one.
 #![tactic(auto)]
 
 pub mod entries;

@@ -116,3 +116,57 @@ fn messages_are_compared_by_their_eq(rt: HostRuntime) {
         is(&rt, "labelled", told_so(&rt, rt.alloc(), messages), wanted);
     }
 }
+
+// Histories, each behind its answer: `run`, or the place of the first pair that is wrong.
+const WORKED: &str = "
+= run
+unbounded
+try_recv -> empty
+try_send 5 -> sent
+try_recv -> got 5
+= 2
+unbounded
+try_recv -> empty
+try_send 5 -> sent
+try_recv -> got 6
+= run
+bounded 1
+try_send 1 -> sent
+send 2 -> pending 1
+set_capacity 2 -> done
+poll_send 1 -> accepted
+= 2
+bounded 1
+try_send 1 -> sent
+send 2 -> pending 1
+poll_send 1 -> accepted
+= 0
+unbounded
+try_recv -> nomemory
+= run
+unbounded
+try_send 5 -> nomemory 5
+try_recv -> empty
+= run
+bounded 1
+try_send 1 -> sent
+send 2 -> pending 1
+try_recv -> nomemory
+try_recv -> got 1
+= run
+unbounded
+";
+
+#[test]
+fn the_check_answers_the_worked_histories(rt: HostRuntime) {
+    for block in WORKED.trim_end().split("\n= ").skip(1) {
+        let (answer, text) = block.split_once("\n").expect(&rt, "an answer");
+        let wanted = match answer.parse() {
+            Ok(place) => Checked::Breaks(place),
+            Err(_) => Checked::Run,
+        };
+        let told = told_by(&rt, rt.alloc(), text);
+        let checked = check_history(rt.alloc(), told.capacity, &told.history);
+        is(&rt, text, checked, wanted);
+    }
+}

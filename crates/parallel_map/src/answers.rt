@@ -1,6 +1,8 @@
 //! The result, from answers that come in any order.
-ghost use Rattle.std.specs.Prelude.{◌≡◌, IfOk, map};
-ghost use Rattle.std.specs.Iterator.{IsFinite};
+ghost use Rattle.std.specs.Prelude.{◌≡◌, List, IfOk, IfErr, map};
+ghost use Rattle.std.specs.Iterator.{IsFinite, AlwaysYields};
+ghost use Rattle.parallel_map.specs.Answered.{Brings, AreComplete};
+ghost use Rattle.parallel_map.specs.Worked.{Lacks};
 ghost use Rattle.parallel_map.specs.Found.{IsFound};
 
 use crate::answer::Answer;
@@ -12,7 +14,8 @@ use std::alloc::Global;
 /// The values of all jobs, in the order of the jobs. It compares each answer with the list: what
 /// the iterator gives needn't be believed. It stops at the first answer that is to no job
 /// (`Unknown`) or to a job that was answered (`Doubled`). Where the iterator ends before each job
-/// was answered, the first that wasn't is `Missing`.
+/// was answered, the first that wasn't is `Missing`. Where it gives one right answer for each job,
+/// in any order, no error comes but `NoMemory` (`served`).
 ///
 /// ```
 /// let mixed = [Answer::of(&Square, 1, 3), Answer::of(&Square, 0, 2)];
@@ -28,6 +31,12 @@ pub fn collect<W: Work, I: Iterator<Item = Answer<W>> + Drop>(
     requires can { I.can_next answers }
     requires ends { IsFinite (I.remaining answers) }
     ensures values { IfOk result (λ values. values.items ≡ map W.meaning jobs.now) }
+    ensures error { IfErr result (Brings I.next_gives (λ answer. (answer.number, answer.job))
+        jobs.now answers) }
+    ensures served { (all : List _)
+        → AlwaysYields I.next_gives (λ answer. answer) answers all
+        → AreComplete jobs.now (map (λ answer. (answer.number, answer.job)) all)
+        → IfErr result (λ error. error ≡ WorkError.NoMemory) }
 {
     let mut slots = Slots::new(alloc, jobs)?;
     for answer in answers {
@@ -53,6 +62,12 @@ pub fn position<W: Work<Value = bool>, I: Iterator<Item = Answer<W>> + Drop>(
     requires can { I.can_next answers }
     requires ends { IsFinite (I.remaining answers) }
     ensures found { IfOk result (IsFound (map W.meaning jobs.now)) }
+    ensures error { IfErr result (Brings I.next_gives (λ answer. (answer.number, answer.job))
+        jobs.now answers) }
+    ensures served { (all : List _)
+        → AlwaysYields I.next_gives (λ answer. answer) answers all
+        → AreComplete jobs.now (map (λ answer. (answer.number, answer.job)) all)
+        → IfErr result (λ error. error ≡ WorkError.NoMemory) }
 {
     let mut slots = Slots::new(alloc, jobs)?;
     for answer in answers {
@@ -70,6 +85,7 @@ pub fn position<W: Work<Value = bool>, I: Iterator<Item = Answer<W>> + Drop>(
 #[tactic(auto, using(crate::proofs::Places::take_found))]
 fn in_order<W: Work>(alloc: Global, slots: Slots<'_, W>) -> Result<Vec<W::Value>, WorkError>
     ensures values { IfOk result (λ values. values.items ≡ map W.meaning slots.entry.jobs.now) }
+    ensures missing { IfErr result (Lacks slots.entry.jobs.now slots.entry.values.items) }
 {
     let mut slots = slots;
     let mut values = Vec::new(alloc);

@@ -69,12 +69,22 @@ impl From<NoMemory> for WorkError {
 }
 
 impl From<AllocError> for WorkError {
+    ghost use Rattle.std.specs.Prelude.{◌≡◌};
+    ghost use Rattle.parallel_map.specs.declared.error.WorkError.TheVariants.{NoMemory};
+
+    ghost from_gives = { λ _ e. e ≡ NoMemory };
+
     fn from(_refused: AllocError) -> WorkError {
         WorkError::NoMemory
     }
 }
 
 impl<T: Drop> From<AllocFailed<T>> for WorkError {
+    ghost use Rattle.std.specs.Prelude.{◌≡◌};
+    ghost use Rattle.parallel_map.specs.declared.error.WorkError.TheVariants.{NoMemory};
+
+    ghost from_gives = { λ _ e. e ≡ NoMemory };
+
     fn from(_refused: AllocFailed<T>) -> WorkError {
         WorkError::NoMemory
     }

@@ -1,7 +1,9 @@
 //! A place for the value of each job.
-ghost use Rattle.std.specs.Prelude.{◌≡◌, ◌<◌, map, length, IfOk, IfSome, OnOk, Some};
+ghost use Rattle.std.specs.Prelude.{◌≡◌, ◌≢◌, ℕ, ◌<◌, map, length, Some, None};
+ghost use Rattle.std.specs.Prelude.{IfOk, IfErr, OnOk, IfSome, IfNone};
 ghost use Rattle.std.specs.List.{slice_get};
-ghost use Rattle.parallel_map.specs.Worked.{AreWorked};
+ghost use Rattle.parallel_map.specs.Worked.{AreWorked, held, Places, IsRefused};
+ghost use Rattle.parallel_map.specs.Answered.{IsTo};
 
 use crate::answer::Answer;
 use crate::error::WorkError;
@@ -13,7 +15,7 @@ use std::alloc::{AllocError, Global};
 #[derive(Drop)]
 pub(crate) struct Slots<'a, W: Work> {
     pub(crate) jobs: &'a [W::Job],
-    values: Vec<Option<W::Value>>,
+    pub(crate) values: Vec<Option<W::Value>>,
     ghost worked: { AreWorked (map W.meaning jobs.now) values.items },
 }
 
@@ -21,6 +23,7 @@ impl<'a, W: Work> Slots<'a, W> {
     /// No value came yet.
     pub(crate) fn new(alloc: Global, jobs: &'a [W::Job]) -> Result<Self, AllocError>
         ensures jobs { IfOk result (λ slots. slots.jobs.now ≡ jobs.now) }
+        ensures empty { IfOk result (λ slots. (k : ℕ) → held slots.values.items k ≡ 0) }
     {
         let values = jobs.iter().map(|_| None).collect(alloc)?;
         Ok(Slots { jobs, values })
@@ -32,15 +35,31 @@ impl<'a, W: Work> Slots<'a, W> {
         ensures jobs { self.new.jobs.now ≡ self.old.jobs.now }
         ensures value { OnOk result (slice_get (map W.meaning self.old.jobs.now) answer.number
             ≡ Some answer.value) }
+        ensures right { OnOk result (IsTo self.old.jobs.now (answer.number, answer.job)) }
+        ensures placed { OnOk result (Places self.old.values.items answer.number
+            self.new.values.items) }
+        ensures refused { IfErr result (IsRefused self.old.jobs.now self.old.values.items
+            (answer.number, answer.job)) }
     {
         let Answer { number, job, value } = answer;
+        self.look(number, job)?;
+        self.values[number] = Some(value);
+        Ok(())
+    }
+
+    // Whether this job stands there, and its place is empty.
+    fn look(&self, number: usize, job: W::Job) -> Result<(), WorkError>
+        ensures right { OnOk result (IsTo self.now.jobs.now (number, job)) }
+        ensures empty { OnOk result (slice_get self.now.values.items number ≡ Some None) }
+        ensures refused { IfErr result (IsRefused self.now.jobs.now self.now.values.items
+            (number, job)) }
+    {
         if number >= self.jobs.len() || self.jobs[number] != job {
             return Err(WorkError::Unknown(number));
         }
         if self.values[number].is_some() {
             return Err(WorkError::Doubled(number));
         }
-        self.values[number] = Some(value);
         Ok(())
     }
 
@@ -50,6 +69,10 @@ impl<'a, W: Work> Slots<'a, W> {
         ensures jobs { self.new.jobs.now ≡ self.old.jobs.now }
         ensures value { IfSome result (λ value.
             slice_get (map W.meaning self.old.jobs.now) number ≡ Some value) }
+        ensures some { IfSome result (λ _. held self.old.values.items number ≡ 1) }
+        ensures none { IfNone result (held self.old.values.items number ≡ 0) }
+        ensures others { (k : ℕ) → k ≢ number
+            → held self.new.values.items k ≡ held self.old.values.items k }
     {
         self.values[number].take()
     }

@@ -2,9 +2,6 @@
 //! order, is proved: the channels between the threads needn't be believed for it.
 #![tactic(auto)]
 
-#[cfg(test)]
-mod tests;
-
 ghost use Rattle.std.specs.Prelude.{◌≡◌, ◌*◌, ◌%◌, ◌==◌, ◌&&◌, IfOk, map, not};
 ghost use Rattle.std.proofs.Common.{rules};
 

@@ -1,12 +1,13 @@
 //! Selections by clocks of the tests' own: one that can't be read, and ones that go on as they are
 //! read. By these a call that waits takes its time.
-use crate::fixtures::{had, is, later, offered, selected};
+use crate::fixtures::{had, later, offered, selected};
 use ends_tests::ends::long;
 use ends_tests::ticking::{Ticking, Unreadable};
 use flume::error::{RecvTimeoutError, SelectError, SendTimeoutError};
 use flume::{Receiver, Sender, Waits, bounded};
 use selections::arms::How;
 use selections::shapes::{Won, receive, send};
+use std::alloc::Global;
 use std::process::Abort;
 use std::sync::atomic::{AtomicU64, Ordering};
 use std::time::{Duration, Instant};
@@ -25,43 +26,39 @@ fn a_selection_is_late_where_the_clock_cannot_be_read(rt: HostRuntime) {
     offered(&rt, tx.try_send(4), Ok(()));
 }
 
-// The clock was read at least so often: the first reading is 0. The next count begins at 0.
-fn took_its_time(rt: &impl Abort, readings: &AtomicU64, least: u64) {
-    is(rt, readings.swap(0, Ordering::SeqCst) >= least, true);
-}
-
-// Each call that waits so long, or up to that time, does, on a channel that neither gives nor takes.
-fn each_takes_its_time<R: Waits>(
+// Whether the call of this number is late, on a channel that neither gives nor takes.
+fn is_late<R: Waits>(
     host: &impl Abort,
     (tx, rx): (&Sender<u64, R>, &Receiver<u64, R>),
-    (readings, least): (&AtomicU64, u64),
     (timeout, deadline): (Duration, Instant),
-) {
-    let late = Err(SelectError::Timeout);
-    selected(host, receive(rx, How::Timeout(timeout)), late);
-    took_its_time(host, readings, least);
-    let late = Err(SelectError::Timeout);
-    selected(host, send(tx, 1, How::Timeout(timeout)), late);
-    took_its_time(host, readings, least);
-    let late = rx.recv_timeout(timeout);
-    is(host, late, Err(RecvTimeoutError::Timeout));
-    took_its_time(host, readings, least);
-    let late = tx.send_timeout(1, timeout);
-    is(host, late, Err(SendTimeoutError::Timeout(1)));
-    took_its_time(host, readings, least);
-    let late = rx.recv_deadline(deadline);
-    is(host, late, Err(RecvTimeoutError::Timeout));
-    took_its_time(host, readings, least);
+    (call, alloc): (u64, Global),
+) -> bool {
+    let mut list = had(host, vec![in alloc; 1]);
+    let (by_timeout, by_deadline) = (How::Timeout(timeout), How::Deadline(deadline));
+    match call {
+        0 => receive(rx, by_timeout) == Err(SelectError::Timeout),
+        1 => send(tx, 1, by_deadline) == Err(SelectError::Timeout),
+        2 => rx.recv_timeout(timeout) == Err(RecvTimeoutError::Timeout),
+        3 => rx.recv_deadline(deadline) == Err(RecvTimeoutError::Timeout),
+        4 => tx.send_timeout(1, timeout) == Err(SendTimeoutError::Timeout(1)),
+        5 => tx.send_deadline(1, deadline) == Err(SendTimeoutError::Timeout(1)),
+        6 => rx.recv_many_timeout(&mut list, 9, timeout) == Err(RecvTimeoutError::Timeout),
+        7 => rx.recv_many_deadline(&mut list, 9, deadline) == Err(RecvTimeoutError::Timeout),
+        8 => tx.send_many_timeout(list, timeout).is_err(),
+        9 => tx.send_many_deadline(list, deadline).is_err(),
+        10 => rx.iter_timeout(timeout).next().is_none(),
+        _ => rx.iter_deadline(deadline).next().is_none(),
+    }
 }
 
 // How many microseconds a clock goes on by as it is read, how many a call waits, and how often its
-// clock is read then. A timeout of 300 milliseconds isn't taken as whole seconds, and one of 40
-// microseconds not as whole milliseconds.
-const CLOCKS: &[(u64, u64, u64)] = &[(299_000, 300_000, 3), (1, 40, 41)];
+// clock is read then, at least and at the most: the first reading is 0. A tenth of a second isn't
+// taken as whole seconds, and 40 microseconds aren't as whole milliseconds.
+const CLOCKS: &[(u64, u64, u64, u64)] = &[(99_000, 100_000, 3, 6), (1, 40, 41, 44)];
 
 #[test]
-fn a_timeout_comes_no_sooner_than_the_clock_shows_it(rt: HostRuntime) {
-    for &(micros, waits, least) in CLOCKS {
+fn a_timeout_comes_no_sooner_than_the_clock_shows_it_and_little_later(rt: HostRuntime) {
+    for &(micros, waits, least, most) in CLOCKS {
         let readings = AtomicU64::new(0);
         let readings = &readings;
         let ticking = Ticking {
@@ -73,7 +70,14 @@ fn a_timeout_comes_no_sooner_than_the_clock_shows_it(rt: HostRuntime) {
         let timeout = Duration::from_micros(waits);
         let began = Instant::now(&ticking).expect(&rt, "this clock can be read");
         let deadline = began.checked_add(timeout).expect(&rt, "it has a sum");
-        readings.store(0, Ordering::SeqCst);
-        each_takes_its_time(&rt, (&tx, &rx), (readings, least), (timeout, deadline));
+        for call in 0..12 {
+            readings.store(0, Ordering::SeqCst);
+            let late = is_late(&rt, (&tx, &rx), (timeout, deadline), (call, rt.alloc()));
+            let read = readings.load(Ordering::SeqCst);
+            assert!(rt;
+                late && read >= least && read <= most,
+                "call {call}: {read} readings"
+            );
+        }
     }
 }

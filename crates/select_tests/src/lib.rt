@@ -9,6 +9,8 @@ mod clocks;
 #[cfg(test)]
 mod fixtures;
 #[cfg(test)]
+mod lists;
+#[cfg(test)]
 mod mappers;
 #[cfg(test)]
 mod meeting;

@@ -20,7 +20,7 @@ module _ {T A S : Type 0} where
         let turn = call.turn.0 in
         record {
           reply = turn.reply;
-          leads = λ o log s. call.stands o _ (turn.stepped o log s);
+          leads = λ o log s. call.stands o _ (turn.stepped.extends o log s);
           answered = turn.answered;
         }
 

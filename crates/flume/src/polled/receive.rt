@@ -1,10 +1,10 @@
 //! A receive as a future.
-ghost use Rattle.std.specs.Prelude.{◌≡◌, ◌+◌, ◌<◌, ⊤, Result, Ok, Err, None, IsSome};
-ghost use Rattle.std.specs.Prelude.{vec_len, vec_capacity};
+ghost use Rattle.std.specs.Prelude.{◌≡◌, ◌+◌, ◌<◌, ⊤, Result, None, vec_len, vec_capacity};
 ghost use Rattle.futures.specs.Task.{Covers, Keeps};
 ghost use Rattle.futures.specs.Poll.{IfReady, OnPending};
 ghost use Rattle.flume.specs.Ends.{end_of};
-ghost use Rattle.flume.specs.ManyCalls.{PollGrows};
+ghost use Rattle.flume.specs.Polling.{answer_of};
+ghost use Rattle.flume.specs.ReceivePolls.{LeavesCall, HasPolledReceive, HasPolledMany};
 
 use crate::polled::owned_or_ref::OwnedOrRef;
 use crate::receiver::Receiver;
@@ -20,7 +20,8 @@ use std::fmt;
 
 /// The next message, as a future: `Receiver::recv_async` and `Receiver::into_recv_async`. Ready
 /// with `Ok`: the message. With `Disconnected`: none is there, and all senders have been dropped.
-/// With `NoMemory`: none is there, and there was no memory to wait; polled again it tries again.
+/// With `NoMemory`: none is there, and there was no memory to wait. Then it is as it was, parked or
+/// not, and polled again it tries again.
 ///
 /// It can be polled after it was ready, and then asks for one message more. Dropped while it waits
 /// it takes nothing with it: a message that it was woken for is left to another receiver.
@@ -40,7 +41,7 @@ impl<T: Drop, R: Waits, A: Allocator + Copy> Receiver<T, R, A> {
     /// ```
     pub fn recv_async(&self) -> RecvFut<'_, T, R, A>
         ensures channel { end_of result.receiver ≡ self.now }
-        ensures not_parked { result.call.call ≡ None }
+        ensures call { result.call ≡ record { kind = Kind.Plain; call = None } }
     {
         RecvFut::new(OwnedOrRef::Ref(self), Kind::Plain)
     }
@@ -54,7 +55,7 @@ impl<T: Drop, R: Waits, A: Allocator + Copy> Receiver<T, R, A> {
     /// ```
     pub fn into_recv_async<'a>(self) -> RecvFut<'a, T, R, A>
         ensures channel { end_of result.receiver ≡ self }
-        ensures not_parked { result.call.call ≡ None }
+        ensures call { result.call ≡ record { kind = Kind.Plain; call = None } }
     {
         RecvFut::new(OwnedOrRef::Owned(self), Kind::Plain)
     }
@@ -97,7 +98,9 @@ impl<'a, T: Drop, R: Waits, A: Allocator + Copy> RecvFut<'a, T, R, A> {
         more: usize,
     ) -> (Vec<T, A>, Option<Result<usize, RecvError>>)
         requires room { vec_len into < vec_capacity into }
-        ensures grows { PollGrows (more + 1) into.items result.0.items result.1 }
+        ensures polled { HasPolledMany A (more + 1) into.items self.old.call result.0.items
+            self.new.call result.1 }
+        ensures receiver { self.new.receiver ≡ self.old.receiver }
         ensures registered { result.1 ≡ None
             → Covers cx.new (λ source. source ≡ self.new.task.source.id) }
         ensures kept { Keeps cx.old cx.new }
@@ -158,11 +161,9 @@ impl<T: Drop, R: Waits, A: Allocator + Copy> Future for RecvFut<'_, T, R, A> {
         ensures registered { OnPending result
             (Covers cx.new (λ source. source ≡ self.new.task.source.id)) }
         ensures kept { Keeps cx.old cx.new }
-        ensures parked { OnPending result (IsSome self.new.call.call) }
-        ensures got { (message : T) → result ≡ Poll.Ready (Ok message)
-            → self.new.call.call ≡ None }
-        ensures disconnected { result ≡ Poll.Ready (Err RecvError.Disconnected)
-            → self.new.call.call ≡ None }
+        ensures polled { HasPolledReceive A self.old.call self.new.call (answer_of result) }
+        ensures call { LeavesCall self.old.call self.new.call (answer_of result) }
+        ensures receiver { self.new.receiver ≡ self.old.receiver }
     {
         let shared = self.receiver.get().shared();
         match shared.poll(&mut self.call, &self.task, cx) {

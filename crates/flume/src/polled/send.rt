@@ -1,10 +1,13 @@
 //! A send as a future.
-ghost use Rattle.std.specs.Prelude.{◌≡◌, ⊤, Result, Ok, Err, Some, None};
+ghost use Rattle.std.specs.Prelude.{◌≡◌, ◌≢◌, ℕ, ⊤, Result, Ok, Err, Some, None};
 ghost use Rattle.futures.specs.Task.{Covers, Keeps};
 ghost use Rattle.futures.specs.Poll.{IfReady, OnPending};
 ghost use Rattle.flume_calls.specs.declared.polled.send.PolledSend.TheVariants.{Finished, Unsent};
+ghost use Rattle.flume_calls.specs.declared.polled.send.PolledSend.TheVariants.{Parked};
 ghost use Rattle.flume.specs.Ends.{end_of};
 ghost use Rattle.flume.specs.ManySendCalls.{PollLeaves};
+ghost use Rattle.flume.specs.Polling.{answer_of};
+ghost use Rattle.flume.specs.SendPolls.{HasPolledSend};
 
 use crate::polled::owned_or_ref::OwnedOrRef;
 use crate::sender::Sender;
@@ -114,6 +117,8 @@ impl<'a, T: Drop, R: Waits, A: Allocator + Copy> SendFut<'a, T, R, A> {
         ensures leaves { PollLeaves self.old.send messages.old.items messages.new.items result }
         ensures finished { (answer : Result (Unit {0}) (SendError T)) → result ≡ Some answer
             → self.new.send ≡ Finished }
+        ensures parked { result ≡ None → (ticket : ℕ) × (self.new.send ≡ Parked ticket) }
+        ensures sender { self.new.sender ≡ self.old.sender }
         ensures registered { result ≡ None
             → Covers cx.new (λ source. source ≡ self.new.task.source.id) }
         ensures kept { Keeps cx.old cx.new }
@@ -179,7 +184,14 @@ impl<T: Drop, R: Waits, A: Allocator + Copy> Future for SendFut<'_, T, R, A> {
         ensures registered { OnPending result
             (Covers cx.new (λ source. source ≡ self.new.task.source.id)) }
         ensures kept { Keeps cx.old cx.new }
+        ensures after_ready { self.old.send ≡ Finished → result ≡ Poll.Ready (Ok tt) }
+        ensures polled { self.old.send ≢ Finished
+            → HasPolledSend A self.old.send self.new.send (answer_of result) }
         ensures finished { IfReady result (λ _. self.new.send ≡ Finished) }
+        ensures parked { OnPending result ((ticket : ℕ) × (self.new.send ≡ Parked ticket)) }
+        ensures stays { (ticket : ℕ) → self.old.send ≡ Parked ticket
+            → OnPending result (self.new.send ≡ Parked ticket) }
+        ensures sender { self.new.sender ≡ self.old.sender }
         ensures disconnected { (message back : T) → self.old.send ≡ Unsent message
             → result ≡ Poll.Ready (Err (SendError.Disconnected back)) → back ≡ message }
         ensures no_memory { (message back : T) → self.old.send ≡ Unsent message

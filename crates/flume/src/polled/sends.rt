@@ -1,9 +1,9 @@
 //! A poll that sends a list of messages.
-ghost use Rattle.std.specs.Prelude.{◌≡◌, ◌↔◌, ◌∷◌, ◌<◌, IsTrue, Some, None, Result, Ok};
+ghost use Rattle.std.specs.Prelude.{◌≡◌, ◌↔◌, ◌∷◌, ◌<◌, ℕ, IsTrue, Some, None, Result, Ok};
 ghost use Rattle.std.specs.VecDeque.{deque_len};
 ghost use Rattle.futures.specs.Task.{Covers, Keeps};
 ghost use Rattle.flume_core.specs.declared.error.SendError.{SendError};
-ghost use Rattle.flume_calls.specs.declared.polled.send.PolledSend.TheVariants.{Finished};
+ghost use Rattle.flume_calls.specs.declared.polled.send.PolledSend.TheVariants.{Finished, Parked};
 ghost use Rattle.flume.specs.ManySendCalls.{LeavesList, PollLeaves};
 
 use crate::shared::{Shared, SignalBell, Waits};
@@ -35,15 +35,17 @@ impl<T: Drop, R: Waits, A: Allocator + Copy> Shared<T, R, A> {
         ensures leaves { PollLeaves call.old messages.items result.0.items result.1 }
         ensures finished { (answer : Result (Unit {0}) (SendError T)) → result.1 ≡ Some answer
             → call.new ≡ Finished }
+        ensures parked { result.1 ≡ None → (ticket : ℕ) × (call.new ≡ Parked ticket) }
         ensures registered { result.1 ≡ None → Covers cx.new (λ s. s ≡ task.now.source.id) }
         ensures kept { Keeps cx.old cx.new }
     {
         let mut guard = self.lock();
         let locked = &mut *guard;
-        match self.poll_locked(locked, call, task, cx) {
-            Some(Ok(())) => self.poll_list(locked, call, task, cx, messages),
-            answer => (messages, answer),
+        let answer = self.poll_locked(locked, call, task, cx);
+        if !is_sent(&answer) {
+            return (messages, answer);
         }
+        self.poll_list(locked, call, task, cx, messages)
     }
 
     // Sends the messages into a channel whose lock was taken, by a send that has ended.
@@ -59,6 +61,7 @@ impl<T: Drop, R: Waits, A: Allocator + Copy> Shared<T, R, A> {
         ensures leaves { LeavesList messages.items result.0.items result.1 }
         ensures finished { (answer : Result (Unit {0}) (SendError T)) → result.1 ≡ Some answer
             → call.new ≡ Finished }
+        ensures parked { result.1 ≡ None → (ticket : ℕ) × (call.new ≡ Parked ticket) }
         ensures registered { result.1 ≡ None → Covers cx.new (λ s. s ≡ task.now.source.id) }
         ensures kept { Keeps cx.old cx.new }
     {

@@ -1,10 +1,13 @@
 //! A sender as a sink.
-ghost use Rattle.std.specs.Prelude.{◌≡◌, ◌==◌, ◌∷◌, [], ⊤, List, Ok, OnOk, Err};
+ghost use Rattle.std.specs.Prelude.{◌≡◌, ◌==◌, ℕ, [], ⊤, List, Ok, OnOk};
 ghost use Rattle.futures.specs.Task.{Covers, Keeps};
 ghost use Rattle.futures.specs.Poll.{IfReady, OnPending};
+ghost use Rattle.futures.specs.Sent.{UnlessFailed};
+ghost use Rattle.flume_calls.specs.declared.polled.send.PolledSend.TheVariants.{Finished, Parked};
 ghost use Rattle.flume.specs.Ends.{end_of};
-ghost use Rattle.flume.specs.ManySendCalls.{IsEndOf};
-ghost use Rattle.flume_calls.specs.declared.polled.send.PolledSend.TheVariants.{Finished};
+ghost use Rattle.flume.specs.ManySendCalls.{IsEndOf, PollLeaves};
+ghost use Rattle.flume.specs.Polling.{answer_of};
+ghost use Rattle.flume.specs.SendPolls.{IsPollOfSend};
 
 use crate::polled::owned_or_ref::OwnedOrRef;
 use crate::polled::send::SendFut;
@@ -99,15 +102,11 @@ impl<'a, T: Drop, R: Waits, A: Allocator + Copy> SendSink<'a, T, R, A> {
     ) -> Poll<Result<(), SendError<T>>>
         ensures all { result ≡ Poll.Ready (Ok tt) → messages.new.items ≡ [] }
         ensures left { IsEndOf messages.old.items messages.new.items }
-        ensures waits { self.old.kept.send ≡ Finished → OnPending result ((blocked : T)
-            × IsEndOf messages.old.items (blocked ∷ messages.new.items)) }
-        ensures disconnected { (back : T) → self.old.kept.send ≡ Finished
-            → result ≡ Poll.Ready (Err (SendError.Disconnected back))
-            → IsEndOf messages.old.items (back ∷ messages.new.items) }
-        ensures no_memory { (back : T) → self.old.kept.send ≡ Finished
-            → result ≡ Poll.Ready (Err (SendError.NoMemory back))
-            → IsEndOf messages.old.items (back ∷ messages.new.items) }
+        ensures leaves { PollLeaves self.old.kept.send messages.old.items messages.new.items
+            (answer_of result) }
         ensures finished { IfReady result (λ _. self.new.kept.send ≡ Finished) }
+        ensures parked { OnPending result ((ticket : ℕ) × (self.new.kept.send ≡ Parked ticket)) }
+        ensures sender { self.new.kept.sender ≡ self.old.kept.sender }
         ensures registered { OnPending result
             (Covers cx.new (λ source. source ≡ self.new.kept.task.source.id)) }
         ensures kept { Keeps cx.old cx.new }
@@ -174,7 +173,17 @@ impl<T: Drop, R: Waits, A: Allocator + Copy> Sink<T> for SendSink<'_, T, R, A> {
     // It waits for what its own signal is fired by: room for its message, or the closing.
     ghost needs = { λ sink source. source ≡ sink.kept.task.source.id };
 
-    fn poll_ready(&mut self, cx: &mut Context<'_>) -> Poll<Result<(), SendError<T>>> {
+    fn poll_ready(&mut self, cx: &mut Context<'_>) -> Poll<Result<(), SendError<T>>>
+        ensures ready { IfReady result (λ answer. OnOk answer (⊤ × ⊤)) }
+        ensures again { OnPending result ⊤ }
+        ensures same { T → ⊤ → ⊤ }
+        ensures history { UnlessFailed result (List T → ⊤ → ⊤) }
+        ensures registered { OnPending result
+            (Covers cx.new (λ source. source ≡ self.new.kept.task.source.id)) }
+        ensures kept { Keeps cx.old cx.new }
+        ensures sends { IsPollOfSend A self.old.kept.send self.new.kept.send result }
+        ensures sender { self.new.kept.sender ≡ self.old.kept.sender }
+    {
         self.kept.poll(cx)
     }
 
@@ -183,17 +192,38 @@ impl<T: Drop, R: Waits, A: Allocator + Copy> Sink<T> for SendSink<'_, T, R, A> {
         ensures same { T → ⊤ → ⊤ }
         ensures history { OnOk result ((items : List T) → ⊤ → ⊤) }
         ensures keeps { self.new.kept.send ≡ PolledSend.Unsent message }
+        ensures sender { self.new.kept.sender ≡ self.old.kept.sender }
         ensures ok { result ≡ Ok tt }
     {
         self.kept.restart(message);
         Ok(())
     }
 
-    fn poll_flush(&mut self, cx: &mut Context<'_>) -> Poll<Result<(), SendError<T>>> {
+    fn poll_flush(&mut self, cx: &mut Context<'_>) -> Poll<Result<(), SendError<T>>>
+        ensures goes { IfReady result (λ answer. OnOk answer ⊤) }
+        ensures flushed { IfReady result (λ answer. OnOk answer (self.new.kept.send ≡ Finished)) }
+        ensures again { OnPending result ⊤ }
+        ensures same { T → ⊤ → ⊤ }
+        ensures history { UnlessFailed result (List T → ⊤ → ⊤) }
+        ensures registered { OnPending result
+            (Covers cx.new (λ source. source ≡ self.new.kept.task.source.id)) }
+        ensures kept { Keeps cx.old cx.new }
+        ensures sends { IsPollOfSend A self.old.kept.send self.new.kept.send result }
+        ensures sender { self.new.kept.sender ≡ self.old.kept.sender }
+    {
         self.kept.poll(cx)
     }
 
-    fn poll_close(&mut self, cx: &mut Context<'_>) -> Poll<Result<(), SendError<T>>> {
+    fn poll_close(&mut self, cx: &mut Context<'_>) -> Poll<Result<(), SendError<T>>>
+        ensures closed { IfReady result (λ answer. OnOk answer (self.new.kept.send ≡ Finished)) }
+        ensures again { OnPending result ⊤ }
+        ensures history { UnlessFailed result (List T → ⊤ → ⊤) }
+        ensures registered { OnPending result
+            (Covers cx.new (λ source. source ≡ self.new.kept.task.source.id)) }
+        ensures kept { Keeps cx.old cx.new }
+        ensures sends { IsPollOfSend A self.old.kept.send self.new.kept.send result }
+        ensures sender { self.new.kept.sender ≡ self.old.kept.sender }
+    {
         self.kept.poll(cx)
     }
 }

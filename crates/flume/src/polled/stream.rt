@@ -1,12 +1,16 @@
 //! The messages of a receiver as a stream.
-ghost use Rattle.std.specs.Prelude.{◌≡◌, ◌==◌, ◌↔◌, ⊤, true, false, Ok, Some, None};
-ghost use Rattle.std.specs.Prelude.{IsErr, IfOk, OnErr, IfSome, OnSome, Err, ◌⊎◌};
-ghost use Rattle.flume.specs.Iterators.{is_refused};
+ghost use Rattle.std.specs.Prelude.{◌≡◌, ◌==◌, ◌↔◌, ◌⊎◌, ◌+◌, ◌<◌, ⊤, true, false, Ok, Err};
+ghost use Rattle.std.specs.Prelude.{Some, None, IsErr, IfOk, OnErr, IfSome, OnSome};
+ghost use Rattle.std.specs.Prelude.{vec_len, vec_capacity};
 ghost use Rattle.futures.specs.Task.{Covers, Keeps};
 ghost use Rattle.futures.specs.Poll.{IfReady, OnPending};
 ghost use Rattle.futures.specs.Runs.{After, Within};
+ghost use Rattle.flume_model.specs.declared.step.Kind.TheVariants.{Stream};
 ghost use Rattle.flume.specs.Ends.{end_of};
 ghost use Rattle.flume.specs.ManyCalls.{Came};
+ghost use Rattle.flume.specs.Polling.{answer_of};
+ghost use Rattle.flume.specs.ReceivePolls.{answer_of_item, LeavesCall};
+ghost use Rattle.flume.specs.ReceivePolls.{HasPolledReceive, HasPolledMany};
 
 use crate::polled::owned_or_ref::OwnedOrRef;
 use crate::polled::receive::RecvFut;
@@ -41,6 +45,7 @@ impl<T: Drop, R: Waits, A: Allocator + Copy> Receiver<T, R, A> {
     /// ```
     pub fn stream(&self) -> RecvStream<'_, T, R, A>
         ensures channel { end_of result.next.receiver ≡ self.now }
+        ensures call { result.next.call ≡ record { kind = Kind.Stream; call = None } }
         ensures no_fault { result.fault ≡ false }
     {
         RecvStream::new(OwnedOrRef::Ref(self))
@@ -57,6 +62,7 @@ impl<T: Drop, R: Waits, A: Allocator + Copy> Receiver<T, R, A> {
     /// ```
     pub fn into_stream<'a>(self) -> RecvStream<'a, T, R, A>
         ensures channel { end_of result.next.receiver ≡ self }
+        ensures call { result.next.call ≡ record { kind = Kind.Stream; call = None } }
         ensures no_fault { result.fault ≡ false }
     {
         RecvStream::new(OwnedOrRef::Owned(self))
@@ -67,8 +73,8 @@ impl<'a, T: Drop, R: Waits, A: Allocator + Copy> RecvStream<'a, T, R, A> {
     /// A stream of this receiver's messages, which hasn't been polled. Takes no memory.
     pub(crate) fn new(receiver: OwnedOrRef<'a, Receiver<T, R, A>>) -> Self
         ensures receiver { result.next.receiver ≡ receiver.entry }
+        ensures call { result.next.call ≡ record { kind = Kind.Stream; call = None } }
         ensures no_fault { result.fault ≡ false }
-        ensures not_parked { result.next.call.call ≡ None }
     {
         RecvStream {
             next: RecvFut::new(receiver, Kind::Stream),
@@ -76,8 +82,8 @@ impl<'a, T: Drop, R: Waits, A: Allocator + Copy> RecvStream<'a, T, R, A> {
         }
     }
 
-    /// Whether the last poll ended the stream because memory ran out, and not since all senders had
-    /// been dropped. The stream can be polled on after it.
+    /// Whether the last poll, `poll_next` or `poll_recv_many`, gave nothing because memory ran out.
+    /// The stream can be polled on after it.
     pub fn fault(&self) -> bool
         ensures fault { result ≡ self.now.fault }
     {
@@ -94,12 +100,12 @@ impl<'a, T: Drop, R: Waits, A: Allocator + Copy> RecvStream<'a, T, R, A> {
 
     /// Polls for the messages that are there, at most `most`, and puts them behind what `into`
     /// holds, in order. Ready with how many. Pending: none is there, and the task is woken when one
-    /// may be. `most` of 0 is ready with 0.
+    /// may be. With a `most` of 0 it is ready with 0, and looks for none.
     ///
     /// `Disconnected`: none is there, and all senders have been dropped. `NoMemory`: there was no
     /// room for one message in `into`, or no memory to wait. Neither takes a message, and both
     /// leave `into` as it was. Where there is no memory for more room it takes as many as there is
-    /// room for, one at least. `fault` says of it what it says of `poll_next`.
+    /// room for, one at least. `fault` is true after it exactly if it answered `NoMemory`.
     ///
     /// ```
     /// let (tx, rx) = flume::on(rt).unbounded()?;
@@ -126,9 +132,18 @@ impl<'a, T: Drop, R: Waits, A: Allocator + Copy> RecvStream<'a, T, R, A> {
         ensures registered { OnPending result
             (Covers cx.new (λ source. source ≡ self.new.next.task.source.id)) }
         ensures kept { Keeps cx.old cx.new }
-        ensures fault { IfReady result (λ answer. self.new.fault ≡ true
-            → (answer ≡ Err RecvError.NoMemory) ⊎ (most ≡ 0)) }
+        ensures none { most ≡ 0
+            → (result ≡ Poll.Ready (Ok 0)) × (self.new.next ≡ self.old.next) }
+        ensures polled { 0 < most → ((result ≡ Poll.Ready (Err RecvError.NoMemory))
+            × (vec_capacity into.old < vec_len into.old + 1))
+            ⊎ HasPolledMany A most into.old.items self.old.next.call into.new.items
+            self.new.next.call (answer_of result) }
+        ensures call { 0 < most
+            → LeavesCall self.old.next.call self.new.next.call (answer_of result) }
+        ensures receiver { self.new.next.receiver ≡ self.old.next.receiver }
+        ensures fault { (self.new.fault ≡ true) ↔ (result ≡ Poll.Ready (Err RecvError.NoMemory)) }
     {
+        self.fault = false;
         if most == 0 {
             return Poll::Ready(Ok(0));
         }
@@ -149,8 +164,7 @@ impl<'a, T: Drop, R: Waits, A: Allocator + Copy> RecvStream<'a, T, R, A> {
     // The item that a receive's answer is, with a note of why there is none.
     #[inline(always)]
     fn item(&mut self, answer: Result<T, RecvError>) -> Option<T>
-        ensures message { (message : T) → (answer ≡ Ok message) ↔ (result ≡ Some message) }
-        ensures fault { self.new.fault ≡ is_refused answer }
+        ensures answer { answer_of_item (Poll.Ready result) self.new.fault ≡ Some answer }
         ensures ends { self.new.fault ≡ true → result ≡ None }
         ensures next { self.new.next ≡ self.old.next }
     {
@@ -226,21 +240,28 @@ impl<T: Drop, R: Waits, A: Allocator + Copy> Stream for RecvStream<'_, T, R, A> 
         ensures registered { OnPending result
             (Covers cx.new (λ source. source ≡ self.new.next.task.source.id)) }
         ensures kept { Keeps cx.old cx.new }
-        ensures fault { IfReady result (λ item. self.new.fault ≡ true → item ≡ None) }
-        ensures same_fault { OnPending result (self.new.fault ≡ self.old.fault) }
+        ensures polled { HasPolledReceive A self.old.next.call self.new.next.call
+            (answer_of_item result self.new.fault) }
+        ensures call { LeavesCall self.old.next.call self.new.next.call
+            (answer_of_item result self.new.fault) }
+        ensures receiver { self.new.next.receiver ≡ self.old.next.receiver }
+        ensures fault { self.new.fault ≡ true → result ≡ Poll.Ready None }
     {
         match self.next.poll(cx) {
             Poll::Ready(answer) => Poll::Ready(self.item(answer)),
-            Poll::Pending => Poll::Pending,
+            Poll::Pending => {
+                self.fault = false;
+                Poll::Pending
+            }
         }
     }
 }
 
 impl<T: Drop, R: Waits, A: Allocator + Copy> Clone for RecvStream<'_, T, R, A> {
-    // A clone waits under no ticket yet.
+    // A clone hasn't been polled.
     ghost is_clone = { λ stream copy.
         (end_of copy.next.receiver ≡ end_of stream.next.receiver)
-        × (copy.next.call.call ≡ None) × (copy.fault ≡ false) };
+        × (copy.next.call ≡ record { kind = Stream; call = None }) × (copy.fault ≡ false) };
 
     fn clone(&self) -> Result<Self, AllocError> {
         Ok(RecvStream::new(self.next.held().clone()?))

@@ -9,28 +9,19 @@ use std::alloc::Allocator;
 use std::cmp::max;
 use std::sync::Arc;
 
-/// One thing that a selector waits for, with the mapper of its result to a value: `SendArm` and
-/// `RecvArm`. Its channel takes memory from an `A`.
-pub trait Arm<V, A: Allocator + Copy> {
+/// What a selection does to one of its arms, `SendArm` or `RecvArm`: its turns, and its withdrawal.
+/// Its channel takes memory from an `A`.
+pub trait ArmTurns<A: Allocator + Copy> {
     /// The runtime of its channel.
     type Runtime: Waits;
 
-    /// Its mapper.
+    /// The mapper that it has, of its result alone; `()`, where it is one of a list.
     type Mapper;
 
     ghost mapper: { Self → Self.Mapper };
 
-    // The mapper may be called on each result of the arm.
-    ghost can_map: { Self.Mapper → Type 0 };
-
-    // The value is what the mapper answers to a result of the arm.
-    ghost maps: { Self.Mapper → V → Type 0 };
-
     // The arm has completed, and holds its result.
     ghost has_completed: { Self → Type 0 };
-
-    // The value is what the mapper answers to the result that the arm holds.
-    ghost answers: { Self → V → Type 0 };
 
     // Whether the arm may park, the arm before a turn, what that leads to, and the arm after.
     ghost turns: { Bool → Self → ArmNext → Self → Type 0 };
@@ -61,26 +52,58 @@ pub trait Arm<V, A: Allocator + Copy> {
         ensures does { withdraws self.old self.new }
         ensures completed { has_completed self.old → has_completed self.new }
         ensures mapper { mapper self.new ≡ mapper self.old };
+}
+
+/// One thing that a selector waits for, with the mapper of its result to a value.
+pub trait Arm<V, A: Allocator + Copy>: ArmTurns<A> {
+    // The mapper may be called on each result of the arm.
+    ghost can_map: { Self.Mapper → Type 0 };
+
+    // The value is what the mapper answers to a result of the arm.
+    ghost maps: { Self.Mapper → V → Type 0 };
+
+    // The value is what the mapper answers to the result that the arm holds.
+    ghost answers: { Self → V → Type 0 };
 
     /// What its mapper answers to its result. `None`: it hasn't completed, and the mapper wasn't
     /// called.
     fn value(self) -> Option<V>
-        requires can_map { can_map (mapper self) }
-        ensures completed { has_completed self ↔ IsSome result }
+        requires can_map { can_map (Self.mapper self) }
+        ensures completed { Self.has_completed self ↔ IsSome result }
         ensures answers { IfSome result (answers self) }
-        ensures maps { IfSome result (maps (mapper self)) };
+        ensures maps { IfSome result (maps (Self.mapper self)) };
+}
+
+/// An arm out of a list. Its mapper is one for all of the list, and gets the arm's place there too.
+pub trait ListedArm<V, F, A: Allocator + Copy>: ArmTurns<A> {
+    // The mapper may be called on each place and each result of an arm.
+    ghost can_map: { F → Type 0 };
+
+    // The value is what the mapper answers at this place to a result of the arm.
+    ghost maps: { F → ℕ → V → Type 0 };
+
+    // The value is what the mapper answers at this place to the result that the arm holds.
+    ghost answers: { Self → F → ℕ → V → Type 0 };
+
+    /// What the mapper answers to its place and its result. `None`: it hasn't completed, and the
+    /// mapper wasn't called.
+    fn listed_value(self, place: usize, mapper: F) -> Option<V>
+        requires can_map { can_map mapper }
+        ensures completed { Self.has_completed self ↔ IsSome result }
+        ensures answers { IfSome result (answers self mapper place) }
+        ensures maps { IfSome result (maps mapper place) };
 }
 
 /// The arms of a selector, numbered from 0 in the order in which they were added: none, or those
 /// before and one more.
 pub trait Arms<V, A: Allocator + Copy> {
-    /// Their mappers.
+    /// Their mappers, and how many arms each list has: what nothing changes.
     type Mappers;
 
     ghost mappers: { Self → Self.Mappers };
 
-    // How many arms there are.
-    ghost count: { ℕ };
+    // How many arms there are, by what their mappers say.
+    ghost count: { Self.Mappers → ℕ };
 
     // Each mapper may be called on each result of its arm.
     ghost can_map: { Self.Mappers → Type 0 };
@@ -100,7 +123,7 @@ pub trait Arms<V, A: Allocator + Copy> {
 
     /// How many there are.
     fn count(&self) -> usize
-        ensures count { result ≡ count };
+        ensures count { result ≡ count (mappers self.now) };
 
     /// The greatest of their numbers of checks.
     fn checks(&self) -> u32;
@@ -138,8 +161,18 @@ pub trait AtLeastOneArm<V, A: Allocator + Copy>: Arms<V, A> {
     /// Where the last arm's channel takes memory from.
     fn alloc(&self) -> A;
 
-    // There is an arm.
-    ghost has_one: { 0 < Self.count };
+    /// How many arms there are.
+    fn total(&self) -> usize
+        ensures count { result ≡ Self.count (Self.mappers self.now) }
+        ensures has_one { 0 < result };
+}
+
+/// Arms whose channels have a runtime value of this type. Arms of a list can be added to these.
+pub trait ArmsOn<R: Waits, V, A: Allocator + Copy>: Arms<V, A> {
+    /// The runtime of the last arm's channel, and where that takes memory from. `None`: there is no
+    /// arm.
+    fn last(&self) -> Option<(R, A)>
+        ensures last { IsSome result ↔ (0 < Self.count (Self.mappers self.now)) };
 }
 
 impl<V, A: Allocator + Copy> Arms<V, A> for () {
@@ -150,7 +183,7 @@ impl<V, A: Allocator + Copy> Arms<V, A> for () {
 
     ghost mappers = { λ _. tt };
 
-    ghost count = { 0 };
+    ghost count = { λ _. 0 };
 
     ghost can_map = { λ _. Unit {0} };
 
@@ -188,24 +221,25 @@ impl<V, A: Allocator + Copy, L: Arms<V, A> + Drop, C: Arm<V, A> + Drop> Arms<V, 
 
     ghost mappers = { λ arms. (L.mappers arms.0, C.mapper arms.1) };
 
-    ghost count = { count_one_more L.count };
+    ghost count = { λ mappers. count_one_more (L.count mappers.0) };
 
     ghost can_map = { λ mappers. L.can_map mappers.0 × C.can_map mappers.1 };
 
     ghost maps = { λ mappers arm value.
-        ByNumber L.count (λ n. L.maps mappers.0 n value) (C.maps mappers.1 value) arm };
+        ByNumber (L.count mappers.0) (λ n. L.maps mappers.0 n value) (C.maps mappers.1 value) arm };
 
     ghost has_completed = { λ arms.
-        ByNumber L.count (L.has_completed arms.0) (C.has_completed arms.1) };
+        ByNumber (L.count (L.mappers arms.0)) (L.has_completed arms.0)
+        (C.has_completed arms.1) };
 
     // The other arms are as they were.
     ghost turns = { λ parks old arm next new.
-        ByNumber L.count (λ n. L.turns parks old.0 n next new.0 × (new.1 ≡ old.1))
-        (C.turns parks old.1 next new.1 × (new.0 ≡ old.0)) arm };
+        ByNumber (L.count (L.mappers old.0))
+        (λ n. L.turns parks old.0 n next new.0 × (new.1 ≡ old.1)) (C.turns parks old.1 next new.1 × (new.0 ≡ old.0)) arm };
 
     ghost withdraws = { λ old arm new.
-        ByNumber L.count (λ n. L.withdraws old.0 n new.0 × (new.1 ≡ old.1))
-        (C.withdraws old.1 new.1 × (new.0 ≡ old.0)) arm };
+        ByNumber (L.count (L.mappers old.0))
+        (λ n. L.withdraws old.0 n new.0 × (new.1 ≡ old.1)) (C.withdraws old.1 new.1 × (new.0 ≡ old.0)) arm };
 
     fn count(&self) -> usize {
         self.0.count().saturating_add(1)
@@ -243,12 +277,7 @@ impl<V, A: Allocator + Copy, L: Arms<V, A> + Drop, C: Arm<V, A> + Drop> Arms<V, 
 
 impl<V, A: Allocator + Copy, L: Arms<V, A> + Drop, C: Arm<V, A> + Drop> AtLeastOneArm<V, A>
     for (L, C) {
-    ghost use Rattle.std.proofs.Common.{arith};
-    ghost use Rattle.flume.specs.Selecting.{count_one_more};
-
     type Runtime = C::Runtime;
-
-    ghost has_one = { Prim.omega arith };
 
     fn runtime(&self) -> C::Runtime {
         self.1.runtime()
@@ -256,5 +285,25 @@ impl<V, A: Allocator + Copy, L: Arms<V, A> + Drop, C: Arm<V, A> + Drop> AtLeastO
 
     fn alloc(&self) -> A {
         self.1.alloc()
+    }
+
+    fn total(&self) -> usize {
+        self.0.count().saturating_add(1)
+    }
+}
+
+impl<R: Waits, V, A: Allocator + Copy> ArmsOn<R, V, A> for () {
+    fn last(&self) -> Option<(R, A)> {
+        None
+    }
+}
+
+impl<R: Waits, V, A: Allocator + Copy, L, C> ArmsOn<R, V, A> for (L, C)
+where
+    L: Arms<V, A> + Drop,
+    C: Arm<V, A> + ArmTurns<A, Runtime = R> + Drop,
+{
+    fn last(&self) -> Option<(R, A)> {
+        Some((self.1.runtime(), self.1.alloc()))
     }
 }

@@ -1,14 +1,15 @@
 //! A receive as an arm of a selector.
 ghost use Rattle.std.specs.Prelude.{◌≡◌, IsSome};
 ghost use Rattle.flume_calls.specs.declared.gates.select.ArmNext.{ArmNext};
+ghost use Rattle.flume.specs.declared.select.receive.ReceiveState.{ReceiveState};
 ghost use Rattle.flume.specs.ArmTurns.{EndsReceive, receive_result};
 ghost use Rattle.flume.specs.ArmTurns.{IsArmReceive, TakesReceive};
 ghost use Rattle.flume.specs.ArmSteps.{ReceiveTurn, ReceiveEnd, StartsReceive, PollsReceive};
 ghost use Rattle.flume.specs.ArmSteps.{TriesReceive, Leaves};
-ghost use Rattle.flume.specs.Selecting.{CanMap, Maps, MapsResult};
+ghost use Rattle.flume.specs.Selecting.{CanMap, Maps, MapsResult, CanMapEach, MapsEach};
 
 use crate::receiver::Receiver;
-use crate::select::arms::Arm;
+use crate::select::arms::{Arm, ArmTurns, ListedArm};
 use crate::shared::Waits;
 use crate::signal::{ArmSignal, Parker, Signal};
 use flume_calls::calls::{AgainReceive, FirstReceive, ParkReceive, RecvCall, RecvNext};
@@ -44,6 +45,8 @@ pub struct RecvArm<'a, T, F, R: Waits, A: Allocator + Copy = Global> {
 impl<'a, T: Drop, F: Drop, R: Waits, A: Allocator + Copy> RecvArm<'a, T, F, R, A> {
     /// An arm that isn't started. Takes no memory.
     pub(crate) fn new(receiver: &'a Receiver<T, R, A>, mapper: F) -> Self
+        ensures channel { result.receiver.now ≡ receiver.now }
+        ensures unstarted { result.state ≡ ReceiveState.Unstarted }
         ensures mapper { result.mapper ≡ mapper }
     {
         RecvArm {
@@ -121,23 +124,14 @@ fn after<T: Drop>(next: RecvNext<T>) -> (ReceiveState<T>, ArmNext)
     }
 }
 
-impl<'a, V, T: Drop, F, R: Waits, A: Allocator + Copy> Arm<V, A> for RecvArm<'a, T, F, R, A>
-where
-    F: FnOnce(Result<T, RecvError>) -> V + Drop,
-{
+impl<'a, T: Drop, F: Drop, R: Waits, A: Allocator + Copy> ArmTurns<A> for RecvArm<'a, T, F, R, A> {
     type Runtime = R;
 
     type Mapper = F;
 
     ghost mapper = { λ arm. arm.mapper };
 
-    ghost can_map = { CanMap F.pre EndsReceive };
-
-    ghost maps = { Maps F.post EndsReceive };
-
     ghost has_completed = { λ arm. IsSome (receive_result arm.state) };
-
-    ghost answers = { λ arm. MapsResult F.post arm.mapper (receive_result arm.state) };
 
     ghost turns = { λ parks old next new.
         ReceiveTurn A parks old.state next new.state × (new.mapper ≡ old.mapper) };
@@ -177,12 +171,43 @@ where
             other => self.state = other,
         }
     }
+}
+
+impl<'a, V, T: Drop, F, R: Waits, A: Allocator + Copy> Arm<V, A> for RecvArm<'a, T, F, R, A>
+where
+    F: FnOnce(Result<T, RecvError>) -> V + Drop,
+{
+    ghost can_map = { CanMap F.pre EndsReceive };
+
+    ghost maps = { Maps F.post EndsReceive };
+
+    ghost answers = { λ arm. MapsResult F.post arm.mapper (receive_result arm.state) };
 
     fn value(self) -> Option<V> {
         let RecvArm { state, mapper, .. } = self;
         match state {
             ReceiveState::Completed(Some(message)) => Some(mapper(Ok(message))),
             ReceiveState::Completed(None) => Some(mapper(Err(RecvError::Disconnected))),
+            _ => None,
+        }
+    }
+}
+
+impl<V, T: Drop, F, R: Waits, A: Allocator + Copy> ListedArm<V, F, A> for RecvArm<'_, T, (), R, A>
+where
+    F: FnOnce(usize, Result<T, RecvError>) -> V + Drop,
+{
+    ghost can_map = { CanMapEach F.pre EndsReceive };
+
+    ghost maps = { MapsEach F.post EndsReceive };
+
+    ghost answers = { λ arm mapper place. MapsResult (λ f. F.post f place) mapper
+        (receive_result arm.state) };
+
+    fn listed_value(self, place: usize, mapper: F) -> Option<V> {
+        match self.state {
+            ReceiveState::Completed(Some(message)) => Some(mapper(place, Ok(message))),
+            ReceiveState::Completed(None) => Some(mapper(place, Err(RecvError::Disconnected))),
             _ => None,
         }
     }

@@ -1,13 +1,14 @@
 //! A send as an arm of a selector.
 ghost use Rattle.std.specs.Prelude.{◌≡◌, IsSome};
 ghost use Rattle.flume_calls.specs.declared.gates.select.ArmNext.{ArmNext};
+ghost use Rattle.flume.specs.declared.select.send.SendState.{SendState};
 ghost use Rattle.flume.specs.ArmTurns.{EndsSend, send_result};
 ghost use Rattle.flume.specs.ArmTurns.{IsArmSend, TakesSend};
 ghost use Rattle.flume.specs.ArmSteps.{SendTurn, SendEnd, StartsSend, PollsSend, TakesBack};
 ghost use Rattle.flume.specs.ArmSteps.{TriesSend};
-ghost use Rattle.flume.specs.Selecting.{CanMap, Maps, MapsResult};
+ghost use Rattle.flume.specs.Selecting.{CanMap, Maps, MapsResult, CanMapEach, MapsEach};
 
-use crate::select::arms::Arm;
+use crate::select::arms::{Arm, ArmTurns, ListedArm};
 use crate::sender::Sender;
 use crate::shared::Waits;
 use crate::signal::{ArmSignal, Parker, Signal};
@@ -43,6 +44,8 @@ pub struct SendArm<'a, T, F, R: Waits, A: Allocator + Copy = Global> {
 impl<'a, T: Drop, F: Drop, R: Waits, A: Allocator + Copy> SendArm<'a, T, F, R, A> {
     /// An arm that isn't started. Takes no memory.
     pub(crate) fn new(sender: &'a Sender<T, R, A>, message: T, mapper: F) -> Self
+        ensures channel { result.sender.now ≡ sender.now }
+        ensures unstarted { result.state ≡ SendState.Unstarted message }
         ensures mapper { result.mapper ≡ mapper }
     {
         SendArm {
@@ -120,23 +123,14 @@ fn after<T: Drop>(next: SendNext<T>) -> (SendState<T>, ArmNext)
     }
 }
 
-impl<'a, V, T: Drop, F, R: Waits, A: Allocator + Copy> Arm<V, A> for SendArm<'a, T, F, R, A>
-where
-    F: FnOnce(Result<(), SendError<T>>) -> V + Drop,
-{
+impl<'a, T: Drop, F: Drop, R: Waits, A: Allocator + Copy> ArmTurns<A> for SendArm<'a, T, F, R, A> {
     type Runtime = R;
 
     type Mapper = F;
 
     ghost mapper = { λ arm. arm.mapper };
 
-    ghost can_map = { CanMap F.pre EndsSend };
-
-    ghost maps = { Maps F.post EndsSend };
-
     ghost has_completed = { λ arm. IsSome (send_result arm.state) };
-
-    ghost answers = { λ arm. MapsResult F.post arm.mapper (send_result arm.state) };
 
     ghost turns = { λ parks old next new.
         SendTurn A parks old.state next new.state × (new.mapper ≡ old.mapper) };
@@ -176,12 +170,45 @@ where
             other => self.state = other,
         }
     }
+}
+
+impl<'a, V, T: Drop, F, R: Waits, A: Allocator + Copy> Arm<V, A> for SendArm<'a, T, F, R, A>
+where
+    F: FnOnce(Result<(), SendError<T>>) -> V + Drop,
+{
+    ghost can_map = { CanMap F.pre EndsSend };
+
+    ghost maps = { Maps F.post EndsSend };
+
+    ghost answers = { λ arm. MapsResult F.post arm.mapper (send_result arm.state) };
 
     fn value(self) -> Option<V> {
         let SendArm { state, mapper, .. } = self;
         match state {
             SendState::Completed(Ok(())) => Some(mapper(Ok(()))),
             SendState::Completed(Err(back)) => Some(mapper(Err(SendError::Disconnected(back)))),
+            _ => None,
+        }
+    }
+}
+
+impl<V, T: Drop, F, R: Waits, A: Allocator + Copy> ListedArm<V, F, A> for SendArm<'_, T, (), R, A>
+where
+    F: FnOnce(usize, Result<(), SendError<T>>) -> V + Drop,
+{
+    ghost can_map = { CanMapEach F.pre EndsSend };
+
+    ghost maps = { MapsEach F.post EndsSend };
+
+    ghost answers = { λ arm mapper place. MapsResult (λ f. F.post f place) mapper
+        (send_result arm.state) };
+
+    fn listed_value(self, place: usize, mapper: F) -> Option<V> {
+        match self.state {
+            SendState::Completed(Ok(())) => Some(mapper(place, Ok(()))),
+            SendState::Completed(Err(back)) => {
+                Some(mapper(place, Err(SendError::Disconnected(back))))
+            }
             _ => None,
         }
     }

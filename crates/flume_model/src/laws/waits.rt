@@ -2,11 +2,12 @@
 ghost use Rattle.std.specs.Prelude.{◌≡◌, ℕ, List, Option};
 ghost use Rattle.flume_model.specs.declared.entry.Entry.{Entry};
 ghost use Rattle.flume_model.specs.Log.{Log, Opening};
-ghost use Rattle.flume_model.specs.Entries.{round, round_fills};
+ghost use Rattle.flume_model.specs.Entries.{round, round_fills, woken_count};
+ghost use Rattle.flume_model.specs.Parked.{entries};
 ghost use Rattle.flume_model.specs.Replies.{IsRun};
 ghost use Rattle.flume_model.specs.WaitLaws.{Covered, Bounded, WaitsWhileOpen};
-ghost use Rattle.flume_model.specs.WaitLaws.{WokenBlockWhileClosed, EntriesApart, SidesApart};
-ghost use Rattle.flume_model.specs.WaitLaws.{ToldFilled, NothingOnceOver};
+ghost use Rattle.flume_model.specs.WaitLaws.{NobodyStuck, WokenBlockWhileClosed, EntriesApart};
+ghost use Rattle.flume_model.specs.WaitLaws.{SidesApart, ToldFilled, NothingOnceOver};
 ghost use Rattle.flume_model.specs.WakeRule.{IsWakeRound};
 
 use std::alloc::Allocator;
@@ -38,6 +39,14 @@ pub fn queued_and_waiting_are_bounded<T, A: Allocator>()
 pub fn receivers_wait_only_while_open<T, A: Allocator>()
     ensures law { (opening : Opening) (log : Log T A)
         → IsRun opening log → WaitsWhileOpen opening log }
+{}
+
+/// Of each run, once every receiver that was woken has looked, nobody waits for a message or for
+/// room that is there: a receiver waits only in an open channel that has no message, and a sender
+/// is blocked only while the queue is at capacity and no receiver waits.
+pub fn nobody_is_stuck<T, A: Allocator>()
+    ensures law { (opening : Opening) (log : Log T A) → IsRun opening log
+        → woken_count (entries opening log) ≡ 0 → NobodyStuck opening log }
 {}
 
 /// Of each run, a receiver that blocks stands woken, with no message, only where the channel is

@@ -1,5 +1,5 @@
--- For this crate alone: how the parked receivers lie in their chain, first those that neither wait
--- nor are due, then those that are due, then those that wait.
+-- How the parked receivers lie in their chain, first those that neither wait nor are due, then those
+-- that are due, then those that wait. Of these the view of a channel has `entries_in`.
 use Rattle.std.specs.Prelude.{◌≡◌, ℕ, ◌≤◌, ◌==◌, Bool, true, false, ⊤, if◌then◌else◌}
 use Rattle.std.specs.Prelude.{List, [], ◌∷◌, ◌++◌, Option, Some, None, length}
 use Rattle.flume_chain.specs.Chained.{Placed, times, places, first_place}

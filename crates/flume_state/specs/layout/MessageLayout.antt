@@ -1,4 +1,5 @@
--- For this crate alone: how the messages of a channel lie in their chain.
+-- How the messages of a channel lie in their chain. Of these the view of a channel has `messages_of`
+-- and `space_of`.
 use Rattle.std.specs.Prelude.{◌≡◌, ◌+◌, ℕ, List, [], ◌∷◌, ◌++◌, Option, Some, None, length}
 use Rattle.flume_chain.specs.Chained.{Chained, Placed, first_place}
 use Rattle.flume_chain.specs.declared.labelled.Labelled.{Labelled}

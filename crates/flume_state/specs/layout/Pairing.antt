@@ -1,8 +1,9 @@
--- For this crate alone: each blocked message and its send, which name each other's places.
+-- Each blocked message and its send, which name each other's places. Of these the view of a channel
+-- has `under_tickets` and `live_sends`.
 use Rattle.std.specs.Prelude.{◌≡◌, ◌==◌, ℕ, Bool, false, ◌||◌, List, [], ◌∷◌, map}
 use Rattle.std.specs.Prelude.{Option, Some, None, if◌then◌else◌}
 use Rattle.std.specs.List.{All}
-use Rattle.std.specs.Option.{option_map}
+use Rattle.std.specs.Option.{option_map, option_map_or}
 use Rattle.flume_chain.specs.Chained.{Placed, found}
 use Rattle.flume_state.specs.declared.sends.PlacedSend.{PlacedSend}
 use Rattle.flume_state.specs.layout.Ticketed.{Ticketed}
@@ -30,11 +31,6 @@ at_message message l = record l { message = message }
 abbrev pub accepting : Bool → Link → Link
 accepting accepts l = record l { accepted = accepts || l.accepted }
 
--- the ticket in a link, or 0 where there is none
-abbrev pub ticket_or_zero : Option Link → ℕ
-ticket_or_zero None = 0
-ticket_or_zero (Some l) = l.ticket
-
 module _ {S : Type 0} where
   -- a send without the place of its message
   abbrev pub send_in : Placed (Ticketed (PlacedSend S)) → Element S
@@ -50,6 +46,10 @@ module _ {S : Type 0} where
   -- the live sends, by ticket
   abbrev pub live_sends : SendList S → SendMap S
   live_sends items = by_ticket (sends_in items)
+
+  -- the ticket of the send at a place, or 0 where none stands there
+  abbrev pub ticket_at : SendList S → ℕ → ℕ
+  ticket_at items k = option_map_or (λ send. send.label) (found items k) 0
 
   -- the link of a send
   abbrev pub link_of : Ticketed (PlacedSend S) → Link
@@ -71,10 +71,7 @@ owner_at (b ∷ blocked) k = if b.place == k then Some b.owner else owner_at blo
 module _ {T S : Type 0} where
   -- a blocked message under the ticket of its send
   abbrev pub under_ticket : SendList S → BlockedAt T → Blocked T
-  under_ticket sends b = record {
-    ticket = ticket_or_zero (link_at sends b.owner);
-    message = b.message;
-  }
+  under_ticket sends b = record { ticket = ticket_at sends b.owner; message = b.message }
 
   -- blocked messages, each under the ticket of its send
   abbrev pub under_tickets : SendList S → List (BlockedAt T) → List (Blocked T)

@@ -1,4 +1,5 @@
--- For this crate alone: how the live sends lie in their chain, those that aren't due first.
+-- How the live sends lie in their chain, those that aren't due first. Of these the view of a channel
+-- has `by_ticket`.
 use Rattle.std.specs.Prelude.{◌≡◌, ℕ, Bool, true, false, ◌||◌, List, [], ◌∷◌, ◌++◌}
 use Rattle.std.specs.Prelude.{Option, ⊤}
 use Rattle.std.specs.Ordering.{nat_cmp}

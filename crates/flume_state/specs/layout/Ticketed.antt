@@ -1,4 +1,5 @@
--- For this crate alone: the elements of a chain in order, each with a ticket.
+-- The elements of a chain in order, each with a ticket. Of these the view of a channel has
+-- `Ticketed`.
 use Rattle.std.specs.Prelude.{◌≡◌, ◌==◌, ℕ, ◌≤◌, if◌then◌else◌}
 use Rattle.std.specs.Prelude.{List, [], ◌∷◌, ◌++◌, Option, Some, None, map}
 use Rattle.std.specs.FinMap.{get}

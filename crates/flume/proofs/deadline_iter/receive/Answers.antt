@@ -1,10 +1,10 @@
--- A receive without a deadline is never late.
+-- A receive without a deadline is never late, and a receive answered all that isn't late.
 use Rattle.std.proofs.Common.{◌∙◌}
 use Rattle.flume.proofs.InTime.{receive_in_time}
 use Rattle.flume.proofs.deadline_iter.receive.Goals as goal
 
-pub returns : goal.returns
-returns g c = record {
-  late = λ late never.
-      receive_in_time c.recv_over.ensures.run (c.new-gate.ensures.deadline ∙ never) late;
-}
+pub returns-clause-late : goal.returns-clause-late
+returns-clause-late g c late never = receive_in_time c.recv_over.ensures.run (c.new-gate.ensures.deadline ∙ never) late
+
+pub returns-clause-made : goal.returns-clause-made
+returns-clause-made g c _ = (_, rw c.new-gate.ensures.deadline at c.recv_over.ensures.run)

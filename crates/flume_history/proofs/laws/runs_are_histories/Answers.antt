@@ -1,5 +1,5 @@
 -- Each reply equals itself.
-use Rattle.std.proofs.Common.{reverse, sym, subst}
+use Rattle.std.proofs.Common.{sym, subst}
 use Rattle.std.proofs.lemmas.List.{reverse-reverse}
 use Rattle.flume_history.specs.Equal.{Equals}
 use Rattle.flume_history.specs.Histories.{IsSaidOf}

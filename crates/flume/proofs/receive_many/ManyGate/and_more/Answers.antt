@@ -23,3 +23,21 @@ returns-clause-room g c waits =
     let none = none_given (length came.taken) came.first (subst IsntDone came.gives.next_is waits) in
     let same = came.none_given none ∙ c.replace-into.ensures.value in
     subst (λ list. vec_len list < vec_capacity list) (sym same) c.requires.room
+
+pub returns-clause-made : goal.returns-clause-made
+returns-clause-made g c =
+    let done = c.call_all-into.ensures.made in
+    let turn = done.turn in
+    record {
+      first = turn.first;
+      more = length turn.taken;
+      answered = record {
+        opening = done.opening;
+        log = done.log;
+        old = done.old;
+        new = turn.between;
+        represents = done.represents;
+        turn = turn.turn;
+      };
+      next_is = turn.gives.next_is;
+    }

@@ -1,5 +1,6 @@
 -- A turn of a parked call answers as one does.
 use Rattle.flume.proofs.ManyReceives.{asks_many}
+use Rattle.flume.proofs.ManySteps.{made_many}
 use Rattle.flume.proofs.receive_many.ManyGateRecvGateUsize.again.Goals as goal
 
 pub returns-clause-answers : goal.returns-clause-answers
@@ -7,5 +8,11 @@ returns-clause-answers g c = (asks_many c.args.call c.args.late _ c.and_more.ens
 
 pub returns-clause-does : goal.returns-clause-does
 returns-clause-does g c =
-    let asked = asks_many c.args.call c.args.late _ c.and_more.ensures.answers in
-    (c.and_more.ensures.deadline, c.and_more.ensures.most, asked.0, asked.1, c.and_more.ensures.grows)
+    let asked = asks_many c.args.call c.args.late _ c.and_more.ensures.answers in (
+      c.and_more.ensures.deadline,
+      c.and_more.ensures.most,
+      asked.0,
+      asked.1,
+      c.and_more.ensures.grows,
+      made_many c.and_more.ensures.made,
+    )

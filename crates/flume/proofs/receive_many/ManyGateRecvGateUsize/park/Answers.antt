@@ -1,5 +1,6 @@
 -- The turn that may park answers as one does.
 use Rattle.flume.proofs.ManyReceives.{parks_many}
+use Rattle.flume.proofs.ManySteps.{made_many}
 use Rattle.flume.proofs.receive_many.ManyGateRecvGateUsize.park.Goals as goal
 
 pub returns-clause-answers : goal.returns-clause-answers
@@ -11,4 +12,5 @@ returns-clause-does g c = (
   c.and_more.ensures.most,
   parks_many _ c.and_more.ensures.answers,
   c.and_more.ensures.grows,
+  made_many c.and_more.ensures.made,
 )

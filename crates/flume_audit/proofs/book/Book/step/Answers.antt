@@ -65,13 +65,19 @@ returns-clause-step g c =
     rw (← c.self.view_is, ← c.seat.view_is) (record {
       reply = c.step-reply.result;
       told = c.copied-told.result;
-      channel = record {
-        stands = c.step-reply.ensures.step;
-        dues = c.step-reply.ensures.dues (_, _, c.self.invariant.0);
-        comes = c.step-reply.ensures.comes;
-        unchanged = c.step-reply.ensures.unchanged;
-        space = c.step-reply.ensures.space;
-      };
+      channel =
+          let said = c.step-reply.ensures in
+          record {
+            stepped = record {
+              extends = said.step;
+              dues = said.dues;
+              comes = said.comes;
+              space = said.space;
+              refused = said.refused;
+              unchanged = said.unchanged;
+            };
+            dues = said.dues (_, _, c.self.invariant.0);
+          };
       history = pushed (c.args.step, c.step-reply.result) c.try_reserve.ensures.items
           c.push_reserved-2.ensures.items;
       opening = refl;

@@ -7,6 +7,7 @@ returns g c =
     rw (sym c.self.view_is) (record {
       led = rest.led;
       facts = c.facts.ensures.facts rest.led;
+      rest = c.facts.ensures.rest rest.led;
       no_send_is_due = rest.sends;
       no_receiver_is_due = rest.receivers;
     })

@@ -1,7 +1,8 @@
--- A poll that is ready has ended the send, and what comes back is what it was made with.
+-- A poll that is ready has ended the send, one that is pending has parked it, and what comes back is what it was made
+-- with.
 use Rattle.std.proofs.Common.{◌≡◌, Some, Err, refl, ap}
 use Rattle.flume_core.specs.declared.error.SendError.TheVariants.{Disconnected, NoMemory}
-use Rattle.flume.proofs.SendPolls.{ended, comes_back}
+use Rattle.flume.proofs.SendPolls.{ended, is_parked, stays, comes_back}
 use Rattle.flume.proofs.polled.send.SendFutFuture.poll.Goals as goal
 
 pub returns-in-Some-clause-finished : goal.returns-in-Some-clause-finished
@@ -16,3 +17,9 @@ pub returns-in-Some-clause-no_memory : goal.returns-in-Some-clause-no_memory
 returns-in-Some-clause-no_memory g c = λ message back unsent is.
     let said : c.in-Some.answer ≡ Err (NoMemory back) = cc in
     comes_back c.in-Some.ensures.row.polled message unsent (NoMemory back) (ap Some said)
+
+pub returns-in-None-clause-parked : goal.returns-in-None-clause-parked
+returns-in-None-clause-parked g c = is_parked c.in-None.ensures.row.polled refl
+
+pub returns-in-None-clause-stays : goal.returns-in-None-clause-stays
+returns-in-None-clause-stays g c = λ ticket parked. stays c.in-None.ensures.row.polled ticket parked refl

@@ -1,7 +1,6 @@
 -- What one more poll leaves, and that the last of the list are left.
-use Rattle.std.proofs.Common.{◌≡◌, Some, Ok, inr, subst, rules}
-use Rattle.flume.specs.ManySendCalls.{PollLeaves}
-use Rattle.flume.proofs.ManySendCalls.{list_end, poll_end, past_send, past_ok, next_leaves}
+use Rattle.std.proofs.Common.{◌≡◌, Some, Ok, ◌∙◌, rules}
+use Rattle.flume.proofs.ManySendCalls.{poll_end, past_send, went_on, next_leaves}
 use Rattle.flume.proofs.polled.sink.SendSink.poll_send_many.Goals as goal
 
 pub returns-in-Some-clause-left : goal.returns-in-Some-clause-left
@@ -18,12 +17,13 @@ loop-answer-preserved g c =
     let now = c.loop-answer.messages.items in
     let next = c.poll_sends-answer-in-loop-answer.new.messages.items in
     let result = c.poll_sends-answer-in-loop-answer.result in
-    let before = past_ok kept all now (subst (λ answer. PollLeaves kept all now answer) ok c.loop-answer.invariant.leaves) in
     let over = c.loop-answer.invariant.finished (Ok tt) ok in
     let leaves = past_send c.loop-answer.self.kept.send now next result over c.poll_sends-answer-in-loop-answer.ensures.leaves in
     record {
-      leaves = inr (next_leaves all now next result (list_end all now (Some (Ok tt)) before) leaves);
+      leaves = went_on kept all next result (next_leaves all now next result (poll_end _ _ _ _ c.loop-answer.invariant.leaves) leaves);
       finished = c.poll_sends-answer-in-loop-answer.ensures.finished;
+      parked = c.poll_sends-answer-in-loop-answer.ensures.parked;
+      sender = c.poll_sends-answer-in-loop-answer.ensures.sender ∙ c.loop-answer.invariant.sender;
       registered = c.poll_sends-answer-in-loop-answer.ensures.registered;
       kept = λ fact holds. c.poll_sends-answer-in-loop-answer.ensures.kept fact (c.loop-answer.invariant.kept fact holds);
     }

@@ -1,6 +1,6 @@
-use Rattle.std.proofs.Common.{◌≡◌, Some, None, length}
+use Rattle.std.proofs.Common.{◌≡◌, ℕ, Some, None, length}
 use Rattle.futures.specs.Task.{Covers, Keeps}
-use Rattle.flume_calls.specs.declared.polled.send.PolledSend.TheVariants.{Finished}
+use Rattle.flume_calls.specs.declared.polled.send.PolledSend.TheVariants.{Parked, Finished}
 use Rattle.flume.specs.ManySendCalls.{PollLeaves}
 use Rattle.flume.proofs.polled.sink.SendSink.poll_send_many.Given as goal
 
@@ -9,6 +9,8 @@ abbrev pub invariant-loop-answer : goal.invariant-loop-answer
 invariant-loop-answer g l = record {
   leaves : PollLeaves l.fn.self.kept.send l.fn.messages.items l.messages.items l.answer;
   finished : (answer : _) → l.answer ≡ Some answer → l.self.kept.send ≡ Finished;
+  parked : l.answer ≡ None → (ticket : ℕ) × (l.self.kept.send ≡ Parked ticket);
+  sender : l.self.kept.sender ≡ l.fn.self.kept.sender;
   registered : l.answer ≡ None → Covers l.cx (λ source. source ≡ l.self.kept.task.source.id);
   kept : Keeps l.fn.cx l.cx;
 }

@@ -2,6 +2,7 @@
 use Rattle.std.proofs.Common.{◌∷◌, [], ◌++◌, refl, ap, ◌∙◌, rules}
 use Rattle.flume_calls.specs.Batches.{NoSteps, FirstStep}
 use Rattle.flume_calls.specs.ManyReceives.{NoRoom, None, Some}
+use Rattle.flume_calls.proofs.Available.{received}
 use Rattle.flume_calls.proofs.calls.receive_many.FirstReceiveManyTurn.apply.Goals as goal
 use Rattle.flume_calls.proofs.calls.receive_many.FirstReceiveManyTurn.apply.Goals.{in-Empty, in-Ended}
 
@@ -9,7 +10,9 @@ pub returns-then-most-gt0-clause-does : goal.returns-then-most-gt0-clause-does
 returns-then-most-gt0-clause-does g c = (
   record {
     made = (_, c.try_recv.result) ∷ [];
-    led = FirstStep c.try_recv.ensures.step c.try_recv.ensures.dues NoSteps;
+    led =
+        let made = c.try_recv.ensures in
+        FirstStep (received made.step made.dues made.comes made.space made.unchanged) NoSteps;
     answered = elim c.match-try_recv.branch [
       | in-Empty w ↦ rw (w.next-is, w.in-Empty.is) (None _ _ refl refl tt refl refl)
       | in-Ended w ↦ rw (w.next-is, w.in-Ended.is) (None _ _ refl refl tt refl refl)

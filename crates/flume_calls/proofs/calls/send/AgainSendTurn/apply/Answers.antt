@@ -1,7 +1,14 @@
 -- A message that comes back before the deadline comes back since the channel is closed; a ticket
 -- that no send has isn't of a blocked one.
-use Rattle.std.proofs.Common.{◌≡◌, ◌≢◌, Bool, true, false, if◌then◌else◌, Option, Some, None, rules}
+use Rattle.std.proofs.Common.{◌≡◌, ◌≢◌, ℕ, ◌≤◌, Bool, true, false, if◌then◌else◌, Option, Some, None, rules}
+use Rattle.flume_model.specs.declared.step.Step.TheVariants.{PollSend, WithdrawSend}
+use Rattle.flume_model.specs.declared.step.Reply.{Reply}
+use Rattle.flume_state.specs.State.{State}
+use Rattle.flume_state.specs.Due.{BecomesDue}
 use Rattle.flume_state.specs.Effects.{Returns}
+use Rattle.flume_core.specs.Represents.{Extends, IsReachable, IsRefusal}
+use Rattle.flume_core.specs.PossibleReply.{PossibleReply}
+use Rattle.flume_core.specs.Transitions.{IsTransition}
 use Rattle.flume_calls.proofs.calls.send.AgainSendTurn.apply.Goals as goal
 
 -- a ticket that isn't live isn't that of a blocked send
@@ -9,9 +16,36 @@ unblocked : (live accepted : Bool) (o : Option Bool) → live ≡ false → o �
 unblocked false accepted o dead is blocked = cc
 unblocked true accepted o dead is blocked = cc
 
+module _ {T A S : Type 0} where
+  -- what a step of a parked send says of itself is what a list of steps says of it: it wants no memory
+  asked : {old new : State T S} {ticket : ℕ} {reply : Reply T A} → Extends old (PollSend ticket) reply new
+      → (IsReachable A old → BecomesDue old (PollSend ticket) reply new) → PossibleReply (PollSend ticket) reply → old.space ≤ new.space
+      → (IsRefusal reply → new ≡ old) → IsTransition old (PollSend ticket) reply new
+  asked extends dues comes space unchanged = record {
+    extends = extends;
+    dues = dues;
+    comes = comes;
+    space = space;
+    refused = λ back is. rw is at comes;
+    unchanged = unchanged;
+  }
+
+  withdrawn : {old new : State T S} {ticket : ℕ} {reply : Reply T A} → Extends old (WithdrawSend ticket) reply new
+      → (IsReachable A old → BecomesDue old (WithdrawSend ticket) reply new) → PossibleReply (WithdrawSend ticket) reply → old.space ≤ new.space
+      → (IsRefusal reply → new ≡ old) → IsTransition old (WithdrawSend ticket) reply new
+  withdrawn extends dues comes space unchanged = record {
+    extends = extends;
+    dues = dues;
+    comes = comes;
+    space = space;
+    refused = λ back is. rw is at comes;
+    unchanged = unchanged;
+  }
+
 pub returns-in-NoTicket-clause-does : goal.returns-in-NoTicket-clause-does
 returns-in-NoTicket-clause-does g c = rw (← c.call.view_is) (
-  search rules,
+  (let said = c.in-NoTicket.ensures in
+      let made = withdrawn said.step said.dues said.comes said.space said.unchanged in search rules),
   record {
     waits = search rules;
     replaced = search rules;
@@ -27,7 +61,8 @@ returns-in-NoTicket-clause-does g c = rw (← c.call.view_is) (
 
 pub returns-in-NoTicket-poll_send-clause-does : goal.returns-in-NoTicket-poll_send-clause-does
 returns-in-NoTicket-poll_send-clause-does g c = rw (← c.call-else-late.view_is) (
-  search rules,
+  (let said = c.in-NoTicket-poll_send.ensures in
+      let made = asked said.step said.dues said.comes said.space said.unchanged in search rules),
   record {
     waits = search rules;
     replaced = search rules;
@@ -55,4 +90,11 @@ returns-in-Returned-poll_send-clause-does g c = (
         let found : Returns c.args.chan.now c.poll_send.new.self c.args.self.call back c.in-Returned-poll_send.closed = search rules in
         (c.in-Returned-poll_send.closed, found, λ led. (c.in-Returned-poll_send.ensures.step led.0 led.1 led.2).run.0.2);
   },
+)
+
+pub returns-in-Returned-2-clause-does : goal.returns-in-Returned-2-clause-does
+returns-in-Returned-2-clause-does g c = rw (← c.call.view_is) (
+  (let said = c.in-Returned.ensures in
+      let made = rw c.if-closed.false at (withdrawn said.step said.dues said.comes said.space said.unchanged) in search rules),
+  search rules,
 )

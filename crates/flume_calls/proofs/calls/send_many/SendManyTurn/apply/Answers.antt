@@ -3,15 +3,17 @@ use Rattle.std.proofs.Common.{◌≡◌, [], ◌∷◌, length, Some, refl, ap, 
 use Rattle.flume_model.specs.declared.step.Reply.TheVariants.{NoMemory}
 use Rattle.flume_calls.specs.ManySends.{NoneLeft, IsFull, IsClosed, IsRefused}
 use Rattle.flume_calls.specs.Batches.{NoSteps}
-use Rattle.flume_calls.proofs.ManySends.{taken_in, one_step, all_left, first_sent, one_at_most, refused}
+use Rattle.flume_calls.proofs.ManySends.{offered, taken_in, one_step, all_left, first_sent, one_at_most, refused}
 use Rattle.flume_calls.proofs.calls.send_many.SendManyTurn.apply.Goals as goal
 
 pub loop-message-preserved : goal.loop-message-preserved
 loop-message-preserved g c =
     let items = c.in-Some.ensures.items in
+    let said = c.in-Sent.ensures in
+    let made = offered said.step said.dues said.comes said.space said.succeeds said.unchanged in
     record {
       from_here = λ new answer batch. c.loop-message.invariant.from_here new answer
-          (rw items (taken_in c.in-Sent.ensures.step c.in-Sent.ensures.dues batch));
+          (rw items (taken_in {filled = c.in-Sent.filled} made batch));
       rest = λ left is. c.loop-message.invariant.rest left (rw items (first_sent _ _ left is));
       fits = λ space.
           let before = c.loop-message.invariant.fits space in
@@ -25,9 +27,11 @@ pub returns-in-Full-clause-does : goal.returns-in-Full-clause-does
 returns-in-Full-clause-does g c =
     let items = c.in-Some.ensures.items in
     let same : c.in-Full.back ≡ c.in-Some.message = c.in-Full.ensures.comes in
-    let left = rw same at c.put_back.ensures.items in (
+    let left = rw same at c.put_back.ensures.items in
+    let said = c.in-Full.ensures in
+    let made = offered said.step said.dues said.comes said.space said.succeeds said.unchanged in (
       c.loop-message.invariant.from_here _ _
-          (rw items (one_step (rw same at c.in-Full.ensures.step) (rw same at c.in-Full.ensures.dues) (IsFull left))),
+          (rw items (one_step (rw same at made) (IsFull left))),
       search rules,
     )
 
@@ -42,9 +46,11 @@ pub returns-in-Closed-clause-does : goal.returns-in-Closed-clause-does
 returns-in-Closed-clause-does g c =
     let items = c.in-Some.ensures.items in
     let same : c.in-Closed.back ≡ c.in-Some.message = c.in-Closed.ensures.comes in
-    let left = rw same at c.put_back-in-Closed.ensures.items in (
+    let left = rw same at c.put_back-in-Closed.ensures.items in
+    let said = c.in-Closed.ensures in
+    let made = offered said.step said.dues said.comes said.space said.succeeds said.unchanged in (
       c.loop-message.invariant.from_here _ _
-          (rw items (one_step (rw same at c.in-Closed.ensures.step) (rw same at c.in-Closed.ensures.dues) (IsClosed left))),
+          (rw items (one_step (rw same at made) (IsClosed left))),
       search rules,
     )
 
@@ -61,11 +67,11 @@ returns-in-NoMemory-Some-clause-does g c =
     let comes = c.in-NoMemory-Some.ensures.comes in
     let same : c.in-NoMemory-Some.back ≡ c.in-Some.message = cc in
     let left = rw same at c.put_back-in-NoMemory-Some.ensures.items in
-    let step = rw c.in-NoMemory-Some.field-0-is at c.in-NoMemory-Some.ensures.step in
-    let dues = rw c.in-NoMemory-Some.field-0-is at c.in-NoMemory-Some.ensures.dues in
-    let said = c.in-NoMemory-Some.is ∙ ap NoMemory (c.in-NoMemory-Some.field-0-is ∙ ap Some same) in (
+    let said = c.in-NoMemory-Some.is ∙ ap NoMemory (c.in-NoMemory-Some.field-0-is ∙ ap Some same) in
+    let all = c.try_send.ensures in
+    let made = offered all.step all.dues all.comes all.space all.succeeds all.unchanged in (
       c.loop-message.invariant.from_here _ _
-          (rw items (one_step (rw same at step) (rw same at dues) (IsRefused left))),
+          (rw items (one_step (rw said at made) (IsRefused left))),
       refused c.args.chan.now c.loop-message.chan c.try_send.new.self c.args.self.messages.items c.loop-message.messages.items _
           (c.in-NoMemory-Some.ensures.unchanged tt) (λ space. c.try_send.ensures.succeeds space said)
           (rw c.in-Some.ensures.items (omega arith)) c.loop-message.invariant.fits,

@@ -16,4 +16,4 @@ returns-clause-row g c =
 
 pub returns-clause-step : goal.returns-clause-step
 returns-clause-step g c =
-    let turn = c.again.ensures.turn in OneStep _ turn.reply turn.stepped turn.dues
+    let turn = c.again.ensures.turn in OneStep _ turn.reply turn.stepped

@@ -11,7 +11,7 @@ returns-in_default-clause-row g c =
 
 pub returns-in_default-clause-step : goal.returns-in_default-clause-step
 returns-in_default-clause-step g c =
-    let turn = c.first.ensures.turn in OneStep _ turn.reply turn.stepped turn.dues
+    let turn = c.first.ensures.turn in OneStep _ turn.reply turn.stepped
 
 pub returns-clause-row : goal.returns-clause-row
 returns-clause-row g c =
@@ -20,4 +20,4 @@ returns-clause-row g c =
 
 pub returns-clause-step : goal.returns-clause-step
 returns-clause-step g c =
-    let turn = c.park.ensures.turn in OneStep _ turn.reply turn.stepped turn.dues
+    let turn = c.park.ensures.turn in OneStep _ turn.reply turn.stepped

@@ -1,0 +1,8 @@
+-- The step was made.
+use Rattle.std.proofs.Common.{refl}
+use Rattle.flume.proofs.Made.{step_made}
+use Rattle.flume.proofs.gate.GateRecvGate.first.Goals as goal
+
+pub returns-clause-does : goal.returns-clause-does
+returns-clause-does g c =
+    let turn = c.call.ensures in record { same = refl; answers = turn.answers.0; served = turn.answers.1; made = step_made turn.made }

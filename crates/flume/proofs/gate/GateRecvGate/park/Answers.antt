@@ -1,0 +1,7 @@
+-- The step was made.
+use Rattle.std.proofs.Common.{refl}
+use Rattle.flume.proofs.Made.{step_made}
+use Rattle.flume.proofs.gate.GateRecvGate.park.Goals as goal
+
+pub returns-clause-does : goal.returns-clause-does
+returns-clause-does g c = let turn = c.call_cold.ensures in record { same = refl; answers = turn.answers; made = step_made turn.made }

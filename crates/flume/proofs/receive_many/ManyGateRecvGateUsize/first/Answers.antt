@@ -1,0 +1,21 @@
+-- The first turn takes what is there.
+use Rattle.std.proofs.Common.{refl, ap, subst}
+use Rattle.flume.specs.ManySteps.{TakesFirst, LacksRoom}
+use Rattle.flume.proofs.ManyReceives.{first_grows, from_list}
+use Rattle.flume.proofs.ManySteps.{first_made, lacks_room}
+use Rattle.flume.proofs.receive_many.ManyGateRecvGateUsize.first.Goals as goal
+
+pub returns-clause-does : goal.returns-clause-does
+returns-clause-does g c =
+    let came = c.call_all-into.ensures in
+    let next = c.call_all-into.result.next in
+    let most = c.args.self.now.most in
+    let same = c.replace-into.ensures.value in
+    let after = c.call_all-into.result.into.items in (
+      refl,
+      refl,
+      came.answers.0,
+      from_list most _ _ _ next (ap (λ list. list.items) same) (first_grows most _ _ next came.made.turn.0.answered came.answers.1),
+      subst (λ list. TakesFirst _ list.items after next) same (first_made came.made),
+      subst (λ list. LacksRoom list most next) same (lacks_room _ most _ _ next came.made.turn.1),
+    )

@@ -1,0 +1,16 @@
+-- The text of the error of a list of arms, and the kind of std's io error that it is converted to.
+use Rattle.std.specs.Prelude.{ℕ, List, codes}
+use Rattle.std.specs.declared.io.ErrorKind.{ErrorKind}
+use Rattle.std.specs.declared.io.ErrorKind.TheVariants as kind
+use Rattle.flume.specs.declared.select.error.EachError.{EachError}
+use Rattle.flume.specs.declared.select.error.EachError.TheVariants as each
+
+-- its text
+abbrev pub each_text : EachError → List ℕ
+each_text each.NoArm = codes "no arm to wait for"
+each_text each.NoMemory = codes "out of memory"
+
+-- its kind
+abbrev pub each_kind : EachError → ErrorKind
+each_kind each.NoArm = kind.InvalidInput
+each_kind each.NoMemory = kind.OutOfMemory

@@ -1,0 +1,196 @@
+//! Arms added in a loop: one for each end of a list.
+ghost use Rattle.std.specs.Prelude.{◌≡◌, ◌↔◌, IfOk, Err, [], map, length};
+ghost use Rattle.std.specs.NonZero.{non_zero_usize_get};
+ghost use Rattle.flume.specs.declared.select.error.EachError.{EachError};
+ghost use Rattle.flume.specs.declared.select.send.SendState.{SendState};
+ghost use Rattle.flume.specs.declared.select.receive.ReceiveState.{ReceiveState};
+ghost use Rattle.flume.specs.ArmLists.{count_with};
+
+use crate::receiver::Receiver;
+use crate::select::Selector;
+use crate::select::arms::{Arms, ArmsOn};
+use crate::select::each::Each;
+use crate::select::error::EachError;
+use crate::select::receive::RecvArm;
+use crate::select::send::SendArm;
+use crate::sender::Sender;
+use crate::shared::Waits;
+use flume_core::error::{RecvError, SendError};
+use std::alloc::{AllocError, Allocator};
+use std::marker::PhantomData;
+use std::num::NonZeroUsize;
+
+/// A selector with the arms of a list of receivers.
+pub type WithReceives<'a, V, L, T, F, R: Waits, A: Allocator + Copy> = Selector<
+    'a,
+    V,
+    Each<L, RecvArm<'a, T, (), R, A>, F, R, A>,
+    A,
+>;
+
+/// A selector with the arms of a list of senders.
+pub type WithSends<'a, V, L, T, F, R: Waits, A: Allocator + Copy> = Selector<
+    'a,
+    V,
+    Each<L, SendArm<'a, T, (), R, A>, F, R, A>,
+    A,
+>;
+
+impl<'a, V, L: Arms<V, A> + Drop, A: Allocator + Copy> Selector<'a, V, L, A> {
+    /// With one more arm for each receiver of the list, in its order, which receives a message: as
+    /// many arms as there are receivers, of which an empty list adds none. They share the mapper,
+    /// which gets the receiver's place in the list, from 0 on, and what the mapper of `recv` gets.
+    /// The channels have one type of messages and, with those of the arms before, one of runtimes.
+    ///
+    /// `NoArm`: the list is empty, and no arm was added before. `NoMemory`: there was none for the
+    /// list of arms. The selector is dropped then, and no arm was started.
+    ///
+    /// ```
+    /// let (_one, first) = flume::on(rt).unbounded::<u64>()?;
+    /// let (two, second) = flume::on(rt).unbounded::<u64>()?;
+    /// let receivers = vec![in rt.alloc(); first, second]?;
+    /// two.send(7)?;
+    /// let arms = Selector::new().recv_each(&receivers, |place, message| (place, message.ok()))?;
+    /// assert_eq!(rt; arms.wait()?, (1, Some(7)));
+    /// ```
+    pub fn recv_each<T: Drop, F, R: Waits>(
+        self,
+        receivers: &'a [Receiver<T, R, A>],
+        mapper: F,
+    ) -> Result<WithReceives<'a, V, L, T, F, R, A>, EachError>
+    where
+        L: ArmsOn<R, V, A>,
+        F: FnOnce(usize, Result<T, RecvError>) -> V + Drop,
+        ensures before { IfOk result (λ more. more.arms.before ≡ self.entry.arms) }
+        ensures channels { IfOk result (λ more.
+            map (λ arm. arm.receiver.now) more.arms.arms.items ≡ receivers.now) }
+        ensures unstarted { IfOk result (λ more. map (λ arm. arm.state) more.arms.arms.items
+            ≡ map (λ _. ReceiveState.Unstarted) receivers.now) }
+        ensures mapper { IfOk result (λ more. more.arms.mapper ≡ mapper) }
+        ensures count { IfOk result (λ more. non_zero_usize_get more.arms.count
+            ≡ count_with (L.count (L.mappers self.entry.arms)) (length receivers.now)) }
+        ensures start { IfOk result (λ more. more.start ≡ self.entry.start) }
+        ensures no_arm { (result ≡ Err EachError.NoArm)
+            ↔ ((length receivers.now ≡ 0) × (L.count (L.mappers self.entry.arms) ≡ 0)) }
+    {
+        let arms = self.arms.count().saturating_add(receivers.len());
+        let count = NonZeroUsize::new(arms).ok_or(EachError::NoArm)?;
+        let first = receivers.first().map(|r| (r.shared().rt, r.shared().alloc));
+        let (rt, alloc) = first.or_else(|| self.arms.last()).ok_or(EachError::NoArm)?;
+        let arms = receive_arms(receivers, alloc)?;
+        Ok(self.with_each(arms, mapper, count, (rt, alloc)))
+    }
+
+    /// With one more arm for each pair of the list, in its order, which sends the pair's message by
+    /// the pair's sender: as many arms as there are pairs, of which an empty list adds none. They
+    /// share the mapper, which gets the pair's place in the list, from 0 on, and what the mapper of
+    /// `send` gets. At most one of the arms completes, and of the messages of the others the same
+    /// holds as of the one of `send`. The channels have one type of messages and, with those of the
+    /// arms before, one of runtimes.
+    ///
+    /// `NoArm`: the list is empty, and no arm was added before. `NoMemory`: there was none for the
+    /// list of arms. The selector and the messages are dropped then, and no arm was started.
+    ///
+    /// ```
+    /// let (one, _first) = flume::on(rt).bounded::<u64>(0)?;
+    /// let (two, second) = flume::on(rt).bounded::<u64>(1)?;
+    /// let sends = vec![in rt.alloc(); (&one, 7), (&two, 7)]?;
+    /// let arms = Selector::new().send_each(sends, |place, sent| (place, sent.is_ok()))?;
+    /// assert_eq!(rt; arms.wait()?, (1, true));
+    /// assert_eq!(rt; second.recv(), Ok(7));
+    /// ```
+    pub fn send_each<T: Drop, F, R: Waits>(
+        self,
+        sends: Vec<(&'a Sender<T, R, A>, T), A>,
+        mapper: F,
+    ) -> Result<WithSends<'a, V, L, T, F, R, A>, EachError>
+    where
+        L: ArmsOn<R, V, A>,
+        F: FnOnce(usize, Result<(), SendError<T>>) -> V + Drop,
+        ensures before { IfOk result (λ more. more.arms.before ≡ self.entry.arms) }
+        ensures channels { IfOk result (λ more. map (λ arm. arm.sender.now) more.arms.arms.items
+            ≡ map (λ pair. pair.0.now) sends.entry.items) }
+        ensures unstarted { IfOk result (λ more. map (λ arm. arm.state) more.arms.arms.items
+            ≡ map (λ pair. SendState.Unstarted pair.1) sends.entry.items) }
+        ensures mapper { IfOk result (λ more. more.arms.mapper ≡ mapper) }
+        ensures count { IfOk result (λ more. non_zero_usize_get more.arms.count
+            ≡ count_with (L.count (L.mappers self.entry.arms)) (length sends.entry.items)) }
+        ensures start { IfOk result (λ more. more.start ≡ self.entry.start) }
+        ensures no_arm { (result ≡ Err EachError.NoArm)
+            ↔ ((length sends.entry.items ≡ 0) × (L.count (L.mappers self.entry.arms) ≡ 0)) }
+    {
+        let arms = self.arms.count().saturating_add(sends.len());
+        let count = NonZeroUsize::new(arms).ok_or(EachError::NoArm)?;
+        let first = sends
+            .first()
+            .map(|pair| (pair.0.shared().rt, pair.0.shared().alloc));
+        let (rt, alloc) = first.or_else(|| self.arms.last()).ok_or(EachError::NoArm)?;
+        let arms = send_arms(sends, alloc)?;
+        Ok(self.with_each(arms, mapper, count, (rt, alloc)))
+    }
+
+    // With the arms of a list; so many are there then.
+    fn with_each<C: Drop, F: Drop, R: Waits>(
+        self,
+        arms: Vec<C, A>,
+        mapper: F,
+        count: NonZeroUsize,
+        home: (R, A),
+    ) -> Selector<'a, V, Each<L, C, F, R, A>, A>
+        ensures before { result.arms.before ≡ self.entry.arms }
+        ensures arms { result.arms.arms ≡ arms }
+        ensures mapper { result.arms.mapper ≡ mapper }
+        ensures count { result.arms.count ≡ count }
+        ensures start { result.start ≡ self.entry.start }
+    {
+        let (rt, alloc) = home;
+        Selector {
+            arms: Each {
+                before: self.arms,
+                arms,
+                mapper,
+                count,
+                rt,
+                alloc,
+            },
+            start: self.start,
+            deadline: self.deadline,
+            value: PhantomData,
+            alloc: PhantomData,
+        }
+    }
+}
+
+// An arm for each receiver, none of which is started.
+fn receive_arms<'a, T: Drop, R: Waits, A: Allocator + Copy>(
+    receivers: &'a [Receiver<T, R, A>],
+    alloc: A,
+) -> Result<Vec<RecvArm<'a, T, (), R, A>, A>, AllocError>
+    ensures channels { IfOk result (λ arms.
+        map (λ arm. arm.receiver.now) arms.items ≡ receivers.now) }
+    ensures unstarted { IfOk result (λ arms. map (λ arm. arm.state) arms.items
+        ≡ map (λ _. ReceiveState.Unstarted) receivers.now) }
+{
+    let mut arms = Vec::with_capacity(alloc, receivers.len())?;
+    for receiver in receivers {
+        arms.push_reserved(RecvArm::new(receiver, ()));
+    }
+    Ok(arms)
+}
+
+// An arm for each pair, none of which is started.
+fn send_arms<'a, T: Drop, R: Waits, A: Allocator + Copy>(
+    sends: Vec<(&'a Sender<T, R, A>, T), A>,
+    alloc: A,
+) -> Result<Vec<SendArm<'a, T, (), R, A>, A>, AllocError>
+    ensures channels { IfOk result (λ arms. map (λ arm. arm.sender.now) arms.items
+        ≡ map (λ pair. pair.0.now) sends.entry.items) }
+    ensures unstarted { IfOk result (λ arms. map (λ arm. arm.state) arms.items
+        ≡ map (λ pair. SendState.Unstarted pair.1) sends.entry.items) }
+{
+    let mut arms = Vec::with_capacity(alloc, sends.len())?;
+    for (sender, message) in sends {
+        arms.push_reserved(SendArm::new(sender, message, ()));
+    }
+    Ok(arms)
+}
