@@ -2,6 +2,7 @@ mod InTime
 mod Made
 mod ManyReceives
 mod ManySendCalls
+mod ManySendSteps
 mod ManySteps
 pub mod Outlives
 mod ReceivePolls

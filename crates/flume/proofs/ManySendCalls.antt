@@ -1,6 +1,6 @@
 -- What is left of a list after some of its messages were sent.
-use Rattle.std.proofs.Common.{◌≡◌, ◌≢◌, ◌<◌, ◌+◌, List, [], ◌∷◌, ◌++◌, length, Option, Some, None, Result, Ok, Err, refl, sym, ◌∙◌, ap, subst, inl, inr, append_assoc, arith}
-use Rattle.std.proofs.lemmas.List.{append-nil, length-append}
+use Rattle.std.proofs.Common.{◌≡◌, ◌≢◌, List, [], ◌∷◌, ◌++◌, Option, Some, None, Result, Ok, Err, refl, sym, ◌∙◌, ap, subst, inl, inr, append_assoc}
+use Rattle.std.proofs.lemmas.List.{append-nil}
 use Rattle.flume_core.specs.declared.error.SendError.{SendError}
 use Rattle.flume_core.specs.declared.error.SendError.TheVariants.{Disconnected, NoMemory}
 use Rattle.flume_calls.specs.ManySends.{IsRest}
@@ -137,11 +137,3 @@ module _ {T : Type 0} where
       ([], ap (λ m. m ∷ messages) (sym (came kept refl (NoMemory back) refl)))
   stopped (Parked ticket) messages answer unfit over came = inl (refl, unfit)
   stopped Finished messages answer unfit over came = absurd (unfit (over refl))
-
-  -- a poll that sent some of the list leaves fewer
-  pub fewer : (messages left : List T) → 0 < length messages → LeavesList messages left (Some (Ok tt)) → length left < length messages
-  fewer messages left some (inl none) = let no : length left ≡ 0 = ap length none in omega arith
-  fewer messages left some (inr one) =
-      let all : length messages ≡ length (one.1.0 ++ one.0 ∷ left) = ap length one.1.1 in
-      let parts : length (one.1.0 ++ one.0 ∷ left) ≡ length one.1.0 + length (one.0 ∷ left) = length-append one.1.0 (one.0 ∷ left) in
-      omega arith

@@ -22,7 +22,7 @@ use Rattle.flume.proofs.Made.{step_made}
 
 module _ {T S A : Type 0} where
   -- the steps of a batch are steps that a run goes on with
-  steps_run : (opening : Opening) (log : Log T A) {old new : State T S} {made : List (Step T × Reply T A)} → Represents opening log old
+  pub steps_run : (opening : Opening) (log : Log T A) {old new : State T S} {made : List (Step T × Reply T A)} → Represents opening log old
       → StepsBetween old made new → IsRun opening (goes_on log made)
   steps_run opening log stands NoSteps = stands.run
   steps_run opening log stands (FirstStep {step = step} {reply = reply} stepped later) =

@@ -1,5 +1,5 @@
 -- The arms of a list: which arm has which number, and what changes where one has its turn.
-use Rattle.std.specs.Prelude.{◌≡◌, ◌<◌, ◌≤◌, ◌-◌, ◌+◌, ℕ, min, List, Option, Some, None, slice_get, slice_set}
+use Rattle.std.specs.Prelude.{◌≡◌, ◌<◌, ◌≤◌, ◌-◌, ◌+◌, ℕ, min, List, Some, None, slice_get, slice_set}
 
 -- of the arms before, of which there are so many, and those of a list: of the arm with this number
 -- the first holds where it is one before, and else the second, of its place in the list

@@ -1,9 +1,10 @@
 -- Which answer of a turn, or of a call with a deadline, a call's answer stands for; and the replies
 -- that some answers tell.
-use Rattle.std.specs.Prelude.{◌≡◌, ℕ, Option, Some, None, Result, Ok, Err}
+use Rattle.std.specs.Prelude.{◌≡◌, ◌⊎◌, ℕ, Bool, true, false, Option, Some, None, Result, Ok, Err}
 use Rattle.flume_model.specs.declared.step.Step.{Step}
+use Rattle.flume_model.specs.declared.step.Step.TheVariants.{IsDisconnected, IsEmpty}
 use Rattle.flume_model.specs.declared.step.Reply.{Reply}
-use Rattle.flume_model.specs.declared.step.Reply.TheVariants.{Done as IsDone, NoEnd}
+use Rattle.flume_model.specs.declared.step.Reply.TheVariants.{Done as IsDone, NoEnd, Truth}
 use Rattle.flume_core.specs.declared.error.TrySendError.{TrySendError}
 use Rattle.flume_core.specs.declared.error.TrySendError.TheVariants as try_send
 use Rattle.flume_core.specs.declared.error.SendError.{SendError}
@@ -31,6 +32,14 @@ module _ {T A : Type 0} where
   abbrev pub upgrade_reply : Option ℕ → Reply T A
   upgrade_reply (Some sender) = IsDone
   upgrade_reply None = NoEnd
+
+module _ (T A : Type 0) where
+  -- whether no more will come, by a channel's replies to two steps: if both are true
+  abbrev pub IsTerminated : Bool → Type 0
+  IsTerminated true = HasReplied {T = T} {A = A} IsDisconnected (Truth true)
+      × HasReplied {T = T} {A = A} IsEmpty (Truth true)
+  IsTerminated false = HasReplied {T = T} {A = A} IsDisconnected (Truth false)
+      ⊎ HasReplied {T = T} {A = A} IsEmpty (Truth false)
 
 module _ {T : Type 0} where
   -- the turn's answer to which a tried send answers so

@@ -9,6 +9,7 @@ pub mod GateSteps
 pub mod Iterators
 pub mod ManyCalls
 pub mod ManySendCalls
+pub mod ManySendSteps
 pub mod ManySteps
 pub mod Openings
 pub mod Polling

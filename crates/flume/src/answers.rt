@@ -1,9 +1,10 @@
-//! What an end answers where its call has ended: tables of values, which know of no lock.
-ghost use Rattle.std.specs.Prelude.{◌≡◌, ◌≢◌, ◌↔◌, Vec, Ok, Err};
-ghost use Rattle.std.specs.declared.collections.VecDeque.{VecDeque};
+//! What an end answers once its call has ended: tables of values, which know of no lock.
+ghost use Rattle.std.specs.Prelude.{◌≡◌, ◌≢◌, vec_items, Err};
+ghost use Rattle.std.specs.VecDeque.{deque_items};
 ghost use Rattle.flume_calls.specs.ReceiveTurns as receive;
 ghost use Rattle.flume.specs.CallSteps as answer;
 ghost use Rattle.flume.specs.Endings.{NeverParks};
+ghost use Rattle.flume.specs.ManySendSteps.{tried_list};
 
 use flume_calls::calls::{RecvNext, SendNext};
 use flume_core::error::{
@@ -36,16 +37,7 @@ pub(crate) fn tried_send<T: Drop>(turn: SendNext<T>) -> Result<(), TrySendError<
 pub(crate) fn tried_sends<T: Drop, A: Allocator>(
     turn: Result<(), TrySendError<VecDeque<T, A>>>,
 ) -> Result<(), TrySendError<Vec<T, A>>>
-    ensures sent { (turn ≡ Ok tt) ↔ (result ≡ Ok tt) }
-    ensures full { (rest : Vec T A) → result ≡ Err (TrySendError.Full rest)
-        → (left : VecDeque T A) × (turn ≡ Err (TrySendError.Full left))
-        × (rest.items ≡ left.items) }
-    ensures disconnected { (rest : Vec T A) → result ≡ Err (TrySendError.Disconnected rest)
-        → (left : VecDeque T A) × (turn ≡ Err (TrySendError.Disconnected left))
-        × (rest.items ≡ left.items) }
-    ensures no_memory { (rest : Vec T A) → result ≡ Err (TrySendError.NoMemory rest)
-        → (left : VecDeque T A) × (turn ≡ Err (TrySendError.NoMemory left))
-        × (rest.items ≡ left.items) }
+    ensures list { tried_list vec_items result ≡ tried_list deque_items turn }
 {
     match turn {
         Ok(()) => Ok(()),

@@ -14,6 +14,9 @@ use std::marker::Model;
 /// How a channel is to be opened: the runtime value, the allocator and the number. `on` makes one,
 /// `number` and `allocator` change one thing each, and `unbounded` and `bounded` open the channel.
 ///
+/// Whatever its capacity, a channel holds at most 4,294,967,295 messages, as many parked receivers
+/// and as many live sends. Past that a call answers `NoMemory`, though no allocation was refused.
+///
 /// It can be copied, and opens any number of channels. They all have its number. One that holds a
 /// reference, as to an allocator of one's own, opens one channel: the checker refuses a copy of it
 /// ("a struct with an `impl Model` is copied where it holds a reference").
@@ -104,9 +107,6 @@ impl<R: Waits, A: Allocator + Copy> Builder<R, A> {
 
     /// Opens a channel without a capacity. `NoMemory`: there was no memory for what its ends share.
     ///
-    /// A channel holds at most 4,294,967,295 messages, as many parked receivers and as many live
-    /// sends. Past that a call answers `NoMemory`, though no allocation was refused.
-    ///
     /// ```
     /// let (tx, rx) = flume::on(rt).unbounded()?;
     /// tx.send(42)?;
@@ -122,10 +122,6 @@ impl<R: Waits, A: Allocator + Copy> Builder<R, A> {
     /// Opens a channel that holds at most `capacity` messages, apart from those sent while a
     /// receiver waits. At capacity 0, the rendezvous channel, a send waits until a receiver takes
     /// its message. `NoMemory`: there was no memory for what its ends share.
-    ///
-    /// Whatever the capacity, a channel holds at most 4,294,967,295 messages, as many parked
-    /// receivers and as many live sends. Past that a call answers `NoMemory`, though no allocation
-    /// was refused.
     ///
     /// ```
     /// let (tx, rx) = flume::on(rt).bounded(1)?;

@@ -41,7 +41,7 @@ pub struct DeadlineIter<'a, T, R: Waits, A: Allocator + Copy = Global> {
     receiver: &'a Receiver<T, R, A>,
     deadline: Deadline,
     progress: Progress,
-    // Why the last `next` gave nothing, where it gave nothing.
+    // Why the last `next` gave nothing, if it gave nothing.
     end: Option<RecvTimeoutError>,
 }
 
@@ -59,8 +59,8 @@ impl<'a, T, R: Waits, A: Allocator + Copy> Model for DeadlineIter<'a, T, R, A> {
 }
 
 impl<T: Drop, R: Waits, A: Allocator + Copy> Receiver<T, R, A> {
-    /// The messages, one after the other, up to the deadline: it ends there, also where messages
-    /// are left, which stay in the channel. It waits for each, and ends too where `recv` is
+    /// The messages, one after the other, up to the deadline: it ends there, even if messages
+    /// are left, which stay in the channel. It waits for each, and ends too if `recv` is
     /// refused. A clock that can't be read counts as past each deadline. Takes no memory.
     ///
     /// ```
@@ -77,7 +77,7 @@ impl<T: Drop, R: Waits, A: Allocator + Copy> Receiver<T, R, A> {
     }
 
     /// The messages, one after the other, up to so long from now, as `iter_deadline` gives them.
-    /// Where no time is that late it goes on as `iter` does.
+    /// If the deadline overflows, it goes on as `iter` does.
     ///
     /// ```
     /// let (tx, rx) = flume::on(rt).unbounded()?;
@@ -133,7 +133,7 @@ impl<'a, T: Drop, R: Waits, A: Allocator + Copy> DeadlineIter<'a, T, R, A> {
         }
     }
 
-    /// Whether the last `next` ended because memory ran out: where `ended` is `NoMemory`.
+    /// Whether the last `next` ended because memory ran out: `ended` says `NoMemory` then.
     pub fn fault(&self) -> bool
         ensures fault { IsTrue result ↔ (self.now.end ≡ Some RecvTimeoutError.NoMemory) }
     {

@@ -60,7 +60,7 @@ impl<T: Drop, R: Waits, A: Allocator + Copy> IntoIter<T, R, A> {
     }
 
     /// The same as a `Result`, for a program that goes on by `?` after a loop: an error exactly
-    /// where `fault` is true.
+    /// if `fault` is true.
     ///
     /// ```
     /// let (tx, rx) = flume::on(rt).unbounded::<u64>()?;

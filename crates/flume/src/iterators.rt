@@ -12,7 +12,7 @@ use std::fmt;
 use std::marker::Model;
 
 /// The messages of a receiver, one after the other; it waits for each. `None`: none is there and
-/// all senders have been dropped, or, where `fault` says so, there was no memory for what a wait
+/// all senders have been dropped, or, if `fault` says so, there was no memory for what a wait
 /// needs. After a `None` there may be more.
 ///
 /// ```
@@ -72,7 +72,7 @@ impl<'a, T: Drop, R: Waits, A: Allocator + Copy> Iter<'a, T, R, A> {
     }
 
     /// The same as a `Result`, for a program that goes on by `?` after a loop: an error exactly
-    /// where `fault` is true.
+    /// if `fault` is true.
     ///
     /// ```
     /// let (tx, rx) = flume::on(rt).unbounded::<u64>()?;

@@ -9,7 +9,7 @@
 //! ```
 //!
 //! `rt` is the runtime value that `main` is handed; the ends keep a copy, to wait and to read the
-//! clock. Where an allocation fails, a call answers `NoMemory`: nothing aborts.
+//! clock. If an allocation fails, a call answers `NoMemory`: nothing aborts.
 //!
 //! # Unbounded channels
 //!

@@ -10,10 +10,7 @@ use std::sync::Arc;
 
 /// A program writes `flume::on(rt).unbounded()?`, which calls this: it opens a channel without a
 /// capacity. The number `id` names it: ends of channels with one number count as ends of the same.
-/// `NoMemory`: there was no memory for what the ends share.
-///
-/// A channel holds at most 4,294,967,295 messages, as many parked receivers and as many live sends.
-/// Past that a call answers `NoMemory`, though no allocation was refused.
+/// `NoMemory`: there was no memory for what the ends share. `Builder` says how much a channel holds.
 ///
 /// ```
 /// let (tx, rx) = unbounded(rt, rt.alloc(), 1)?;
@@ -34,9 +31,6 @@ pub fn unbounded<T: Drop, R: Waits, A: Allocator + Copy>(
 /// A program writes `flume::on(rt).bounded(4)?`, which calls this: it opens a channel that holds at
 /// most `capacity` messages, apart from those sent while a receiver waits. At capacity 0 a send
 /// waits until a receiver takes its message. `id` and `NoMemory` as of `unbounded`.
-///
-/// Whatever the capacity, a channel holds at most 4,294,967,295 messages, as many parked receivers
-/// and as many live sends. Past that a call answers `NoMemory`, though no allocation was refused.
 ///
 /// ```
 /// let (tx, rx) = bounded(rt, rt.alloc(), 2, 1)?;

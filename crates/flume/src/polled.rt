@@ -1,5 +1,5 @@
 //! Futures, sinks and streams over a channel: each poll makes at most one step of the channel, or
-//! several where it moves many messages. One that has to wait has left its task's waker in the very
+//! several if it moves many messages. One that has to wait has left its task's waker in the very
 //! step that found nothing. Tasks and threads may share a channel.
 //!
 //! A call that is dropped while it waits takes itself back: a send its message, a receive its place

@@ -29,7 +29,7 @@ impl Progress {
         }
     }
 
-    /// One call less. Where none is left it waits for good; no run comes to that.
+    /// One call less. If none is left it waits for good; no run comes to that.
     pub(crate) fn count<R: Wait>(&mut self, rt: &R)
         ensures left { self.old.left ≡ self.new.left + 1 }
         ensures fault { self.new.fault ≡ self.old.fault }

@@ -67,11 +67,11 @@ impl<T: Drop, R: Waits, A: Allocator + Copy> Receiver<T, R, A> {
 
     /// Takes messages as `try_recv_many` does, and waits while none is there. Once one has come it
     /// takes what else is there, at most `most` in all, and waits no longer. It answers how many;
-    /// that is 0 only where `most` is 0, and then it doesn't wait.
+    /// that is 0 only if `most` is 0, and then it doesn't wait.
     ///
     /// `Disconnected`: none is there, and all senders have been dropped. `NoMemory`: there was no
     /// room for what is there, or no memory for what a call waits on with room for one message.
-    /// Each leaves `into` as it was, and takes nothing. Where a call that waited finds more
+    /// Each leaves `into` as it was, and takes nothing. If a call that waited finds more
     /// messages than there is room for, it takes as many as there is room for, one at least.
     ///
     /// ```
@@ -124,7 +124,7 @@ impl<T: Drop, R: Waits, A: Allocator + Copy> Receiver<T, R, A> {
     }
 
     /// Takes messages as `recv_many` does, and waits up to so long from now. The errors are those
-    /// of `recv_many_deadline`. Where no time is that late it waits as `recv_many` does.
+    /// of `recv_many_deadline`. If the deadline overflows, it waits as `recv_many` does.
     ///
     /// ```
     /// let (tx, rx) = flume::on(rt).unbounded()?;
@@ -193,7 +193,7 @@ struct ManyGate<'a, T, R: Waits, A: Allocator + Copy> {
 }
 
 impl<T: Drop, R: Waits, A: Allocator + Copy> ManyGate<'_, T, R, A> {
-    // Makes the turn of a call that waits, and where that gives a message takes what else is there.
+    // Makes the turn of a call that waits, and if that gives a message takes what else is there.
     // The list keeps the room that `arm` made until a message comes.
     #[cold]
     #[inline(never)]

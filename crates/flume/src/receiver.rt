@@ -28,7 +28,7 @@ use std::marker::Model;
 use std::sync::Arc;
 use std::time::{Duration, Instant};
 
-/// Receives the messages of a channel. Each message goes to one receiver, also where there are
+/// Receives the messages of a channel. Each message goes to one receiver, even if there are
 /// clones of it. As the last of them goes the channel closes: messages that are queued stay until
 /// the last sender goes too, and senders that are blocked get theirs back.
 pub struct Receiver<T, R: Waits, A: Allocator + Copy = Global> {
@@ -49,7 +49,7 @@ impl<T: Drop, R: Waits, A: Allocator + Copy> Receiver<T, R, A> {
         Receiver { shared }
     }
 
-    /// Takes the next message, where one is there. Doesn't wait for a sender. `Empty`: none is
+    /// Takes the next message, if one is there. Doesn't wait for a sender. `Empty`: none is
     /// there. `Disconnected`: none is, and all senders have been dropped. Never `NoMemory`.
     ///
     /// ```
@@ -85,9 +85,9 @@ impl<T: Drop, R: Waits, A: Allocator + Copy> Receiver<T, R, A> {
     }
 
     /// Takes the next message, and waits while there is none, up to the deadline. `Timeout`: it is
-    /// reached, and no message came. Where the channel is closed by then the answer is
+    /// reached, and no message came. If the channel is closed by then the answer is
     /// `Disconnected`. A clock that can't be read counts as past each deadline. A message that is
-    /// there is taken, even where the deadline was past before the call.
+    /// there is taken, even if the deadline was past before the call.
     ///
     /// ```
     /// let (_tx, rx) = flume::on(rt).unbounded::<u64>()?;
@@ -102,7 +102,7 @@ impl<T: Drop, R: Waits, A: Allocator + Copy> Receiver<T, R, A> {
     }
 
     /// Takes the next message, and waits while there is none, up to so long from now. The errors
-    /// are those of `recv_deadline`. Where no time is that late it waits as `recv` does.
+    /// are those of `recv_deadline`. If the deadline overflows, it waits as `recv` does.
     ///
     /// ```
     /// let (tx, rx) = flume::on(rt).unbounded()?;
@@ -118,7 +118,7 @@ impl<T: Drop, R: Waits, A: Allocator + Copy> Receiver<T, R, A> {
         recv_over(&self.shared.rt, &mut gate)
     }
 
-    /// The messages, one after the other. It waits for each, and ends where `recv` is refused.
+    /// The messages, one after the other. It waits for each, and ends if `recv` is refused.
     ///
     /// ```
     /// let (tx, rx) = flume::on(rt).unbounded()?;
@@ -204,7 +204,7 @@ impl<T: Drop, R: Waits, A: Allocator + Copy> Receiver<T, R, A> {
         self.shared.truth(AskTruth::IsFull)
     }
 
-    /// How many messages the channel holds; `None` of an unbounded one.
+    /// The capacity, or `None` if the channel is unbounded.
     pub fn capacity(&self) -> Option<usize>
         ensures made { HasReplied {T = T} {A = A} Step.Capacity (Reply.Capacity result) }
     {

@@ -38,7 +38,7 @@ use std::time::{Duration, Instant};
 
 /// Waits for the first of several sends and receives, its arms, and gives what is made of its
 /// result. Arms are added by `send` and `recv`, each with a mapper from the arm's result to a `V`,
-/// which all arms have in common; the type `L` lists the arms. So their number is known where the
+/// which all arms have in common; the type `L` lists the arms. So their number is known if the
 /// selector is compiled, no arm is boxed, and a selector without arms has no method that waits.
 ///
 /// ```
@@ -80,7 +80,7 @@ impl<'a, V, A: Allocator + Copy> Selector<'a, V, (), A> {
 
 impl<'a, V, L: Arms<V, A> + Drop, A: Allocator + Copy> Selector<'a, V, L, A> {
     /// With one more arm, which sends the message. Its mapper gets `Ok`: the message was taken in;
-    /// or `Disconnected` with the message: all receivers have been dropped. Where another arm
+    /// or `Disconnected` with the message: all receivers have been dropped. If another arm
     /// completes first the mapper isn't called, and the message is dropped unless it was taken in
     /// by then.
     pub fn send<T: Drop, F, R: Waits>(
@@ -101,7 +101,7 @@ impl<'a, V, L: Arms<V, A> + Drop, A: Allocator + Copy> Selector<'a, V, L, A> {
     }
 
     /// With one more arm, which receives a message. Its mapper gets `Ok` with the message; or
-    /// `Disconnected`: none is there, and all senders have been dropped. Where another arm
+    /// `Disconnected`: none is there, and all senders have been dropped. If another arm
     /// completes first the mapper isn't called, and no message was taken.
     pub fn recv<T: Drop, F, R: Waits>(
         self,
@@ -172,7 +172,7 @@ impl<'a, V, L: AtLeastOneArm<V, A> + Drop, A: Allocator + Copy> Selector<'a, V, 
         self.select(Deadline::At(deadline))
     }
 
-    /// Waits as `wait` does, up to so long from now. Where no time is that late it waits without a
+    /// Waits as `wait` does, up to so long from now. If the deadline overflows, it waits without a
     /// deadline.
     pub fn wait_timeout(self, timeout: Duration) -> Result<V, SelectError>
         requires can_map { L.can_map (L.mappers self.arms) }
@@ -187,7 +187,7 @@ impl<'a, V, L: AtLeastOneArm<V, A> + Drop, A: Allocator + Copy> Selector<'a, V, 
     /// was called. `NoMemory`: there was none for an arm's message; no mapper was called, and the
     /// arms behind it weren't tried. Nothing is left in a channel, and nothing is made to wait on.
     ///
-    /// The message of a send arm that isn't taken in is dropped, as it is where `wait` ends by
+    /// The message of a send arm that isn't taken in is dropped, as it is if `wait` ends by
     /// another arm: `Sender::try_send` hands it back. A send arm and a receive arm of one channel
     /// don't meet each other, since neither waits.
     ///
@@ -211,7 +211,8 @@ impl<'a, V, L: AtLeastOneArm<V, A> + Drop, A: Allocator + Copy> Selector<'a, V, 
         }
     }
 
-    // What the mapper of the first arm that completes makes of its result.
+    // What the mapper of the first arm that completes makes of its result. Each arm is tried before
+    // the parker is made, so that a selection that is ready at once takes no memory.
     fn select(mut self, deadline: Deadline) -> Result<V, SelectError>
         requires can_map { L.can_map (L.mappers self.arms) }
         ensures value { IfOk result (IsValue L.count L.maps (L.mappers self.entry.arms)) }
@@ -219,7 +220,11 @@ impl<'a, V, L: AtLeastOneArm<V, A> + Drop, A: Allocator + Copy> Selector<'a, V, 
     {
         let rt = self.arms.runtime();
         self.deadline = deadline;
-        let arm = select_over(&rt, &mut self)?;
+        let arm = match try_select_over(&mut self) {
+            Ok(Some(ready)) => ready,
+            Ok(None) => select_over(&rt, &mut self)?,
+            Err(NoMemory) => return Err(SelectError::NoMemory),
+        };
         match self.arms.value(arm) {
             Some(value) => Ok(value),
             None => unreachable!(),
@@ -263,9 +268,7 @@ impl<'a, V, L: AtLeastOneArm<V, A>, A: Allocator + Copy> SelectGate for Selector
     }
 
     // One parker for all arms, made before an arm is started: so a selection that is refused it has
-    // touched no channel. One that is ready at once has made and freed it for nothing. To try the
-    // arms first, as `try_wait` does, would need two turns of each, and between the two an arm
-    // before it may have become ready.
+    // left nothing in a channel.
     fn make_waiter(&mut self) -> Option<Arc<Parker, A>> {
         let parker = Parker::new(self.arms.checks());
         Arc::new(self.arms.alloc(), parker).ok()

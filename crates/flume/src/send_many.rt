@@ -1,9 +1,14 @@
 //! Sends of many messages: as many as the channel takes in are sent under one lock.
-ghost use Rattle.std.specs.Prelude.{◌≡◌, ◌≢◌, ◌∷◌, ◌<◌, Vec, IfOk, Err};
+ghost use Rattle.std.specs.Prelude.{◌≡◌, ◌≢◌, ◌∷◌, ◌<◌, Vec, vec_items, IfOk, IfErr, Ok, Err};
 ghost use Rattle.std.specs.VecDeque.{deque_len};
+ghost use Rattle.flume_deadline.specs.declared.Deadline.{Deadline};
 ghost use Rattle.flume_deadline.specs.declared.Deadline.TheVariants.{Never};
+ghost use Rattle.flume_deadline.specs.Deadlines.{IsAfter};
 ghost use Rattle.flume_calls.specs.ManySends.{IsRest};
+ghost use Rattle.flume.specs.CallSteps as answer;
 ghost use Rattle.flume.specs.ManySendCalls.{IsRestAfterWait};
+ghost use Rattle.flume.specs.ManySendSteps.{SendsBatch, SendsFirst, SendsManyUpTo};
+ghost use Rattle.flume.specs.ManySendSteps.{tried_list, error_list, result_list};
 
 use crate::answers::{tried_sends, waited_send};
 use crate::gate::Gate;
@@ -30,6 +35,7 @@ impl<T: Drop, R: Waits, A: Allocator + Copy> Sender<T, R, A> {
     /// assert_eq!(rt; rx.recv(), Ok(1));
     /// ```
     pub fn try_send_many(&self, messages: Vec<T, A>) -> Result<(), TrySendError<Vec<T, A>>>
+        ensures made { SendsBatch A messages.items (tried_list vec_items result) }
         ensures full { (rest : Vec T A) → result ≡ Err (TrySendError.Full rest)
             → IsRest messages.items rest.items }
         ensures disconnected { (rest : Vec T A) → result ≡ Err (TrySendError.Disconnected rest)
@@ -42,7 +48,7 @@ impl<T: Drop, R: Waits, A: Allocator + Copy> Sender<T, R, A> {
     }
 
     /// Sends messages in order, and waits while the channel is full. As many as the channel takes
-    /// in are sent under one lock. Where it is full the next message waits, as in `send`, and then
+    /// in are sent under one lock. If it is full the next message waits, as in `send`, and then
     /// the others go on; messages of other senders may come between. An error has all that weren't
     /// taken in, in order, in the list that was given: one that waited is the first. `Disconnected`
     /// and `NoMemory` as of `send`. None of an empty list.
@@ -56,6 +62,8 @@ impl<T: Drop, R: Waits, A: Allocator + Copy> Sender<T, R, A> {
     /// assert_eq!(rt; closed, Err(SendError::Disconnected(vec![in rt.alloc(); 4, 5]?)));
     /// ```
     pub fn send_many(&self, messages: Vec<T, A>) -> Result<(), SendError<Vec<T, A>>>
+        ensures made { SendsManyUpTo A Never messages.items
+            (result_list vec_items (answer.untimed_send result)) }
         ensures disconnected { (rest : Vec T A) → result ≡ Err (SendError.Disconnected rest)
             → IsRestAfterWait messages.items rest.items }
         ensures no_memory { (rest : Vec T A) → result ≡ Err (SendError.NoMemory rest)
@@ -78,6 +86,8 @@ impl<T: Drop, R: Waits, A: Allocator + Copy> Sender<T, R, A> {
         messages: Vec<T, A>,
         deadline: Instant,
     ) -> Result<(), SendTimeoutError<Vec<T, A>>>
+        ensures made { SendsManyUpTo A (Deadline.At deadline) messages.items
+            (result_list vec_items result) }
         ensures timeout { (rest : Vec T A) → result ≡ Err (SendTimeoutError.Timeout rest)
             → IsRestAfterWait messages.items rest.items }
         ensures disconnected { (rest : Vec T A) → result ≡ Err (SendTimeoutError.Disconnected rest)
@@ -89,7 +99,7 @@ impl<T: Drop, R: Waits, A: Allocator + Copy> Sender<T, R, A> {
     }
 
     /// Sends messages in order, and waits while the channel is full, up to so long from now. The
-    /// errors are those of `send_many_deadline`. Where no time is that late it waits as `send_many`
+    /// errors are those of `send_many_deadline`. If the deadline overflows, it waits as `send_many`
     /// does.
     ///
     /// ```
@@ -102,6 +112,8 @@ impl<T: Drop, R: Waits, A: Allocator + Copy> Sender<T, R, A> {
         messages: Vec<T, A>,
         timeout: Duration,
     ) -> Result<(), SendTimeoutError<Vec<T, A>>>
+        ensures made { (deadline : Deadline) × IsAfter timeout deadline
+            × SendsManyUpTo A deadline messages.items (result_list vec_items result) }
         ensures timeout { (rest : Vec T A) → result ≡ Err (SendTimeoutError.Timeout rest)
             → IsRestAfterWait messages.items rest.items }
         ensures disconnected { (rest : Vec T A) → result ≡ Err (SendTimeoutError.Disconnected rest)
@@ -114,12 +126,13 @@ impl<T: Drop, R: Waits, A: Allocator + Copy> Sender<T, R, A> {
     }
 
     // A send of many that waits up to the deadline: what is left is offered under one lock, and
-    // where the channel is full the first of it waits by itself.
+    // if the channel is full the first of it waits by itself.
     fn many_by(
         &self,
         messages: Vec<T, A>,
         deadline: Deadline,
     ) -> Result<(), SendTimeoutError<Vec<T, A>>>
+        ensures made { SendsManyUpTo A deadline messages.items (result_list vec_items result) }
         ensures timeout { (rest : Vec T A) → result ≡ Err (SendTimeoutError.Timeout rest)
             → IsRestAfterWait messages.items rest.items }
         ensures disconnected { (rest : Vec T A) → result ≡ Err (SendTimeoutError.Disconnected rest)
@@ -155,6 +168,10 @@ impl<T: Drop, R: Waits, A: Allocator + Copy> Sender<T, R, A> {
         deadline: Deadline,
     ) -> Result<VecDeque<T, A>, SendTimeoutError<Vec<T, A>>>
         requires some { 0 < deque_len messages }
+        ensures taken_in { IfOk result (λ behind.
+            SendsFirst A deadline messages.items (Ok behind.items)) }
+        ensures comes_back { IfErr result (λ error.
+            SendsFirst A deadline messages.items (Err (error_list vec_items error))) }
         ensures others { IfOk result (λ behind. (first : T)
             × (messages.items ≡ first ∷ behind.items)) }
         ensures timeout { (rest : Vec T A) → result ≡ Err (SendTimeoutError.Timeout rest)

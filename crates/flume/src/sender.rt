@@ -49,7 +49,7 @@ impl<T: Drop, R: Waits, A: Allocator + Copy> Sender<T, R, A> {
         Sender { shared }
     }
 
-    /// Sends a message, or gives it back where the channel is full or closed, or where memory ran
+    /// Sends a message, or gives it back if the channel is full or closed, or if memory ran
     /// out. Doesn't wait for a receiver.
     ///
     /// ```
@@ -90,9 +90,9 @@ impl<T: Drop, R: Waits, A: Allocator + Copy> Sender<T, R, A> {
     }
 
     /// Sends a message, and waits while the channel is full, up to the deadline. `Timeout`: it is
-    /// reached, and the message wasn't taken in. Where the channel is closed by then the answer is
-    /// `Disconnected`. A clock that can't be read counts as past each deadline. Where the channel
-    /// isn't full the message is sent, even where the deadline was past before the call.
+    /// reached, and the message wasn't taken in. If the channel is closed by then the answer is
+    /// `Disconnected`. A clock that can't be read counts as past each deadline. If the channel
+    /// isn't full the message is sent, even if the deadline was past before the call.
     ///
     /// ```
     /// let (tx, _rx) = flume::on(rt).bounded(1)?;
@@ -111,7 +111,7 @@ impl<T: Drop, R: Waits, A: Allocator + Copy> Sender<T, R, A> {
     }
 
     /// Sends a message, and waits while the channel is full, up to so long from now. The errors are
-    /// those of `send_deadline`. Where no time is that late it waits as `send` does.
+    /// those of `send_deadline`. If the deadline overflows, it waits as `send` does.
     ///
     /// ```
     /// let (tx, rx) = flume::on(rt).bounded(1)?;
@@ -156,7 +156,7 @@ impl<T: Drop, R: Waits, A: Allocator + Copy> Sender<T, R, A> {
         self.shared.truth(AskTruth::IsFull)
     }
 
-    /// How many messages the channel holds; `None` of an unbounded one.
+    /// The capacity, or `None` if the channel is unbounded.
     pub fn capacity(&self) -> Option<usize>
         ensures made { HasReplied {T = T} {A = A} Step.Capacity (Reply.Capacity result) }
     {

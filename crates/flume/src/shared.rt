@@ -174,7 +174,7 @@ impl<T: Drop, R: Waits, A: Allocator + Copy> Shared<T, R, A> {
         answer
     }
 
-    /// The channel, locked. Where nobody has the lock it is taken without a call.
+    /// The channel, locked. If nobody has the lock it is taken without a call.
     #[inline(always)]
     pub(crate) fn lock(&self) -> MutexGuard<'_, Locked<T, Signal<A>, A>> {
         match self.state.try_lock() {
@@ -183,7 +183,7 @@ impl<T: Drop, R: Waits, A: Allocator + Copy> Shared<T, R, A> {
         }
     }
 
-    // The channel, locked, where another thread has the lock. They are let be for longer and
+    // The channel, locked, if another thread has the lock. They are let be for longer and
     // longer, since each try takes the lock's memory from them; then the call sleeps for it.
     #[cold]
     #[inline(never)]
@@ -244,7 +244,7 @@ impl<T: Drop, R: Waits, A: Allocator + Copy> Shared<T, R, A> {
         self.call(turn)
     }
 
-    /// Polls the call under the lock, and fires what that made due. Where it has to wait, the
+    /// Polls the call under the lock, and fires what that made due. If it has to wait, the
     /// task's waker is put where the channel finds it, in the step that found nothing. `None`: the
     /// call waits.
     #[inline(always)]
@@ -285,9 +285,9 @@ impl<T: Drop, R: Waits, A: Allocator + Copy> Shared<T, R, A> {
         locked.poll(call, &mut signal, &mut SignalBell { rt: self.rt })
     }
 
-    /// Polls the receive as `poll` does. Where that gives a message it takes what else is there,
+    /// Polls the receive as `poll` does. If that gives a message it takes what else is there,
     /// at most so many more, under the same lock. All go into the list, which has room for one;
-    /// where there is no memory for more room it takes as many as there is room for.
+    /// if there is no memory for more room it takes as many as there is room for.
     #[inline(never)]
     pub(crate) fn poll_many(
         &self,

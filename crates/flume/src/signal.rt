@@ -53,7 +53,7 @@ impl Parker {
         }
     }
 
-    /// Wakes the call that waits, or the next one that will. Where nobody sleeps it asks nothing of
+    /// Wakes the call that waits, or the next one that will. If nobody sleeps it asks nothing of
     /// the system.
     pub fn fire<R: Wait>(&self, rt: &R) {
         if self.word.swap(FIRED, Ordering::SeqCst) == ASLEEP {
@@ -106,7 +106,7 @@ impl Parker {
         unreachable!()
     }
 
-    /// Waits until it is fired, or up to the deadline, if there is one. True, at once, where the
+    /// Waits until it is fired, or up to the deadline, if there is one. True, at once, if the
     /// deadline is reached.
     #[inline(always)]
     pub(crate) fn wait_up_to<R: Wait + Clock>(&self, rt: &R, deadline: Deadline) -> bool
@@ -144,7 +144,7 @@ impl Parker {
         self.compare_set(FIRED, IDLE)
     }
 
-    // Says that the call sleeps. False where a wake came before.
+    // Says that the call sleeps. False if a wake came before.
     fn begin_sleep(&self) -> bool {
         self.compare_set(IDLE, ASLEEP) || self.word.load(Ordering::SeqCst) == ASLEEP
     }

@@ -26,9 +26,9 @@ impl Task {
 
     /// The waker that a poll leaves with the channel, in place of the one that the call left
     /// before: that of the task that polls. The waker of the same task is taken over, since a waker
-    /// wakes its task as it is dropped. Where the executor can't make one, it polls the task again
+    /// wakes its task as it is dropped. If the executor can't make one, it polls the task again
     /// without a wake; then the waker is the one that the call left before, another task's, or
-    /// `None` where it had left none.
+    /// `None` if it had left none.
     #[inline(never)]
     pub(crate) fn waker<A: Allocator>(
         &self,

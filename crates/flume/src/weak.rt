@@ -34,7 +34,7 @@ impl<T: Drop, R: Waits, A: Allocator + Copy> WeakSender<T, R, A> {
         WeakSender { shared }
     }
 
-    /// A sender, while one lives, even where all receivers have been dropped; `None` once the last
+    /// A sender, while one lives, even if all receivers have been dropped; `None` once the last
     /// has been dropped. `NoMemory`: there are as many as can be counted.
     ///
     /// ```
@@ -56,7 +56,7 @@ impl<T: Drop, R: Waits, A: Allocator + Copy> WeakSender<T, R, A> {
     }
 }
 
-// What an upgrade answers, by the channel's reply to one more sender: there is a sender only where
+// What an upgrade answers, by the channel's reply to one more sender: there is a sender only if
 // the channel counts it.
 fn upgraded<T: Drop, R: Waits, A: Allocator + Copy>(
     reply: Reply<T, A>,

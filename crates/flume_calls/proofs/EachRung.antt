@@ -83,42 +83,43 @@ module _ {B S : Type 0} (rings : B → ℕ → S → B → Type 0) {T : Type 0} 
 
   -- whoever is due at first is rung for
   pub record Listed (old : State T S) (bell : B) (new : State T S) (end : B) : Type 0 where
-    pub told : List (ℕ × S)
-    pub rang : RingsFor rings bell told end
-    pub each : (t : ℕ) → Due old t → (signal : S) × (signal_of new t ≡ Some signal) × Contains told (t, signal)
+    pub calls : List (ℕ × S)
+    pub rang : RingsFor rings bell calls end
+    pub each : (t : ℕ) → Due old t → (signal : S) × (signal_of new t ≡ Some signal) × Contains calls (t, signal)
 
   -- it is the first of them, or one of the others
-  first_or_later : (new : State T S) (k t : ℕ) (signal : S) (told : List (ℕ × S)) → signal_of new k ≡ Some signal
-      → (eqb t k ≡ false → (found : S) × (signal_of new t ≡ Some found) × Contains told (t, found))
-      → (found : S) × (signal_of new t ≡ Some found) × Contains ((k, signal) ∷ told) (t, found)
-  first_or_later new k t signal told is later = by_case (eqb t k) refl
+  first_or_later : (new : State T S) (k t : ℕ) (signal : S) (calls : List (ℕ × S)) → signal_of new k ≡ Some signal
+      → (eqb t k ≡ false → (found : S) × (signal_of new t ≡ Some found) × Contains calls (t, found))
+      → (found : S) × (signal_of new t ≡ Some found) × Contains ((k, signal) ∷ calls) (t, found)
+  first_or_later new k t signal calls is later = by_case (eqb t k) refl
     where
-      by_case : (b : Bool) → eqb t k ≡ b → (found : S) × (signal_of new t ≡ Some found) × Contains ((k, signal) ∷ told) (t, found)
+      by_case : (b : Bool) → eqb t k ≡ b → (found : S) × (signal_of new t ≡ Some found) × Contains ((k, signal) ∷ calls) (t, found)
       by_case true e =
-          subst (λ u. (found : S) × (signal_of new u ≡ Some found) × Contains ((k, signal) ∷ told) (u, found)) (sym (eqb-true t k e))
+          subst (λ u. (found : S) × (signal_of new u ≡ Some found) × Contains ((k, signal) ∷ calls) (u, found)) (sym (eqb-true t k e))
           (signal, is, (0, omega arith, refl))
       by_case false e =
-          let found = later e in (found.0, found.1, Contains-append_right ((k, signal) ∷ []) told (t, found.0) found.2)
+          let found = later e in (found.0, found.1, Contains-append_right ((k, signal) ∷ []) calls (t, found.0) found.2)
 
   listed : {old new : State T S} {bell end : B} → Rings rings old bell new end → Listed old bell new end
   listed {old = old} (Over sends entries) = record {
-    told = [];
+    calls = [];
     rang = NoRing;
     each = λ t due. absurd (not_due old t sends entries due);
   }
   listed {old = old} {new = new} (Rung {named = named} {ticket = k} {signal = signal} names is rung rest) =
       let later = listed rest in
       record {
-        told = (k, signal) ∷ later.told;
+        calls = (k, signal) ∷ later.calls;
         rang = FirstRing rung later.rang;
-        each = λ t due. first_or_later new k t signal later.told (signals_kept rest k ∙ named_keeps old named k names k ∙ is)
+        each = λ t due. first_or_later new k t signal later.calls (signals_kept rest k ∙ named_keeps old named k names k ∙ is)
             (λ other. later.each t (still_due old named k t names other due));
       }
 
--- how the counts of ends say that a channel is open, or closed
+-- how the counts of ends say that a channel is open
 open_bit : (n m : ℕ) → IsOpen n m → is_closed n m ≡ false
 open_bit n m some = ne_eqb (min n m) 0 (λ e. omega arith)
 
+-- the same of a closed one
 closed_bit : (n m : ℕ) → IsClosed n m → is_closed n m ≡ true
 closed_bit n m none = eq-eqb (min n m) 0 none
 
@@ -240,7 +241,7 @@ module _ {T A S : Type 0} where
   each_rung rings {old} {between} {new} led steps rang =
       let list = listed rings rang in
       record {
-        told = list.told;
+        calls = list.calls;
         rang = list.rang;
         each = λ t goes. list.each t (due_then led.0 led.1 led.2 steps t (before_told old between new t (all_told rings rang) goes));
       }

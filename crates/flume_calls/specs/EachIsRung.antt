@@ -9,7 +9,7 @@ use Rattle.flume_state.specs.State.{State, accepted_at}
 use Rattle.flume_state.specs.Signals.{signal_of}
 
 module _ {T S : Type 0} where
-  -- how the receiver stands that is parked under a ticket: none where there is none
+  -- how the receiver stands that is parked under a ticket, if there is one
   abbrev pub mark_at : State T S → ℕ → Option (Mark T)
   mark_at s ticket = option_map (λ e. e.mark) (entry_of ticket s.entries)
 
@@ -43,7 +43,8 @@ module _ {B S : Type 0} (rings : B → ℕ → S → B → Type 0) where
   -- whose call may go on since, with the signal that it left last.
   pub record EachIsRung {T : Type 0} (old : State T S) (bell : B) (new : State T S) (rung : B)
       : Type 0 where
-    pub told : List (ℕ × S)
-    pub rang : RingsFor bell told rung
+    -- each by its ticket and its signal
+    pub calls : List (ℕ × S)
+    pub rang : RingsFor bell calls rung
     pub each : (ticket : ℕ) → MayGoOn old new ticket
-        → (signal : S) × (signal_of new ticket ≡ Some signal) × Contains told (ticket, signal)
+        → (signal : S) × (signal_of new ticket ≡ Some signal) × Contains calls (ticket, signal)

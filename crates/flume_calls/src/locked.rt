@@ -113,7 +113,7 @@ impl<T: Drop, S: Drop, A: Allocator + Copy> Locked<T, S, A> {
         self.chan.waiting_len()
     }
 
-    /// The signal that the call left last, where it is parked. It changes nothing, and is no step.
+    /// The signal that the call left last, if it is parked. It changes nothing, and is no step.
     #[inline(always)]
     pub fn parked_signal<P: Polled<T, S, A>>(&self, polled: &P) -> Option<&S>
         ensures signal { option_copied result

@@ -19,7 +19,7 @@ pub trait Polled<T, S, A: Allocator> {
     /// What the call ends with.
     type Answer;
 
-    // Where a poll would have to wait.
+    // If a poll would have to wait.
     ghost waits: { Self → State T S → Type 0 };
 
     // The call before, the signal that it is given, if any, the channel before and after, the call
@@ -38,7 +38,7 @@ pub trait Polled<T, S, A: Allocator> {
         ensures waits { IsTrue result ↔ waits self.now chan.now };
 
     // The signal is taken from a place, and not handed over by value: an implementation of a
-    // trait's method with an `Option<S>` by value, where `S` is the trait's, is refused by the
+    // trait's method with an `Option<S>` by value, if `S` is the trait's, is refused by the
     // checker ("error[unsupported-theorem]: cannot give this method the clauses of its trait yet").
     /// Polls the call, which takes the signal from where it is given. `None`: it waits, and the
     /// signal was left in the very step that found nothing. Where it would wait and no signal is

@@ -17,9 +17,9 @@ pub enum Single {
     CloneSender,
     /// One more receiver: `Done`; or `NoEnd` or `CountFull`, and nothing changed.
     CloneReceiver,
-    /// One sender less: `Done`; or `NoEnd` where none was left, and nothing changed.
+    /// One sender less: `Done`; or `NoEnd` if none was left, and nothing changed.
     DropSender,
-    /// One receiver less: `Done`; or `NoEnd` where none was left, and nothing changed.
+    /// One receiver less: `Done`; or `NoEnd` if none was left, and nothing changed.
     DropReceiver,
 }
 

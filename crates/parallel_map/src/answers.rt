@@ -13,8 +13,8 @@ use std::alloc::Global;
 
 /// The values of all jobs, in the order of the jobs. It compares each answer with the list: what
 /// the iterator gives needn't be believed. It stops at the first answer that is to no job
-/// (`Unknown`) or to a job that was answered (`Doubled`). Where the iterator ends before each job
-/// was answered, the first that wasn't is `Missing`. Where it gives one right answer for each job,
+/// (`Unknown`) or to a job that was answered (`Doubled`). If the iterator ends before each job
+/// was answered, the first that wasn't is `Missing`. If it gives one right answer for each job,
 /// in any order, no error comes but `NoMemory` (`served`).
 ///
 /// ```
@@ -46,7 +46,7 @@ pub fn collect<W: Work, I: Iterator<Item = Answer<W>> + Drop>(
 }
 
 /// The number of a job of the value `true`: that of the first answer with this value, at which it
-/// stops. `None` where each job was answered, and none has this value. The errors are those of
+/// stops. `None` if each job was answered, and none has this value. The errors are those of
 /// `collect`.
 ///
 /// ```

@@ -50,7 +50,7 @@ impl fmt::Display for WorkError {
 
 impl Error for WorkError {}
 
-/// Of the kind `OutOfMemory`, `WouldBlock` where there was no thread, or `InvalidData`.
+/// Of the kind `OutOfMemory`, `WouldBlock` if there was no thread, or `InvalidData`.
 impl From<WorkError> for io::Error {
     fn from(e: WorkError) -> io::Error {
         let kind = match e {

@@ -1,7 +1,7 @@
 //! Jobs for many threads, whose result is proved.
 //!
 //! `parallel_map` gives the jobs of a list to threads, through one channel, and gets their answers
-//! back through another, in any order. Where it answers `Ok`, the list is the value of each job, in
+//! back through another, in any order. If it answers `Ok`, the list is the value of each job, in
 //! the order of the jobs: what a loop in one thread would give. `position_any` searches the list in
 //! the same way, and ends its threads once one of them found something.
 //!

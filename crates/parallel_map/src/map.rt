@@ -9,7 +9,7 @@ use crate::work::Work;
 use flume::Runtime;
 
 /// The values of all jobs, in the order of the jobs, by so many threads: at least one, and another
-/// one that hands the jobs to them. All have ended when it returns. Where memory was refused to one
+/// one that hands the jobs to them. All have ended when it returns. If memory was refused to one
 /// of them it answers `NoMemory`.
 ///
 /// ```

@@ -18,7 +18,7 @@ type Ended = Result<(), NoMemory>;
 
 /// What is made of the answers of so many threads, at least one. One more hands the jobs to them:
 /// who receives the answers can't wait for room. At the end of the scope all of them have ended,
-/// also where one can't be started: the ends of the channels go then, and so the others end.
+/// even if one can't be started: the ends of the channels go then, and so the others end.
 pub(crate) fn by_threads<W: Work + Sync, R: Runtime, G: Gather<W>>(
     rt: R,
     work: &W,

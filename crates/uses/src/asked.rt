@@ -9,7 +9,7 @@ use std::alloc::Allocator;
 
 /// Polls a send once, by hand. `Some(None)`: its message was taken in. `Some(Some(back))`: its
 /// message comes back, and it is the one that the future was made with. None: it was pending, and
-/// was given up: the future goes, and where its message wasn't taken in by then, the message too.
+/// was given up: the future goes, and if its message wasn't taken in by then, the message too.
 pub fn poll_once<T: Drop, R: Waits, A: Allocator + Copy>(
     tx: &Sender<T, R, A>,
     message: T,
@@ -26,7 +26,7 @@ pub fn poll_once<T: Drop, R: Waits, A: Allocator + Copy>(
     }
 }
 
-/// Whether all three send into one channel, where no two channels have the same number.
+/// Whether all three send into one channel, if no two channels have the same number.
 pub fn send_together<T: Drop, R: Waits, A: Allocator + Copy>(
     first: &Sender<T, R, A>,
     second: &Sender<T, R, A>,

@@ -28,7 +28,7 @@ pub fn pass_all<A: Allocator + Copy>(chan: &mut Chan<u64, (), A>, count: u64) ->
     sum
 }
 
-// Receives a message where one is there, and 0 where none is.
+// Receives a message if one is there, and 0 if none is.
 fn received<A: Allocator + Copy>(chan: &mut Chan<u64, (), A>) -> u64
     ensures step { (reply : Reply ℕ A) × Extends chan.old Step.TryRecv reply chan.new
         × (sum_of (gives reply) ≡ result) }

@@ -62,7 +62,7 @@ impl<T: Drop, A: Allocator + Copy> Lent<T, A> {
         }
     }
 
-    // Lets the other do it. True where there is nothing to do.
+    // Lets the other do it. True if there is nothing to do.
     fn let_other(&mut self) -> bool
         ensures does { Others A self.old.locked self.new.locked }
     {
@@ -185,8 +185,8 @@ impl<T: Drop, A: Allocator + Copy> RecvGate<T> for Lent<T, A> {
     }
 }
 
-/// A send through the gate. Where it ends well its message was offered, and is not blocked any
-/// more; where it ends at its deadline its message was offered and blocked, and its last step took
+/// A send through the gate. If it ends well its message was offered, and is not blocked any
+/// more; if it ends at its deadline its message was offered and blocked, and its last step took
 /// it back.
 pub fn send_through<T: Drop, A: Allocator + Copy, R: Wait>(
     rt: &R,
@@ -201,8 +201,8 @@ pub fn send_through<T: Drop, A: Allocator + Copy, R: Wait>(
     send_over(rt, gate, message)
 }
 
-/// A receive through the gate. Where it ends well its message was handed out to it by its last
-/// step; where it ends at its deadline it was parked, and left by its last step with no message.
+/// A receive through the gate. If it ends well its message was handed out to it by its last
+/// step; if it ends at its deadline it was parked, and left by its last step with no message.
 pub fn receive_through<T: Drop, A: Allocator + Copy, R: Wait>(
     rt: &R,
     gate: &mut Lent<T, A>,

@@ -5,7 +5,7 @@ use flume::{Sender, Waits};
 use std::alloc::Allocator;
 use std::collections::VecDeque;
 
-/// Offers a message once, without waiting. It comes back where it wasn't taken in, for whatever
+/// Offers a message once, without waiting. It comes back if it wasn't taken in, for whatever
 /// reason, and it is the very message.
 pub fn offer<T: Drop, R: Waits, A: Allocator + Copy>(tx: &Sender<T, R, A>, message: T) -> Option<T>
     ensures same { IfSome result (λ back. back ≡ message) }

@@ -15,7 +15,7 @@ pub struct Share {
 }
 
 impl Share {
-    /// So many parts of a whole. None where the whole has no part, or fewer than there are.
+    /// So many parts of a whole. None if the whole has no part, or fewer than there are.
     pub fn new(parts: u32, whole: u32) -> Option<Share>
         ensures made { IfSome result (λ share. (share.parts ≡ parts) × (share.whole ≡ whole)) }
         ensures none { IfNone result ((whole ≡ 0) ⊎ (whole < parts)) }

@@ -2,6 +2,7 @@
 ghost use Rattle.std.specs.Prelude.{◌≡◌, ◌+◌, ◌<◌, ⊤, Result, None, vec_len, vec_capacity};
 ghost use Rattle.futures.specs.Task.{Covers, Keeps};
 ghost use Rattle.futures.specs.Poll.{IfReady, OnPending};
+ghost use Rattle.flume.specs.CallSteps.{HasReplied, IsTerminated};
 ghost use Rattle.flume.specs.Ends.{end_of};
 ghost use Rattle.flume.specs.Polling.{answer_of};
 ghost use Rattle.flume.specs.ReceivePolls.{LeavesCall, HasPolledReceive, HasPolledMany};
@@ -12,7 +13,7 @@ use crate::shared::Waits;
 use crate::task::Task;
 use flume_calls::polled::PolledReceive;
 use flume_core::error::RecvError;
-use flume_model::step::Kind;
+use flume_model::step::{Kind, Reply, Step};
 use futures::Future;
 use futures::task::{Context, Poll};
 use std::alloc::{Allocator, Global};
@@ -89,7 +90,7 @@ impl<'a, T: Drop, R: Waits, A: Allocator + Copy> RecvFut<'a, T, R, A> {
         &self.receiver
     }
 
-    /// Polls it, and where it gives a message takes what else is there, at most so many more, into
+    /// Polls it, and if it gives a message takes what else is there, at most so many more, into
     /// a list that has room for one. `None`: it waits.
     pub(crate) fn poll_many(
         &mut self,
@@ -110,33 +111,45 @@ impl<'a, T: Drop, R: Waits, A: Allocator + Copy> RecvFut<'a, T, R, A> {
     }
 
     /// Whether all senders, or all receivers, have been dropped.
-    pub fn is_disconnected(&self) -> bool {
+    pub fn is_disconnected(&self) -> bool
+        ensures made { HasReplied {T = T} {A = A} Step.IsDisconnected (Reply.Truth result) }
+    {
         self.receiver().is_disconnected()
     }
 
     /// Whether no message is queued.
-    pub fn is_empty(&self) -> bool {
+    pub fn is_empty(&self) -> bool
+        ensures made { HasReplied {T = T} {A = A} Step.IsEmpty (Reply.Truth result) }
+    {
         self.receiver().is_empty()
     }
 
     /// Whether the channel is bounded, and as many messages are queued as it holds.
-    pub fn is_full(&self) -> bool {
+    pub fn is_full(&self) -> bool
+        ensures made { HasReplied {T = T} {A = A} Step.IsFull (Reply.Truth result) }
+    {
         self.receiver().is_full()
     }
 
     /// How many messages are queued.
-    pub fn len(&self) -> usize {
+    pub fn len(&self) -> usize
+        ensures made { HasReplied {T = T} {A = A} Step.Len (Reply.Number result) }
+    {
         self.receiver().len()
     }
 
-    /// How many messages the channel holds; `None` of an unbounded one.
-    pub fn capacity(&self) -> Option<usize> {
+    /// The capacity, or `None` if the channel is unbounded.
+    pub fn capacity(&self) -> Option<usize>
+        ensures made { HasReplied {T = T} {A = A} Step.Capacity (Reply.Capacity result) }
+    {
         self.receiver().capacity()
     }
 
     /// Whether the channel is disconnected and no message is queued, so that no more will come. It
     /// doesn't say that this future was ready.
-    pub fn is_terminated(&self) -> bool {
+    pub fn is_terminated(&self) -> bool
+        ensures made { IsTerminated T A result }
+    {
         self.is_disconnected() && self.is_empty()
     }
 }

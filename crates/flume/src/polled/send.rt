@@ -4,6 +4,7 @@ ghost use Rattle.futures.specs.Task.{Covers, Keeps};
 ghost use Rattle.futures.specs.Poll.{IfReady, OnPending};
 ghost use Rattle.flume_calls.specs.declared.polled.send.PolledSend.TheVariants.{Finished, Unsent};
 ghost use Rattle.flume_calls.specs.declared.polled.send.PolledSend.TheVariants.{Parked};
+ghost use Rattle.flume.specs.CallSteps.{HasReplied};
 ghost use Rattle.flume.specs.Ends.{end_of};
 ghost use Rattle.flume.specs.ManySendCalls.{PollLeaves};
 ghost use Rattle.flume.specs.Polling.{answer_of};
@@ -15,6 +16,7 @@ use crate::shared::Waits;
 use crate::task::Task;
 use flume_calls::polled::PolledSend;
 use flume_core::error::SendError;
+use flume_model::step::{Reply, Step};
 use futures::Future;
 use futures::task::{Context, Poll};
 use std::alloc::{Allocator, Global};
@@ -131,32 +133,44 @@ impl<'a, T: Drop, R: Waits, A: Allocator + Copy> SendFut<'a, T, R, A> {
     }
 
     /// Whether all receivers, or all senders, have been dropped.
-    pub fn is_disconnected(&self) -> bool {
+    pub fn is_disconnected(&self) -> bool
+        ensures made { HasReplied {T = T} {A = A} Step.IsDisconnected (Reply.Truth result) }
+    {
         self.sender().is_disconnected()
     }
 
     /// Whether no message is queued.
-    pub fn is_empty(&self) -> bool {
+    pub fn is_empty(&self) -> bool
+        ensures made { HasReplied {T = T} {A = A} Step.IsEmpty (Reply.Truth result) }
+    {
         self.sender().is_empty()
     }
 
     /// Whether the channel is bounded, and as many messages are queued as it holds.
-    pub fn is_full(&self) -> bool {
+    pub fn is_full(&self) -> bool
+        ensures made { HasReplied {T = T} {A = A} Step.IsFull (Reply.Truth result) }
+    {
         self.sender().is_full()
     }
 
     /// How many messages are queued.
-    pub fn len(&self) -> usize {
+    pub fn len(&self) -> usize
+        ensures made { HasReplied {T = T} {A = A} Step.Len (Reply.Number result) }
+    {
         self.sender().len()
     }
 
-    /// How many messages the channel holds; `None` of an unbounded one.
-    pub fn capacity(&self) -> Option<usize> {
+    /// The capacity, or `None` if the channel is unbounded.
+    pub fn capacity(&self) -> Option<usize>
+        ensures made { HasReplied {T = T} {A = A} Step.Capacity (Reply.Capacity result) }
+    {
         self.sender().capacity()
     }
 
     /// Whether the channel is disconnected. It doesn't say that this future was ready.
-    pub fn is_terminated(&self) -> bool {
+    pub fn is_terminated(&self) -> bool
+        ensures made { HasReplied {T = T} {A = A} Step.IsDisconnected (Reply.Truth result) }
+    {
         self.is_disconnected()
     }
 }

@@ -4,6 +4,7 @@ ghost use Rattle.futures.specs.Task.{Covers, Keeps};
 ghost use Rattle.futures.specs.Poll.{IfReady, OnPending};
 ghost use Rattle.futures.specs.Sent.{UnlessFailed};
 ghost use Rattle.flume_calls.specs.declared.polled.send.PolledSend.TheVariants.{Finished, Parked};
+ghost use Rattle.flume.specs.CallSteps.{HasReplied};
 ghost use Rattle.flume.specs.Ends.{end_of};
 ghost use Rattle.flume.specs.ManySendCalls.{IsEndOf, PollLeaves};
 ghost use Rattle.flume.specs.Polling.{answer_of};
@@ -16,6 +17,7 @@ use crate::sender::Sender;
 use crate::shared::Waits;
 use flume_calls::polled::PolledSend;
 use flume_core::error::SendError;
+use flume_model::step::{Reply, Step};
 use futures::task::{Context, Poll};
 use futures::{Future, Sink};
 use std::alloc::{AllocError, Allocator, Global};
@@ -72,7 +74,7 @@ impl<'a, T: Drop, R: Waits, A: Allocator + Copy> SendSink<'a, T, R, A> {
     }
 
     /// Polls for these messages to be sent, in order, from the front of the list on. As many as the
-    /// channel takes in are sent under one lock. Where it is full the sink keeps the next one, and
+    /// channel takes in are sent under one lock. If it is full the sink keeps the next one, and
     /// that one blocks as one of `start_send` does; the poll is pending, and those behind it stay
     /// in the list. A message that the sink keeps goes first. Ready with `Ok`: all are sent; the
     /// list is empty, and without its room.
@@ -129,27 +131,37 @@ impl<'a, T: Drop, R: Waits, A: Allocator + Copy> SendSink<'a, T, R, A> {
     }
 
     /// Whether all receivers, or all senders, have been dropped.
-    pub fn is_disconnected(&self) -> bool {
+    pub fn is_disconnected(&self) -> bool
+        ensures made { HasReplied {T = T} {A = A} Step.IsDisconnected (Reply.Truth result) }
+    {
         self.kept.is_disconnected()
     }
 
     /// Whether no message is queued.
-    pub fn is_empty(&self) -> bool {
+    pub fn is_empty(&self) -> bool
+        ensures made { HasReplied {T = T} {A = A} Step.IsEmpty (Reply.Truth result) }
+    {
         self.kept.is_empty()
     }
 
     /// Whether the channel is bounded, and as many messages are queued as it holds.
-    pub fn is_full(&self) -> bool {
+    pub fn is_full(&self) -> bool
+        ensures made { HasReplied {T = T} {A = A} Step.IsFull (Reply.Truth result) }
+    {
         self.kept.is_full()
     }
 
     /// How many messages are queued. One that the sink keeps isn't.
-    pub fn len(&self) -> usize {
+    pub fn len(&self) -> usize
+        ensures made { HasReplied {T = T} {A = A} Step.Len (Reply.Number result) }
+    {
         self.kept.len()
     }
 
-    /// How many messages the channel holds; `None` of an unbounded one.
-    pub fn capacity(&self) -> Option<usize> {
+    /// The capacity, or `None` if the channel is unbounded.
+    pub fn capacity(&self) -> Option<usize>
+        ensures made { HasReplied {T = T} {A = A} Step.Capacity (Reply.Capacity result) }
+    {
         self.kept.capacity()
     }
 

@@ -6,6 +6,7 @@ ghost use Rattle.futures.specs.Task.{Covers, Keeps};
 ghost use Rattle.futures.specs.Poll.{IfReady, OnPending};
 ghost use Rattle.futures.specs.Runs.{After, Within};
 ghost use Rattle.flume_model.specs.declared.step.Kind.TheVariants.{Stream};
+ghost use Rattle.flume.specs.CallSteps.{HasReplied, IsTerminated};
 ghost use Rattle.flume.specs.Ends.{end_of};
 ghost use Rattle.flume.specs.ManyCalls.{Came};
 ghost use Rattle.flume.specs.Polling.{answer_of};
@@ -17,7 +18,7 @@ use crate::polled::receive::RecvFut;
 use crate::receiver::Receiver;
 use crate::shared::Waits;
 use flume_core::error::{NoMemory, RecvError};
-use flume_model::step::Kind;
+use flume_model::step::{Kind, Reply, Step};
 use futures::task::{Context, Poll};
 use futures::{Future, Stream};
 use std::alloc::{AllocError, Allocator, Global};
@@ -25,7 +26,7 @@ use std::fmt;
 use std::mem::replace;
 
 /// The messages of a receiver, one after the other, as a stream: `Receiver::stream` and
-/// `Receiver::into_stream`. `None`: none is there and all senders have been dropped, or, where
+/// `Receiver::into_stream`. `None`: none is there and all senders have been dropped, or, if
 /// `fault` says so, there was no memory to wait. After a `None` there may be more.
 #[derive(Drop)]
 pub struct RecvStream<'a, T, R: Waits, A: Allocator + Copy = Global> {
@@ -90,7 +91,7 @@ impl<'a, T: Drop, R: Waits, A: Allocator + Copy> RecvStream<'a, T, R, A> {
         self.fault
     }
 
-    /// The same as a `Result`, for a program that goes on by `?`: an error exactly where `fault` is
+    /// The same as a `Result`, for a program that goes on by `?`: an error exactly if `fault` is
     /// true.
     pub fn ended(&self) -> Result<(), NoMemory>
         ensures no_memory { IsErr result ↔ self.now.fault ≡ true }
@@ -104,7 +105,7 @@ impl<'a, T: Drop, R: Waits, A: Allocator + Copy> RecvStream<'a, T, R, A> {
     ///
     /// `Disconnected`: none is there, and all senders have been dropped. `NoMemory`: there was no
     /// room for one message in `into`, or no memory to wait. Neither takes a message, and both
-    /// leave `into` as it was. Where there is no memory for more room it takes as many as there is
+    /// leave `into` as it was. If there is no memory for more room it takes as many as there is
     /// room for, one at least. `fault` is true after it exactly if it answered `NoMemory`.
     ///
     /// ```
@@ -179,32 +180,44 @@ impl<'a, T: Drop, R: Waits, A: Allocator + Copy> RecvStream<'a, T, R, A> {
     }
 
     /// Whether all senders, or all receivers, have been dropped.
-    pub fn is_disconnected(&self) -> bool {
+    pub fn is_disconnected(&self) -> bool
+        ensures made { HasReplied {T = T} {A = A} Step.IsDisconnected (Reply.Truth result) }
+    {
         self.next.is_disconnected()
     }
 
     /// Whether no message is queued.
-    pub fn is_empty(&self) -> bool {
+    pub fn is_empty(&self) -> bool
+        ensures made { HasReplied {T = T} {A = A} Step.IsEmpty (Reply.Truth result) }
+    {
         self.next.is_empty()
     }
 
     /// Whether the channel is bounded, and as many messages are queued as it holds.
-    pub fn is_full(&self) -> bool {
+    pub fn is_full(&self) -> bool
+        ensures made { HasReplied {T = T} {A = A} Step.IsFull (Reply.Truth result) }
+    {
         self.next.is_full()
     }
 
     /// How many messages are queued.
-    pub fn len(&self) -> usize {
+    pub fn len(&self) -> usize
+        ensures made { HasReplied {T = T} {A = A} Step.Len (Reply.Number result) }
+    {
         self.next.len()
     }
 
-    /// How many messages the channel holds; `None` of an unbounded one.
-    pub fn capacity(&self) -> Option<usize> {
+    /// The capacity, or `None` if the channel is unbounded.
+    pub fn capacity(&self) -> Option<usize>
+        ensures made { HasReplied {T = T} {A = A} Step.Capacity (Reply.Capacity result) }
+    {
         self.next.capacity()
     }
 
     /// Whether the channel is disconnected and no message is queued, so that no more will come.
-    pub fn is_terminated(&self) -> bool {
+    pub fn is_terminated(&self) -> bool
+        ensures made { IsTerminated T A result }
+    {
         self.next.is_terminated()
     }
 

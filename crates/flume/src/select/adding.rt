@@ -1,5 +1,5 @@
 //! Arms added in a loop: one for each end of a list.
-ghost use Rattle.std.specs.Prelude.{◌≡◌, ◌↔◌, IfOk, Err, [], map, length};
+ghost use Rattle.std.specs.Prelude.{◌≡◌, ◌↔◌, IfOk, Err, map, length};
 ghost use Rattle.std.specs.NonZero.{non_zero_usize_get};
 ghost use Rattle.flume.specs.declared.select.error.EachError.{EachError};
 ghost use Rattle.flume.specs.declared.select.send.SendState.{SendState};

@@ -15,7 +15,7 @@ pub trait ArmTurns<A: Allocator + Copy> {
     /// The runtime of its channel.
     type Runtime: Waits;
 
-    /// The mapper that it has, of its result alone; `()`, where it is one of a list.
+    /// The mapper that it has, of its result alone; `()`, if it is one of a list.
     type Mapper;
 
     ghost mapper: { Self → Self.Mapper };
@@ -38,15 +38,15 @@ pub trait ArmTurns<A: Allocator + Copy> {
     /// How often a call on its channel checks for its wake before it sleeps.
     fn checks(&self) -> u32;
 
-    /// Its turn, which is one step of its channel: it is started, or polled where it was started
-    /// before. Where it parks it leaves a copy of the parker, with its number. With no parker an
-    /// arm that isn't started is only tried: it stays so where it would have to wait.
+    /// Its turn, which is one step of its channel: it is started, or polled if it was started
+    /// before. If it parks it leaves a copy of the parker, with its number. With no parker an
+    /// arm that isn't started is only tried: it stays so if it would have to wait.
     fn turn(&mut self, number: usize, parker: Option<&Arc<Parker, A>>) -> ArmNext
         ensures does { turns (is_some parker.entry) self.old result self.new }
         ensures completed { result ≡ ArmNext.Completed → has_completed self.new }
         ensures mapper { mapper self.new ≡ mapper self.old };
 
-    /// Takes it out of its channel, by one step, where it is parked. What it would have sent is
+    /// Takes it out of its channel, by one step, if it is parked. What it would have sent is
     /// dropped.
     fn withdraw(&mut self)
         ensures does { withdraws self.old self.new }
@@ -128,13 +128,13 @@ pub trait Arms<V, A: Allocator + Copy> {
     /// The greatest of their numbers of checks.
     fn checks(&self) -> u32;
 
-    /// The turn of the arm with this number. Where there is none, nothing is done.
+    /// The turn of the arm with this number. If there is none, nothing is done.
     fn turn(&mut self, arm: usize, parker: Option<&Arc<Parker, A>>) -> ArmNext
         ensures does { turns (is_some parker.entry) self.old arm result self.new }
         ensures completed { result ≡ ArmNext.Completed → has_completed self.new arm }
         ensures mappers { mappers self.new ≡ mappers self.old };
 
-    /// Withdraws the arm with this number. Where there is none, nothing is done.
+    /// Withdraws the arm with this number. If there is none, nothing is done.
     fn withdraw(&mut self, arm: usize)
         ensures does { withdraws self.old arm self.new }
         ensures completed { (other : ℕ) → has_completed self.old other

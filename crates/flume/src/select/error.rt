@@ -52,7 +52,7 @@ impl From<AllocError> for EachError {
     }
 }
 
-/// Of the kind `InvalidInput` where there is no arm, and `OutOfMemory` where there was none.
+/// Of the kind `InvalidInput` if there is no arm, and `OutOfMemory` if there was none.
 impl From<EachError> for io::Error {
     ghost from_gives = { λ e error. error_kind error ≡ each_kind e };
 

@@ -56,7 +56,7 @@ impl<'a, T: Drop, F: Drop, R: Waits, A: Allocator + Copy> RecvArm<'a, T, F, R, A
         }
     }
 
-    // Starts the arm. Where it parks it leaves a copy of the parker, with its number.
+    // Starts the arm. If it parks it leaves a copy of the parker, with its number.
     fn start(&mut self, number: usize, parker: &Arc<Parker, A>) -> ArmNext
         ensures does { StartsReceive A result self.new.state }
         ensures mapper { self.new.mapper ≡ self.old.mapper }
@@ -107,7 +107,7 @@ impl<'a, T: Drop, F: Drop, R: Waits, A: Allocator + Copy> RecvArm<'a, T, F, R, A
     }
 }
 
-// Where a turn takes the arm.
+// If a turn takes the arm.
 fn after<T: Drop>(next: RecvNext<T>) -> (ReceiveState<T>, ArmNext)
     requires turn { IsArmReceive next }
     ensures does { TakesReceive next result.1 result.0 }

@@ -55,7 +55,7 @@ impl<'a, T: Drop, F: Drop, R: Waits, A: Allocator + Copy> SendArm<'a, T, F, R, A
         }
     }
 
-    // Starts the arm. Where it parks it leaves a copy of the parker, with its number.
+    // Starts the arm. If it parks it leaves a copy of the parker, with its number.
     fn start(&mut self, message: T, number: usize, parker: &Arc<Parker, A>) -> ArmNext
         ensures does { StartsSend A message result self.new.state }
         ensures mapper { self.new.mapper ≡ self.old.mapper }
@@ -106,7 +106,7 @@ impl<'a, T: Drop, F: Drop, R: Waits, A: Allocator + Copy> SendArm<'a, T, F, R, A
     }
 }
 
-// Where a turn takes the arm.
+// If a turn takes the arm.
 fn after<T: Drop>(next: SendNext<T>) -> (SendState<T>, ArmNext)
     requires turn { IsArmSend next }
     ensures does { TakesSend next result.1 result.0 }

@@ -98,13 +98,13 @@ impl RecvCall {
     }
 
     /// A later turn; `late` says that the deadline is reached. `Done(Ok)`: the message that filled
-    /// it, or else the front: before the deadline where it doesn't block or was woken, at the
-    /// deadline where it blocks. `Park`: it waits on, and isn't late; a signal given here replaces
+    /// it, or else the front: before the deadline if it doesn't block or was woken, at the
+    /// deadline if it blocks. `Park`: it waits on, and isn't late; a signal given here replaces
     /// the one that the call left. `Done(Err(Disconnected))`: no message for it, and the channel is
     /// closed, or the ticket is spent. `Done(Err(Timeout))`: late, no message for it, and the
-    /// channel is open. A wake that it had is passed on by either error where late. After all but
+    /// channel is open. A wake that it had is passed on by either error if late. After all but
     /// `Park` the ticket is spent. Never `Refused` and never `NoMemory`: no memory is needed. The
-    /// step is `Chan::poll`, or where late `Chan::withdraw`.
+    /// step is `Chan::poll`, or if late `Chan::withdraw`.
     ///
     /// ```
     /// let mut chan: Chan<u64, u32> = Chan::new(alloc, None);
@@ -160,7 +160,7 @@ impl<T: Drop, S: Drop, A: Allocator + Copy> Turn<T, S, A> for FirstReceive {
 /// A receive's turn that may park, as a value: `RecvCall::park`.
 #[derive(Drop)]
 pub struct ParkReceive<S> {
-    /// The kind of receiver that parks where there is no message.
+    /// The kind of receiver that parks if there is no message.
     pub kind: Kind,
     /// What is left then.
     pub signal: S,

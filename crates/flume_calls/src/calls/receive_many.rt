@@ -68,7 +68,7 @@ impl<T: Drop, S: Drop, A: Allocator + Copy> Turn<T, S, A> for FirstReceiveMany<T
     }
 }
 
-/// Takes what is there, and nothing where none is there: for a call that has a message already.
+/// Takes what is there, and nothing if none is there: for a call that has a message already.
 #[derive(Drop)]
 pub struct MoreReceives<T, A: Allocator> {
     /// What the messages are put behind.
@@ -96,7 +96,7 @@ impl<T: Drop, S: Drop, A: Allocator + Copy> Turn<T, S, A> for MoreReceives<T, A>
     }
 }
 
-/// A turn of a receive, and then, where it gave a message, what else is there.
+/// A turn of a receive, and then, if it gave a message, what else is there.
 #[derive(Drop)]
 pub struct ReceiveAndMore<C, T, A: Allocator> {
     /// The turn.
@@ -144,7 +144,7 @@ where
     }
 }
 
-// The message that a turn of a receive gave. `Err`: what the turn says where it gave none.
+// The message that a turn of a receive gave. `Err`: what the turn says if it gave none.
 fn message_of<T: Drop>(turn: RecvNext<T>) -> Result<T, RecvNext<usize>>
     ensures message { IfOk result (λ message. turn ≡ RecvNext.Done (Ok message)) }
     ensures none { IfErr result (λ next. (given turn ≡ []) × (next ≡ with_more 0 turn)) }
@@ -158,7 +158,7 @@ fn message_of<T: Drop>(turn: RecvNext<T>) -> Result<T, RecvNext<usize>>
     }
 }
 
-// Takes what is there, at most so many: all of it where there is room in the list or memory for
+// Takes what is there, at most so many: all of it if there is room in the list or memory for
 // more, and else as many as there is room for.
 fn take_more<T: Drop, S: Drop, A: Allocator + Copy>(
     chan: &mut Chan<T, S, A>,

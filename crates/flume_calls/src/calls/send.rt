@@ -101,7 +101,7 @@ impl SendCall {
     /// signal given here replaces the one that the call left. `Done(Err(Disconnected))`: still
     /// blocked, and the channel is closed. `Done(Err(Timeout))`: still blocked in an open channel,
     /// and late. Both errors hand back the message that was blocked, and the ticket is spent. Never
-    /// `NoMemory`: no memory is needed. The step is `Chan::poll_send`, or where late
+    /// `NoMemory`: no memory is needed. The step is `Chan::poll_send`, or if late
     /// `Chan::withdraw_send`.
     ///
     /// ```
@@ -172,7 +172,7 @@ impl<T: Drop, S: Drop, A: Allocator + Copy> Turn<T, S, A> for FirstSend<T> {
 pub struct ParkSend<T, S> {
     /// What is offered.
     pub message: T,
-    /// What is left where it blocks.
+    /// What is left if it blocks.
     pub signal: S,
 }
 

@@ -13,8 +13,8 @@ use std::collections::VecDeque;
 /// The first turns of the sends of these messages, in order, up to the first that isn't taken in.
 /// Each step is `Chan::try_send`. `Ok`: all were taken in. `Full`, `Disconnected`, `NoMemory`: the
 /// last step was answered so, and left the channel as it was. The error has the messages that
-/// weren't taken in, in their order, the refused one first. `NoMemory` comes only where the channel
-/// had no room for one more; where it had room for all of them it never comes. Of an empty list it
+/// weren't taken in, in their order, the refused one first. `NoMemory` comes only if the channel
+/// had no room for one more; if it had room for all of them it never comes. Of an empty list it
 /// makes no step. No memory but the channel's.
 ///
 /// ```

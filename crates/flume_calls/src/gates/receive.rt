@@ -49,14 +49,14 @@ pub trait RecvGate<T> {
         ensures does { arms self.old self.new (is_some result) }
         ensures armed { IfSome result (λ _. is_armed self.new) };
 
-    /// The turn that parks the call where it can't end at once.
+    /// The turn that parks the call if it can't end at once.
     fn park(&mut self, signal: Self::Signal) -> RecvNext<T>
         requires armed { is_armed self.old }
         ensures does { parks self.old self.new result }
         ensures answers { IsParking result }
         ensures armed { (ticket : ℕ) → result ≡ RecvNext.Park ticket → is_armed self.new };
 
-    /// A turn of the parked call. Where it is late it ends the call.
+    /// A turn of the parked call. If it is late it ends the call.
     fn again(&mut self, call: RecvCall, late: bool) -> RecvNext<T>
         requires armed { is_armed self.old }
         ensures does { agains self.old call late self.new result }
@@ -65,17 +65,17 @@ pub trait RecvGate<T> {
             → (result ≡ RecvNext.Park ticket) ⊎ (result ≡ RecvNext.Refused ticket)
             → is_armed self.new };
 
-    /// Waits for a wake or for the deadline. True, at once, where the deadline is reached.
+    /// Waits for a wake or for the deadline. True, at once, if the deadline is reached.
     fn wait(&mut self, waiter: &Self::Waiter) -> bool
         ensures does { waits self.old self.new result }
         ensures armed { is_armed self.old → is_armed self.new };
 }
 
-/// A receive that waits. It parks where its first turn doesn't end it, and then asks and waits in
-/// turn until it ends. It ends as its last turn says, with no memory too; where there was no memory
-/// for what it parks on it ends with no memory. Where a turn of the parked call needs memory and
+/// A receive that waits. It parks if its first turn doesn't end it, and then asks and waits in
+/// turn until it ends. It ends as its last turn says, with no memory too; if there was no memory
+/// for what it parks on it ends with no memory. If a turn of the parked call needs memory and
 /// there is none, the call withdraws, and ends with the message if one came, and else with no
-/// memory; through a gate where none does, it ends so only before it is parked.
+/// memory; through a gate if none does, it ends so only before it is parked.
 ///
 /// ```
 /// // The gate is of an empty channel, and it has a deadline.

@@ -16,7 +16,7 @@ use std::sync::Wait;
 pub enum ArmNext {
     /// The arm has completed.
     Completed,
-    /// The arm has to wait: it is parked, or wasn't started where it may not park.
+    /// The arm has to wait: it is parked, or wasn't started if it may not park.
     Waits,
     /// Memory was wanted, and there was none.
     NoMemory,
@@ -68,15 +68,15 @@ pub trait SelectGate {
         ensures does { makes self.old self.new (is_some result) }
         ensures kept { kept self.new ≡ kept self.old };
 
-    /// The arm's turn: its start where it isn't started yet, and else a poll. With nothing to wait
-    /// on it may not park: it is only tried, and stays as it was where it would have to wait.
+    /// The arm's turn: its start if it isn't started yet, and else a poll. With nothing to wait
+    /// on it may not park: it is only tried, and stays as it was if it would have to wait.
     fn turn(&mut self, arm: usize, waiter: Option<&Self::Waiter>) -> ArmNext
         requires within { arm < count (kept self.old) }
         ensures does { turns (is_some waiter.entry) self.old arm self.new result }
         ensures completed { result ≡ ArmNext.Completed → holds self.new arm }
         ensures kept { kept self.new ≡ kept self.old };
 
-    /// Waits for a wake or for the deadline. True, at once, where the deadline is reached.
+    /// Waits for a wake or for the deadline. True, at once, if the deadline is reached.
     fn wait(&mut self, waiter: &Self::Waiter) -> bool
         ensures does { waits self.old self.new result }
         ensures kept { kept self.new ≡ kept self.old };
@@ -101,7 +101,7 @@ enum RoundEnd {
 }
 
 /// The first arm that completes, by its number. The arms are started in cyclic order, from the
-/// start arm on. Where none completes they are all polled in that order, and polled again after
+/// start arm on. If none completes they are all polled in that order, and polled again after
 /// each wait; at the deadline they are polled once more. Then each arm that was started is
 /// withdrawn, but the one that completed. `Timeout`: the deadline is reached, and no arm completed.
 /// `NoMemory`: memory ran out in an arm, or before any was started for what the selection waits on.

@@ -43,23 +43,23 @@ pub trait SendGate<T> {
     fn arm(&mut self) -> Option<(Self::Waiter, Self::Signal)>
         ensures does { arms self.old self.new (is_some result) };
 
-    /// The turn that parks the call where it can't end at once.
+    /// The turn that parks the call if it can't end at once.
     fn park(&mut self, message: T, signal: Self::Signal) -> SendNext<T>
         ensures does { parks self.old message self.new result }
         ensures answers { IsParking message result };
 
-    /// A turn of the parked call. Where it is late it ends the call.
+    /// A turn of the parked call. If it is late it ends the call.
     fn again(&mut self, call: SendCall, late: bool) -> SendNext<T>
         ensures does { agains self.old call late self.new result }
         ensures answers { IsAgain call late result };
 
-    /// Waits for a wake or for the deadline. True, at once, where the deadline is reached.
+    /// Waits for a wake or for the deadline. True, at once, if the deadline is reached.
     fn wait(&mut self, waiter: &Self::Waiter) -> bool
         ensures does { waits self.old self.new result };
 }
 
-/// A send that waits. It parks where its first turn doesn't end it, and then asks and waits in turn
-/// until it ends. It ends as its last turn says; where there was no memory for what it parks on it
+/// A send that waits. It parks if its first turn doesn't end it, and then asks and waits in turn
+/// until it ends. It ends as its last turn says; if there was no memory for what it parks on it
 /// ends with no memory, and the message comes back.
 ///
 /// ```

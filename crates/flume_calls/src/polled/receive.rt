@@ -36,7 +36,7 @@ impl PolledReceive {
         PolledReceive { kind, call: None }
     }
 
-    /// Ends the receive where it is parked: the turn by which it leaves, which its owner is to
+    /// Ends the receive if it is parked: the turn by which it leaves, which its owner is to
     /// make. `None`: it isn't parked, and nothing is owed.
     ///
     /// ```
@@ -106,7 +106,7 @@ impl PolledReceive {
         self.settle(RecvCall::park(self.kind, signal, chan), true)
     }
 
-    // A poll of a receive that is parked. Where it would wait and there is no signal for that,
+    // A poll of a receive that is parked. If it would wait and there is no signal for that,
     // nothing is done.
     #[inline(always)]
     fn ask<T: Drop, S: Drop, A: Allocator + Copy>(

@@ -99,7 +99,7 @@ impl<T: Drop> PolledSend<T> {
         self.settle(SendCall::park(message, signal, chan))
     }
 
-    // A poll of a send that is parked. Where it would wait and there is no signal for that, it
+    // A poll of a send that is parked. If it would wait and there is no signal for that, it
     // takes its message back.
     #[inline(always)]
     fn ask<S: Drop, A: Allocator + Copy>(

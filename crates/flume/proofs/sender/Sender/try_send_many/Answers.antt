@@ -1,22 +1,24 @@
--- What is left of the list is what the batch left.
-use Rattle.std.proofs.Common.{subst}
-use Rattle.flume_calls.specs.ManySends.{LeavesRest}
+-- The steps of the batch, and what it left of the list.
+use Rattle.std.proofs.Common.{sym, ◌∙◌, ap}
+use Rattle.std.specs.Vec.{vec_items}
+use Rattle.flume.specs.ManySendSteps.{tried_list}
+use Rattle.flume.proofs.ManySendSteps.{batch_made, leaves}
 use Rattle.flume.proofs.sender.Sender.try_send_many.Goals as goal
+
+pub returns-clause-made : goal.returns-clause-made
+returns-clause-made g c = batch_made c.call_all.ensures.made c.from_vec-messages.ensures.items c.tried_sends.ensures.list
 
 pub returns-clause-full : goal.returns-clause-full
 returns-clause-full g c = λ rest said.
-    let left = c.tried_sends.ensures.full rest said in
-    let is = subst (λ batch. LeavesRest c.from_vec-messages.result.items batch) left.1 c.call_all.ensures.answers in
-    rw left.2 (rw (← c.from_vec-messages.ensures.items) is)
+    leaves _ _ c.call_all.result _ c.call_all.ensures.answers c.from_vec-messages.ensures.items
+    (sym c.tried_sends.ensures.list ∙ ap (λ result. tried_list vec_items result) said)
 
 pub returns-clause-disconnected : goal.returns-clause-disconnected
 returns-clause-disconnected g c = λ rest said.
-    let left = c.tried_sends.ensures.disconnected rest said in
-    let is = subst (λ batch. LeavesRest c.from_vec-messages.result.items batch) left.1 c.call_all.ensures.answers in
-    rw left.2 (rw (← c.from_vec-messages.ensures.items) is)
+    leaves _ _ c.call_all.result _ c.call_all.ensures.answers c.from_vec-messages.ensures.items
+    (sym c.tried_sends.ensures.list ∙ ap (λ result. tried_list vec_items result) said)
 
 pub returns-clause-no_memory : goal.returns-clause-no_memory
 returns-clause-no_memory g c = λ rest said.
-    let left = c.tried_sends.ensures.no_memory rest said in
-    let is = subst (λ batch. LeavesRest c.from_vec-messages.result.items batch) left.1 c.call_all.ensures.answers in
-    rw left.2 (rw (← c.from_vec-messages.ensures.items) is)
+    leaves _ _ c.call_all.result _ c.call_all.ensures.answers c.from_vec-messages.ensures.items
+    (sym c.tried_sends.ensures.list ∙ ap (λ result. tried_list vec_items result) said)

@@ -1,0 +1,7 @@
+//! Tests of `flume_concurrent`: explanations that were worked by hand, right ones and wrong ones.
+#![tactic(auto)]
+
+#[cfg(test)]
+mod fixtures;
+#[cfg(test)]
+mod rows;

@@ -1,0 +1,6 @@
+-- The items up to the last of these events explain them.
+use Rattle.flume_concurrent.proofs.Beginnings.{beginning_explained}
+use Rattle.flume_concurrent.proofs.laws.beginnings_are_explained.Goals as goal
+
+pub returns : goal.returns
+returns g c = record { beginning = beginning_explained g.T.PartialEq.eq }

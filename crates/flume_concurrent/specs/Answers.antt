@@ -1,0 +1,51 @@
+-- What a call that is so far may return.
+use Rattle.std.specs.Prelude.{Bool, true, false, ◌||◌, nat_eq}
+use Rattle.std.specs.Option.{option_eq}
+use Rattle.std.specs.Bool.{beq}
+use Rattle.std.specs.Cmp.Lexicographic.{pointwise}
+use Rattle.flume_concurrent.specs.declared.call.Call.{Call}
+use Rattle.flume_concurrent.specs.declared.call.Call.TheVariants.{SendAsync, RecvAsync}
+use Rattle.flume_concurrent.specs.declared.call.Answer.{Answer}
+use Rattle.flume_concurrent.specs.declared.call.Answer.TheVariants.{Sent, Full, Got, Empty}
+use Rattle.flume_concurrent.specs.declared.call.Answer.TheVariants.{Disconnected, Timeout, NoMemory}
+use Rattle.flume_concurrent.specs.declared.call.Answer.TheVariants.{Dropped, Drained, Done, NoEnd}
+use Rattle.flume_concurrent.specs.declared.call.Answer.TheVariants.{CountFull, Number, Truth}
+use Rattle.flume_concurrent.specs.declared.call.Answer.TheVariants.{Capacity, Unbounded}
+use Rattle.flume_concurrent.specs.declared.stage.Stage.{Stage}
+use Rattle.flume_concurrent.specs.declared.stage.Stage.TheVariants.{Begun, Tried, Answered}
+
+module _ {T A : Type 0} where
+  -- whether two answers are equal, where `equal` compares messages
+  abbrev pub equal_answers : (T → T → Bool) → Answer T A → Answer T A → Bool
+  equal_answers equal Sent Sent = true
+  equal_answers equal Full Full = true
+  equal_answers equal (Got x) (Got y) = equal x y
+  equal_answers equal Empty Empty = true
+  equal_answers equal Disconnected Disconnected = true
+  equal_answers equal Timeout Timeout = true
+  equal_answers equal NoMemory NoMemory = true
+  equal_answers equal Dropped Dropped = true
+  equal_answers equal (Drained xs) (Drained ys) = pointwise equal xs ys
+  equal_answers equal Done Done = true
+  equal_answers equal NoEnd NoEnd = true
+  equal_answers equal CountFull CountFull = true
+  equal_answers equal (Number n) (Number m) = nat_eq n m
+  equal_answers equal (Truth b) (Truth c) = beq b c
+  equal_answers equal (Capacity n) (Capacity m) = option_eq nat_eq n m
+  equal_answers equal Unbounded Unbounded = true
+  equal_answers equal _ _ = false
+
+  -- whether this is said of a future that was dropped
+  abbrev pub is_dropped : Call T → Answer T A → Bool
+  is_dropped (SendAsync message) Dropped = true
+  is_dropped RecvAsync Dropped = true
+  is_dropped _ _ = false
+
+  -- Whether a call that is so far may return this, where `equal` compares messages: the answer of
+  -- its last step; or, where it was to park, that there was no memory for what it parks on. A
+  -- future that isn't parked may be dropped, whatever it came to.
+  abbrev pub may_return : (T → T → Bool) → Call T → Stage T A → Answer T A → Bool
+  may_return equal call Begun told = is_dropped call told
+  may_return equal call Tried told = equal_answers equal told NoMemory || is_dropped call told
+  may_return equal call (Answered own) told = equal_answers equal told own || is_dropped call told
+  may_return equal call _ told = false

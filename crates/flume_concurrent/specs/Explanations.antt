@@ -1,0 +1,81 @@
+-- What explains events: steps of the calls, put between them, that are a run.
+use Rattle.std.specs.Prelude.{◌≡◌, ◌==◌, ◌⊎◌, ℕ, Bool, false, IsTrue, if◌then◌else◌}
+use Rattle.std.specs.Prelude.{Option, Some, None, List, [], ◌∷◌, reverse}
+use Rattle.flume_model.specs.declared.step.Step.{Step}
+use Rattle.flume_model.specs.declared.step.Reply.{Reply}
+use Rattle.flume_model.specs.Log.{Opening}
+use Rattle.flume_model.specs.Replies.{IsRun}
+use Rattle.flume_concurrent.specs.declared.call.Call.{Call}
+use Rattle.flume_concurrent.specs.declared.call.Answer.{Answer}
+use Rattle.flume_concurrent.specs.declared.event.Event.{Event}
+use Rattle.flume_concurrent.specs.declared.event.Event.TheVariants.{Begins, Returns}
+use Rattle.flume_concurrent.specs.declared.event.Item.{Item}
+use Rattle.flume_concurrent.specs.declared.event.Item.TheVariants.{Happens, Makes}
+use Rattle.flume_concurrent.specs.declared.stage.Stage.{Stage}
+use Rattle.flume_concurrent.specs.declared.stage.Stage.TheVariants.{Begun}
+use Rattle.flume_concurrent.specs.Calls.{next_step, other_step, stage_after}
+use Rattle.flume_concurrent.specs.Answers.{may_return}
+
+module _ {T A : Type 0} where
+  -- the events, without the steps
+  abbrev pub events_in : List (Item T A) → List (Event T A)
+  events_in [] = []
+  events_in (Happens event ∷ items) = event ∷ events_in items
+  events_in (Makes thread step reply ∷ items) = events_in items
+
+  -- the steps with their replies, without the events
+  abbrev pub steps_in : List (Item T A) → List (Step T × Reply T A)
+  steps_in [] = []
+  steps_in (Happens event ∷ items) = steps_in items
+  steps_in (Makes thread step reply ∷ items) = (step, reply) ∷ steps_in items
+
+  -- a call that is open, and how far it is, after a reply
+  abbrev pub further : Reply T A → Option (Call T × Stage T A) → Option (Call T × Stage T A)
+  further reply None = None
+  further reply (Some far) = Some (far.0, stage_after far.0 far.1 reply)
+
+  -- the call that a thread has open, if it has one, and how far it is; the newest item stands first
+  abbrev pub open_call : List (Item T A) → ℕ → Option (Call T × Stage T A)
+  open_call [] t = None
+  open_call (Happens (Begins u call) ∷ past) t =
+      if u == t then Some (call, Begun) else open_call past t
+  open_call (Happens (Returns u answer) ∷ past) t = if u == t then None else open_call past t
+  open_call (Makes u step reply ∷ past) t =
+      if u == t then further reply (open_call past t) else open_call past t
+
+  -- the open call, if there is one, may make this step next
+  abbrev pub IsNextStep : Option (Call T × Stage T A) → Step T → Type 0
+  IsNextStep None step = ⊥
+  IsNextStep (Some far) step =
+      (next_step far.0 far.1 ≡ Some step) ⊎ (other_step far.0 far.1 ≡ Some step)
+
+-- where `equal` compares messages
+module _ {T A : Type 0} (equal : T → T → Bool) where
+  -- whether the open call, if there is one, may return this
+  abbrev pub returns : Option (Call T × Stage T A) → Answer T A → Bool
+  returns None told = false
+  returns (Some far) told = may_return equal far.0 far.1 told
+
+  -- an item may come next: a thread begins a call while it has none open, and makes steps and
+  -- returns answers while it has, as this call does that is so far
+  abbrev pub Fits : List (Item T A) → Item T A → Type 0
+  Fits past (Happens (Begins t call)) = open_call past t ≡ None
+  Fits past (Happens (Returns t told)) = IsTrue (returns (open_call past t) told)
+  Fits past (Makes t step reply) = IsNextStep (open_call past t) step
+
+  -- each item is what the open calls may do, after those before it; the newest stands first
+  abbrev pub AreCalls : List (Item T A) → Type 0
+  AreCalls [] = Unit {0}
+  AreCalls (item ∷ past) = Fits past item × AreCalls past
+
+  -- the items, the newest first, are an explanation of their events
+  pub record IsExplanation (opening : Opening) (past : List (Item T A)) : Type 0 where
+    -- they are what calls do
+    pub calls : AreCalls past
+    -- and the steps with their replies are a run
+    pub run : IsRun opening (steps_in past)
+
+  -- the events, the oldest first, have an explanation
+  abbrev pub IsExplained : Opening → List (Event T A) → Type 0
+  IsExplained opening events = (past : List (Item T A))
+      × (events_in (reverse past) ≡ events) × IsExplanation opening past

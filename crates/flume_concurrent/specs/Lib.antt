@@ -1,0 +1,7 @@
+pub mod Calls
+pub mod Answers
+pub mod Explanations
+pub mod LateSteps
+pub mod Told
+pub mod Following
+pub mod Lean

@@ -1,0 +1,40 @@
+//! Laws of answers and of explanations. These functions do nothing: each contract is a law.
+ghost use Rattle.std.specs.Prelude.{◌≡◌, ℕ, List, take};
+ghost use Rattle.flume_model.specs.Log.{Opening};
+ghost use Rattle.flume_concurrent.specs.Answers.{equal_answers};
+ghost use Rattle.flume_concurrent.specs.Explanations.{IsExplained};
+ghost use Rattle.flume_concurrent.specs.LateSteps.{IsExplainedLate};
+ghost use Rattle.flume_concurrent.specs.Lean.{IsExplainedLean};
+ghost use Rattle.flume_concurrent.specs.declared.call.Answer.{Answer};
+ghost use Rattle.flume_concurrent.specs.declared.event.Event.{Event};
+
+use crate::call::Answer;
+use std::alloc::Allocator;
+
+/// Answers are equal if their cases are the same and what they hold is equal.
+pub fn answers_are_equal_by_case<T: PartialEq, A: Allocator>()
+    ensures same { (told own : Answer T A)
+        → ⟦<Answer<T, A> as PartialEq>⟧.eq told own ≡ equal_answers T.eq told own }
+{}
+
+/// Events that have an explanation have one in which steps stand only just before a return, and the
+/// last of them is of the call that returns. So who looks for an explanation need try no others.
+pub fn steps_may_stand_late<T: Eq, A: Allocator>()
+    ensures late { (opening : Opening) (events : List (Event T A))
+        → IsExplained T.eq opening events → IsExplainedLate T.eq opening events }
+{}
+
+/// A beginning of explained events is explained. So the first event at which events stop being
+/// explained can be found by halving.
+pub fn beginnings_are_explained<T: Eq, A: Allocator>()
+    ensures beginning { (opening : Opening) (events : List (Event T A)) (n : ℕ)
+        → IsExplained T.eq opening events → IsExplained T.eq opening (take n events) }
+{}
+
+/// Events that have an explanation whose steps stand late have one in which, moreover, no step is
+/// idle: answered `Waiting`, while no receiver waits by it that didn't before. So who looks for an
+/// explanation need try no such step.
+pub fn lean_steps_suffice<T: Eq, A: Allocator>()
+    ensures lean { (opening : Opening) (events : List (Event T A))
+        → IsExplainedLate T.eq opening events → IsExplainedLean T.eq opening events }
+{}

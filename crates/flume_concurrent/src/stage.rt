@@ -1,0 +1,212 @@
+//! How far an open call is, the steps that it may make, and where each reply leads it.
+ghost use Rattle.std.specs.Prelude.{◌≡◌, ℕ, Option};
+ghost use Rattle.flume_concurrent.specs.Calls.{first_step, next_step, other_step, stage_after};
+ghost use Rattle.flume_concurrent.specs.Calls.{parking_step, is_send};
+
+use crate::call::{Answer, Call, Messages};
+use flume_model::step::{Kind, Reply, Step};
+use std::alloc::{Allocator, Global};
+
+/// How far an open call is.
+#[derive(Drop)]
+pub enum Stage<T, A: Allocator = Global> {
+    /// It has made no step.
+    Begun,
+    /// It found no room, or no message: it may park.
+    Tried,
+    /// It is parked under this ticket.
+    Parked(u64),
+    /// It is parked under this ticket, and was refused memory: it withdraws.
+    Refused(u64),
+    /// It has made its last step, and returns this.
+    Answered(Answer<T, A>),
+}
+
+impl<T: Copy> Call<T> {
+    /// The first step of the call, and its only one if it doesn't wait.
+    pub fn first_step(&self) -> Step<T>
+        ensures step { result ≡ first_step self.now }
+    {
+        match *self {
+            Call::Send(m) | Call::SendTimeout(m) | Call::TrySend(m) => Step::TrySend(m),
+            Call::SendAsync(m) => Step::Send(m),
+            Call::Recv | Call::RecvTimeout | Call::TryRecv => Step::TryRecv,
+            Call::RecvAsync => Step::Recv(Kind::Plain),
+            Call::Drain => Step::Drain,
+            Call::CloneSender => Step::CloneSender,
+            Call::CloneReceiver => Step::CloneReceiver,
+            Call::DropSender => Step::DropSender,
+            Call::DropReceiver => Step::DropReceiver,
+            Call::SetCapacity(capacity) => Step::SetCapacity(capacity),
+            Call::Len => Step::Len,
+            Call::IsEmpty => Step::IsEmpty,
+            Call::IsFull => Step::IsFull,
+            Call::Capacity => Step::Capacity,
+            Call::SenderCount => Step::SenderCount,
+            Call::ReceiverCount => Step::ReceiverCount,
+            Call::IsDisconnected => Step::IsDisconnected,
+        }
+    }
+
+    /// The step that the call makes next, if it makes one.
+    pub fn next_step<A: Allocator>(&self, stage: &Stage<T, A>) -> Option<Step<T>>
+        ensures step { result ≡ next_step self.now stage.now }
+    {
+        match stage {
+            Stage::Begun => Some(self.first_step()),
+            Stage::Tried => self.parking_step(),
+            Stage::Parked(ticket) if self.is_send() => Some(Step::PollSend(*ticket)),
+            Stage::Parked(ticket) => Some(Step::Poll(*ticket)),
+            Stage::Refused(ticket) => Some(Step::Withdraw(*ticket)),
+            Stage::Answered(_) => None,
+        }
+    }
+
+    /// The step that it may make instead: at its deadline, if the future is dropped, or if there is
+    /// no memory for what the future is woken by.
+    pub fn other_step<A: Allocator>(&self, stage: &Stage<T, A>) -> Option<Step<T>>
+        ensures step { result ≡ other_step self.now stage.now }
+    {
+        match (self, stage) {
+            (Call::SendAsync(m), Stage::Begun) => Some(Step::TrySend(*m)),
+            (Call::RecvAsync, Stage::Begun | Stage::Tried) => Some(Step::TryRecv),
+            (Call::SendTimeout(_) | Call::SendAsync(_), Stage::Parked(ticket)) => {
+                Some(Step::WithdrawSend(*ticket))
+            }
+            (Call::RecvTimeout | Call::RecvAsync, Stage::Parked(ticket)) => {
+                Some(Step::Withdraw(*ticket))
+            }
+            _ => None,
+        }
+    }
+
+    // The step by which it parks, once it has tried.
+    fn parking_step(&self) -> Option<Step<T>>
+        ensures step { result ≡ parking_step self.now }
+    {
+        match *self {
+            Call::Send(m) | Call::SendTimeout(m) => Some(Step::Send(m)),
+            Call::Recv | Call::RecvTimeout => Some(Step::Recv(Kind::Block)),
+            Call::RecvAsync => Some(Step::Recv(Kind::Plain)),
+            _ => None,
+        }
+    }
+
+    // Whether it is a send that waits.
+    fn is_send(&self) -> bool
+        ensures send { result ≡ is_send self.now }
+    {
+        matches!(
+            *self,
+            Call::Send(_) | Call::SendTimeout(_) | Call::SendAsync(_)
+        )
+    }
+}
+
+/// How far a call is after this reply, by how far it was.
+pub fn stage_after<T: Copy + Drop, A: Allocator + Copy>(
+    call: &Call<T>,
+    stage: Stage<T, A>,
+    reply: Reply<T, A>,
+) -> Stage<T, A>
+    ensures stage { result ≡ stage_after call.now stage reply }
+{
+    match reply {
+        Reply::Waiting => stage,
+        Reply::Pending(ticket) => Stage::Parked(ticket),
+        Reply::Parked(ticket) => Stage::Parked(ticket),
+        Reply::Full(_) => after_full(call),
+        Reply::Empty => after_empty(call),
+        Reply::NoMemory(_) => after_no_memory(call, stage),
+        Reply::NoTicket => after_no_ticket(call, stage),
+        Reply::Returned { closed, .. } => after_returned(call, closed),
+        Reply::Gone { closed, .. } => after_gone(call, stage, closed),
+        Reply::Sent { .. } => Stage::Answered(Answer::Sent),
+        Reply::Accepted => Stage::Answered(Answer::Sent),
+        Reply::Closed(_) => Stage::Answered(Answer::Disconnected),
+        Reply::Ended => Stage::Answered(Answer::Disconnected),
+        Reply::Spent(_) => Stage::Answered(Answer::NoMemory),
+        Reply::Got(message) => Stage::Answered(Answer::Got(message)),
+        Reply::Drained(list) => Stage::Answered(Answer::Drained(Messages::new(list))),
+        Reply::Done => Stage::Answered(Answer::Done),
+        Reply::NoEnd => Stage::Answered(Answer::NoEnd),
+        Reply::CountFull => Stage::Answered(Answer::CountFull),
+        Reply::Number(number) => Stage::Answered(Answer::Number(number)),
+        Reply::Truth(truth) => Stage::Answered(Answer::Truth(truth)),
+        Reply::Capacity(capacity) => Stage::Answered(Answer::Capacity(capacity)),
+        Reply::Unbounded => Stage::Answered(Answer::Unbounded),
+    }
+}
+
+// After a reply that no room was found: `TrySend` returns, and each other call is to park.
+fn after_full<T, A: Allocator>(call: &Call<T>) -> Stage<T, A>
+    ensures stage { (stage : Stage T A) (back : T)
+        → result ≡ stage_after call.now stage (Reply.Full back) }
+{
+    match call {
+        Call::TrySend(_) => Stage::Answered(Answer::Full),
+        _ => Stage::Tried,
+    }
+}
+
+// After a reply that there is no message: `TryRecv` returns, and each other call is to park.
+fn after_empty<T, A: Allocator>(call: &Call<T>) -> Stage<T, A>
+    ensures stage { (stage : Stage T A) → result ≡ stage_after call.now stage Reply.Empty }
+{
+    match call {
+        Call::TryRecv => Stage::Answered(Answer::Empty),
+        _ => Stage::Tried,
+    }
+}
+
+// After a reply that memory was refused: a parked future stays so, another parked call is to
+// withdraw, and each other one returns.
+fn after_no_memory<T: Drop, A: Allocator>(call: &Call<T>, stage: Stage<T, A>) -> Stage<T, A>
+    ensures stage { (back : Option T)
+        → result ≡ stage_after call.now stage (Reply.NoMemory back) }
+{
+    match (call, stage) {
+        (Call::RecvAsync, Stage::Parked(ticket)) => Stage::Parked(ticket),
+        (_, Stage::Parked(ticket)) => Stage::Refused(ticket),
+        _ => Stage::Answered(Answer::NoMemory),
+    }
+}
+
+// After a reply that its ticket isn't live, which comes only once the channel is over.
+fn after_no_ticket<T: Copy + Drop, A: Allocator>(call: &Call<T>, stage: Stage<T, A>) -> Stage<T, A>
+    ensures stage { result ≡ stage_after call.now stage Reply.NoTicket }
+{
+    match stage {
+        Stage::Refused(_) => Stage::Answered(Answer::NoMemory),
+        _ if call.is_send() => Stage::Answered(Answer::Sent),
+        _ => Stage::Answered(Answer::Disconnected),
+    }
+}
+
+// After a reply by which the message of a send comes back.
+fn after_returned<T, A: Allocator>(call: &Call<T>, closed: bool) -> Stage<T, A>
+    ensures stage { (stage : Stage T A) (back : T)
+        → result ≡ stage_after call.now stage (Reply.Returned back closed) }
+{
+    match call {
+        _ if closed => Stage::Answered(Answer::Disconnected),
+        Call::SendTimeout(_) => Stage::Answered(Answer::Timeout),
+        _ => Stage::Answered(Answer::NoMemory),
+    }
+}
+
+// After a reply by which a parked receiver leaves with no message.
+fn after_gone<T: Drop, A: Allocator>(
+    call: &Call<T>,
+    stage: Stage<T, A>,
+    closed: bool,
+) -> Stage<T, A>
+    ensures stage { (filled : Option ℕ)
+        → result ≡ stage_after call.now stage (Reply.Gone closed filled) }
+{
+    match (call, stage) {
+        (Call::RecvTimeout, Stage::Parked(_)) if closed => Stage::Answered(Answer::Disconnected),
+        (Call::RecvTimeout, Stage::Parked(_)) => Stage::Answered(Answer::Timeout),
+        _ => Stage::Answered(Answer::NoMemory),
+    }
+}

@@ -1,0 +1,77 @@
+//! The calls of `flume_concurrent` are those of `flume_calls`: they make the same steps, and each reply
+//! leads them to the same. Nobody has to believe these files: they show that the definitions mean what
+//! they were meant to. The functions do nothing: each contract is a law.
+#![tactic(auto)]
+
+ghost use Rattle.std.specs.Prelude.{◌≡◌, ℕ, true, false, Some, Result};
+ghost use Rattle.flume_core.specs.declared.error.RecvTimeoutError.{RecvTimeoutError};
+ghost use Rattle.flume_model.specs.Channel.{Channel};
+ghost use Rattle.flume_model.specs.Replies.{IsReply};
+ghost use Rattle.flume_model.specs.declared.step.Reply.{Reply};
+ghost use Rattle.flume_model.specs.declared.step.Step.TheVariants.{PollSend};
+ghost use Rattle.flume_calls.specs.SendTurns.{after_try_send, after_send, after_parked_send};
+ghost use Rattle.flume_calls.specs.SendTurns.{step_of_parked_send};
+ghost use Rattle.flume_calls.specs.ReceiveTurns.{after_try_recv, after_recv, after_parked_receive};
+ghost use Rattle.flume_calls.specs.ReceiveTurns.{step_of_parked_receive};
+ghost use Rattle.flume_calls.specs.ReceiveGates.{got_or_no_memory};
+ghost use Rattle.flume_calls.specs.declared.calls.receive.RecvNext.{RecvNext};
+ghost use Rattle.flume_calls.specs.declared.calls.receive.RecvNext.TheVariants.{Done};
+ghost use Rattle.flume_calls.specs.declared.calls.send.SendNext.{SendNext};
+ghost use Rattle.flume_concurrent.specs.Calls.{is_send, next_step, other_step, stage_after};
+ghost use Rattle.flume_concurrent.specs.declared.call.Call.{Call};
+ghost use Rattle.flume_concurrent.specs.declared.call.Call.TheVariants.{SendTimeout, SendAsync};
+ghost use Rattle.flume_concurrent.specs.declared.call.Call.TheVariants.{RecvTimeout};
+ghost use Rattle.flume_concurrent.specs.declared.stage.Stage.TheVariants.{Begun, Tried, Parked};
+ghost use Rattle.flume_concurrent.specs.declared.stage.Stage.TheVariants.{Refused};
+ghost use Rattle.flume_concurrent_calls.specs.Led.{stage_of_send, stage_of_receive};
+ghost use Rattle.flume_concurrent_calls.specs.Led.{blocks_to_receive, untimed};
+
+use std::alloc::Allocator;
+
+/// Where a reply leads a send that waits, as the turn does that is made of the same step.
+pub fn sends_agree<T, A: Allocator>()
+    ensures tries { (call : Call T) (reply : Reply T A) (next : SendNext T)
+        → is_send call ≡ true → after_try_send reply next
+        → stage_after call Begun reply ≡ stage_of_send next }
+    ensures parks { (call : Call T) (reply : Reply T A) (next : SendNext T)
+        → is_send call ≡ true → after_send reply next
+        → stage_after call Tried reply ≡ stage_of_send next }
+    ensures asks { (call : Call T) (c : Channel T) (t : ℕ) (reply : Reply T A) (next : SendNext T)
+        → is_send call ≡ true → IsReply c (PollSend t) reply → after_parked_send t false reply next
+        → stage_after call (Parked t) reply ≡ stage_of_send next }
+    ensures leaves { (message : T) (t : ℕ) (reply : Reply T A) (next : SendNext T)
+        → after_parked_send t true reply next
+        → stage_after (SendTimeout message) (Parked t) reply ≡ stage_of_send next }
+    ensures dropped { (message : T) (t : ℕ) (reply : Reply T A) (next : SendNext T)
+        → after_parked_send t true reply next
+        → stage_after (SendAsync message) (Parked t) reply ≡ stage_of_send (untimed next) }
+    ensures asks_by { (call : Call T) (t : ℕ) → is_send call ≡ true
+        → next_step {A = A} call (Parked t) ≡ Some (step_of_parked_send t false) }
+    ensures leaves_by { (message : T) (t : ℕ)
+        → other_step {A = A} (SendTimeout message) (Parked t) ≡ Some (step_of_parked_send t true) }
+{}
+
+/// Where a reply leads a receive that blocks, as the turn does that is made of the same step.
+pub fn receives_agree<T, A: Allocator>()
+    ensures tries { (call : Call T) (reply : Reply T A) (next : RecvNext T)
+        → blocks_to_receive call ≡ true → after_try_recv reply next
+        → stage_after call Begun reply ≡ stage_of_receive next }
+    ensures parks { (call : Call T) (reply : Reply T A) (next : RecvNext T)
+        → blocks_to_receive call ≡ true → after_recv reply next
+        → stage_after call Tried reply ≡ stage_of_receive next }
+    ensures asks { (call : Call T) (t : ℕ) (reply : Reply T A) (next : RecvNext T)
+        → blocks_to_receive call ≡ true → after_parked_receive t false reply next
+        → stage_after call (Parked t) reply ≡ stage_of_receive next }
+    ensures leaves { (t : ℕ) (reply : Reply T A) (next : RecvNext T)
+        → after_parked_receive t true reply next
+        → stage_after RecvTimeout (Parked t) reply ≡ stage_of_receive next }
+    ensures withdraws { (call : Call T) (t : ℕ) (reply : Reply T A)
+        (answer : Result T RecvTimeoutError)
+        → blocks_to_receive call ≡ true → after_parked_receive t true reply (Done answer)
+        → stage_after call (Refused t) reply
+        ≡ stage_of_receive (Done (got_or_no_memory answer)) }
+    ensures asks_by { (call : Call T) (t : ℕ) → blocks_to_receive call ≡ true
+        → next_step {A = A} call (Parked t) ≡ Some (step_of_parked_receive t false) }
+    ensures leaves_by { (t : ℕ)
+        → other_step {T = T} {A = A} RecvTimeout (Parked t) ≡ Some (step_of_parked_receive t true) }
+{}
