@@ -9,14 +9,15 @@ long it would take, or nothing if all are proved.
 """
 
 import os
-import pathlib
 import re
 import signal
 import subprocess
 import sys
 import time
 
-ROOT = pathlib.Path(__file__).resolve().parent.parent
+sys.dont_write_bytecode = True
+from workspace import ROOT, libraries, with_below  # noqa: E402
+
 # How many seconds the proof of a crate takes from scratch, on four cores that do nothing else.
 SECONDS = {"flume_model": 45, "flume_chain": 50, "flume_state": 105, "flume_error": 25, "flume_core": 135}
 SECONDS |= {"flume_script": 95, "flume_calls": 100, "flume_audit": 90, "flume_history": 90, "flume_deadline": 15}
@@ -24,20 +25,6 @@ SECONDS |= {"flume": 265, "flume_run": 30, "flume_check": 30}
 OTHERS = 60
 # What rt prints before it proves a crate.
 BEGINS = re.compile(r"rt: chose --jobs .* for (\w+)$")
-
-
-def uses_by(lines):
-    """For each crate of a crates.txt the libraries that it names for it."""
-    pairs = [it.split("#")[0].split(":") for it in lines.splitlines()]
-    return {pair[0].split()[0]: pair[1].split() for pair in pairs if len(pair) == 2 and pair[0].split()}
-
-
-def with_below(crate, uses):
-    """A crate behind those of this repository that it stands on, the lowest first."""
-    found = []
-    for it in uses[crate]:
-        found += [one for one in (with_below(it, uses) if it in uses else []) if one not in found]
-    return [*found, crate]
 
 
 def changed_since(folder, kept):
@@ -101,7 +88,7 @@ class Pace:
 
 def prove(name, hint, crate, command, given=None):
     """Runs a command of rt in the folder of a crate, and tells how far it is: its status, and what it printed."""
-    uses = uses_by((ROOT / "crates.txt").read_text())
+    uses = libraries()
     pace = Pace(name, unproved(crate, uses))
     if pace.todo:
         crates = "1 crate is" if pace.of == 1 else f"{pace.of} crates are"
@@ -126,7 +113,7 @@ def prove(name, hint, crate, command, given=None):
 def main():
     name, hint, crate, *command = sys.argv[1:]
     if not command:
-        pace = Pace(name, unproved(crate, uses_by((ROOT / "crates.txt").read_text())))
+        pace = Pace(name, unproved(crate, libraries()))
         print(f"some {spoken(pace.left())} on four cores" if pace.todo else "")
         return
     try:

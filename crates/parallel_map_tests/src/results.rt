@@ -1,16 +1,28 @@
-//! What no clause says: that right answers are taken, and which error wrong ones bring.
+//! What no clause says: that right answers are taken, that each job is done once, and which error
+//! wrong answers bring.
 ghost use Rattle.std.specs.Prelude.{◌%◌, ◌==◌};
 ghost use Rattle.std.proofs.Common.{rules};
 
 use parallel_map::answers::collect;
 use parallel_map::{Answer, Work, WorkError, parallel_map, position_any};
 use std::alloc::{AllocError, Global};
+use std::sync::atomic::{AtomicU64, Ordering};
 use std::test::Fail;
 
-// What is left of a number when it is divided by 7.
-struct Rest;
+// What is left of a number when it is divided by 7. It counts its calls.
+#[derive(Drop)]
+struct Remainder {
+    calls: AtomicU64,
+}
 
-impl Work for Rest {
+// One that wasn't called.
+fn not_called() -> Remainder {
+    Remainder {
+        calls: AtomicU64::new(0),
+    }
+}
+
+impl Work for Remainder {
     type Job = u64;
 
     type Value = u64;
@@ -20,6 +32,7 @@ impl Work for Rest {
     ghost exact = { Prim.search rules };
 
     fn work(&self, job: u64) -> u64 {
+        self.calls.fetch_add(1, Ordering::SeqCst);
         job % 7
     }
 }
@@ -51,17 +64,22 @@ fn numbers(alloc: Global, end: u64) -> Result<Vec<u64>, AllocError> {
 }
 
 #[test]
-fn any_number_of_workers_give_what_a_loop_gives(rt: HostRuntime) -> Result<(), Fail> {
+fn any_number_of_workers_give_what_a_loop_gives_and_do_each_job_once(
+    rt: HostRuntime,
+) -> Result<(), Fail> {
     let jobs = numbers(rt.alloc(), 100)?;
     let mut rests = Vec::new(rt.alloc());
     for job in &jobs {
         rests.push(*job % 7)?;
     }
     for workers in [0, 1, 2, 5, 100] {
-        let values = parallel_map(rt, &Rest, &jobs, workers)?;
+        let work = not_called();
+        let values = parallel_map(rt, &work, &jobs, workers)?;
         assert_eq!(rt; values, rests, "{workers} workers");
+        // Each was done, so none was done twice.
+        assert_eq!(rt; work.calls.load(Ordering::SeqCst), 100);
     }
-    assert!(rt; parallel_map(rt, &Rest, &[], 2)?.is_empty());
+    assert!(rt; parallel_map(rt, &not_called(), &[], 2)?.is_empty());
     Ok(())
 }
 
@@ -87,7 +105,7 @@ fn collected(
 ) -> Result<Result<Vec<u64>, WorkError>, AllocError> {
     let mut answers = Vec::new(alloc);
     for (number, job) in told {
-        answers.push(Answer::of(&Rest, *number, *job))?;
+        answers.push(Answer::of(&not_called(), *number, *job))?;
     }
     Ok(collect(alloc, &[10, 20, 30], answers.into_iter()))
 }

@@ -1,4 +1,4 @@
-//! How many threads do the jobs, and how often each job is done.
+//! How many threads do the jobs.
 ghost use Rattle.std.proofs.Common.{rules};
 
 use flume::{Receiver, Sender, Waits};
@@ -46,44 +46,5 @@ fn two_workers_are_two_threads(rt: HostRuntime) -> Result<(), Fail> {
         [0, 1].as_slice()
     );
     assert_eq!(rt; work.met.load(Ordering::SeqCst), 2);
-    Ok(())
-}
-
-// Counts its calls, by a digit of sixteen for each job.
-#[derive(Drop)]
-struct Count {
-    calls: AtomicU64,
-}
-
-impl Work for Count {
-    type Job = u64;
-
-    type Value = u64;
-
-    ghost meaning = { λ n. n };
-
-    ghost exact = { Prim.search rules };
-
-    fn work(&self, job: u64) -> u64 {
-        self.calls
-            .fetch_add(1u64.wrapping_shl((job % 16) as u32 * 4), Ordering::SeqCst);
-        job
-    }
-}
-
-#[test]
-fn each_job_is_done_once_however_many_workers_there_are(rt: HostRuntime) -> Result<(), Fail> {
-    for workers in [0, 1, 3] {
-        let work = Count {
-            calls: AtomicU64::new(0),
-        };
-        let jobs = [15, 14, 13, 12, 11, 10, 9, 8, 7, 6, 5, 4, 3, 2, 1, 0];
-        assert_eq!(rt;
-            parallel_map(rt, &work, &jobs, workers)?.as_slice(),
-            jobs.as_slice()
-        );
-        let calls = work.calls.load(Ordering::SeqCst);
-        assert_eq!(rt; calls, 0x1111_1111_1111_1111, "{workers} workers");
-    }
     Ok(())
 }

@@ -34,10 +34,9 @@ fn is_late<R: Waits>(
     (call, alloc): (u64, Global),
 ) -> bool {
     let mut list = had(host, vec![in alloc; 1]);
-    let (by_timeout, by_deadline) = (How::Timeout(timeout), How::Deadline(deadline));
     match call {
-        0 => receive(rx, by_timeout) == Err(SelectError::Timeout),
-        1 => send(tx, 1, by_deadline) == Err(SelectError::Timeout),
+        0 => receive(rx, How::Timeout(timeout)) == Err(SelectError::Timeout),
+        1 => send(tx, 1, How::Deadline(deadline)) == Err(SelectError::Timeout),
         2 => rx.recv_timeout(timeout) == Err(RecvTimeoutError::Timeout),
         3 => rx.recv_deadline(deadline) == Err(RecvTimeoutError::Timeout),
         4 => tx.send_timeout(1, timeout) == Err(SendTimeoutError::Timeout(1)),
@@ -51,9 +50,8 @@ fn is_late<R: Waits>(
     }
 }
 
-// How many microseconds a clock goes on by as it is read, how many a call waits, and how often its
-// clock is read then, at least and at the most: the first reading is 0. A tenth of a second isn't
-// taken as whole seconds, and 40 microseconds aren't as whole milliseconds.
+// How many microseconds a clock goes on by as it is read, how many a call waits, and how often it
+// is read then at least and at the most. Nothing is rounded to whole seconds or milliseconds.
 const CLOCKS: &[(u64, u64, u64, u64)] = &[(99_000, 100_000, 3, 6), (1, 40, 41, 44)];
 
 #[test]
@@ -74,10 +72,8 @@ fn a_timeout_comes_no_sooner_than_the_clock_shows_it_and_little_later(rt: HostRu
             readings.store(0, Ordering::SeqCst);
             let late = is_late(&rt, (&tx, &rx), (timeout, deadline), (call, rt.alloc()));
             let read = readings.load(Ordering::SeqCst);
-            assert!(rt;
-                late && read >= least && read <= most,
-                "call {call}: {read} readings"
-            );
+            let is_right = late && least <= read && read <= most;
+            assert!(rt; is_right, "call {call}: {read}");
         }
     }
 }

@@ -9,8 +9,6 @@ mod clocks;
 #[cfg(test)]
 mod fixtures;
 #[cfg(test)]
-mod lists;
-#[cfg(test)]
 mod mappers;
 #[cfg(test)]
 mod meeting;
