@@ -1,3 +1,4 @@
+pub mod LateItems
 pub mod Late
 pub mod Unique
 pub mod Beginnings
