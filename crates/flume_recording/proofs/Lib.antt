@@ -1,0 +1,5 @@
+pub mod Cuts
+pub mod Digits
+pub mod CallWords
+pub mod AnswerWords
+pub mod SpacedNumbers

@@ -1,0 +1,102 @@
+//! The threads that have appeared in a recording so far.
+ghost use Rattle.std.specs.Prelude.{IfOk, IfSome, ◌<◌, ◌≤◌, length};
+
+use crate::answers::answer_of;
+use crate::calls::call_of;
+use crate::fault::Fault;
+use crate::parts::{Parts, parts_of};
+use flume_concurrent::call::Call;
+use flume_concurrent::event::Event;
+use flume_error::error::NoMemory;
+use std::alloc::{AllocError, Allocator};
+
+/// The threads that have appeared so far, in the order of their numbers.
+#[derive(Drop)]
+pub(crate) struct Threads<'s, A: Allocator> {
+    /// Their names.
+    pub(crate) names: Vec<&'s [u8], A>,
+    /// Whether the last call that each began asked for the capacity.
+    pub(crate) asking: Vec<bool, A>,
+    ghost as_many: { length names.items ≤ length asking.items },
+}
+
+// The number of this name among the names.
+fn place_of(names: &[&[u8]], name: &[u8]) -> Option<usize>
+    ensures within { IfSome result (λ place. place < length names.now) }
+{
+    for (place, other) in names.iter().enumerate() {
+        if *other == name {
+            return Some(place);
+        }
+    }
+    None
+}
+
+// Whether a call asks for the capacity.
+fn asks_capacity(call: &Call<u64>) -> bool {
+    matches!(call, Call::Capacity)
+}
+
+impl<'s, A: Allocator + Copy> Threads<'s, A> {
+    /// No thread.
+    pub(crate) fn new(alloc: A) -> Self {
+        Threads {
+            names: Vec::new(alloc),
+            asking: Vec::new(alloc),
+        }
+    }
+
+    // The number of the thread of this name, which may appear here for the first time.
+    fn number_of(&mut self, name: &'s [u8]) -> Result<usize, NoMemory>
+        ensures within { IfOk result (λ thread. thread < length self.new.asking.items) }
+    {
+        if let Some(place) = place_of(&self.names, name) {
+            return Ok(place);
+        }
+        let place = self.names.len();
+        self.asking.push(false).map_err(AllocError::from)?;
+        self.names.push(name).map_err(AllocError::from)?;
+        Ok(place)
+    }
+
+    /// The event of a line, or why it is none.
+    pub(crate) fn read(
+        &mut self,
+        alloc: A,
+        line: &'s [u8],
+    ) -> Result<Result<Event<u64, A>, Fault>, NoMemory> {
+        match parts_of(line) {
+            None => Ok(Err(Fault::NoEvent)),
+            Some(Parts::Begins { name, call }) => self.begins(name, call),
+            Some(Parts::Returns { name, answer }) => self.returns(alloc, name, answer),
+        }
+    }
+
+    // The thread of this name begins the call of a text.
+    fn begins(
+        &mut self,
+        name: &'s [u8],
+        text: &[u8],
+    ) -> Result<Result<Event<u64, A>, Fault>, NoMemory> {
+        let Some(call) = call_of(text) else {
+            return Ok(Err(Fault::NoCall));
+        };
+        let thread = self.number_of(name)?;
+        self.asking[thread] = asks_capacity(&call);
+        Ok(Ok(Event::Begins { thread, call }))
+    }
+
+    // The call of the thread of this name returns the answer of a text.
+    fn returns(
+        &mut self,
+        alloc: A,
+        name: &'s [u8],
+        text: &[u8],
+    ) -> Result<Result<Event<u64, A>, Fault>, NoMemory> {
+        let thread = self.number_of(name)?;
+        match answer_of(alloc, text, self.asking[thread])? {
+            None => Ok(Err(Fault::NoAnswer)),
+            Some(answer) => Ok(Ok(Event::Returns { thread, answer })),
+        }
+    }
+}
