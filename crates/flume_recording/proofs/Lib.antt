@@ -1,5 +1,0 @@
-pub mod Cuts
-pub mod Digits
-pub mod CallWords
-pub mod AnswerWords
-pub mod SpacedNumbers
