@@ -38,7 +38,7 @@ use std::time::{Duration, Instant};
 
 /// Waits for the first of several sends and receives, its arms, and gives what is made of its
 /// result. Arms are added by `send` and `recv`, each with a mapper from the arm's result to a `V`,
-/// which all arms have in common; the type `L` lists the arms. So their number is known if the
+/// which all arms have in common; the type `L` lists the arms. So their number is known when the
 /// selector is compiled, no arm is boxed, and a selector without arms has no method that waits.
 ///
 /// ```

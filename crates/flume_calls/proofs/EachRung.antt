@@ -119,7 +119,7 @@ module _ {B S : Type 0} (rings : B → ℕ → S → B → Type 0) {T : Type 0} 
 open_bit : (n m : ℕ) → IsOpen n m → is_closed n m ≡ false
 open_bit n m some = ne_eqb (min n m) 0 (λ e. omega arith)
 
--- the same of a closed one
+-- how they say that it is closed
 closed_bit : (n m : ℕ) → IsClosed n m → is_closed n m ≡ true
 closed_bit n m none = eq-eqb (min n m) 0 none
 
