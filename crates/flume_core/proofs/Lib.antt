@@ -1,24 +1,24 @@
 mod Start
-mod Bare
+pub mod Bare
 pub mod Views
 mod BlockedLive
 mod StateFacts
-mod Stands
+pub mod Stands
 mod Marks
 pub mod Keeping
-mod Moves
+pub mod Moves
 mod Spaces
-mod Receives
-mod Takes
-mod Unblocked
-mod Drains
-mod Resizes
+pub mod Receives
+pub mod Takes
+pub mod Unblocked
+pub mod Drains
+pub mod Resizes
 mod Telling
 pub mod Answering
 mod AsTries
-mod Closing
-mod AskedMarks
-mod Asked
+pub mod Closing
+pub mod AskedMarks
+pub mod Asked
 mod Headline
 mod Transitions
 pub mod dues
