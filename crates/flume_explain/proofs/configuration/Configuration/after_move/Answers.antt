@@ -1,0 +1,48 @@
+-- A move leads as its reply by places says.
+use Rattle.std.proofs.Common.{◌≡◌, sym, ◌∙◌, ap, rules, subst, false, refl, List}
+use denote.Enum.Bare.{same_true}
+use Rattle.flume_explain.specs.contracts.configuration.Progress.{the_type}
+use Rattle.flume_explain.specs.declared.configuration.OpenCall.{OpenCall}
+use Rattle.flume_explain.specs.declared.configuration.Progress.{Progress}
+use Rattle.flume_explain.specs.Configurations.{State, progressed}
+use Rattle.flume_explain.specs.Moves.{CallLeadsTo}
+use Rattle.std.specs.Option.{option_copied}
+use Rattle.flume_explain.specs.Made.{made}
+use Rattle.flume_explain.specs.Progresses.{progress_of}
+use Rattle.flume_explain.proofs.MoveLeads.{leads, leads_same, leads_wrong, left_with}
+use Rattle.flume_explain.proofs.configuration.Configuration.after_move.Goals as goal
+
+pub returns-then-is_wrong-clause-nowhere : goal.returns-then-is_wrong-clause-nowhere
+returns-then-is_wrong-clause-nowhere g c = λ e.
+    leads_wrong g.T.PartialEq.eq c.args.events.now c.args.self.now (option_copied c.args.recorded) c.args.one c.args.call.now c.args.mv
+    c.in-Some-make.told c.make.new.self
+    (c.in-Some-make.ensures.made ∙ ap (made c.args.mv c.args.one.place) c.in-Some.ensures.same) 0 c.in-Some-reply_to.reply
+    c.in-Some-reply_to.ensures.alike c.stage.result c.stage_after-stage.result c.stage.ensures.stage c.stage_after-stage.ensures.stage
+    (sym c.is_wrong.ensures.wrong ∙ c.if-is_wrong.true)
+
+pub returns-then-is_same-clause-same : goal.returns-then-is_same-clause-same
+returns-then-is_same-clause-same g c = λ e.
+    leads_same g.T.PartialEq.eq c.args.events.now c.args.self.now (option_copied c.args.recorded) c.args.one c.args.call.now c.args.mv
+    c.in-Some-make.told c.make.new.self
+    (c.in-Some-make.ensures.made ∙ ap (made c.args.mv c.args.one.place) c.in-Some.ensures.same) 0 c.in-Some-reply_to.reply
+    c.in-Some-reply_to.ensures.alike c.stage.result c.stage_after-stage.result c.stage.ensures.stage c.stage_after-stage.ensures.stage
+    (sym c.is_wrong.ensures.wrong ∙ c.if-is_wrong.false)
+    (sym c.progress_of-progress.ensures.progress
+    ∙ same_true the_type (search rules) c.progress_of-progress.result c.args.one.progress (sym c.eq.ensures ∙ c.if-eq.true))
+    (c.if-is_same.ensures.same refl)
+
+pub returns-in-Some-calls_with-clause-leads : goal.returns-in-Some-calls_with-clause-leads
+returns-in-Some-calls_with-clause-leads g c = λ new e.
+    let same : c.with_calls.result ≡ new = cc in
+    let calls : c.in-Some-calls_with.calls.items ≡ progressed c.args.one.place (progress_of c.stage_after-stage.result) c.args.self.now.calls =
+    c.in-Some-calls_with.ensures.progressed
+    ∙ ap (λ (p : Progress). progressed c.args.one.place p c.args.self.now.calls) c.progress_of-progress.ensures.progress in
+    let so : left_with c.args.self.now c.args.one (progress_of c.stage_after-stage.result) c.make.new.self ≡ new =
+    ap (λ (l : List OpenCall). let d : State = record c.make.new.self { calls = l } in d) (sym calls) ∙ sym c.with_calls.ensures.calls ∙ same in
+    subst (λ (d : State). CallLeadsTo g.T.PartialEq.eq c.args.events.now c.args.self.now (option_copied c.args.recorded) c.args.one
+    c.args.call.now c.args.mv false d) so
+    (leads g.T.PartialEq.eq c.args.events.now c.args.self.now (option_copied c.args.recorded) c.args.one c.args.call.now c.args.mv
+    c.in-Some-make.told c.make.new.self
+    (c.in-Some-make.ensures.made ∙ ap (made c.args.mv c.args.one.place) c.in-Some.ensures.same) 0 c.in-Some-reply_to.reply
+    c.in-Some-reply_to.ensures.alike c.stage.result c.stage_after-stage.result c.stage.ensures.stage c.stage_after-stage.ensures.stage
+    (sym c.is_wrong.ensures.wrong ∙ c.if-is_wrong.false))

@@ -1,0 +1,21 @@
+-- The event is spent if it leads to a dead configuration, or can't come.
+use Rattle.std.proofs.Common.{◌≡◌, ◌+◌, sym, subst, drop}
+use Rattle.flume_explain.specs.Agreement.{Agrees}
+use Rattle.flume_explain.specs.Dead.{IsDead}
+use Rattle.flume_explain.proofs.Deads.{spent_event, spent_wait}
+use Rattle.flume_explain.proofs.configuration.Configuration.try_event.Goals as goal
+
+pub returns-then-take_event-clause-leads : goal.returns-then-take_event-clause-leads
+returns-then-take_event-clause-leads g c = λ new at e gone.
+    let a : new ≡ c.take_event.new.self = cc in
+    let b : at ≡ c.args.place + 1 = cc in
+    spent_event g.T.PartialEq.eq c.args.events.now c.args.place c.args.self.now c.take_event.new.self
+    (λ o past event agrees there fits.
+    c.take_event.ensures.leads c.if-take_event.true o past event
+    (subst (Agrees g.T.PartialEq.eq c.args.events.now o past (drop c.args.place c.args.events.now)) (sym c.in-Some.ensures.same) agrees) there fits)
+    (subst (λ n. IsDead g.T.PartialEq.eq c.args.events.now n c.take_event.new.self) b
+    (subst (λ s. IsDead g.T.PartialEq.eq c.args.events.now at s) a gone))
+
+pub returns-then-not-may_take_event-clause-spent : goal.returns-then-not-may_take_event-clause-spent
+returns-then-not-may_take_event-clause-spent g c = λ e.
+    spent_wait g.T.PartialEq.eq c.args.events.now c.args.place c.args.self.now (c.may_take_event.ensures.waits c.if-not-may_take_event.true)

@@ -1,0 +1,27 @@
+-- A step is spent where it leads to a dead configuration, to the same one, or nowhere.
+use Rattle.std.proofs.Common.{◌≡◌, refl, subst, drop}
+use Rattle.flume_explain.specs.Dead.{IsDead}
+use Rattle.flume_explain.proofs.Deads.{spent_step, spent_same, spent_nowhere}
+use Rattle.flume_explain.proofs.configuration.Configuration.try_step.Goals as goal
+
+pub returns-in-Leads-clause-leads : goal.returns-in-Leads-clause-leads
+returns-in-Leads-clause-leads g c = λ new at e gone.
+    let a : new ≡ c.in-Leads.new = cc in
+    let b : at ≡ c.args.place = cc in
+    spent_step g.T.PartialEq.eq c.args.events.now c.args.place c.args.self.now c.in-Leads.new c.args.call c.args.other c.args.refused
+    (λ t has there. c.in-Leads.ensures.leads c.in-Leads.new refl (drop c.args.place c.args.events.now) t has there
+    (c.recorded-recorded.ensures.first t there))
+    (subst (λ n. IsDead g.T.PartialEq.eq c.args.events.now n c.in-Leads.new) b
+    (subst (λ s. IsDead g.T.PartialEq.eq c.args.events.now at s) a gone))
+
+pub returns-in-Same-clause-spent : goal.returns-in-Same-clause-spent
+returns-in-Same-clause-spent g c = λ e.
+    spent_same g.T.PartialEq.eq c.args.events.now c.args.place c.args.self.now c.args.call c.args.other c.args.refused
+    (λ t has there. c.in-Same.ensures.same refl (drop c.args.place c.args.events.now) t has there
+    (c.recorded-recorded.ensures.first t there))
+
+pub returns-in-Nowhere-clause-spent : goal.returns-in-Nowhere-clause-spent
+returns-in-Nowhere-clause-spent g c = λ e.
+    spent_nowhere g.T.PartialEq.eq c.args.events.now c.args.place c.args.self.now c.args.call c.args.other c.args.refused
+    (λ t has there. c.in-Nowhere.ensures.nowhere refl (drop c.args.place c.args.events.now) t has there
+    (c.recorded-recorded.ensures.first t there))

@@ -1,0 +1,18 @@
+-- The items were found to tell of an explanation of the events.
+use Rattle.std.proofs.Common.{◌≡◌, refl, sym, ap, ◌∙◌, subst}
+use Rattle.flume_model.specs.Log.{opens}
+use Rattle.flume_concurrent.specs.Explanations.{events_in, IsExplained}
+use Rattle.flume_concurrent.specs.Told.{TellExplanation}
+use Rattle.flume_explain.proofs.explain.explained_by.Goals as goal
+
+pub returns-in-Explains-clause-explains : goal.returns-in-Explains-clause-explains
+returns-in-Explains-clause-explains g c = λ items is.
+    let same : items ≡ c.in-Ok.items = cc in
+    let told = (c.in-Explains.ensures.explains (λ e. let none : ⊥ = cc in none)).0 refl in
+    subst (λ v. TellExplanation g.T.PartialEq.eq (opens c.args.capacity 1) v.items) (sym same)
+    (subst (TellExplanation g.T.PartialEq.eq (opens c.args.capacity 1)) c.as_slice.ensures.value told)
+
+pub returns-in-Explains-clause-explained : goal.returns-in-Explains-clause-explained
+returns-in-Explains-clause-explained g c = λ items is.
+    subst (IsExplained g.T.PartialEq.eq (opens c.args.capacity 1)) (ap events_in c.as_slice.ensures.value ∙ c.in-Ok.ensures.events)
+    (c.in-Explains.ensures.explained refl)

@@ -1,0 +1,42 @@
+-- The newest frame leads on, or is dead; with no frame left, the start is dead.
+use Rattle.std.proofs.Common.{◌≡◌, refl, subst, length, arith}
+use Rattle.std.proofs.lemmas.List.{nil_from_length}
+use Rattle.flume_explain.specs.Dead.{IsDead}
+use Rattle.flume_explain.proofs.Ways.{search_pop, search_leads, search_dead, search_ends}
+use Rattle.flume_explain.proofs.search.Search.next.Goals as goal
+
+pub next-requires-clause-within : goal.next-requires-clause-within
+next-requires-clause-within g c =
+    (search_pop g.T.PartialEq.eq c.args.events.now c.requires.going.0 c.loop-frame.self c.pop.new.self.items c.in-Some.frame c.in-Some.ensures.items
+    (c.loop-frame.invariant.searches c.requires.going.0 c.requires.going.1)).1
+
+pub next-requires-clause-left : goal.next-requires-clause-left
+next-requires-clause-left g c =
+    (search_pop g.T.PartialEq.eq c.args.events.now c.requires.going.0 c.loop-frame.self c.pop.new.self.items c.in-Some.frame c.in-Some.ensures.items
+    (c.loop-frame.invariant.searches c.requires.going.0 c.requires.going.1)).2 tt
+
+pub returns-in-Ok-clause-leads : goal.returns-in-Ok-clause-leads
+returns-in-Ok-clause-leads g c = λ choice new at is start s.
+    let a : new ≡ c.in-Leads.new = cc in
+    let b : at ≡ c.in-Leads.at = cc in
+    let k = search_leads g.T.PartialEq.eq c.args.events.now start c.loop-frame.self c.pop.new.self.items c.push.new.self.items c.in-Some.frame c.next.new.self at new
+    c.in-Some.ensures.items c.in-Ok.ensures.items c.in-Leads.ensures.same_place c.in-Leads.ensures.same
+    (λ gone. c.in-Leads.ensures.leads c.in-Leads.choice c.in-Leads.new c.in-Leads.at refl
+    (subst (λ n. IsDead g.T.PartialEq.eq c.args.events.now n c.in-Leads.new) b (subst (λ x. IsDead g.T.PartialEq.eq c.args.events.now at x) a gone)))
+    (c.loop-frame.invariant.searches start s) in
+    record { way = k.0; dead = k.1 }
+
+pub loop-frame-preserved : goal.loop-frame-preserved
+loop-frame-preserved g c = record {
+  searches = λ start s.
+      let k = search_dead g.T.PartialEq.eq c.args.events.now start c.loop-frame.self c.pop.new.self.items c.remember.new.self.dead.items c.in-Some.frame c.next.new.self
+      c.in-Some.ensures.items (c.remember.ensures.kept c.if-not-remember.false) c.in-Nowhere.ensures.same_place c.in-Nowhere.ensures.same
+      (c.in-Nowhere.ensures.dead refl) (c.loop-frame.invariant.searches start s) in
+      record { way = k.0; dead = k.1 };
+}
+
+pub returns-clause-nowhere : goal.returns-clause-nowhere
+returns-clause-nowhere g c = λ is start s.
+    let empty : length c.loop-frame.self.frames.items ≡ 0 = omega (arith, c.in_default.ensures.cases, c.loop-frame.self.frames.ok) in
+    search_ends g.T.PartialEq.eq c.args.events.now start c.loop-frame.self (nil_from_length c.loop-frame.self.frames.items empty)
+    (c.loop-frame.invariant.searches start s)

@@ -1,0 +1,13 @@
+use Rattle.std.proofs.Common.{vec_len}
+use Rattle.flume_explain.specs.Configurations.{State}
+use Rattle.flume_explain.specs.Search.{Searches}
+use Rattle.flume_explain.proofs.search.Search.next.Given as goal
+
+-- frames that are gone were dead
+abbrev pub invariant-loop-frame : goal.invariant-loop-frame
+invariant-loop-frame g l = record {
+  searches : (start : State) → Searches g.T.PartialEq.eq l.events start (Unit {0}) l.fn.self → Searches g.T.PartialEq.eq l.events start (Unit {0}) l.self;
+}
+
+abbrev pub decreases-loop-frame : goal.decreases-loop-frame
+decreases-loop-frame g l = vec_len l.self.frames

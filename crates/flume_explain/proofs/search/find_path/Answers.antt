@@ -1,0 +1,42 @@
+-- The search begins at the start, and goes on from there while there may be choices left.
+use Rattle.std.proofs.Common.{◌≡◌, sym, ◌∙◌, subst}
+use Rattle.std.proofs.lemmas.List.Elements.{All-nil}
+use Rattle.std.specs.List.{All}
+use Rattle.flume_explain.specs.declared.search.Turn.TheVariants.{GoesOn}
+use Rattle.std.proofs.lemmas.Bool.{false≢true}
+use Rattle.flume_explain.specs.Dead.{IsDead}
+use Rattle.flume_explain.specs.Search.{AreOnTheWay}
+use Rattle.flume_explain.proofs.search.find_path.Goals as goal
+use Rattle.flume_explain.proofs.search.find_path.Goals.{in-GoesOn, in_default-matches}
+
+pub loop-init : goal.loop-init
+loop-init g c = record {
+  goes_on = λ is. c.enter-turn.ensures.goes_on is c.args.start (record {
+    way = subst (λ l. AreOnTheWay g.T.PartialEq.eq c.args.events.now (IsDead g.T.PartialEq.eq c.args.events.now 0 c.args.start) l
+        (IsDead g.T.PartialEq.eq c.args.events.now 0 c.args.start)) (sym c.new-search.ensures.no_frames) (λ gone. gone);
+    dead = subst (All (λ d. IsDead g.T.PartialEq.eq c.args.events.now d.place d.configuration)) (sym c.new-search.ensures.none_dead) (All-nil _);
+  });
+  nowhere = λ is. absurd (c.enter-turn.ensures.goes is);
+}
+
+pub turn-turn-requires : goal.turn-turn-requires
+turn-turn-requires g c =
+    let going : c.loop.turn ≡ GoesOn = elim c.match-matches.branch [
+      | in-GoesOn w ↦ w.in-GoesOn.is
+      | in_default-matches w ↦ absurd (false≢true (sym w.matches-is ∙ c.if-not-matches.false))
+    ] in
+    record { going = (c.args.start, c.loop.invariant.goes_on going) }
+
+pub loop-preserved : goal.loop-preserved
+loop-preserved g c =
+    let going : c.loop.turn ≡ GoesOn = elim c.match-matches.branch [
+      | in-GoesOn w ↦ w.in-GoesOn.is
+      | in_default-matches w ↦ absurd (false≢true (sym w.matches-is ∙ c.if-not-matches.false))
+    ] in
+    record {
+      goes_on = λ is. c.turn-turn.ensures.goes_on is c.args.start (c.loop.invariant.goes_on going);
+      nowhere = λ is. c.turn-turn.ensures.nowhere is c.args.start (c.loop.invariant.goes_on going);
+    }
+
+pub returns-in-Nowhere : goal.returns-in-Nowhere
+returns-in-Nowhere g c = record { nothing = λ furthest is. c.loop.invariant.nowhere c.in-Nowhere.is }

@@ -1,0 +1,92 @@
+-- When a configuration agrees with the items so far.
+use Rattle.std.specs.Prelude.{◌≡◌, ◌<◌, ◌==◌, ℕ, Bool, true, false, ◌&&◌, List}
+use Rattle.std.specs.Prelude.{Option, Some, None}
+use Rattle.std.specs.List.{All, list_any}
+use Rattle.std.specs.Option.{option_map_or}
+use Rattle.flume_model.specs.Log.{Opening}
+use Rattle.flume_state.specs.State.{State as Channel}
+use Rattle.flume_core.specs.Represents.{Represents}
+use Rattle.flume_concurrent.specs.declared.call.Call.{Call}
+use Rattle.flume_concurrent.specs.declared.call.Answer.{Answer}
+use Rattle.flume_concurrent.specs.declared.event.Event.{Event}
+use Rattle.flume_concurrent.specs.declared.event.Item.{Item}
+use Rattle.flume_concurrent.specs.declared.stage.Stage.{Stage}
+use Rattle.flume_concurrent.specs.declared.stage.Stage.TheVariants as stage
+use Rattle.flume_concurrent.specs.Answers.{may_return}
+use Rattle.flume_concurrent.specs.Calls.{is_send}
+use Rattle.flume_concurrent.specs.Explanations.{open_call, steps_in}
+use Rattle.flume_explain.specs.declared.configuration.OpenCall.{OpenCall}
+use Rattle.flume_explain.specs.declared.configuration.Progress.{Progress}
+use Rattle.flume_explain.specs.declared.configuration.Progress.TheVariants.{Begun, Tried, Parked}
+use Rattle.flume_explain.specs.declared.configuration.Progress.TheVariants.{Refused, Done}
+use Rattle.flume_explain.specs.Configurations.{State, call_at, thread_at, call_by, is_parked}
+use Rattle.flume_explain.specs.Configurations.{first_answer}
+use Rattle.flume_explain.specs.Mirrors.{Mirrors}
+
+-- whether some open call has this place, and is parked
+abbrev pub parked_at : List OpenCall → ℕ → Bool
+parked_at calls p = list_any (λ call. call.place == p && is_parked call.progress) calls
+
+module _ {T A : Type 0} (events : List (Event T A)) where
+  -- whether the call at a place is a send that waits
+  abbrev pub is_send_at : ℕ → Bool
+  is_send_at p = option_map_or is_send (call_at events p) false
+
+  -- Who is parked: the parked calls have tickets of their own, all below the next one. Who is blocked
+  -- is a parked send, and who has an entry is parked and no send.
+  pub record AreParked (tickets : ℕ → ℕ) (next : ℕ) (c : State) : Type 0 where
+    pub tickets_apart : (p q : ℕ) → parked_at c.calls p ≡ true → parked_at c.calls q ≡ true
+        → tickets p ≡ tickets q → p ≡ q
+    pub tickets_below : (p : ℕ) → parked_at c.calls p ≡ true → tickets p < next
+    pub blocked_parked : All (λ p. parked_at c.calls p ≡ true) c.blocked
+    pub receives_parked : All (λ r. parked_at c.calls r.place ≡ true) c.receives
+    pub blocked_send : All (λ p. is_send_at p ≡ true) c.blocked
+    pub receives_apart : All (λ r. is_send_at r.place ≡ false) c.receives
+
+module _ {T A : Type 0} where
+  -- whether a call that has come to an answer may return what is recorded, if anything is
+  abbrev pub may_as_recorded : (T → T → Bool) → Call T → Answer T A → Option (Answer T A) → Bool
+  may_as_recorded equal call own None = true
+  may_as_recorded equal call own (Some told) = may_return equal call (stage.Answered own) told
+
+-- the events that were recorded, where `equal` compares messages
+module _ {T A : Type 0} (equal : T → T → Bool) (events : List (Event T A)) where
+  -- the progress is that of this stage, for a call with this ticket that is recorded to return so
+  abbrev pub IsProgress : Call T → Option (Answer T A) → ℕ → Progress → Stage T A → Type 0
+  IsProgress call recorded ticket Begun stage.Begun = Unit {0}
+  IsProgress call recorded ticket Tried stage.Tried = Unit {0}
+  IsProgress call recorded ticket Parked (stage.Parked t) = t ≡ ticket
+  IsProgress call recorded ticket Refused (stage.Refused t) = (t ≡ ticket) × (is_send call ≡ false)
+  IsProgress call recorded ticket Done (stage.Answered own) =
+      may_as_recorded equal call own recorded ≡ true
+  IsProgress call recorded ticket _ _ = ⊥
+
+  -- the open call of a thread is this one, and so far
+  abbrev pub IsOpenAs : (ℕ → ℕ) → Option (Answer T A) → Option OpenCall
+      → Option (Call T × Stage T A) → Type 0
+  IsOpenAs tickets recorded None None = Unit {0}
+  IsOpenAs tickets recorded (Some one) (Some far) =
+      (call_at events one.place ≡ Some far.0)
+      × IsProgress far.0 recorded (tickets one.place) one.progress far.1
+  IsOpenAs tickets recorded _ _ = ⊥
+
+  -- the open call is the one that its thread has among these
+  abbrev pub IsOwn : List OpenCall → OpenCall → Type 0
+  IsOwn calls one =
+      (t : ℕ) × (thread_at events one.place ≡ Some t) × (call_by events t calls ≡ Some one)
+
+  -- The configuration agrees with the items so far, the newest first, of which `rest` are the events
+  -- that come next.
+  pub record Agrees (opening : Opening) (past : List (Item T A)) (rest : List (Event T A))
+      (c : State) : Type 0 where
+    -- a state that the steps lead to
+    pub state : Channel T (Unit {0})
+    pub stands : Represents opening (steps_in past) state
+    -- a ticket for each call that is parked, by its place
+    pub tickets : ℕ → ℕ
+    pub channel : Mirrors events tickets state c
+    pub calls_are : (t : ℕ) → IsOpenAs tickets (first_answer t rest) (call_by events t c.calls)
+        (open_call past t)
+    -- each thread has at most one open call
+    pub threads_apart : All (IsOwn c.calls) c.calls
+    pub parked : AreParked events tickets state.next c

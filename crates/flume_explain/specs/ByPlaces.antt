@@ -1,0 +1,130 @@
+-- What a step leaves of a configuration's channel, by the places of calls: the functions of
+-- flume_state.specs.Effects and flume_model.specs.Entries, without tickets.
+use Rattle.std.specs.Prelude.{ℕ, ◌+◌, ◌==◌, Bool, true, false, not, ◌&&◌, if◌then◌else◌}
+use Rattle.std.specs.Prelude.{List, [], ◌∷◌, ◌++◌, map, length, Option, Some, None}
+use Rattle.std.specs.List.{list_any}
+use Rattle.flume_model.specs.Limits.{is_closed, is_full}
+use Rattle.flume_explain.specs.declared.configuration.ParkedReceive.{ParkedReceive}
+use Rattle.flume_explain.specs.declared.configuration.Standing.TheVariants.{Waiting, Woken}
+use Rattle.flume_explain.specs.Configurations.{State}
+use Rattle.flume_explain.specs.Receives.{waits, is_awake, standing_as, round_of, round_fills_one}
+use Rattle.flume_explain.specs.Receives.{receive_of, without_place}
+
+-- whether some receive waits
+abbrev pub some_waits : List ParkedReceive → Bool
+some_waits rs = list_any (λ r. waits r.standing) rs
+
+-- whether all senders or all receivers are gone, and whether the queue is at its capacity
+abbrev pub closed_now : State → Bool
+closed_now c = is_closed c.senders c.receivers
+
+abbrev pub full_now : State → Bool
+full_now c = is_full c.capacity (length c.queue)
+
+-- the first blocked send, of these, joins the queue
+abbrev pub admit_of : List ℕ → State → State
+admit_of [] c = c
+admit_of (p ∷ later) c = record c { queue = c.queue ++ p ∷ []; blocked = later }
+
+-- the first blocked send, if one is blocked, joins the queue
+abbrev pub admit : State → State
+admit c = admit_of c.blocked c
+
+-- it does if the queue has room
+abbrev pub refill : State → State
+refill c = if not (full_now c) then admit c else c
+
+-- it does if this queue is empty
+abbrev pub front_of : List ℕ → State → State
+front_of [] c = admit c
+front_of (p ∷ rest) c = c
+
+-- it does if no message is queued
+abbrev pub with_front : State → State
+with_front c = front_of c.queue c
+
+-- the front of the line was handed out, which left this of the queue
+abbrev pub take_leaving : List ℕ → State → State
+take_leaving rest c = refill (record (with_front c) { queue = rest })
+
+-- of these blocked sends, the first ones join the queue while it has room
+abbrev pub admit_all_of : List ℕ → State → State
+admit_all_of [] c = c
+admit_all_of (p ∷ later) c =
+    if full_now c then c
+    else admit_all_of later (record c { queue = c.queue ++ p ∷ []; blocked = later })
+
+-- blocked sends join the queue while it has room
+abbrev pub admit_all : State → State
+admit_all c = admit_all_of c.blocked c
+
+-- this is the capacity from now on
+abbrev pub resize : ℕ → State → State
+resize n c = admit_all (record c { capacity = Some n })
+
+-- the receives after a wake round, and whether it fills one, if this is the queue
+abbrev pub round_with : List ℕ → List ParkedReceive → List ParkedReceive
+round_with [] rs = rs
+round_with (front ∷ queue) rs = round_of front rs
+
+abbrev pub fills_with : List ℕ → List ParkedReceive → Bool
+fills_with [] rs = false
+fills_with (front ∷ queue) rs = round_fills_one rs
+
+-- the queue after a wake round that fills a receive, or not
+abbrev pub left_by_round : Bool → List ℕ → List ℕ
+left_by_round false queue = queue
+left_by_round true [] = []
+left_by_round true (front ∷ queue) = queue
+
+-- the configuration after a wake round
+abbrev pub wake : State → State
+wake c = record c {
+  queue = left_by_round (fills_with c.queue c.receives) c.queue;
+  receives = round_with c.queue c.receives;
+}
+
+-- the send at this place joins the queue, and a wake round follows
+abbrev pub join : ℕ → State → State
+join place c = wake (record c { queue = c.queue ++ place ∷ [] })
+
+-- the receive at this place is parked no more
+abbrev pub without_receive : ℕ → State → State
+without_receive place c = record c { receives = without_place place c.receives }
+
+-- the receives, if this is the one at a place: if it was woken, it waits again, behind all others
+abbrev pub again_as : ℕ → Option ParkedReceive → List ParkedReceive → List ParkedReceive
+again_as place None rs = rs
+again_as place (Some r) rs =
+    if is_awake r.standing then without_place place rs ++ standing_as Waiting r ∷ [] else rs
+
+-- the receive at this place asked, and waits on
+abbrev pub ask_again : ℕ → State → State
+ask_again place c = record c { receives = again_as place (receive_of place c.receives) c.receives }
+
+-- whether a wake is passed on as this receive leaves
+abbrev pub passes_on : Option ParkedReceive → Bool
+passes_on None = false
+passes_on (Some r) = is_awake r.standing
+
+-- the receive at this place leaves with no message, and its wake is passed on
+abbrev pub leave : ℕ → State → State
+leave place c =
+    if passes_on (receive_of place c.receives) then wake (without_receive place c)
+    else without_receive place c
+
+-- the blocked sends without the first one at this place
+abbrev pub without_send : ℕ → List ℕ → List ℕ
+without_send place [] = []
+without_send place (p ∷ ps) = if p == place then ps else p ∷ without_send place ps
+
+-- a receive, woken if it waits
+abbrev pub woken_if_waiting : ParkedReceive → ParkedReceive
+woken_if_waiting r = if waits r.standing then standing_as Woken r else r
+
+-- an end left: with the last end all is gone; and if the channel closes, each waiting receive wakes
+abbrev pub end_dropped : Bool → State → State
+end_dropped was_closed c =
+    if c.senders + c.receivers == 0 then record c { queue = []; blocked = []; receives = [] }
+    else (if not was_closed && closed_now c
+    then record c { receives = map woken_if_waiting c.receives } else c)

@@ -1,0 +1,112 @@
+-- What a search for an explanation knows of the items so far: the channel and the open calls,
+-- without tickets. A call goes by its place: that of the event by which it began.
+use Rattle.std.specs.Prelude.{ℕ, zero, suc, ◌==◌, Bool, true, false, if◌then◌else◌, List, [], ◌∷◌, map}
+use Rattle.std.specs.Prelude.{Option, Some, None}
+use Rattle.std.specs.Option.{option_and_then, option_map}
+use Rattle.flume_concurrent.specs.declared.call.Call.{Call}
+use Rattle.flume_concurrent.specs.declared.call.Call.TheVariants.{Send, SendTimeout, SendAsync}
+use Rattle.flume_concurrent.specs.declared.call.Call.TheVariants.{TrySend}
+use Rattle.flume_concurrent.specs.declared.call.Answer.{Answer}
+use Rattle.flume_concurrent.specs.declared.event.Event.{Event}
+use Rattle.flume_concurrent.specs.declared.event.Event.TheVariants.{Begins, Returns}
+use Rattle.flume_explain.specs.declared.configuration.OpenCall.{OpenCall}
+use Rattle.flume_explain.specs.declared.configuration.ParkedReceive.{ParkedReceive}
+use Rattle.flume_explain.specs.declared.configuration.Progress.{Progress}
+use Rattle.flume_explain.specs.declared.configuration.Progress.TheVariants.{Parked, Refused}
+
+-- what a contract sees of a configuration
+pub record State : Type 0 where
+  pub capacity : Option ℕ
+  pub senders : ℕ
+  pub receivers : ℕ
+  -- the places of the sends whose messages are queued, and of those that are blocked, in order
+  pub queue : List ℕ
+  pub blocked : List ℕ
+  -- the parked receives
+  pub receives : List ParkedReceive
+  -- the open calls, in the order in which they began
+  pub calls : List OpenCall
+
+-- the open call, which is so far now if it is the one at this place
+abbrev pub once : ℕ → Progress → OpenCall → OpenCall
+once place progress call =
+    if call.place == place then record { place = call.place; progress = progress } else call
+
+-- the open calls, the one at this place being so far now
+abbrev pub progressed : ℕ → Progress → List OpenCall → List OpenCall
+progressed place progress calls = map (once place progress) calls
+
+-- the configuration with the open call at this place so far
+abbrev pub with_progress : ℕ → Progress → State → State
+with_progress place progress c = record c { calls = progressed place progress c.calls }
+
+-- the configuration of a new channel
+abbrev pub start_of : Option ℕ → State
+start_of capacity = record {
+  capacity = capacity;
+  senders = 1;
+  receivers = 1;
+  queue = [];
+  blocked = [];
+  receives = [];
+  calls = [];
+}
+
+-- whether a call that is so far is parked
+abbrev pub is_parked : Progress → Bool
+is_parked Parked = true
+is_parked Refused = true
+is_parked _ = false
+
+-- whether this is the thread
+abbrev pub is_thread : ℕ → Option ℕ → Bool
+is_thread t None = false
+is_thread t (Some u) = u == t
+
+module _ {T : Type 0} where
+  -- the message that a call sends, if it sends one
+  abbrev pub message_of : Call T → Option T
+  message_of (Send m) = Some m
+  message_of (SendTimeout m) = Some m
+  message_of (SendAsync m) = Some m
+  message_of (TrySend m) = Some m
+  message_of _ = None
+
+module _ {T A : Type 0} where
+  -- the event at a place
+  abbrev pub event_at : List (Event T A) → ℕ → Option (Event T A)
+  event_at [] p = None
+  event_at (event ∷ events) zero = Some event
+  event_at (event ∷ events) (suc p) = event_at events p
+
+  -- the call that an event begins, if it begins one, and its thread
+  abbrev pub call_of : Event T A → Option (Call T)
+  call_of (Begins t call) = Some call
+  call_of (Returns t answer) = None
+
+  abbrev pub thread_of : Event T A → ℕ
+  thread_of (Begins t call) = t
+  thread_of (Returns t answer) = t
+
+  -- the call that began at a place, its thread, and the message that it sends
+  abbrev pub call_at : List (Event T A) → ℕ → Option (Call T)
+  call_at events p = option_and_then call_of (event_at events p)
+
+  abbrev pub thread_at : List (Event T A) → ℕ → Option ℕ
+  thread_at events p = option_map thread_of (event_at events p)
+
+  abbrev pub message_at : List (Event T A) → ℕ → Option T
+  message_at events p = option_and_then message_of (call_at events p)
+
+  -- the first answer that a thread is recorded to return, of these events
+  abbrev pub first_answer : ℕ → List (Event T A) → Option (Answer T A)
+  first_answer t [] = None
+  first_answer t (Begins u call ∷ events) = first_answer t events
+  first_answer t (Returns u answer ∷ events) =
+      if u == t then Some answer else first_answer t events
+
+  -- the open call of a thread, of these
+  abbrev pub call_by : List (Event T A) → ℕ → List OpenCall → Option OpenCall
+  call_by events t [] = None
+  call_by events t (call ∷ calls) =
+      if is_thread t (thread_at events call.place) then Some call else call_by events t calls

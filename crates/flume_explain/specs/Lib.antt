@@ -1,0 +1,13 @@
+pub mod Configurations
+pub mod Receives
+pub mod ByPlaces
+pub mod Taken
+pub mod Made
+pub mod Mirrors
+pub mod Agreement
+pub mod Progresses
+pub mod Moves
+pub mod Happens
+pub mod Refusals
+pub mod Dead
+pub mod Search

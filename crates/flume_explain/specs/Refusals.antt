@@ -1,0 +1,44 @@
+-- Whether a move may be refused, for want of memory or of tickets, by a configuration.
+use Rattle.std.specs.Prelude.{ℕ, ◌==◌, Bool, true, false, not, ◌&&◌, ◌||◌, length, Option, Some, None}
+use Rattle.flume_model.specs.declared.step.Kind.{Kind}
+use Rattle.flume_model.specs.declared.step.Kind.TheVariants.{Block}
+use Rattle.flume_explain.specs.declared.configuration.ParkedReceive.{ParkedReceive}
+use Rattle.flume_explain.specs.declared.configuration.Standing.{Standing}
+use Rattle.flume_explain.specs.declared.configuration.Standing.TheVariants.{Filled}
+use Rattle.flume_explain.specs.declared.step_of.Move.{Move}
+use Rattle.flume_explain.specs.declared.step_of.Move.TheVariants as move
+use Rattle.flume_explain.specs.Configurations.{State}
+use Rattle.flume_explain.specs.ByPlaces.{closed_now, full_now, some_waits}
+use Rattle.flume_explain.specs.Receives.{receive_of}
+
+-- whether a send is blocked
+abbrev pub some_blocked : State → Bool
+some_blocked c = not (length c.blocked == 0)
+
+-- whether a message is queued
+abbrev pub some_queued : State → Bool
+some_queued c = not (length c.queue == 0)
+
+-- whether a receive of this kind that stands so asks by looking at the line
+abbrev pub looks : Kind → Standing → Bool
+looks kind (Filled p) = false
+looks Block standing = false
+looks kind standing = true
+
+-- whether a parked receive does, if there is one
+abbrev pub is_looking : Option ParkedReceive → Bool
+is_looking None = false
+is_looking (Some r) = looks r.kind r.standing
+
+-- Whether the move of the call at a place may be refused: a send may if it is taken in or parks, a
+-- receive if it parks, and if a blocked send is to join the queue for it.
+abbrev pub may_be_refused : Move → ℕ → State → Bool
+may_be_refused move.TrySend place c =
+    not (closed_now c) && not (not (some_waits c.receives) && full_now c)
+may_be_refused move.Send place c = not (closed_now c)
+may_be_refused move.TryRecv place c = some_blocked c
+may_be_refused (move.Recv kind) place c =
+    some_blocked c || (not (some_queued c) && not (closed_now c))
+may_be_refused move.Poll place c = some_blocked c && is_looking (receive_of place c.receives)
+may_be_refused move.Drain place c = some_queued c
+may_be_refused _ place c = false

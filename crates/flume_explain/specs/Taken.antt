@@ -1,0 +1,14 @@
+-- How a message is handed out.
+use Rattle.std.specs.Prelude.{ℕ, List, [], ◌∷◌, Option, Some, None}
+use Rattle.flume_explain.specs.Configurations.{State}
+use Rattle.flume_explain.specs.ByPlaces.{with_front, take_leaving}
+
+-- the front of the line, if there is one, and the configuration once it was handed out, if this is
+-- the queue with the front of the line in it
+abbrev pub taken_front_of : List ℕ → State → Option ℕ × State
+taken_front_of [] c = (None, c)
+taken_front_of (p ∷ rest) c = (Some p, take_leaving rest c)
+
+-- the same, whatever is queued
+abbrev pub taken_front : State → Option ℕ × State
+taken_front c = taken_front_of (with_front c).queue c

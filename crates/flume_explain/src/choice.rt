@@ -1,0 +1,132 @@
+//! What may come next in an explanation.
+ghost use Rattle.std.specs.Prelude.{◌≡◌, ◌<◌, ◌++◌, ◌⊎◌, ◌∷◌, [], ℕ, true, false, length, Bool, List, IfSome, IfNone, IsTrue, slice_get};
+ghost use Rattle.std.specs.List.{Contains};
+ghost use Rattle.flume_explain.specs.Dead.{AreLeft, AreSteps};
+ghost use Rattle.flume_explain.specs.declared.configuration.OpenCall.{OpenCall};
+
+use crate::configuration::{Configuration, OpenCall, Progress};
+use crate::places::call_of;
+use flume_concurrent::event::Event;
+use std::alloc::Allocator;
+
+/// What comes next: the next event, or a step.
+#[derive(Clone, Copy, Debug, Drop)]
+pub enum Choice {
+    /// The next event.
+    TakeEvent,
+    /// A step of this open call: its next one or the other one, with memory or refused it.
+    MakeStep {
+        call: OpenCall,
+        other: bool,
+        refused: bool,
+    },
+}
+
+impl<A: Allocator + Copy> Configuration<A> {
+    /// The open call that the event at a place returns, while that call hasn't its answer. None: only
+    /// the event may come next. It begins a call, or returns one that has its answer, or none that is
+    /// open.
+    pub fn returning_call<T: Copy + Eq + Drop>(
+        &self,
+        events: &[Event<T, A>],
+        place: usize,
+    ) -> Option<OpenCall>
+        requires { place < length events.now }
+        ensures only { IfNone result (AreLeft T.eq events.now place self.now
+            (Choice.TakeEvent ∷ [])) }
+    {
+        match &events[place] {
+            Event::Begins { .. } => None,
+            Event::Returns { thread, .. } => match call_of(self.calls.as_slice(), events, *thread) {
+                Some(own) if !is_done(own.progress) => Some(own),
+                _ => None,
+            },
+        }
+    }
+
+    /// What may come next, the last to be tried first: the steps of the open calls, those of the call
+    /// that is to return, and the event. None: there was no memory.
+    pub fn choices(&self, alloc: A, own: OpenCall) -> Option<Vec<Choice, A>>
+        ensures event { IfSome result (λ choices. Contains choices.items Choice.TakeEvent) }
+        ensures steps { IfSome result (λ choices. AreSteps choices.items self.now.calls) }
+    {
+        all_choices(alloc, self.calls.as_slice(), own)
+    }
+}
+
+// Whether a call that is so far has its answer.
+fn is_done(progress: Progress) -> bool
+    ensures done { IsTrue result → progress ≡ Progress.Done }
+{
+    match progress {
+        Progress::Done => true,
+        _ => false,
+    }
+}
+
+// The steps of the other open calls, then those of the call that is to return, and the event.
+fn all_choices<A: Allocator + Copy>(
+    alloc: A,
+    calls: &[OpenCall],
+    own: OpenCall,
+) -> Option<Vec<Choice, A>>
+    ensures event { IfSome result (λ choices. Contains choices.items Choice.TakeEvent) }
+    ensures steps { IfSome result (λ choices. AreSteps choices.items calls.now) }
+{
+    let mut choices = Vec::new(alloc);
+    for call in calls {
+        if !push_steps_unless(&mut choices, *call, own) {
+            return None;
+        }
+    }
+    if push_steps(&mut choices, own) && choices.push(Choice::TakeEvent).is_ok() {
+        Some(choices)
+    } else {
+        None
+    }
+}
+
+// Adds the steps of this open call, unless it is the other one. `false`: there was no memory.
+fn push_steps_unless<A: Allocator + Copy>(
+    choices: &mut Vec<Choice, A>,
+    call: OpenCall,
+    own: OpenCall,
+) -> bool
+    ensures kept { IsTrue result → (choice : Choice) → Contains choices.old.items choice
+        → Contains choices.new.items choice }
+    ensures steps { IsTrue result → (other refused : Bool)
+        → Contains choices.new.items (Choice.MakeStep call other refused) ⊎ (call ≡ own) }
+{
+    call == own || push_steps(choices, call)
+}
+
+// Adds the steps of this open call. `false`: there was no memory.
+fn push_steps<A: Allocator + Copy>(choices: &mut Vec<Choice, A>, call: OpenCall) -> bool
+    ensures steps { IsTrue result → choices.new.items ≡ choices.old.items
+        ++ (Choice.MakeStep call true true ∷ Choice.MakeStep call false true
+        ∷ Choice.MakeStep call true false ∷ Choice.MakeStep call false false ∷ []) }
+{
+    let steps = [
+        Choice::MakeStep {
+            call,
+            other: true,
+            refused: true,
+        },
+        Choice::MakeStep {
+            call,
+            other: false,
+            refused: true,
+        },
+        Choice::MakeStep {
+            call,
+            other: true,
+            refused: false,
+        },
+        Choice::MakeStep {
+            call,
+            other: false,
+            refused: false,
+        },
+    ];
+    choices.extend_from_slice(&steps).is_ok()
+}

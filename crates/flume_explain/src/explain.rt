@@ -1,0 +1,192 @@
+//! What explains the events that threads recorded.
+ghost use Rattle.std.specs.Prelude.{◌≡◌, ◌≤◌, ℕ};
+ghost use Rattle.std.specs.declared.vec.Vec.{Vec};
+ghost use Rattle.flume_model.specs.Log.{opens};
+ghost use Rattle.flume_concurrent.specs.Explanations.{events_in, IsExplained};
+ghost use Rattle.flume_concurrent.specs.Told.{TellExplanation};
+ghost use Rattle.flume_concurrent.specs.declared.event.Item.{Item};
+ghost use Rattle.flume_explain.specs.Search.{BreaksAfter, UnexplainedAfter};
+
+use crate::choice::Choice;
+use crate::configuration::Configuration;
+use crate::replay::{Failure, make_choices};
+use crate::search::{Found, find_path};
+use flume_concurrent::event::{Event, Item};
+use flume_concurrent::explanation::{Explained, check_explanation};
+use std::alloc::Allocator;
+
+/// What a search for an explanation came to.
+#[derive(Drop)]
+pub enum Explanation<T, A: Allocator> {
+    /// These items explain the events.
+    Explained(Vec<Item<T, A>, A>),
+    /// Nothing explains them.
+    Unexplained,
+    /// There was no memory: nothing is known of the events.
+    NoMemory,
+    /// The search was given up: nothing is known of the events. The furthest configuration that it
+    /// entered was one before the event at this place.
+    GaveUp(usize),
+}
+
+/// How far the events that threads recorded are explained.
+#[derive(Clone, Copy, Debug, PartialEq, Eq, Drop)]
+pub enum Checked {
+    /// All of them are.
+    Explained,
+    /// So many events are, and with the next one they aren't.
+    Breaks(usize),
+    /// So many events are, and all of them aren't. The search for the event with which they stop
+    /// being explained was given up.
+    Unexplained(usize),
+    /// There was no memory: nothing is known of the events.
+    NoMemory,
+    /// A search was given up: nothing is known of the events. The furthest configuration that it
+    /// entered was one before the event at this place.
+    GaveUp(usize),
+}
+
+/// Looks for an explanation of the events, the oldest first, on a channel that was opened with this
+/// capacity, or with none. Enters at most so many configurations after the first one.
+pub fn explain<T: Copy + Eq + Drop, A: Allocator + Copy>(
+    alloc: A,
+    capacity: Option<usize>,
+    events: &[Event<T, A>],
+    limit: usize,
+) -> Explanation<T, A>
+    ensures events { (items : Vec (Item T A) A) → result ≡ Explanation.Explained items
+        → events_in items.items ≡ events.now }
+    ensures explains { (items : Vec (Item T A) A) → result ≡ Explanation.Explained items
+        → TellExplanation T.eq (opens capacity 1) items.items }
+    ensures explained { (items : Vec (Item T A) A) → result ≡ Explanation.Explained items
+        → IsExplained T.eq (opens capacity 1) events.now }
+    ensures unexplained { result ≡ Explanation.Unexplained
+        → IsExplained T.eq (opens capacity 1) events.now → ⊥ }
+{
+    let start = Configuration::new(alloc, capacity);
+    match find_path(alloc, start, events, limit) {
+        Found::Path(path) => explained_by(alloc, capacity, events, path.as_slice()),
+        Found::Nothing(_) => Explanation::Unexplained,
+        Found::NoMemory => Explanation::NoMemory,
+        Found::GaveUp(place) => Explanation::GaveUp(place),
+    }
+}
+
+/// Finds how many events are explained, the oldest first, on a channel that was opened with this
+/// capacity, or with none. The search for an explanation of all of them enters at most so many
+/// configurations after the first one. If there is none, each search for one of fewer events enters
+/// at most a tenth of that.
+pub fn check_calls<T: Copy + Eq + Drop, A: Allocator + Copy>(
+    alloc: A,
+    capacity: Option<usize>,
+    events: &[Event<T, A>],
+    limit: usize,
+) -> Checked
+    ensures explained { result ≡ Checked.Explained
+        → IsExplained T.eq (opens capacity 1) events.now }
+    ensures breaks { (count : ℕ) → result ≡ Checked.Breaks count
+        → BreaksAfter T.eq (opens capacity 1) events.now count }
+    ensures unexplained { (count : ℕ) → result ≡ Checked.Unexplained count
+        → UnexplainedAfter T.eq (opens capacity 1) events.now count }
+{
+    let start = Configuration::new(alloc, capacity);
+    match find_path(alloc, start, events, limit) {
+        Found::Path(path) => checked_by(alloc, capacity, events, path.as_slice()),
+        Found::Nothing(place) => find_break(alloc, capacity, events, limit / 10, place),
+        Found::NoMemory => Checked::NoMemory,
+        Found::GaveUp(place) => Checked::GaveUp(place),
+    }
+}
+
+// The explanation that these choices make, if they make one.
+fn explained_by<T: Copy + Eq + Drop, A: Allocator + Copy>(
+    alloc: A,
+    capacity: Option<usize>,
+    events: &[Event<T, A>],
+    path: &[Choice],
+) -> Explanation<T, A>
+    ensures events { (items : Vec (Item T A) A) → result ≡ Explanation.Explained items
+        → events_in items.items ≡ events.now }
+    ensures explains { (items : Vec (Item T A) A) → result ≡ Explanation.Explained items
+        → TellExplanation T.eq (opens capacity 1) items.items }
+    ensures explained { (items : Vec (Item T A) A) → result ≡ Explanation.Explained items
+        → IsExplained T.eq (opens capacity 1) events.now }
+    ensures found { result ≡ Explanation.Unexplained → ⊥ }
+{
+    let items = match make_choices(alloc, capacity, events, path) {
+        Ok(items) => items,
+        Err(Failure::NoMemory) => return Explanation::NoMemory,
+        Err(Failure::NoPath) => return Explanation::GaveUp(events.len()),
+    };
+    match check_explanation(alloc, capacity, items.as_slice()) {
+        Explained::Explains => Explanation::Explained(items),
+        Explained::Breaks(_) => Explanation::GaveUp(events.len()),
+        Explained::NoMemory => Explanation::NoMemory,
+    }
+}
+
+// Whether these choices explain the events.
+fn checked_by<T: Copy + Eq + Drop, A: Allocator + Copy>(
+    alloc: A,
+    capacity: Option<usize>,
+    events: &[Event<T, A>],
+    path: &[Choice],
+) -> Checked
+    ensures explained { result ≡ Checked.Explained
+        → IsExplained T.eq (opens capacity 1) events.now }
+    ensures found { (count : ℕ) → result ≡ Checked.Breaks count → ⊥ }
+    ensures all { (count : ℕ) → result ≡ Checked.Unexplained count → ⊥ }
+{
+    match explained_by(alloc, capacity, events, path) {
+        Explanation::Explained(_) => Checked::Explained,
+        Explanation::Unexplained => Checked::GaveUp(events.len()),
+        Explanation::NoMemory => Checked::NoMemory,
+        Explanation::GaveUp(place) => Checked::GaveUp(place),
+    }
+}
+
+// How many of the events are explained, which all together aren't. Tries so many first, and goes on
+// by doubling the step and then by halving what is left.
+fn find_break<T: Copy + Eq + Drop, A: Allocator + Copy>(
+    alloc: A,
+    capacity: Option<usize>,
+    events: &[Event<T, A>],
+    limit: usize,
+    first: usize,
+) -> Checked
+    requires { IsExplained T.eq (opens capacity 1) events.now → ⊥ }
+    ensures found { result ≡ Checked.Explained → ⊥ }
+    ensures breaks { (count : ℕ) → result ≡ Checked.Breaks count
+        → BreaksAfter T.eq (opens capacity 1) events.now count }
+    ensures unexplained { (count : ℕ) → result ≡ Checked.Unexplained count
+        → UnexplainedAfter T.eq (opens capacity 1) events.now count }
+{
+    let mut low = 0;
+    let mut high = events.len();
+    let mut next = first;
+    let mut step = 1;
+    while low + 1 < high {
+        let count = next.clamp(low + 1, high - 1);
+        match explain(alloc, capacity, &events[..count], limit) {
+            Explanation::Explained(_) => {
+                low = count;
+                next = low + half_at_most(step, high - low);
+            }
+            Explanation::Unexplained => {
+                high = count;
+                next = high - half_at_most(step, high - low);
+            }
+            Explanation::NoMemory => return Checked::NoMemory,
+            Explanation::GaveUp(_) => return Checked::Unexplained(low),
+        }
+        step = step.saturating_mul(2);
+    }
+    Checked::Breaks(low)
+}
+
+// The step, but no more than half of what is left.
+fn half_at_most(step: usize, left: usize) -> usize
+    ensures half { result ≤ left }
+{
+    step.min(left / 2)
+}

@@ -1,0 +1,132 @@
+//! The next event, and where it leads a configuration.
+ghost use Rattle.std.specs.Prelude.{◌≡◌, ◌<◌, ℕ, false, IsTrue, length};
+ghost use Rattle.flume_explain.specs.Configurations.{call_at};
+ghost use Rattle.flume_explain.specs.Dead.{EventLeads, EventWaits, IsDead};
+ghost use Rattle.flume_explain.specs.Happens.{may_end, with_call, without_call};
+ghost use Rattle.flume_explain.specs.declared.configuration.OpenCall.{OpenCall};
+
+use crate::choice::Choice;
+use crate::configuration::{Configuration, OpenCall, Progress};
+use crate::places::{call_at, call_of};
+use flume_concurrent::call::Answer;
+use flume_concurrent::event::Event;
+use flume_concurrent::stage::Stage;
+use std::alloc::Allocator;
+
+/// Where the events lead that only may come next.
+#[derive(Clone, Copy, Debug, Drop)]
+pub enum Forced {
+    /// Past the last event.
+    AtEnd,
+    /// To this place, where there are other choices: the event returns this open call, which hasn't
+    /// its answer.
+    Stops(usize, OpenCall),
+    /// To this place, where the event can't come.
+    Dead(usize),
+    /// There was no memory.
+    NoMemory,
+}
+
+impl<A: Allocator + Copy> Configuration<A> {
+    /// Whether the event at a place may come now.
+    pub fn may_take_event<T: Copy + Eq + Drop>(&self, events: &[Event<T, A>], place: usize) -> bool
+        requires { place < length events.now }
+        ensures waits { result ≡ false → EventWaits T.eq events.now place self.now }
+    {
+        match &events[place] {
+            Event::Begins { thread, .. } => {
+                call_of(self.calls.as_slice(), events, *thread).is_none()
+            }
+            Event::Returns { thread, answer } => {
+                match call_of(self.calls.as_slice(), events, *thread) {
+                    Some(one) => may_return(one, events, answer),
+                    None => false,
+                }
+            }
+        }
+    }
+
+    /// Takes the event at a place. `false`: there was no memory.
+    pub fn take_event<T: Copy + Eq + Drop>(&mut self, events: &[Event<T, A>], place: usize) -> bool
+        requires { place < length events.now }
+        ensures leads { IsTrue result → EventLeads T.eq events.now place self.old self.new }
+    {
+        match &events[place] {
+            Event::Begins { .. } => self.begin_call(place),
+            Event::Returns { thread, .. } => {
+                if let Some(one) = call_of(self.calls.as_slice(), events, *thread) {
+                    self.end_call(one.place);
+                }
+                true
+            }
+        }
+    }
+
+    // A call begins by the event at this place. `false`: there was no memory.
+    fn begin_call(&mut self, place: usize) -> bool
+        ensures begun { IsTrue result → self.new ≡ with_call place self.old }
+    {
+        self.calls
+            .push(OpenCall {
+                place,
+                progress: Progress::Begun,
+            })
+            .is_ok()
+    }
+
+    // The open call at this place returns.
+    fn end_call(&mut self, place: usize)
+        ensures ended { self.new ≡ without_call place self.old }
+    {
+        self.calls.retain(|call| call.place != place);
+    }
+
+    /// Takes the events from a place on, as long as only they may come next, and adds them to what
+    /// was chosen.
+    pub fn take_forced<T: Copy + Eq + Drop>(
+        &mut self,
+        events: &[Event<T, A>],
+        place: usize,
+        chosen: &mut Vec<Choice, A>,
+    ) -> Forced
+        ensures within { (next : ℕ) (own : OpenCall) → result ≡ Forced.Stops next own
+            → next < length events.now }
+        ensures stops { (next : ℕ) (own : OpenCall) → result ≡ Forced.Stops next own
+            → IsDead T.eq events.now next self.new → IsDead T.eq events.now place self.old }
+        ensures dead { (next : ℕ) → result ≡ Forced.Dead next
+            → IsDead T.eq events.now place self.old }
+    {
+        for next in place..events.len() {
+            if let Some(own) = self.returning_call(events, next) {
+                return Forced::Stops(next, own);
+            }
+            if !self.may_take_event(events, next) {
+                return Forced::Dead(next);
+            }
+            if !self.take_event(events, next) || chosen.push(Choice::TakeEvent).is_err() {
+                return Forced::NoMemory;
+            }
+        }
+        Forced::AtEnd
+    }
+}
+
+// Whether an open call may return this now, if this is the first answer that is recorded of it.
+fn may_return<T: Copy + Eq + Drop, A: Allocator + Copy>(
+    one: OpenCall,
+    events: &[Event<T, A>],
+    told: &Answer<T, A>,
+) -> bool
+    ensures may { result
+        ≡ may_end T.eq (call_at events.now one.place) one.progress told.now }
+{
+    let Some(call) = call_at(events, one.place) else {
+        return false;
+    };
+    match one.progress {
+        Progress::Begun => call.may_return(&Stage::Begun, told),
+        Progress::Tried => call.may_return(&Stage::Tried, told),
+        Progress::Parked | Progress::Refused => false,
+        Progress::Done => true,
+    }
+}

@@ -1,0 +1,96 @@
+//! The queue of a configuration, and the blocked sends that join it.
+ghost use Rattle.std.specs.Prelude.{◌≡◌, ◌∷◌, [], IfNone, IfSome, IfOk};
+ghost use Rattle.std.specs.Result.{OnOk};
+ghost use Rattle.flume_explain.specs.ByPlaces.{closed_now, full_now, admit, refill, with_front};
+ghost use Rattle.flume_explain.specs.ByPlaces.{admit_all};
+ghost use Rattle.flume_explain.specs.Taken.{taken_front};
+
+use crate::configuration::Configuration;
+use std::alloc::{AllocError, Allocator};
+
+impl<A: Allocator + Copy> Configuration<A> {
+    // Whether all senders or all receivers are gone.
+    pub(crate) fn is_closed(&self) -> bool
+        ensures closed { result ≡ closed_now self.now }
+    {
+        self.senders.min(self.receivers) == 0
+    }
+
+    // Whether the queue is at its capacity.
+    pub(crate) fn is_full(&self) -> bool
+        ensures full { result ≡ full_now self.now }
+    {
+        match self.capacity {
+            None => false,
+            Some(capacity) => capacity <= self.queue.len(),
+        }
+    }
+
+    // The first blocked send, if one is blocked, joins the queue.
+    fn admit(&mut self) -> Result<(), AllocError>
+        ensures admitted { OnOk result (self.new ≡ admit self.old) }
+    {
+        match take_first(&mut self.blocked) {
+            None => Ok(()),
+            Some(place) => Ok(self.queue.push(place)?),
+        }
+    }
+
+    // It does if the queue has room.
+    fn refill(&mut self) -> Result<(), AllocError>
+        ensures refilled { OnOk result (self.new ≡ refill self.old) }
+    {
+        if self.is_full() { Ok(()) } else { self.admit() }
+    }
+
+    // It does if no message is queued.
+    fn bring_front(&mut self) -> Result<(), AllocError>
+        ensures front { OnOk result (self.new ≡ with_front self.old) }
+    {
+        if self.queue.is_empty() {
+            self.admit()
+        } else {
+            Ok(())
+        }
+    }
+
+    // Hands out the front of the line, if there is one.
+    pub(crate) fn take(&mut self) -> Result<Option<usize>, AllocError>
+        ensures taken { IfOk result (λ front. (front, self.new) ≡ taken_front self.old) }
+    {
+        self.bring_front()?;
+        match take_first(&mut self.queue) {
+            None => Ok(None),
+            Some(place) => {
+                self.refill()?;
+                Ok(Some(place))
+            }
+        }
+    }
+
+    // Blocked sends join the queue while it has room.
+    pub(crate) fn admit_all(&mut self) -> Result<(), AllocError>
+        ensures admitted { OnOk result (self.new ≡ admit_all self.old) }
+    {
+        for _ in 0..self.blocked.len() {
+            if self.is_full() {
+                return Ok(());
+            }
+            self.admit()?;
+        }
+        Ok(())
+    }
+}
+
+// Takes the first of these places out, if there is one.
+fn take_first<A: Allocator + Copy>(places: &mut Vec<usize, A>) -> Option<usize>
+    ensures none { IfNone result (places.old.items ≡ []) }
+    ensures nothing { IfNone result (places.new.items ≡ []) }
+    ensures first { IfSome result (λ place. places.old.items ≡ place ∷ places.new.items) }
+{
+    if places.is_empty() {
+        None
+    } else {
+        Some(places.remove(0))
+    }
+}

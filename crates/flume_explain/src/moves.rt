@@ -1,0 +1,179 @@
+//! What an open call may do next, and where that leads a configuration.
+ghost use Rattle.std.specs.Prelude.{◌≡◌, ℕ, IfSome, List, Option, Some, true, false};
+ghost use Rattle.flume_explain.specs.Mirrors.{IsAlike};
+ghost use Rattle.std.specs.Option.{option_copied};
+ghost use Rattle.std.specs.List.{Contains};
+ghost use Rattle.flume_concurrent.specs.declared.event.Event.{Event};
+ghost use Rattle.flume_explain.specs.Configurations.{State, thread_at, first_answer, progressed};
+ghost use Rattle.flume_explain.specs.Moves.{LeadsTo, LeadsNowhere, CallLeadsTo, CallLeadsNowhere};
+
+use crate::configuration::{Configuration, OpenCall, Progress, progressed};
+use crate::place_reply::PlaceReply;
+use crate::places::call_at;
+use crate::progress::{is_wrong, progress_of};
+use crate::replies::{message_of, reply_for};
+use crate::step_of::{Move, move_of};
+use flume_concurrent::call::{Answer, Call};
+use flume_concurrent::event::Event;
+use flume_concurrent::stage::stage_after;
+use flume_model::step::Reply;
+use std::alloc::Allocator;
+
+/// Where a move leads a configuration.
+#[derive(Drop)]
+pub enum Outcome<A: Allocator> {
+    /// To this one.
+    Leads(Configuration<A>),
+    /// To the same one.
+    Same,
+    /// To no explanation.
+    Nowhere,
+    /// There was no memory for the new configuration.
+    NoMemory,
+}
+
+impl<A: Allocator + Copy> Configuration<A> {
+    /// Where a move of this open call leads: its next step, or the other one that it may make, with
+    /// memory or refused it. `recorded` is what the call is recorded to return, if it is.
+    pub fn after<T: Copy + Eq + Drop>(
+        &self,
+        alloc: A,
+        events: &[Event<T, A>],
+        recorded: Option<&Answer<T, A>>,
+        one: OpenCall,
+        other: bool,
+        refused: bool,
+    ) -> Outcome<A>
+        ensures leads { (new : State) → result ≡ Outcome.Leads new
+            → (rest : List (Event T A)) (t : ℕ) → Contains self.now.calls one
+            → thread_at events.now one.place ≡ Some t → first_answer t rest ≡ option_copied recorded.entry
+            → LeadsTo T.eq events.now self.now rest t other refused new }
+        ensures same { result ≡ Outcome.Same
+            → (rest : List (Event T A)) (t : ℕ) → Contains self.now.calls one
+            → thread_at events.now one.place ≡ Some t → first_answer t rest ≡ option_copied recorded.entry
+            → LeadsTo T.eq events.now self.now rest t other refused self.now }
+        ensures nowhere { result ≡ Outcome.Nowhere
+            → (rest : List (Event T A)) (t : ℕ) → Contains self.now.calls one
+            → thread_at events.now one.place ≡ Some t → first_answer t rest ≡ option_copied recorded.entry
+            → LeadsNowhere T.eq events.now self.now rest t other refused }
+    {
+        let Some(call) = call_at(events, one.place) else {
+            return Outcome::Nowhere;
+        };
+        let Some(mv) = move_of(call, one.progress, other) else {
+            return Outcome::Nowhere;
+        };
+        if refused {
+            self.after_refusal::<T>(alloc, call, recorded, one, mv)
+        } else {
+            self.after_move(alloc, events, call, recorded, one, mv)
+        }
+    }
+
+    // Where a refused move leads: the channel stays.
+    fn after_refusal<T: Copy + Eq + Drop>(
+        &self,
+        alloc: A,
+        call: &Call<T>,
+        recorded: Option<&Answer<T, A>>,
+        one: OpenCall,
+        mv: Move,
+    ) -> Outcome<A>
+        ensures leads { (events : List (Event T A)) (new : State) → result ≡ Outcome.Leads new
+            → CallLeadsTo T.eq events self.now (option_copied recorded.entry) one call.now mv true new }
+        ensures same { (events : List (Event T A)) → result ≡ Outcome.Same
+            → CallLeadsTo T.eq events self.now (option_copied recorded.entry) one call.now mv true
+            self.now }
+        ensures nowhere { (events : List (Event T A)) → result ≡ Outcome.Nowhere
+            → CallLeadsNowhere T.eq events self.now (option_copied recorded.entry) one call.now mv
+            true }
+    {
+        if !self.may_refuse(mv, one.place) {
+            return Outcome::Nowhere;
+        }
+        let stage = stage_after(call, one.progress.stage(), Reply::NoMemory(None));
+        if is_wrong(call, recorded, &stage) {
+            return Outcome::Nowhere;
+        }
+        let progress = progress_of(&stage);
+        if progress == one.progress {
+            return Outcome::Same;
+        }
+        match self.with_progress(alloc, one.place, progress) {
+            Some(new) => Outcome::Leads(new),
+            None => Outcome::NoMemory,
+        }
+    }
+
+    // Where a move leads that isn't refused.
+    fn after_move<T: Copy + Eq + Drop>(
+        &self,
+        alloc: A,
+        events: &[Event<T, A>],
+        call: &Call<T>,
+        recorded: Option<&Answer<T, A>>,
+        one: OpenCall,
+        mv: Move,
+    ) -> Outcome<A>
+        ensures leads { (new : State) → result ≡ Outcome.Leads new
+            → CallLeadsTo T.eq events.now self.now (option_copied recorded.entry) one call.now mv
+            false new }
+        ensures same { result ≡ Outcome.Same
+            → CallLeadsTo T.eq events.now self.now (option_copied recorded.entry) one call.now mv
+            false self.now }
+        ensures nowhere { result ≡ Outcome.Nowhere
+            → CallLeadsNowhere T.eq events.now self.now (option_copied recorded.entry) one call.now
+            mv false }
+    {
+        let Some(mut left) = self.try_clone(alloc) else {
+            return Outcome::NoMemory;
+        };
+        let Some(told) = left.make(mv, one.place) else {
+            return Outcome::NoMemory;
+        };
+        let Some(reply) = self.reply_to(alloc, told, events, call) else {
+            return Outcome::NoMemory;
+        };
+        let stage = stage_after(call, one.progress.stage(), reply);
+        if is_wrong(call, recorded, &stage) {
+            return Outcome::Nowhere;
+        }
+        let progress = progress_of(&stage);
+        if progress == one.progress && left.is_same(self) {
+            return Outcome::Same;
+        }
+        match self.calls_with(alloc, one.place, progress) {
+            Some(calls) => Outcome::Leads(left.with_calls(calls)),
+            None => Outcome::NoMemory,
+        }
+    }
+
+    // A reply of a channel that this is by places, of a step that this call makes; none if there was
+    // no memory, or if a message is wanted that isn't sent.
+    fn reply_to<T: Copy + Eq + Drop>(
+        &self,
+        alloc: A,
+        told: PlaceReply,
+        events: &[Event<T, A>],
+        call: &Call<T>,
+    ) -> Option<Reply<T, A>>
+        ensures alike { IfSome result (λ reply. IsAlike events.now 0 self.now.queue told reply) }
+    {
+        reply_for(alloc, told, message_of(call), events, self.queue.as_slice())
+    }
+
+    // The open calls, the one at this place being so far; none if there was no memory.
+    fn calls_with(&self, alloc: A, place: usize, progress: Progress) -> Option<Vec<OpenCall, A>>
+        ensures progressed { IfSome result (λ calls.
+            calls.items ≡ progressed place progress self.now.calls) }
+    {
+        progressed(self.calls.as_slice(), alloc, place, progress).ok()
+    }
+
+    // The channel with these open calls.
+    fn with_calls(self, calls: Vec<OpenCall, A>) -> Self
+        ensures calls { result ≡ record self { calls = calls.items } }
+    {
+        Configuration { calls, ..self }
+    }
+}

@@ -1,0 +1,66 @@
+//! The calls that began at places, and their threads.
+ghost use Rattle.std.specs.Prelude.{◌≡◌, Option, List};
+ghost use Rattle.std.specs.Option.{option_copied};
+ghost use Rattle.flume_explain.specs.Configurations.{call_at, call_by, is_thread, thread_at};
+
+use crate::configuration::OpenCall;
+use flume_concurrent::call::Call;
+use flume_concurrent::event::Event;
+use std::alloc::Allocator;
+
+/// The open call of a thread, of these, if it has one.
+pub fn call_of<T: Copy + Eq + Drop, A: Allocator + Copy>(
+    calls: &[OpenCall],
+    events: &[Event<T, A>],
+    thread: usize,
+) -> Option<OpenCall>
+    ensures own { result ≡ call_by events.now thread calls.now }
+{
+    for call in calls {
+        if is_of(*call, events, thread) {
+            return Some(*call);
+        }
+    }
+    None
+}
+
+// Whether the call is of this thread.
+fn is_of<T: Copy + Eq + Drop, A: Allocator + Copy>(
+    call: OpenCall,
+    events: &[Event<T, A>],
+    thread: usize,
+) -> bool
+    ensures of { result ≡ is_thread thread (thread_at events.now call.place) }
+{
+    match thread_at(events, call.place) {
+        Some(own) => own == thread,
+        None => false,
+    }
+}
+
+/// The thread of the event at a place, if there is one.
+pub fn thread_at<T: Copy + Eq + Drop, A: Allocator + Copy>(
+    events: &[Event<T, A>],
+    place: usize,
+) -> Option<usize>
+    ensures thread { result ≡ thread_at events.now place }
+{
+    match events.get(place) {
+        Some(Event::Begins { thread, .. } | Event::Returns { thread, .. }) => Some(*thread),
+        None => None,
+    }
+}
+
+/// The call that began at a place, if one did.
+pub fn call_at<T: Copy + Eq + Drop, A: Allocator + Copy>(
+    events: &[Event<T, A>],
+    place: usize,
+) -> Option<&Call<T>>
+    ensures call { option_copied result ≡ call_at events.now place }
+{
+    match events.get(place) {
+        Some(Event::Begins { call, .. }) => Some(call),
+        Some(Event::Returns { .. }) => None,
+        None => None,
+    }
+}

@@ -1,0 +1,53 @@
+//! How far a call is, by its stage and without its ticket.
+ghost use Rattle.std.specs.Prelude.{◌≡◌};
+ghost use Rattle.std.specs.Option.{option_copied};
+ghost use Rattle.flume_concurrent.specs.declared.stage.Stage.{Stage};
+ghost use Rattle.flume_explain.specs.Progresses.{progress_of, unticketed, is_wrong};
+
+use crate::configuration::Progress;
+use flume_concurrent::call::{Answer, Call};
+use flume_concurrent::stage::Stage;
+use std::alloc::Allocator;
+
+impl Progress {
+    /// The stage of a call that is so far and has no answer yet, with the ticket 0.
+    pub fn stage<T, A: Allocator>(self) -> Stage<T, A>
+        ensures stage { (own : Stage T A) → progress_of own ≡ self → (self ≡ Progress.Done → ⊥)
+            → result ≡ unticketed own }
+    {
+        match self {
+            Progress::Begun => Stage::Begun,
+            Progress::Tried => Stage::Tried,
+            Progress::Parked => Stage::Parked(0),
+            Progress::Refused => Stage::Refused(0),
+            Progress::Done => Stage::Begun,
+        }
+    }
+}
+
+/// How far a call at this stage is.
+pub fn progress_of<T, A: Allocator>(stage: &Stage<T, A>) -> Progress
+    ensures progress { result ≡ progress_of stage.now }
+{
+    match stage {
+        Stage::Begun => Progress::Begun,
+        Stage::Tried => Progress::Tried,
+        Stage::Parked(_) => Progress::Parked,
+        Stage::Refused(_) => Progress::Refused,
+        Stage::Answered(_) => Progress::Done,
+    }
+}
+
+/// Whether a call at this stage has come to another answer than the recorded one, if one is.
+pub fn is_wrong<T: Copy + Eq, A: Allocator>(
+    call: &Call<T>,
+    recorded: Option<&Answer<T, A>>,
+    stage: &Stage<T, A>,
+) -> bool
+    ensures wrong { result ≡ is_wrong T.eq call.now (option_copied recorded.entry) stage.now }
+{
+    match (recorded, stage) {
+        (Some(told), Stage::Answered(_)) => !call.may_return(stage, told),
+        _ => false,
+    }
+}

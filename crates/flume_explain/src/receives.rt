@@ -1,0 +1,219 @@
+//! The moves of receives on a configuration.
+ghost use Rattle.std.specs.Prelude.{◌≡◌, IfOk};
+ghost use Rattle.std.specs.Result.{OnOk};
+ghost use Rattle.flume_explain.specs.ByPlaces.{wake, ask_again, leave, without_receive, with_front};
+ghost use Rattle.flume_explain.specs.ByPlaces.{closed_now};
+ghost use Rattle.flume_explain.specs.Made.{made, polled_as, left_as, leaves_with, looked};
+ghost use Rattle.flume_explain.specs.Made.{received_from};
+ghost use Rattle.flume_explain.specs.declared.place_reply.PlaceReply.{PlaceReply};
+ghost use Rattle.flume_explain.specs.Receives.{receive_of, without_place};
+ghost use Rattle.flume_explain.specs.declared.step_of.Move.{Move};
+
+use crate::configuration::{Configuration, ParkedReceive, Standing};
+use crate::place_reply::PlaceReply;
+use crate::step_of::Move;
+use crate::wakes::wake_round;
+use flume_model::step::Kind;
+use std::alloc::{AllocError, Allocator};
+
+impl<A: Allocator + Copy> Configuration<A> {
+    // A wake round.
+    pub(crate) fn wake(&mut self)
+        ensures woken { self.new ≡ wake self.old }
+    {
+        if self.queue.is_empty() {
+            return;
+        }
+        if wake_round(&mut self.receives, self.queue[0]) {
+            let _ = self.queue.remove(0);
+        }
+    }
+
+    // Receives, without waiting.
+    pub(crate) fn try_recv(&mut self, place: usize) -> Result<PlaceReply, AllocError>
+        ensures made { IfOk result (λ told. (told, self.new) ≡ made Move.TryRecv place self.old) }
+    {
+        match self.take()? {
+            Some(message) => Ok(PlaceReply::Got(message)),
+            None if self.is_closed() => Ok(PlaceReply::Ended),
+            None => Ok(PlaceReply::Empty),
+        }
+    }
+
+    // Receives, and parks if there is no message.
+    pub(crate) fn recv(&mut self, kind: Kind, place: usize) -> Result<PlaceReply, AllocError>
+        ensures made { IfOk result (λ told.
+            (told, self.new) ≡ made (Move.Recv kind) place self.old) }
+    {
+        match self.take()? {
+            Some(message) => Ok(PlaceReply::Got(message)),
+            None if self.is_closed() => Ok(PlaceReply::Ended),
+            None => {
+                self.receives.push(ParkedReceive {
+                    place,
+                    kind,
+                    standing: Standing::Waiting,
+                })?;
+                Ok(PlaceReply::Parked)
+            }
+        }
+    }
+
+    // The parked receive asks.
+    pub(crate) fn poll(&mut self, place: usize) -> Result<PlaceReply, AllocError>
+        ensures made { IfOk result (λ told. (told, self.new) ≡ made Move.Poll place self.old) }
+    {
+        match receive_of(self.receives.as_slice(), place) {
+            None => Ok(PlaceReply::NoTicket),
+            Some(receive) => self.poll_as(place, receive.kind, receive.standing),
+        }
+    }
+
+    // It does, standing so.
+    fn poll_as(
+        &mut self,
+        place: usize,
+        kind: Kind,
+        standing: Standing,
+    ) -> Result<PlaceReply, AllocError>
+        ensures asked { IfOk result (λ told.
+            (told, self.new) ≡ polled_as place kind standing self.old) }
+    {
+        match (kind, standing) {
+            (_, Standing::Filled(message)) => {
+                self.remove_receive(place);
+                Ok(PlaceReply::Got(message))
+            }
+            (Kind::Block, Standing::Waiting) => Ok(PlaceReply::Waiting),
+            _ => self.look(place),
+        }
+    }
+
+    // It looks at the line.
+    fn look(&mut self, place: usize) -> Result<PlaceReply, AllocError>
+        ensures looked { IfOk result (λ told.
+            (told, self.new) ≡ leaves_with place (looked place self.old)) }
+    {
+        if let Some(message) = self.take()? {
+            self.remove_receive(place);
+            return Ok(PlaceReply::Got(message));
+        }
+        if self.is_closed() {
+            self.remove_receive(place);
+            return Ok(PlaceReply::Ended);
+        }
+        self.ask_again(place)?;
+        Ok(PlaceReply::Waiting)
+    }
+
+    // It waits on: if it was woken, behind all others.
+    fn ask_again(&mut self, place: usize) -> Result<(), AllocError>
+        ensures asked { OnOk result (self.new ≡ ask_again place self.old) }
+    {
+        match receive_of(self.receives.as_slice(), place) {
+            Some(receive) if receive.is_awake() => {
+                self.remove_receive(place);
+                self.receives.push(ParkedReceive {
+                    standing: Standing::Waiting,
+                    ..receive
+                })?;
+                Ok(())
+            }
+            _ => Ok(()),
+        }
+    }
+
+    // The parked receive leaves.
+    pub(crate) fn withdraw(&mut self, place: usize) -> Result<PlaceReply, AllocError>
+        ensures made { IfOk result (λ told. (told, self.new) ≡ made Move.Withdraw place self.old) }
+    {
+        match receive_of(self.receives.as_slice(), place) {
+            None => Ok(PlaceReply::NoTicket),
+            Some(receive) => self.withdraw_as(place, receive.kind, receive.standing),
+        }
+    }
+
+    // It does, standing so.
+    fn withdraw_as(
+        &mut self,
+        place: usize,
+        kind: Kind,
+        standing: Standing,
+    ) -> Result<PlaceReply, AllocError>
+        ensures left { IfOk result (λ told.
+            (told, self.new) ≡ left_as place kind standing self.old) }
+    {
+        match (kind, standing) {
+            (_, Standing::Filled(message)) => {
+                self.remove_receive(place);
+                Ok(PlaceReply::Got(message))
+            }
+            (Kind::Block, _) => self.withdraw_block(place),
+            _ => {
+                let closed = self.is_closed();
+                self.leave(place);
+                Ok(PlaceReply::Gone(closed))
+            }
+        }
+    }
+
+    // It does that blocks, and takes the front of the line, if there is one.
+    fn withdraw_block(&mut self, place: usize) -> Result<PlaceReply, AllocError>
+        ensures left { IfOk result (λ told.
+            (told, self.new) ≡ leaves_with place
+            (received_from (with_front self.old).queue
+            (PlaceReply.Gone (closed_now self.old), without_receive place self.old) self.old)) }
+    {
+        let front = self.take()?;
+        let closed = self.is_closed();
+        self.remove_receive(place);
+        match front {
+            Some(message) => Ok(PlaceReply::Got(message)),
+            None => Ok(PlaceReply::Gone(closed)),
+        }
+    }
+
+    // It leaves with no message, and its wake is passed on.
+    fn leave(&mut self, place: usize)
+        ensures left { self.new ≡ leave place self.old }
+    {
+        let found = receive_of(self.receives.as_slice(), place);
+        self.remove_receive(place);
+        if let Some(receive) = found {
+            if receive.is_awake() {
+                self.wake();
+            }
+        }
+    }
+
+    // It is parked no more.
+    fn remove_receive(&mut self, place: usize)
+        ensures removed { self.new ≡ without_receive place self.old }
+    {
+        remove_receive(&mut self.receives, place);
+    }
+}
+
+// The parked receive at a place, if there is one.
+pub(crate) fn receive_of(receives: &[ParkedReceive], place: usize) -> Option<ParkedReceive>
+    ensures first { result ≡ receive_of place receives.now }
+{
+    for receive in receives {
+        if receive.place == place {
+            return Some(*receive);
+        }
+    }
+    None
+}
+
+// Takes the first parked receive at a place out, if there is one.
+fn remove_receive<A: Allocator + Copy>(receives: &mut Vec<ParkedReceive, A>, place: usize)
+    ensures removed { receives.new.items ≡ without_place place receives.old.items }
+{
+    for index in 0..receives.len() {
+        if receives[index].place == place {
+            let _ = receives.remove(index);
+            return;
+        }
+    }
+}

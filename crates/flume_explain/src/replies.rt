@@ -1,0 +1,108 @@
+//! Replies of a channel, made of replies by the places of calls.
+ghost use Rattle.std.specs.Prelude.{◌≡◌, ℕ, IfSome, List, Some, map};
+ghost use Rattle.flume_concurrent.specs.declared.event.Event.{Event};
+ghost use Rattle.flume_explain.specs.Configurations.{message_at, message_of};
+ghost use Rattle.flume_explain.specs.Mirrors.{IsAlike};
+
+use crate::place_reply::PlaceReply;
+use crate::places::call_at;
+use flume_concurrent::call::Call;
+use flume_concurrent::event::Event;
+use flume_model::step::Reply;
+use std::alloc::Allocator;
+
+/// A reply of a channel that is this one by places, with the ticket 0: of a call that sends this
+/// message, if it sends one, where these are the sends whose messages were queued. None if there was
+/// no memory, or if a message is wanted that isn't sent.
+pub fn reply_for<T: Copy + Eq + Drop, A: Allocator + Copy>(
+    alloc: A,
+    told: PlaceReply,
+    message: Option<T>,
+    events: &[Event<T, A>],
+    queue: &[usize],
+) -> Option<Reply<T, A>>
+    ensures alike { IfSome result (λ reply. IsAlike events.now 0 queue.now told reply) }
+{
+    match told {
+        PlaceReply::Got(place) => Some(Reply::Got(message_at(events, place)?)),
+        PlaceReply::Drained => Some(Reply::Drained(messages_at(alloc, events, queue)?)),
+        PlaceReply::Full => Some(Reply::Full(message?)),
+        PlaceReply::Closed => Some(Reply::Closed(message?)),
+        PlaceReply::Returned(closed) => Some(Reply::Returned {
+            message: message?,
+            closed,
+        }),
+        _ => plain_reply(told),
+    }
+}
+
+// The same, if no message is told of.
+fn plain_reply<T, A: Allocator>(told: PlaceReply) -> Option<Reply<T, A>>
+    ensures alike { (events : List (Event T A)) (queue : List ℕ)
+        → IfSome result (λ reply. IsAlike events 0 queue told reply) }
+{
+    match told {
+        PlaceReply::Sent => Some(Reply::Sent { filled: None }),
+        PlaceReply::Pending => Some(Reply::Pending(0)),
+        PlaceReply::Accepted => Some(Reply::Accepted),
+        PlaceReply::Waiting => Some(Reply::Waiting),
+        PlaceReply::NoTicket => Some(Reply::NoTicket),
+        PlaceReply::Empty => Some(Reply::Empty),
+        PlaceReply::Ended => Some(Reply::Ended),
+        PlaceReply::Parked => Some(Reply::Parked(0)),
+        PlaceReply::Gone(closed) => Some(Reply::Gone {
+            closed,
+            filled: None,
+        }),
+        PlaceReply::Done => Some(Reply::Done),
+        PlaceReply::NoEnd => Some(Reply::NoEnd),
+        PlaceReply::CountFull => Some(Reply::CountFull),
+        PlaceReply::Number(number) => Some(Reply::Number(number)),
+        PlaceReply::Truth(truth) => Some(Reply::Truth(truth)),
+        PlaceReply::Capacity(capacity) => Some(Reply::Capacity(capacity)),
+        PlaceReply::Unbounded => Some(Reply::Unbounded),
+        _ => None,
+    }
+}
+
+/// The message that a call sends, if it sends one.
+pub fn message_of<T: Copy>(call: &Call<T>) -> Option<T>
+    ensures message { result ≡ message_of call.now }
+{
+    match call {
+        Call::Send(message)
+        | Call::SendTimeout(message)
+        | Call::SendAsync(message)
+        | Call::TrySend(message) => Some(*message),
+        _ => None,
+    }
+}
+
+// The message that the call sends that began at a place.
+fn message_at<T: Copy + Eq + Drop, A: Allocator + Copy>(
+    events: &[Event<T, A>],
+    place: usize,
+) -> Option<T>
+    ensures message { result ≡ message_at events.now place }
+{
+    message_of(call_at(events, place)?)
+}
+
+// The messages of some sends; none if there was no memory, or if one of them sends none.
+fn messages_at<T: Copy + Eq + Drop, A: Allocator + Copy>(
+    alloc: A,
+    events: &[Event<T, A>],
+    places: &[usize],
+) -> Option<Vec<T, A>>
+    ensures messages { IfSome result (λ list.
+        map (message_at events.now) places.now ≡ map Some list.items) }
+{
+    let mut messages = Vec::new(alloc);
+    for place in places {
+        let message = message_at(events, *place)?;
+        if messages.push(message).is_err() {
+            return None;
+        }
+    }
+    Some(messages)
+}

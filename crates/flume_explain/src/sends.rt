@@ -1,0 +1,127 @@
+//! The moves of sends on a configuration.
+ghost use Rattle.std.specs.Prelude.{◌≡◌, ◌==◌, ◌&&◌, not, IfOk};
+ghost use Rattle.std.specs.Result.{OnOk};
+ghost use Rattle.std.specs.List.{list_any};
+ghost use Rattle.flume_explain.specs.ByPlaces.{some_waits, full_now, join, without_send};
+ghost use Rattle.flume_explain.specs.Made.{made, taken_back};
+ghost use Rattle.flume_explain.specs.declared.step_of.Move.{Move};
+
+use crate::configuration::{Configuration, ParkedReceive};
+use crate::place_reply::PlaceReply;
+use crate::step_of::Move;
+use std::alloc::{AllocError, Allocator};
+
+impl<A: Allocator + Copy> Configuration<A> {
+    // Whether no receive waits and the queue is at its capacity.
+    pub(crate) fn has_no_room(&self) -> bool
+        ensures room { result ≡ (not (some_waits self.now.receives) && full_now self.now) }
+    {
+        !some_wait(self.receives.as_slice()) && self.is_full()
+    }
+
+    // The send joins the queue, and a wake round follows.
+    fn join(&mut self, place: usize) -> Result<(), AllocError>
+        ensures joined { OnOk result (self.new ≡ join place self.old) }
+    {
+        self.queue.push(place)?;
+        self.wake();
+        Ok(())
+    }
+
+    // Sends, without waiting.
+    pub(crate) fn try_send(&mut self, place: usize) -> Result<PlaceReply, AllocError>
+        ensures made { IfOk result (λ told. (told, self.new) ≡ made Move.TrySend place self.old) }
+    {
+        if self.is_closed() {
+            return Ok(PlaceReply::Closed);
+        }
+        if self.has_no_room() {
+            return Ok(PlaceReply::Full);
+        }
+        self.join(place)?;
+        Ok(PlaceReply::Sent)
+    }
+
+    // Sends, and is blocked if there is no room.
+    pub(crate) fn send(&mut self, place: usize) -> Result<PlaceReply, AllocError>
+        ensures made { IfOk result (λ told. (told, self.new) ≡ made Move.Send place self.old) }
+    {
+        if self.is_closed() {
+            return Ok(PlaceReply::Closed);
+        }
+        if self.has_no_room() {
+            self.blocked.push(place)?;
+            return Ok(PlaceReply::Pending);
+        }
+        self.join(place)?;
+        Ok(PlaceReply::Sent)
+    }
+
+    // Asks how the send stands, and takes its message back if the channel is closed.
+    pub(crate) fn poll_send(&mut self, place: usize) -> PlaceReply
+        ensures made { (result, self.new) ≡ made Move.PollSend place self.old }
+    {
+        if !has_place(self.blocked.as_slice(), place) {
+            PlaceReply::Accepted
+        } else if self.is_closed() {
+            self.take_back(place)
+        } else {
+            PlaceReply::Waiting
+        }
+    }
+
+    // Takes the message of the send back.
+    pub(crate) fn withdraw_send(&mut self, place: usize) -> PlaceReply
+        ensures made { (result, self.new) ≡ made Move.WithdrawSend place self.old }
+    {
+        if has_place(self.blocked.as_slice(), place) {
+            self.take_back(place)
+        } else {
+            PlaceReply::Accepted
+        }
+    }
+
+    // Takes the message of the blocked send back.
+    fn take_back(&mut self, place: usize) -> PlaceReply
+        ensures back { (result, self.new) ≡ taken_back place self.old }
+    {
+        remove_place(&mut self.blocked, place);
+        PlaceReply::Returned(self.is_closed())
+    }
+}
+
+// Whether some receive waits.
+fn some_wait(receives: &[ParkedReceive]) -> bool
+    ensures waits { result ≡ some_waits receives.now }
+{
+    for receive in receives {
+        if receive.waits() {
+            return true;
+        }
+    }
+    false
+}
+
+// Whether one of these is the place.
+fn has_place(places: &[usize], place: usize) -> bool
+    ensures has { result ≡ list_any (λ p. p == place) places.now }
+{
+    for other in places {
+        if *other == place {
+            return true;
+        }
+    }
+    false
+}
+
+// Takes out the first that is the place, if there is one.
+fn remove_place<A: Allocator + Copy>(places: &mut Vec<usize, A>, place: usize)
+    ensures removed { places.new.items ≡ without_send place places.old.items }
+{
+    for index in 0..places.len() {
+        if places[index] == place {
+            let _ = places.remove(index);
+            return;
+        }
+    }
+}

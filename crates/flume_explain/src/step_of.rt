@@ -1,0 +1,141 @@
+//! The moves of an open call.
+ghost use Rattle.std.specs.Prelude.{◌≡◌};
+ghost use Rattle.flume_explain.specs.Moves.{first_move, parking_move, next_move, other_move};
+ghost use Rattle.flume_explain.specs.Moves.{move_of};
+ghost use Rattle.flume_concurrent.specs.Calls.{is_send};
+
+use crate::configuration::Progress;
+use flume_concurrent::call::Call;
+use flume_model::step::Kind;
+
+/// A step of an open call, without its ticket and without the message that it sends.
+#[derive(Clone, Copy, Debug, PartialEq, Eq, Drop)]
+pub enum Move {
+    /// Send, without waiting.
+    TrySend,
+    /// Send, and park where that is not taken in at once.
+    Send,
+    /// Ask how the blocked send stands.
+    PollSend,
+    /// Take the blocked send back.
+    WithdrawSend,
+    /// Receive, without waiting.
+    TryRecv,
+    /// Receive, and park where there is no message.
+    Recv(Kind),
+    /// Ask again, as the parked receive.
+    Poll,
+    /// Leave, as the parked receive.
+    Withdraw,
+    /// Receive all queued messages.
+    Drain,
+    /// One more sender.
+    CloneSender,
+    /// One more receiver.
+    CloneReceiver,
+    /// One sender leaves.
+    DropSender,
+    /// One receiver leaves.
+    DropReceiver,
+    /// Set the capacity.
+    SetCapacity(usize),
+    /// Ask how many messages are queued.
+    Len,
+    /// Ask whether no message is queued.
+    IsEmpty,
+    /// Ask whether the queue is at or past its capacity.
+    IsFull,
+    /// Ask for the capacity.
+    Capacity,
+    /// Ask how many senders live.
+    SenderCount,
+    /// Ask how many receivers live.
+    ReceiverCount,
+    /// Ask whether the channel is closed.
+    IsDisconnected,
+}
+
+/// The move that a call makes that is so far: its next one, or the other one that it may make.
+pub fn move_of<T>(call: &Call<T>, progress: Progress, other: bool) -> Option<Move>
+    ensures moves { result ≡ move_of call.now progress other }
+{
+    if other {
+        other_move(call, progress)
+    } else {
+        next_move(call, progress)
+    }
+}
+
+// The move that a call makes next, if it makes one.
+fn next_move<T>(call: &Call<T>, progress: Progress) -> Option<Move>
+    ensures moves { result ≡ next_move call.now progress }
+{
+    match progress {
+        Progress::Begun => Some(first_move(call)),
+        Progress::Tried => parking_move(call),
+        Progress::Parked if is_send(call) => Some(Move::PollSend),
+        Progress::Parked => Some(Move::Poll),
+        Progress::Refused => Some(Move::Withdraw),
+        Progress::Done => None,
+    }
+}
+
+// The move that it may make instead, if there is one.
+fn other_move<T>(call: &Call<T>, progress: Progress) -> Option<Move>
+    ensures moves { result ≡ other_move call.now progress }
+{
+    match (call, progress) {
+        (Call::SendAsync(_), Progress::Begun) => Some(Move::TrySend),
+        (Call::RecvAsync, Progress::Begun | Progress::Tried) => Some(Move::TryRecv),
+        (Call::SendTimeout(_) | Call::SendAsync(_), Progress::Parked) => Some(Move::WithdrawSend),
+        (Call::RecvTimeout | Call::RecvAsync, Progress::Parked) => Some(Move::Withdraw),
+        _ => None,
+    }
+}
+
+// The first move of a call.
+fn first_move<T>(call: &Call<T>) -> Move
+    ensures first { result ≡ first_move call.now }
+{
+    match call {
+        Call::Send(_) | Call::SendTimeout(_) | Call::TrySend(_) => Move::TrySend,
+        Call::SendAsync(_) => Move::Send,
+        Call::Recv | Call::RecvTimeout | Call::TryRecv => Move::TryRecv,
+        Call::RecvAsync => Move::Recv(Kind::Plain),
+        Call::Drain => Move::Drain,
+        Call::CloneSender => Move::CloneSender,
+        Call::CloneReceiver => Move::CloneReceiver,
+        Call::DropSender => Move::DropSender,
+        Call::DropReceiver => Move::DropReceiver,
+        Call::SetCapacity(capacity) => Move::SetCapacity(*capacity),
+        Call::Len => Move::Len,
+        Call::IsEmpty => Move::IsEmpty,
+        Call::IsFull => Move::IsFull,
+        Call::Capacity => Move::Capacity,
+        Call::SenderCount => Move::SenderCount,
+        Call::ReceiverCount => Move::ReceiverCount,
+        Call::IsDisconnected => Move::IsDisconnected,
+    }
+}
+
+// The move by which a call parks that has tried, if it does.
+fn parking_move<T>(call: &Call<T>) -> Option<Move>
+    ensures parks { result ≡ parking_move call.now }
+{
+    match call {
+        Call::Send(_) | Call::SendTimeout(_) => Some(Move::Send),
+        Call::Recv | Call::RecvTimeout => Some(Move::Recv(Kind::Block)),
+        Call::RecvAsync => Some(Move::Recv(Kind::Plain)),
+        _ => None,
+    }
+}
+
+// Whether it is a send that waits.
+fn is_send<T>(call: &Call<T>) -> bool
+    ensures send { result ≡ is_send call.now }
+{
+    matches!(
+        call,
+        Call::Send(_) | Call::SendTimeout(_) | Call::SendAsync(_)
+    )
+}
