@@ -1,0 +1,4 @@
+pub mod Texts
+pub mod EventLines
+pub mod Recordings
+pub mod NextEvents

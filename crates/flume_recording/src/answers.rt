@@ -1,0 +1,174 @@
+//! The texts of answers.
+ghost use Rattle.std.specs.Prelude.{MatchOption, IfOk, IfSome, OnOk, ◌≡◌, ◌==◌, ◌++◌, ◌∷◌, ℕ};
+ghost use Rattle.std.specs.Prelude.{false, string_bytes, Bool, List, codes};
+ghost use Rattle.std.specs.List.{All};
+ghost use Rattle.std.specs.Fmt.{decimal};
+ghost use Rattle.flume_concurrent.specs.declared.call.Answer.TheVariants.{Capacity, Truth};
+ghost use Rattle.flume_script.specs.ReplyTexts.{spaced};
+ghost use Rattle.flume_recording.specs.Texts.{answer_text, FitsWord, IsAnswerText, IsNoAnswer};
+ghost use Rattle.flume_recording.specs.Texts.{IsNumberOf};
+
+use crate::calls::is;
+use crate::numbers::{number_of, numbers_of};
+use flume_concurrent::call::{Answer, Messages};
+use flume_error::error::NoMemory;
+use flume_script::reading::part_at;
+use std::alloc::Allocator;
+
+// The answer of a word that stands alone.
+fn plain_answer<A: Allocator>(word: &[u8]) -> Option<Answer<u64, A>>
+    requires no_space { All (λ x. (x == 32) ≡ false) word.now }
+    requires no_list { (list : List ℕ) → ¬ (word.now ≡ codes "drained" ++ spaced list) }
+    requires no_number { (n : ℕ) → FitsWord n → ¬ (word.now ≡ decimal n) }
+    ensures value { MatchOption result (IsNoAnswer A word.now) (IsAnswerText word.now) }
+    ensures no_number_of { (asks : Bool) → IfSome result (IsNumberOf asks) }
+{
+    match word {
+        _ if is(word, b"sent") => Some(Answer::Sent),
+        _ if is(word, b"full") => Some(Answer::Full),
+        _ if is(word, b"empty") => Some(Answer::Empty),
+        _ if is(word, b"disconnected") => Some(Answer::Disconnected),
+        _ if is(word, b"timeout") => Some(Answer::Timeout),
+        _ if is(word, b"nomemory") => Some(Answer::NoMemory),
+        _ if is(word, b"dropped") => Some(Answer::Dropped),
+        _ if is(word, b"done") => Some(Answer::Done),
+        _ if is(word, b"noend") => Some(Answer::NoEnd),
+        _ if is(word, b"countfull") => Some(Answer::CountFull),
+        _ if is(word, b"true") => Some(Answer::Truth(true)),
+        _ if is(word, b"false") => Some(Answer::Truth(false)),
+        _ if is(word, b"none") => Some(Answer::Capacity(None)),
+        _ if is(word, b"unbounded") => Some(Answer::Unbounded),
+        _ => None,
+    }
+}
+
+// The answer of a number, of a call that asked for the capacity or for something else.
+fn number_answer<A: Allocator>(number: u64, asks: bool) -> Answer<u64, A>
+    ensures text { IsAnswerText (decimal number) result }
+    ensures number_of { IsNumberOf asks result }
+{
+    if asks {
+        Answer::Capacity(Some(number as usize))
+    } else {
+        Answer::Number(number as usize)
+    }
+}
+
+// The answer of a text that is no list.
+fn short_answer<A: Allocator>(text: &[u8], asks: bool) -> Option<Answer<u64, A>>
+    requires no_list { (list : List ℕ) → ¬ (text.now ≡ codes "drained" ++ spaced list) }
+    ensures value { MatchOption result (IsNoAnswer A text.now)
+        (λ answer. IsAnswerText text.now answer × IsNumberOf asks answer) }
+{
+    if let Some((word, digits)) = part_at(text, b' ') {
+        if !is(word, b"got") {
+            return None;
+        }
+        let message = number_of(digits)?;
+        return Some(Answer::Got(message));
+    }
+    match number_of(text) {
+        Some(number) => Some(number_answer(number, asks)),
+        None => plain_answer(text),
+    }
+}
+
+/// The answer of a text, where the call asked for the capacity, or for something else: a number is
+/// read as what the call asked for. `NoMemory`: a list found no room.
+///
+/// ```
+/// answer_of(alloc, b"got 7", false)?;    // Some(Got(7))
+/// answer_of(alloc, b"7", true)?;         // Some(Capacity(Some(7)))
+/// answer_of(alloc, b"got", false)?;      // None
+/// ```
+pub fn answer_of<A: Allocator + Copy>(
+    alloc: A,
+    text: &[u8],
+    asks: bool,
+) -> Result<Option<Answer<u64, A>>, NoMemory>
+    ensures value { IfOk result (λ r. MatchOption r (IsNoAnswer A text.now)
+        (λ answer. IsAnswerText text.now answer × IsNumberOf asks answer)) }
+{
+    let Some(numbers) = text.strip_prefix(b"drained") else {
+        return Ok(short_answer(text, asks));
+    };
+    match numbers_of(alloc, numbers)? {
+        None => Ok(None),
+        Some(list) => Ok(Some(Answer::Drained(Messages::new(list)))),
+    }
+}
+
+// Adds a truth value.
+fn write_truth<A: Allocator>(text: &mut String<A>, truth: bool) -> Result<(), NoMemory>
+    ensures value { OnOk result (string_bytes text.new
+        ≡ string_bytes text.old ++ answer_text {A = A} (Truth truth)) }
+{
+    if truth {
+        text.push_str("true")?;
+    } else {
+        text.push_str("false")?;
+    }
+    Ok(())
+}
+
+// Adds the capacity of a channel.
+fn write_capacity<A: Allocator>(
+    text: &mut String<A>,
+    capacity: Option<usize>,
+) -> Result<(), NoMemory>
+    ensures value { OnOk result (string_bytes text.new
+        ≡ string_bytes text.old ++ answer_text {A = A} (Capacity capacity)) }
+{
+    match capacity {
+        None => text.push_str("none")?,
+        Some(capacity) => write!(text, "{capacity}")?,
+    }
+    Ok(())
+}
+
+// Adds the text of a drained list.
+fn write_drained<A: Allocator>(text: &mut String<A>, list: &[u64]) -> Result<(), NoMemory>
+    ensures value { OnOk result (string_bytes text.new
+        ≡ string_bytes text.old ++ (codes "drained" ++ spaced list.now)) }
+{
+    text.push_str("drained")?;
+    for message in list {
+        write!(text, " {message}")?;
+    }
+    Ok(())
+}
+
+/// Adds the text of an answer. `NoMemory`: the text found no room, and part of this may stand in
+/// it.
+///
+/// ```
+/// let mut text = String::new(alloc);
+/// write_answer(&mut text, &Answer::Got(7))?;
+/// text.as_str();                     // "got 7"
+/// ```
+pub fn write_answer<A: Allocator>(
+    text: &mut String<A>,
+    answer: &Answer<u64, A>,
+) -> Result<(), NoMemory>
+    ensures value { OnOk result
+        (string_bytes text.new ≡ string_bytes text.old ++ answer_text answer.now) }
+{
+    Ok(match answer {
+        Answer::Sent => text.push_str("sent")?,
+        Answer::Full => text.push_str("full")?,
+        Answer::Got(message) => write!(text, "got {message}")?,
+        Answer::Empty => text.push_str("empty")?,
+        Answer::Disconnected => text.push_str("disconnected")?,
+        Answer::Timeout => text.push_str("timeout")?,
+        Answer::NoMemory => text.push_str("nomemory")?,
+        Answer::Dropped => text.push_str("dropped")?,
+        Answer::Drained(messages) => write_drained(text, messages.as_slice())?,
+        Answer::Done => text.push_str("done")?,
+        Answer::NoEnd => text.push_str("noend")?,
+        Answer::CountFull => text.push_str("countfull")?,
+        Answer::Number(number) => write!(text, "{number}")?,
+        Answer::Truth(truth) => write_truth(text, *truth)?,
+        Answer::Capacity(capacity) => write_capacity(text, *capacity)?,
+        Answer::Unbounded => text.push_str("unbounded")?,
+    })
+}

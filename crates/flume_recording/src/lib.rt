@@ -1,0 +1,20 @@
+//! Recordings: what threads recorded of their calls on a channel, as text. `read_recording` reads
+//! one to the events of `flume_concurrent`, and `write_event` writes an event.
+//!
+//! The first line opens the channel: `unbounded`, or `bounded N`. Each further line is an event, in
+//! the order of time: `THREAD: CALL` where a call begins, and `THREAD -> ANSWER` where it returns.
+//! `calls` and `answers` have the texts of both.
+//!
+//! A thread's name is one byte or more, none of them a space or a colon. So each line can be read
+//! in one way only: what stands before its first space ends in a colon if it begins a call, and in no
+//! colon if a call returns.
+#![tactic(auto)]
+
+pub mod answers;
+pub mod calls;
+pub mod fault;
+mod numbers;
+mod parts;
+pub mod recording;
+mod threads;
+pub mod writing;

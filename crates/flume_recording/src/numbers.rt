@@ -1,0 +1,75 @@
+//! Numbers, as they are printed: a number has no sign, and no zero in front.
+ghost use Rattle.std.specs.Prelude.{SomeIff, MatchOption, IfOk, ◌≡◌, ◌==◌, ◌++◌, ℕ, ◌^◌, ◌<◌};
+ghost use Rattle.std.specs.Prelude.{false, List};
+ghost use Rattle.std.specs.List.{All};
+ghost use Rattle.std.specs.Fmt.{decimal};
+ghost use Rattle.std.specs.Str.Parse.{IsNumeral, digits_value};
+ghost use Rattle.flume_script.specs.ReplyTexts.{spaced};
+ghost use Rattle.flume_recording.specs.Texts.{FitsWord, behind_space};
+
+use flume_error::error::NoMemory;
+use flume_script::reading::part_at;
+use std::alloc::{AllocError, Allocator};
+use std::str;
+
+// The value of digits.
+#[tactic(auto, using(crate::proofs::Digits::numeral_is_text))]
+fn value_of(digits: &[u8]) -> Option<u64>
+    ensures value { SomeIff result
+        (IsNumeral 10 digits.now × (digits_value 10 digits.now < 2 ^ 64))
+        (digits_value 10 digits.now) }
+{
+    if digits.starts_with(b"+") {
+        return None;
+    }
+    let text = str::from_utf8(digits).ok()?;
+    text.parse::<u64>().ok()
+}
+
+/// The number that is printed so.
+pub(crate) fn number_of(text: &[u8]) -> Option<u64>
+    ensures value { MatchOption result ((n : ℕ) → FitsWord n → ¬ (text.now ≡ decimal n))
+        (λ n. (text.now ≡ decimal n) × FitsWord n) }
+{
+    if text.len() > 1 && text[0] == b'0' {
+        return None;
+    }
+    value_of(text)
+}
+
+/// The numbers that are printed so, with a space before each.
+pub(crate) fn numbers_of<A: Allocator + Copy>(
+    alloc: A,
+    text: &[u8],
+) -> Result<Option<Vec<u64, A>>, NoMemory>
+    ensures value { IfOk result (λ r. MatchOption r
+        ((list : List ℕ) → All FitsWord list → ¬ (text.now ≡ spaced list))
+        (λ list. (text.now ≡ spaced list.items) × All FitsWord list.items)) }
+{
+    let mut list = Vec::new(alloc);
+    let mut rest = match text {
+        [] => None,
+        [b' ', numbers @ ..] => Some(numbers),
+        _ => return Ok(None),
+    };
+    while let Some(numbers) = rest {
+        let (digits, later) = first_of(numbers);
+        let Some(number) = number_of(digits) else {
+            return Ok(None);
+        };
+        list.push(number).map_err(AllocError::from)?;
+        rest = later;
+    }
+    Ok(Some(list))
+}
+
+// What stands before the first space, and after it.
+fn first_of(numbers: &[u8]) -> (&[u8], Option<&[u8]>)
+    ensures parts { numbers.now ≡ result.0.now ++ behind_space result.1 }
+    ensures first { All (λ x. (x == 32) ≡ false) result.0.now }
+{
+    match part_at(numbers, b' ') {
+        None => (numbers, None),
+        Some((digits, later)) => (digits, Some(later)),
+    }
+}

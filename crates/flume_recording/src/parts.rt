@@ -1,0 +1,35 @@
+//! A line in its parts: the name of a thread, and the text of a call or of an answer.
+ghost use Rattle.std.specs.Prelude.{MatchOption};
+ghost use Rattle.flume_recording.specs.EventLines.{ArePartsOf, HasNoParts};
+
+use flume_script::reading::part_at;
+
+/// The parts of a line.
+#[derive(Clone, Copy, Drop)]
+pub(crate) enum Parts<'s> {
+    /// The thread of this name begins a call.
+    Begins { name: &'s [u8], call: &'s [u8] },
+    /// The call of the thread of this name returns an answer.
+    Returns { name: &'s [u8], answer: &'s [u8] },
+}
+
+/// The parts of a line: its first space stands behind the name and a colon, or behind the name.
+pub(crate) fn parts_of(line: &[u8]) -> Option<Parts<'_>>
+    ensures value { MatchOption result (HasNoParts line.now) (ArePartsOf line.now) }
+{
+    let (front, rest) = part_at(line, b' ')?;
+    if let Some((name, after)) = part_at(front, b':') {
+        if name.is_empty() || !after.is_empty() {
+            return None;
+        }
+        return Some(Parts::Begins { name, call: rest });
+    }
+    let answer = rest.strip_prefix(b"-> ")?;
+    if front.is_empty() {
+        return None;
+    }
+    Some(Parts::Returns {
+        name: front,
+        answer,
+    })
+}

@@ -1,0 +1,112 @@
+//! Recordings, read to events.
+ghost use Rattle.std.specs.Prelude.{IfOk, ◌≡◌, length};
+ghost use Rattle.flume_recording.specs.declared.fault.Fault.TheVariants.{NoOpening};
+ghost use Rattle.flume_recording.specs.declared.recording.Recording.TheVariants.{Wrong};
+ghost use Rattle.flume_recording.specs.Recordings.{IsLinesReading, IsReading, IsWithin};
+
+use crate::fault::Fault;
+use crate::threads::Threads;
+use flume_concurrent::event::Event;
+use flume_error::error::NoMemory;
+use flume_script::reading::{next_line, opening_of};
+use std::alloc::{AllocError, Allocator};
+
+/// A recording as it was read.
+#[derive(Drop)]
+pub enum Recording<'s, A: Allocator> {
+    /// Every line is right.
+    Right {
+        /// How many messages the channel is to hold: none of an unbounded one.
+        capacity: Option<usize>,
+        /// The events, in the order of their lines.
+        events: Vec<Event<u64, A>, A>,
+        /// The names of the threads, in the order in which they appear first: an event has the
+        /// place of its thread's name.
+        names: Vec<&'s [u8], A>,
+    },
+    /// Some line is wrong.
+    Wrong {
+        /// The first wrong line, counted from 1.
+        line: usize,
+        /// Why it is wrong.
+        fault: Fault,
+    },
+}
+
+// Lines as they were read.
+#[derive(Drop)]
+enum Lines<'s, A: Allocator> {
+    // Each is an event.
+    Right {
+        events: Vec<Event<u64, A>, A>,
+        names: Vec<&'s [u8], A>,
+    },
+    // So many are events, and the next one is none.
+    Wrong {
+        place: usize,
+        fault: Fault,
+    },
+}
+
+// The events of the lines, or how many stand before the first line that is none.
+fn read_events<A: Allocator + Copy>(alloc: A, mut rest: &[u8]) -> Result<Lines<'_, A>, NoMemory>
+    ensures value { IfOk result (λ read. IsLinesReading rest.now read) }
+    ensures within { IfOk result (λ read. IsWithin read (length rest.now)) }
+{
+    let mut events = Vec::new(alloc);
+    let mut threads = Threads::new(alloc);
+    while let Some((line, later)) = next_line(rest) {
+        match threads.read(alloc, line)? {
+            Ok(event) => events.push(event).map_err(AllocError::from)?,
+            Err(fault) => {
+                let place = events.len();
+                return Ok(Lines::Wrong { place, fault });
+            }
+        }
+        rest = later;
+    }
+    let Threads { names, asking: _ } = threads;
+    Ok(Lines::Right { events, names })
+}
+
+// A recording whose first line opens no channel.
+fn unopened<'s, A: Allocator>() -> Recording<'s, A>
+    ensures value { result ≡ Wrong 1 NoOpening }
+{
+    Recording::Wrong {
+        line: 1,
+        fault: Fault::NoOpening,
+    }
+}
+
+/// Reads a recording, up to its first wrong line. `NoMemory`: the events or the names found no
+/// room. Linear in the length of the input, and for each line in the number of threads.
+///
+///     read_recording(alloc, b"unbounded\na: len\na -> 0\n")?;
+///     // Right { capacity: None, names: ["a"], events: [Begins { thread: 0, call: Len },
+///     //     Returns { thread: 0, answer: Number(0) }] }
+///     read_recording(alloc, b"unbounded\na: length\n")?;    // Wrong { line: 2, fault: NoCall }
+pub fn read_recording<A: Allocator + Copy>(
+    alloc: A,
+    input: &[u8],
+) -> Result<Recording<'_, A>, NoMemory>
+    ensures value { IfOk result (λ recording. IsReading input.now recording) }
+{
+    let Some((first, rest)) = next_line(input) else {
+        return Ok(unopened());
+    };
+    let Some(capacity) = opening_of(first) else {
+        return Ok(unopened());
+    };
+    match read_events(alloc, rest)? {
+        Lines::Right { events, names } => Ok(Recording::Right {
+            capacity,
+            events,
+            names,
+        }),
+        Lines::Wrong { place, fault } => Ok(Recording::Wrong {
+            line: place + 2,
+            fault,
+        }),
+    }
+}

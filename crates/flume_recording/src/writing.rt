@@ -1,0 +1,45 @@
+//! Events, written as text.
+ghost use Rattle.std.specs.Prelude.{IfOk, OnOk, ◌≡◌, ◌++◌};
+ghost use Rattle.flume_recording.specs.EventLines.{event_text};
+ghost use Rattle.flume_recording.specs.Recordings.{names_of};
+
+use crate::answers::write_answer;
+use crate::calls::write_call;
+use flume_concurrent::event::Event;
+use flume_error::error::NoMemory;
+use std::alloc::Allocator;
+
+/// The text of an event, with no line feed, where the threads have these names, in the order of
+/// their numbers. The name of a thread that has none is left out. `NoMemory`: the text found no
+/// room.
+///
+/// ```
+/// let event = Event::Begins { thread: 0, call: Call::Send(7) };
+/// write_event(alloc, &[b"a"], &event)?;    // "a: send 7"
+/// ```
+pub fn write_event<A: Allocator + Copy>(
+    alloc: A,
+    names: &[&[u8]],
+    event: &Event<u64, A>,
+) -> Result<Vec<u8, A>, NoMemory>
+    ensures value { IfOk result (λ text. text.items ≡ event_text (names_of names.now) event.now) }
+{
+    let mut told = String::new(alloc);
+    let thread = match event {
+        Event::Begins { thread, call } => {
+            told.push_str(": ")?;
+            write_call(&mut told, call)?;
+            *thread
+        }
+        Event::Returns { thread, answer } => {
+            told.push_str(" -> ")?;
+            write_answer(&mut told, answer)?;
+            *thread
+        }
+    };
+    let name = names.get(thread).copied().unwrap_or(&[]);
+    let mut text = Vec::new(alloc);
+    text.extend_from_slice(name)?;
+    text.extend_from_slice(told.as_bytes())?;
+    Ok(text)
+}

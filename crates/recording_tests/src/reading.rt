@@ -1,0 +1,299 @@
+//! Every call and every answer is read and written back, and wrong lines are refused.
+use flume_concurrent::call::{Answer, Call};
+use flume_concurrent::event::Event;
+use flume_recording::fault::Fault;
+use flume_recording::recording::{Recording, read_recording};
+use flume_recording::writing::write_event;
+use std::alloc::Global;
+use std::process::Abort;
+
+// Every call, with the answers that it may have, and each answer at least once.
+const ALL: &str = "unbounded
+a: send 1
+a -> sent
+b: send_timeout 18446744073709551615
+b -> timeout
+c-1: send_async 0
+c-1 -> dropped
+a: try_send 10
+a -> full
+b: recv
+b -> got 1
+a: recv_timeout
+c-1: recv_async
+a -> disconnected
+c-1 -> nomemory
+a: try_recv
+a -> empty
+a: drain
+b: drain
+b -> drained 0 18446744073709551615 1
+a -> drained
+a: clone_sender
+a -> countfull
+a: clone_receiver
+a -> done
+a: drop_sender
+a -> noend
+a: drop_receiver
+a -> done
+a: set_capacity 70
+a -> unbounded
+a: len
+b: capacity
+b -> 5
+a -> 5
+a: capacity
+a -> none
+a: is_empty
+a -> true
+a: is_full
+a -> false
+a: sender_count
+a -> 0
+a: receiver_count
+a -> 1
+a: is_disconnected
+a -> false
+";
+
+// The recording of a text.
+fn recording_of<'s>(rt: &impl Abort, alloc: Global, text: &'s str) -> Recording<'s, Global> {
+    match read_recording(alloc, text.as_bytes()) {
+        Ok(recording) => recording,
+        Err(_) => rt.abort(),
+    }
+}
+
+// The text of an event is this line.
+fn is_written_so(rt: &impl Abort, alloc: Global, names: &[&[u8]], event: &Event<u64>, line: &str) {
+    match write_event(alloc, names, event) {
+        Ok(text) => assert_eq!(rt; text.as_slice(), line.as_bytes(), "{line}"),
+        Err(_) => rt.abort(),
+    }
+}
+
+// A text is read to as many events as it has lines behind the first, and each is written back as
+// its line.
+fn is_read_and_written(rt: &impl Abort, alloc: Global, text: &str) {
+    let Recording::Right { events, names, .. } = recording_of(rt, alloc, text) else {
+        rt.abort();
+    };
+    let mut lines = text.trim_end().split("\n").skip(1);
+    for event in &events {
+        let line = lines.next().expect(rt, "a line for each event");
+        is_written_so(rt, alloc, &names, event, line);
+    }
+    assert!(rt; lines.next().is_none(), "an event for each line");
+}
+
+// The first wrong line of a text is this one, for this reason.
+fn is_wrong(rt: &impl Abort, alloc: Global, text: &str, number: usize, reason: Fault) {
+    let Recording::Wrong { line, fault } = recording_of(rt, alloc, text) else {
+        rt.abort();
+    };
+    assert_eq!(rt; (line, fault), (number, reason), "{text}");
+}
+
+// The answers of a text that are a number, or the capacity of a channel.
+fn numbers_in(events: &[Event<u64>]) -> (usize, usize) {
+    let (mut numbers, mut capacities) = (0usize, 0usize);
+    for event in events {
+        match event {
+            Event::Returns {
+                answer: Answer::Number(_),
+                ..
+            } => {
+                numbers = numbers.saturating_add(1);
+            }
+            Event::Returns {
+                answer: Answer::Capacity(Some(_)),
+                ..
+            } => {
+                capacities = capacities.saturating_add(1);
+            }
+            _ => {}
+        }
+    }
+    (numbers, capacities)
+}
+
+#[test]
+fn all_calls_and_answers(rt: HostRuntime) {
+    is_read_and_written(&rt, rt.alloc(), ALL);
+}
+
+#[test]
+fn no_events(rt: HostRuntime) {
+    is_read_and_written(&rt, rt.alloc(), "bounded 3");
+    is_read_and_written(&rt, rt.alloc(), "bounded 3\n");
+}
+
+#[test]
+fn threads_are_numbered_as_they_appear(rt: HostRuntime) {
+    let text = "bounded 0\nb: recv\na: send 1\nb -> got 1\nc -> sent\r\na -> sent";
+    let recording = recording_of(&rt, rt.alloc(), text);
+    let Recording::Right {
+        capacity,
+        events,
+        names,
+    } = recording
+    else {
+        rt.abort();
+    };
+    assert_eq!(&rt; capacity, Some(0));
+    assert_eq!(&rt; names.len(), 3);
+    assert_eq!(&rt; names[0], b"b".as_slice());
+    assert_eq!(&rt; names[1], b"a".as_slice());
+    assert_eq!(&rt; names[2], b"c".as_slice());
+    let threads = [0usize, 1, 0, 2, 1];
+    assert_eq!(&rt; events.len(), threads.len());
+    for (event, wanted) in events.iter().zip(&threads) {
+        let thread = match event {
+            Event::Begins { thread, .. } => *thread,
+            Event::Returns { thread, .. } => *thread,
+        };
+        assert_eq!(&rt; thread, *wanted);
+    }
+    assert!(&rt;
+        matches!(
+            &events[1],
+            Event::Begins {
+                call: Call::Send(1),
+                ..
+            }
+        )
+    );
+}
+
+#[test]
+fn numbers_are_read_by_their_calls(rt: HostRuntime) {
+    let text =
+        "bounded 5\na: len\nb: capacity\nb -> 5\na -> 5\na: capacity\na -> 5\nb -> 5\nc -> 1";
+    let recording = recording_of(&rt, rt.alloc(), text);
+    let Recording::Right { events, .. } = recording else {
+        rt.abort();
+    };
+    assert_eq!(&rt; numbers_in(&events), (2, 3));
+}
+
+#[test]
+fn wrong_openings(rt: HostRuntime) {
+    for text in ["", "\n", "bounded", "bounded x\na: recv", "a: recv\n"] {
+        is_wrong(&rt, rt.alloc(), text, 1, Fault::NoOpening);
+    }
+}
+
+#[test]
+fn lines_that_are_no_event(rt: HostRuntime) {
+    for line in [
+        "",
+        "a",
+        "a:recv",
+        ": recv",
+        " -> sent",
+        "a b: recv",
+        "a:b: recv",
+        "a - sent",
+    ] {
+        for end in ["", "\n"] {
+            let lines = ["unbounded\na: recv\na -> got 1\n", line, end];
+            wrong_in(
+                &rt,
+                rt.alloc(),
+                &lines,
+                if line == "" && end == "" { 0 } else { 4 },
+            );
+        }
+    }
+}
+
+// The text of these parts is wrong in this line, as no event, or right at 0.
+fn wrong_in(rt: &impl Abort, alloc: Global, parts: &[&str], number: usize) {
+    let mut text = String::new(alloc);
+    for part in parts {
+        if text.push_str(part).is_err() {
+            rt.abort();
+        }
+    }
+    if number > 0 {
+        is_wrong(rt, alloc, &text, number, Fault::NoEvent);
+    } else {
+        is_read_and_written(rt, alloc, &text);
+    }
+}
+
+#[test]
+fn lines_of_no_call(rt: HostRuntime) {
+    let texts = [
+        "send",
+        "send ",
+        "send x",
+        "send 07",
+        "send +7",
+        "send -1",
+        "send 1 ",
+        " recv",
+        "recv ",
+        "send 18446744073709551616",
+        "recv 1",
+        "Recv",
+        "poll 1",
+        "send 1 2",
+        "set_capacity",
+        "",
+    ];
+    for text in texts {
+        wrong_call(&rt, rt.alloc(), text);
+    }
+}
+
+// Behind `a: ` this is no call.
+fn wrong_call(rt: &impl Abort, alloc: Global, call: &str) {
+    let mut text = String::new(alloc);
+    if write!(text, "bounded 1\na: {call}\nb").is_err() {
+        rt.abort();
+    }
+    is_wrong(rt, alloc, &text, 2, Fault::NoCall);
+}
+
+#[test]
+fn lines_of_no_answer(rt: HostRuntime) {
+    let texts = [
+        "got",
+        "got ",
+        "got x",
+        "got 01",
+        "got 18446744073709551616",
+        "gots",
+        "drained1",
+        "drained ",
+        "drained 1 ",
+        "drained  1",
+        "drained 1 x",
+        "drained 01",
+        "drain",
+        "007",
+        "-1",
+        "18446744073709551616",
+        "full 1",
+        "none 1",
+        "Sent",
+        "sent ",
+        "",
+        " sent",
+        "dropped 1",
+    ];
+    for text in texts {
+        wrong_answer(&rt, rt.alloc(), text);
+    }
+}
+
+// Behind `a -> ` this is no answer.
+fn wrong_answer(rt: &impl Abort, alloc: Global, answer: &str) {
+    let mut text = String::new(alloc);
+    if write!(text, "bounded 1\na: recv\na -> {answer}\nb").is_err() {
+        rt.abort();
+    }
+    is_wrong(rt, alloc, &text, 3, Fault::NoAnswer);
+}
