@@ -1,14 +1,26 @@
-//! Reads a history from standard input and says whether a channel may have answered so.
+//! Reads from standard input what was recorded of a channel, and says whether a channel may have
+//! answered so: a recording of threads' calls, or a history of steps.
 #![tactic(auto)]
 
-ghost use Rattle.std.specs.Prelude.{◌≡◌, ℕ, List, Some};
+ghost use Rattle.std.specs.Prelude.{IfOk, ◌≡◌, ℕ, List, Some};
 ghost use Rattle.flume_script.specs.Serving.{Serves};
 ghost use Rattle.flume_history.specs.HistoryText.{Judges};
+ghost use Rattle.flume_check.specs.Kinds.{IsOfCalls};
+ghost use Rattle.flume_check.specs.CallsText.{JudgesCalls};
+
+mod candidates;
+mod kind;
+mod numbers;
+mod possible;
+mod recording;
+mod texts;
 
 use flume_core::error::NoMemory;
 use flume_history::script::check_script;
 use flume_script::Script;
 use flume_script::serving::{FAULT, Unread, read_all, write_answer};
+use kind::is_of_calls;
+use recording::judge_recording;
 use std::alloc::Allocator;
 use std::io;
 use std::io::{Read, Write};
@@ -18,12 +30,16 @@ fn main(rt: HostRuntime) -> ExitCode {
     ExitCode::from(serve(rt.alloc(), &mut rt.reader(), &mut io::writer(&rt)))
 }
 
-/// Reads the input to its end, checks the history that it is, and writes what that prints. The
-/// status: 0, a channel may have answered so; 1, it may not; 2, a line is wrong; 3, out of memory;
-/// 4, a fault of reading or writing, and then nothing more is written.
+/// Reads the input to its end, checks the recording or the history that it is, and writes what that
+/// prints. The status: 0, a channel may have answered so; 1, it may not; 2, a line is wrong; 3, out
+/// of memory; 4, a fault of reading or writing, and then nothing more is written; 6, not decided,
+/// of a recording.
 fn serve<A: Allocator + Copy, R: Read, W: Write>(alloc: A, input: &mut R, output: &mut W) -> u8
-    ensures served { (bytes before : List ℕ) → R.remaining input.old ≡ Some bytes
-        → W.contents output.old ≡ Some before
+    ensures recording { (bytes before : List ℕ) → R.remaining input.old ≡ Some bytes
+        → W.contents output.old ≡ Some before → IsOfCalls bytes
+        → Serves (JudgesCalls A bytes) before (W.contents output.new) result }
+    ensures history { (bytes before : List ℕ) → R.remaining input.old ≡ Some bytes
+        → W.contents output.old ≡ Some before → ¬ IsOfCalls bytes
         → Serves (Judges A bytes) before (W.contents output.new) result }
 {
     let bytes = match read_all(alloc, input) {
@@ -32,8 +48,22 @@ fn serve<A: Allocator + Copy, R: Read, W: Write>(alloc: A, input: &mut R, output
         Err(Unread::Fault) => return FAULT,
     };
     // Each case by itself: the prover then knows which of the two is written.
-    match check_script(alloc, &bytes) {
+    match judge(alloc, &bytes) {
         Ok(script) => write_answer(output, Ok(script)),
         Err(NoMemory) => write_answer(output, Err::<Script<A>, _>(NoMemory)),
+    }
+}
+
+// Checks the recording, or the history, that the input is.
+fn judge<A: Allocator + Copy>(alloc: A, input: &[u8]) -> Result<Script<A>, NoMemory>
+    ensures recording { IfOk result (λ script. IsOfCalls input.now
+        → JudgesCalls A input.now script.text.items script.status) }
+    ensures history { IfOk result (λ script. ¬ IsOfCalls input.now
+        → Judges A input.now script.text.items script.status) }
+{
+    if is_of_calls(input) {
+        judge_recording(alloc, input)
+    } else {
+        check_script(alloc, input)
     }
 }

@@ -1,0 +1,3 @@
+mod Words
+mod Shown
+mod Broken

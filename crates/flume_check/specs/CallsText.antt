@@ -1,0 +1,117 @@
+-- What is printed of the bytes of a recording.
+use Rattle.std.specs.Prelude.{◌≡◌, ◌==◌, ℕ, ◌+◌, ◌⊎◌, List, [], ◌∷◌, ◌++◌, length, take}
+use Rattle.std.specs.Prelude.{Option, codes}
+use Rattle.std.specs.List.{All}
+use Rattle.std.specs.Fmt.{decimal}
+use Rattle.std.specs.Str.Lines.{lines}
+use Rattle.flume_model.specs.Log.{opens}
+use Rattle.flume_concurrent.specs.declared.call.Answer.{Answer}
+use Rattle.flume_concurrent.specs.declared.event.Event.{Event}
+use Rattle.flume_concurrent.specs.declared.event.Event.TheVariants.{Begins, Returns}
+use Rattle.flume_concurrent.specs.Explanations.{IsExplained}
+use Rattle.flume_recording.specs.declared.fault.Fault.{Fault}
+use Rattle.flume_recording.specs.declared.fault.Fault.TheVariants.{NoOpening, NoEvent, NoCall}
+use Rattle.flume_recording.specs.declared.fault.Fault.TheVariants.{NoAnswer}
+use Rattle.flume_recording.specs.EventLines.{thread_of}
+use Rattle.flume_recording.specs.Recordings.{IsRecordingText, IsFirstWrongEvent}
+use Rattle.flume_recording.specs.Texts.{answer_text, call_text}
+
+-- what is printed at a line
+abbrev pub line_text : ℕ → List ℕ → List ℕ
+line_text number told = codes "line " ++ decimal number ++ codes ": " ++ told ++ 10 ∷ []
+
+-- why a line is wrong, as it is printed
+abbrev pub fault_text : Fault → List ℕ
+fault_text NoOpening = codes "not an opening"
+fault_text NoEvent = codes "not an event"
+fault_text NoCall = codes "not a call"
+fault_text NoAnswer = codes "not an answer"
+
+module _ {A : Type 0} where
+  -- the events, the oldest first, are explained on a new channel of this capacity
+  abbrev pub AreExplained : Option ℕ → List (Event ℕ A) → Type 0
+  AreExplained capacity events = IsExplained (λ x y. x == y) (opens capacity 1) events
+
+  -- what is told in an event: the call, or the answer
+  abbrev pub told_text : Event ℕ A → List ℕ
+  told_text (Begins thread call) = call_text call
+  told_text (Returns thread answer) = answer_text answer
+
+  -- answers, with ` or ` before each
+  abbrev pub or_text : List (Answer ℕ A) → List ℕ
+  or_text [] = []
+  or_text (answer ∷ answers) = codes " or " ++ answer_text answer ++ or_text answers
+
+  -- answers that are possible in place of another one
+  abbrev pub but_text : List (Answer ℕ A) → List ℕ
+  but_text [] = []
+  but_text (answer ∷ answers) = codes ", but " ++ answer_text answer ++ or_text answers
+
+  -- behind these events, a thread could have been answered so
+  abbrev pub IsPossible : Option ℕ → List (Event ℕ A) → ℕ → Answer ℕ A → Type 0
+  IsPossible capacity before thread answer =
+      AreExplained capacity (before ++ Returns thread answer ∷ [])
+
+-- each line is right, and the events are explained
+pub record Explains (A : Type 0) (input text : List ℕ) (status : ℕ) : Type 0 where
+  pub capacity : Option ℕ
+  pub events : List (Event ℕ A)
+  pub names : List (List ℕ)
+  pub reads : IsRecordingText (lines input) capacity events names
+  pub explained : AreExplained capacity events
+  pub text_is : text ≡ codes "correct" ++ 10 ∷ []
+  pub status_is : status ≡ 0
+
+-- each line is right, and an event is the first with which they aren't explained: the text names
+-- its line, what is told there, and answers that are possible there
+pub record BreaksOff (A : Type 0) (input text : List ℕ) (status : ℕ) : Type 0 where
+  pub capacity : Option ℕ
+  pub before : List (Event ℕ A)
+  pub event : Event ℕ A
+  pub later : List (Event ℕ A)
+  pub names : List (List ℕ)
+  pub reads : IsRecordingText (lines input) capacity (before ++ event ∷ later) names
+  pub explained : AreExplained capacity before
+  pub not_on : ¬ AreExplained capacity (before ++ event ∷ [])
+  pub answers : List (Answer ℕ A)
+  pub possible : All (IsPossible capacity before (thread_of event)) answers
+  pub text_is :
+      text ≡ line_text (length before + 2) (told_text event ++ but_text answers)
+  pub status_is : status ≡ 1
+
+-- each line is right, and the events aren't explained: the text names a line before which they are
+pub record IsWrongLater (A : Type 0) (input text : List ℕ) (status : ℕ) : Type 0 where
+  pub capacity : Option ℕ
+  pub events : List (Event ℕ A)
+  pub names : List (List ℕ)
+  pub reads : IsRecordingText (lines input) capacity events names
+  pub count : ℕ
+  pub explained : AreExplained capacity (take count events)
+  pub not_all : ¬ AreExplained capacity events
+  pub text_is : text ≡ line_text (count + 2) (codes "wrong, here or later")
+  pub status_is : status ≡ 1
+
+-- each line is right, and nothing else is known
+pub record LeavesOpen (A : Type 0) (input text : List ℕ) (status : ℕ) : Type 0 where
+  pub capacity : Option ℕ
+  pub events : List (Event ℕ A)
+  pub names : List (List ℕ)
+  pub reads : IsRecordingText (lines input) capacity events names
+  pub number : ℕ
+  pub text_is : text ≡ line_text number (codes "not decided")
+  pub status_is : status ≡ 6
+
+-- a line is wrong: the text names the first one, and says why
+pub record RefusesRecording (A : Type 0) (input text : List ℕ) (status : ℕ) : Type 0 where
+  pub line : ℕ
+  pub fault : Fault
+  pub wrong : IsFirstWrongEvent A (lines input) line fault
+  pub text_is : text ≡ line_text line (fault_text fault)
+  pub status_is : status ≡ 2
+
+-- of these bytes this text is printed, with this status; A is the allocator of the lists in answers
+abbrev pub JudgesCalls : Type 0 → List ℕ → List ℕ → ℕ → Type 0
+JudgesCalls A input text status =
+    Explains A input text status ⊎ (BreaksOff A input text status
+    ⊎ (LeavesOpen A input text status
+    ⊎ (RefusesRecording A input text status ⊎ IsWrongLater A input text status)))

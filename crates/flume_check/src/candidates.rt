@@ -1,0 +1,177 @@
+//! The answers that are tried for a call.
+use crate::numbers::{MOST, calls_in, capacities_in, capacity_of, message_of, messages_in};
+use flume_concurrent::call::{Answer, Call};
+use flume_concurrent::event::Event;
+use flume_core::error::NoMemory;
+use std::alloc::{AllocError, Allocator};
+
+// An answer whose text is one word, and neither `nomemory` nor `dropped`.
+#[derive(Clone, Copy, Debug, Drop)]
+enum Word {
+    Sent,
+    Full,
+    Empty,
+    Disconnected,
+    Timeout,
+    Done,
+    NoEnd,
+    CountFull,
+    True,
+    False,
+    None,
+    Unbounded,
+}
+
+// These words, in the order of their texts.
+const WORDS: [Word; 12] = [
+    Word::Sent,
+    Word::Full,
+    Word::Empty,
+    Word::Disconnected,
+    Word::Timeout,
+    Word::Done,
+    Word::NoEnd,
+    Word::CountFull,
+    Word::True,
+    Word::False,
+    Word::None,
+    Word::Unbounded,
+];
+
+/// The answers that such a call returns, in the order of their texts, but `nomemory`, `dropped` and
+/// drained lists: of the messages those that calls begun in these events send, of the numbers those
+/// up to the number of these calls, of the capacities those that the channel was opened with or
+/// that such calls set, each once, and 16 at most. `NoMemory`: a list found no room.
+pub(crate) fn candidates<A: Allocator + Copy>(
+    alloc: A,
+    capacity: Option<usize>,
+    events: &[Event<u64, A>],
+    call: &Call<u64>,
+) -> Result<Vec<Answer<u64, A>, A>, NoMemory> {
+    let mut answers = Vec::new(alloc);
+    match call {
+        Call::Recv | Call::RecvTimeout | Call::RecvAsync | Call::TryRecv => {
+            push_messages(&mut answers, &messages_in(alloc, events)?)?;
+        }
+        Call::Len | Call::SenderCount | Call::ReceiverCount => {
+            push_counts(&mut answers, calls_in(events))?;
+        }
+        _ => {}
+    }
+    push_words(&mut answers, call)?;
+    if let Call::Capacity = call {
+        push_capacities(&mut answers, &capacities_in(alloc, capacity, events)?)?;
+    }
+    Ok(answers)
+}
+
+// Adds the answer that a message was received, for each.
+fn push_messages<A: Allocator>(
+    answers: &mut Vec<Answer<u64, A>, A>,
+    messages: &[u64],
+) -> Result<(), NoMemory> {
+    for message in messages {
+        answers
+            .push(Answer::Got(*message))
+            .map_err(AllocError::from)?;
+    }
+    Ok(())
+}
+
+// Adds the numbers up to this one.
+fn push_counts<A: Allocator>(
+    answers: &mut Vec<Answer<u64, A>, A>,
+    last: usize,
+) -> Result<(), NoMemory> {
+    for count in 0..MOST {
+        if count <= last {
+            answers
+                .push(Answer::Number(count))
+                .map_err(AllocError::from)?;
+        }
+    }
+    Ok(())
+}
+
+// Adds the capacities.
+fn push_capacities<A: Allocator>(
+    answers: &mut Vec<Answer<u64, A>, A>,
+    capacities: &[u64],
+) -> Result<(), NoMemory> {
+    for capacity in capacities {
+        let answer = Answer::Capacity(Some(*capacity as usize));
+        answers.push(answer).map_err(AllocError::from)?;
+    }
+    Ok(())
+}
+
+// Adds the answers of one word that the call returns.
+fn push_words<A: Allocator>(
+    answers: &mut Vec<Answer<u64, A>, A>,
+    call: &Call<u64>,
+) -> Result<(), NoMemory> {
+    for word in &WORDS {
+        if is_told_by(*word, call) {
+            answers.push(answer_of(*word)).map_err(AllocError::from)?;
+        }
+    }
+    Ok(())
+}
+
+// Whether a call returns the answer of this word.
+fn is_told_by(word: Word, call: &Call<u64>) -> bool {
+    match word {
+        Word::Sent => message_of(call).is_some(),
+        Word::Full => matches!(call, Call::TrySend(_)),
+        Word::Empty => matches!(call, Call::TryRecv),
+        Word::Disconnected => message_of(call).is_some() || receives(call),
+        Word::Timeout => matches!(call, Call::SendTimeout(_) | Call::RecvTimeout),
+        Word::Done => capacity_of(call).is_some() || clones(call) || drops(call),
+        Word::NoEnd => clones(call) || drops(call),
+        Word::CountFull => clones(call),
+        Word::True | Word::False => asks(call),
+        Word::None => matches!(call, Call::Capacity),
+        Word::Unbounded => capacity_of(call).is_some(),
+    }
+}
+
+// The answer of a word.
+fn answer_of<A: Allocator>(word: Word) -> Answer<u64, A> {
+    match word {
+        Word::Sent => Answer::Sent,
+        Word::Full => Answer::Full,
+        Word::Empty => Answer::Empty,
+        Word::Disconnected => Answer::Disconnected,
+        Word::Timeout => Answer::Timeout,
+        Word::Done => Answer::Done,
+        Word::NoEnd => Answer::NoEnd,
+        Word::CountFull => Answer::CountFull,
+        Word::True => Answer::Truth(true),
+        Word::False => Answer::Truth(false),
+        Word::None => Answer::Capacity(None),
+        Word::Unbounded => Answer::Unbounded,
+    }
+}
+
+// Whether a call receives one message.
+fn receives(call: &Call<u64>) -> bool {
+    matches!(
+        call,
+        Call::Recv | Call::RecvTimeout | Call::RecvAsync | Call::TryRecv
+    )
+}
+
+// Whether a call clones an end.
+fn clones(call: &Call<u64>) -> bool {
+    matches!(call, Call::CloneSender | Call::CloneReceiver)
+}
+
+// Whether a call drops an end.
+fn drops(call: &Call<u64>) -> bool {
+    matches!(call, Call::DropSender | Call::DropReceiver)
+}
+
+// Whether a call asks what is so or isn't.
+fn asks(call: &Call<u64>) -> bool {
+    matches!(call, Call::IsEmpty | Call::IsFull | Call::IsDisconnected)
+}

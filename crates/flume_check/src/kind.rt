@@ -1,0 +1,36 @@
+//! Whether the input is a recording of calls, or a history of steps.
+ghost use Rattle.std.specs.Prelude.{IsTrue, ◌≡◌, ◌↔◌};
+ghost use Rattle.flume_check.specs.Kinds.{EndsInColon, IsOfCalls};
+ghost use Rattle.flume_check.specs.Kinds.{first_word as word_of};
+
+use flume_script::reading::{next_line, part_at};
+
+/// Whether the first word of the second line ends in a colon.
+pub(crate) fn is_of_calls(input: &[u8]) -> bool
+    ensures value { IsTrue result ↔ IsOfCalls input.now }
+{
+    let Some((_, rest)) = next_line(input) else {
+        return false;
+    };
+    let Some((second, _)) = next_line(rest) else {
+        return false;
+    };
+    ends_in_colon(first_word(second))
+}
+
+// Whether a word ends in a colon.
+fn ends_in_colon(word: &[u8]) -> bool
+    ensures value { IsTrue result ↔ EndsInColon word.now }
+{
+    matches!(word, [.., b':'])
+}
+
+// What stands before the first space.
+fn first_word(line: &[u8]) -> &[u8]
+    ensures value { result.now ≡ word_of line.now }
+{
+    match part_at(line, b' ') {
+        Some((word, _)) => word,
+        None => line,
+    }
+}
