@@ -1,5 +1,0 @@
-pub mod Answers
-pub mod Records
-pub mod Drains
-pub mod Merged
-pub mod Texts
