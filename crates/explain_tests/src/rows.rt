@@ -1,3 +1,5 @@
+//! Recordings, each with the events that a correct channel can explain.
+
 use flume_concurrent::call::{Answer, Call};
 use flume_concurrent::event::Event;
 use flume_explain::explain::{Checked, check_calls};
@@ -35,5 +37,99 @@ fn another_message_is_received(rt: HostRuntime) -> Result<(), Fail> {
     ];
     let checked = check_calls(rt.alloc(), None, &events, 100);
     assert_eq!(rt; checked, Checked::Breaks(3));
+    Ok(())
+}
+
+#[test]
+fn a_send_and_a_receive_that_overlap_meet_at_capacity_0(rt: HostRuntime) -> Result<(), Fail> {
+    let events = [
+        begins(0, Call::Send(5)),
+        begins(1, Call::Recv),
+        returns(0, Answer::Sent),
+        returns(1, Answer::Got(5)),
+    ];
+    let checked = check_calls(rt.alloc(), Some(0), &events, 100);
+    assert_eq!(rt; checked, Checked::Explained);
+    Ok(())
+}
+
+#[test]
+fn a_send_alone_is_not_sent_at_capacity_0(rt: HostRuntime) -> Result<(), Fail> {
+    let events = [begins(0, Call::Send(5)), returns(0, Answer::Sent)];
+    let checked = check_calls(rt.alloc(), Some(0), &events, 1000);
+    assert_eq!(rt; checked, Checked::Breaks(1));
+    Ok(())
+}
+
+#[test]
+fn calls_time_out_and_futures_are_dropped_and_a_receive_is_refused_memory(
+    rt: HostRuntime,
+) -> Result<(), Fail> {
+    let events = [
+        begins(0, Call::SendTimeout(5)),
+        returns(0, Answer::Timeout),
+        begins(1, Call::RecvTimeout),
+        begins(2, Call::RecvAsync),
+        returns(1, Answer::Timeout),
+        begins(1, Call::TrySend(7)),
+        returns(1, Answer::Sent),
+        returns(2, Answer::Got(7)),
+        begins(2, Call::RecvAsync),
+        returns(2, Answer::Dropped),
+        begins(3, Call::RecvTimeout),
+        returns(3, Answer::NoMemory),
+    ];
+    let checked = check_calls(rt.alloc(), Some(0), &events, 10000);
+    assert_eq!(rt; checked, Checked::Explained);
+    Ok(())
+}
+
+#[test]
+fn a_channel_that_is_closed_has_no_message_left(rt: HostRuntime) -> Result<(), Fail> {
+    let events = [
+        begins(0, Call::Recv),
+        begins(3, Call::Send(1)),
+        returns(3, Answer::Sent),
+        begins(1, Call::CloneSender),
+        returns(1, Answer::Done),
+        begins(1, Call::DropSender),
+        begins(2, Call::DropSender),
+        returns(1, Answer::Done),
+        returns(0, Answer::Got(1)),
+        returns(2, Answer::Done),
+        begins(0, Call::Recv),
+        returns(0, Answer::Disconnected),
+        begins(0, Call::IsDisconnected),
+        returns(0, Answer::Truth(true)),
+        begins(0, Call::SetCapacity(3)),
+        returns(0, Answer::Disconnected),
+        begins(0, Call::Len),
+        returns(0, Answer::Number(1)),
+    ];
+    let checked = check_calls(rt.alloc(), Some(2), &events, 10000);
+    assert_eq!(rt; checked, Checked::Breaks(17));
+    Ok(())
+}
+
+#[test]
+fn sends_that_overlap_take_effect_in_the_order_in_which_their_messages_come(
+    rt: HostRuntime,
+) -> Result<(), Fail> {
+    let events = [
+        begins(0, Call::Send(1)),
+        begins(1, Call::Send(2)),
+        begins(2, Call::Send(3)),
+        begins(3, Call::Recv),
+        begins(4, Call::Recv),
+        begins(5, Call::Recv),
+        returns(3, Answer::Got(3)),
+        returns(4, Answer::Got(1)),
+        returns(5, Answer::Got(2)),
+        returns(0, Answer::Sent),
+        returns(1, Answer::Sent),
+        returns(2, Answer::Sent),
+    ];
+    let checked = check_calls(rt.alloc(), Some(1), &events, 100000);
+    assert_eq!(rt; checked, Checked::Explained);
     Ok(())
 }
