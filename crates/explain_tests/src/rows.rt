@@ -112,9 +112,7 @@ fn a_channel_that_is_closed_has_no_message_left(rt: HostRuntime) -> Result<(), F
 }
 
 #[test]
-fn sends_that_overlap_take_effect_in_the_order_in_which_their_messages_come(
-    rt: HostRuntime,
-) -> Result<(), Fail> {
+fn sends_and_receives_that_overlap_take_effect_in_any_order(rt: HostRuntime) -> Result<(), Fail> {
     let events = [
         begins(0, Call::Send(1)),
         begins(1, Call::Send(2)),
