@@ -1,5 +1,5 @@
 //! Files of scripts, played one after the other.
-use crate::lines::Theatre;
+use crate::lines::Fixture;
 use crate::refused::wrong_if_refused;
 use crate::script::Script;
 use std::alloc::Global;
@@ -17,12 +17,12 @@ struct Counts {
 /// Plays the files that the program's arguments name, in their order, and prints a line for each,
 /// and what is wrong. A file whose name ends in `.wrong` has scripts that are wrong, and whose titles
 /// say of it what is to be found. The status is 0 where all went as it should.
-pub fn play_all<T: Theatre>(rt: &HostRuntime, theatre: &T) -> io::Result<ExitCode> {
+pub fn play_all<T: Fixture>(rt: &HostRuntime, fixture: &T) -> io::Result<ExitCode> {
     let mut wrong = 0u64;
     let mut files = 0u64;
     for name in env::args(rt)?.skip(1) {
         files = files.saturating_add(1);
-        let counts = play_file(rt, theatre, name.as_str())?;
+        let counts = play_file(rt, fixture, name.as_str())?;
         wrong = wrong.saturating_add(counts.wrong);
     }
     let is_right = files > 0 && wrong == 0;
@@ -34,7 +34,7 @@ pub fn play_all<T: Theatre>(rt: &HostRuntime, theatre: &T) -> io::Result<ExitCod
 }
 
 // Plays the scripts of a file.
-fn play_file<T: Theatre>(rt: &HostRuntime, theatre: &T, name: &str) -> io::Result<Counts> {
+fn play_file<T: Fixture>(rt: &HostRuntime, fixture: &T, name: &str) -> io::Result<Counts> {
     let text = fs::read_to_string(rt, name)?;
     let text = format!(in rt.alloc(); "\n{text}")?;
     let mut counts = Counts {
@@ -46,7 +46,7 @@ fn play_file<T: Theatre>(rt: &HostRuntime, theatre: &T, name: &str) -> io::Resul
     for (at, block) in text.as_str().trim_end().split("\n= ").enumerate() {
         if at > 0 {
             let script = Script::of(block, number);
-            play_one(rt, theatre, name, &script, &mut counts)?;
+            play_one(rt, fixture, name, &script, &mut counts)?;
         }
         number = number.saturating_add(block.split("\n").count());
     }
@@ -62,9 +62,9 @@ fn play_file<T: Theatre>(rt: &HostRuntime, theatre: &T, name: &str) -> io::Resul
 }
 
 // Plays a script, prints what is wrong, and counts.
-fn play_one<T: Theatre>(
+fn play_one<T: Fixture>(
     rt: &HostRuntime,
-    theatre: &T,
+    fixture: &T,
     name: &str,
     script: &Script<'_>,
     counts: &mut Counts,
@@ -72,7 +72,7 @@ fn play_one<T: Theatre>(
     counts.scripts = counts.scripts.saturating_add(1);
     let lines = script.lines.lines().count() as u64;
     counts.lines = counts.lines.saturating_add(lines);
-    let wrong = wrong_of(rt.alloc(), theatre, script)?;
+    let wrong = wrong_of(rt.alloc(), fixture, script)?;
     let said = wrong.as_deref().unwrap_or("nothing is wrong");
     let is_as_wanted = if name.ends_with(".wrong") {
         said == script.title
@@ -87,16 +87,16 @@ fn play_one<T: Theatre>(
 }
 
 // What is wrong with a script.
-fn wrong_of<T: Theatre>(
+fn wrong_of<T: Fixture>(
     alloc: Global,
-    theatre: &T,
+    fixture: &T,
     script: &Script<'_>,
 ) -> io::Result<Option<String>> {
     if script.lines.is_empty() {
         return Ok(Some("it has no line".to_string(alloc)?));
     }
     match script.rest_of("! ") {
-        Some(line) => wrong_if_refused(alloc, theatre, script, line),
-        None => Ok(theatre.play(script)?.wrong),
+        Some(line) => wrong_if_refused(alloc, fixture, script, line),
+        None => Ok(fixture.play(script)?.wrong),
     }
 }

@@ -1,10 +1,10 @@
-//! The lines of a script, played on a stage.
+//! The lines of a script, played on a subject.
 use crate::script::Script;
 use std::alloc::{AllocError, Global};
 use std::io;
 
 /// What the lines of a script work on.
-pub trait Stage {
+pub trait Subject {
     /// Does what a line asks, and writes what that answers.
     fn answer(&mut self, asks: &str, answer: &mut String) -> Result<(), AllocError>;
 
@@ -19,10 +19,10 @@ pub trait Stage {
     fn show(&mut self, seen: &mut String) -> Result<(), AllocError>;
 }
 
-/// What makes a stage for each script.
-pub trait Theatre {
-    /// Opens the stage that the script asks for, has its lines played by `Script::play_on`, lets
-    /// the stage go, and sees whether something is left of it.
+/// What makes a subject for each script.
+pub trait Fixture {
+    /// Opens the subject that the script asks for, has its lines played by `Script::play_on`, lets
+    /// the subject go, and sees whether something is left of it.
     fn play(&self, script: &Script<'_>) -> io::Result<Played>;
 }
 
@@ -35,10 +35,10 @@ pub struct Played {
     pub is_refused: bool,
 }
 
-// What a stage answers to a call.
-fn said_once<S: Stage>(alloc: Global, stage: &mut S, asks: &str) -> io::Result<String> {
+// What a subject answers to a call.
+fn said_once<S: Subject>(alloc: Global, subject: &mut S, asks: &str) -> io::Result<String> {
     let mut text = String::new(alloc);
-    stage.answer(asks, &mut text)?;
+    subject.answer(asks, &mut text)?;
     Ok(text)
 }
 
@@ -50,17 +50,17 @@ fn range_of(asks: &str) -> Option<(&str, u64, u64)> {
     Some((call, first.parse::<u64>().ok()?, last.parse::<u64>().ok()?))
 }
 
-// What a stage answers to a call with each of these numbers: the one answer that all have, where the
+// What a subject answers to a call with each of these numbers: the one answer that all have, where the
 // number itself is `each`, and else the first other one.
-fn said_each<S: Stage>(
+fn said_each<S: Subject>(
     alloc: Global,
-    stage: &mut S,
+    subject: &mut S,
     (call, first, last): (&str, u64, u64),
 ) -> io::Result<String> {
     let mut one = None;
     for number in first..=last {
         let asks = format!(in alloc; "{call} {number}")?;
-        let text = said_once(alloc, stage, asks.as_str())?;
+        let text = said_once(alloc, subject, asks.as_str())?;
         let end = format!(in alloc; " {number}")?;
         let text = match text.as_str().strip_suffix(end.as_str()) {
             Some(begin) => format!(in alloc; "{begin} each")?,
@@ -74,18 +74,18 @@ fn said_each<S: Stage>(
     Ok(one.unwrap_or(String::new(alloc)))
 }
 
-// What a stage answers to a line.
-fn said<S: Stage>(alloc: Global, stage: &mut S, asks: &str) -> io::Result<String> {
+// What a subject answers to a line.
+fn said<S: Subject>(alloc: Global, subject: &mut S, asks: &str) -> io::Result<String> {
     match range_of(asks) {
-        Some(range) => said_each(alloc, stage, range),
-        None => said_once(alloc, stage, asks),
+        Some(range) => said_each(alloc, subject, range),
+        None => said_once(alloc, subject, asks),
     }
 }
 
-// What a stage shows.
-fn shown<S: Stage>(alloc: Global, stage: &mut S) -> io::Result<String> {
+// What a subject shows.
+fn shown<S: Subject>(alloc: Global, subject: &mut S) -> io::Result<String> {
     let mut text = String::new(alloc);
-    stage.show(&mut text)?;
+    subject.show(&mut text)?;
     Ok(text)
 }
 
@@ -116,9 +116,13 @@ fn compared(
 }
 
 // What is wrong with a line that is played as it stands.
-fn wrong_answer<S: Stage>(alloc: Global, stage: &mut S, line: &str) -> io::Result<Option<String>> {
+fn wrong_answer<S: Subject>(
+    alloc: Global,
+    subject: &mut S,
+    line: &str,
+) -> io::Result<Option<String>> {
     let (asks, wanted) = line.split_once(" -> ").unwrap_or((line, "done"));
-    let answer = said(alloc, stage, asks)?;
+    let answer = said(alloc, subject, asks)?;
     Ok(compared(alloc, asks, answer.as_str(), wanted)?)
 }
 
@@ -126,10 +130,10 @@ impl Script<'_> {
     // What is wrong with the line behind `! `, with the script's growths refused, and whether one
     // was. Where none was, the first answer is wanted, else the one behind the bar, if there is
     // one, and nothing may have changed.
-    fn wrong_refusal<S: Stage>(
+    fn wrong_refusal<S: Subject>(
         &self,
         alloc: Global,
-        stage: &mut S,
+        subject: &mut S,
         line: &str,
     ) -> io::Result<Played> {
         let (calls, answers) = line.split_once(" -> ").unwrap_or((line, "done"));
@@ -137,25 +141,30 @@ impl Script<'_> {
         let (denied, _) = behind.split_once(" | ").unwrap_or((behind, ""));
         let denied = of_growth(denied, self.refused.first);
         let asks = chosen(calls, self.refused.call);
-        let before = shown(alloc, stage)?;
-        stage.refuse(self.refused.first, self.refused.last);
-        let answer = said(alloc, stage, asks)?;
-        let is_refused = stage.grant() > 0;
+        let before = shown(alloc, subject)?;
+        subject.refuse(self.refused.first, self.refused.last);
+        let answer = said(alloc, subject, asks)?;
+        let is_refused = subject.grant() > 0;
         let wanted = if is_refused { denied } else { granted };
         let mut wrong = compared(alloc, asks, answer.as_str(), wanted)?;
         if wrong.is_none() && is_refused {
-            let after = shown(alloc, stage)?;
+            let after = shown(alloc, subject)?;
             wrong = compared(alloc, "what is shown", after.as_str(), before.as_str())?;
         }
         Ok(Played { wrong, is_refused })
     }
 
     // What is wrong with this line, and whether a growth was refused by it.
-    fn play_line<S: Stage>(&self, alloc: Global, stage: &mut S, line: &str) -> io::Result<Played> {
+    fn play_line<S: Subject>(
+        &self,
+        alloc: Global,
+        subject: &mut S,
+        line: &str,
+    ) -> io::Result<Played> {
         match line.strip_prefix("! ") {
-            Some(rest) => self.wrong_refusal(alloc, stage, rest),
+            Some(rest) => self.wrong_refusal(alloc, subject, rest),
             None => Ok(Played {
-                wrong: wrong_answer(alloc, stage, line)?,
+                wrong: wrong_answer(alloc, subject, line)?,
                 is_refused: false,
             }),
         }
@@ -163,12 +172,12 @@ impl Script<'_> {
 
     /// Plays the lines, up to the first whose answer isn't the wanted one. Those below a line
     /// `! call` that says what it answers when refused aren't played where no growth of it was.
-    pub fn play_on<S: Stage>(&self, alloc: Global, stage: &mut S) -> io::Result<Played> {
+    pub fn play_on<S: Subject>(&self, alloc: Global, subject: &mut S) -> io::Result<Played> {
         let mut number = self.number.saturating_add(1);
         let mut is_refused = false;
         for line in self.lines.lines() {
             number = number.saturating_add(1);
-            let played = self.play_line(alloc, stage, line)?;
+            let played = self.play_line(alloc, subject, line)?;
             is_refused = is_refused || played.is_refused;
             if let Some(wrong) = played.wrong {
                 let wrong = Some(format!(in alloc; "line {number}: {wrong}")?);

@@ -1,5 +1,5 @@
 //! Scripts of which one line is refused memory: each of its growths in turn.
-use crate::lines::Theatre;
+use crate::lines::Fixture;
 use crate::script::{Refused, Script};
 use std::alloc::Global;
 use std::io;
@@ -17,9 +17,9 @@ enum Outcome {
 }
 
 // Plays a script with this growth refused, alone and with all after it.
-fn with_growth<T: Theatre>(
+fn with_growth<T: Fixture>(
     alloc: Global,
-    theatre: &T,
+    fixture: &T,
     script: &Script<'_>,
     (growth, call): (u64, usize),
 ) -> io::Result<Outcome> {
@@ -30,7 +30,7 @@ fn with_growth<T: Theatre>(
             last,
             call,
         };
-        let played = theatre.play(&script.refusing(refused))?;
+        let played = fixture.play(&script.refusing(refused))?;
         if let Some(wrong) = played.wrong {
             let text = format!(in alloc; "{wrong}, with growths from {growth} to {last} refused")?;
             return Ok(Outcome::Wrong(text));
@@ -44,13 +44,13 @@ fn with_growth<T: Theatre>(
 
 // Plays a script once for each growth of its line `! call`, by the first of the calls. What is
 // wrong, and how many growths there are and one more.
-fn each_growth<T: Theatre>(
+fn each_growth<T: Fixture>(
     alloc: Global,
-    theatre: &T,
+    fixture: &T,
     script: &Script<'_>,
 ) -> io::Result<(Option<String>, u64)> {
     for growth in 1..MOST {
-        match with_growth(alloc, theatre, script, (growth, 0))? {
+        match with_growth(alloc, fixture, script, (growth, 0))? {
             Outcome::Wrong(wrong) => return Ok((Some(wrong), growth)),
             Outcome::Refused => {}
             Outcome::NotRefused if growth > 1 => return Ok((None, growth)),
@@ -63,14 +63,14 @@ fn each_growth<T: Theatre>(
 
 // Plays a script with each of these growths refused, by one of the other calls, of which each has
 // to be refused: with memory it would wait.
-fn by_other<T: Theatre>(
+fn by_other<T: Fixture>(
     alloc: Global,
-    theatre: &T,
+    fixture: &T,
     script: &Script<'_>,
     (end, call): (u64, usize),
 ) -> io::Result<Option<String>> {
     for growth in 1..end {
-        match with_growth(alloc, theatre, script, (growth, call))? {
+        match with_growth(alloc, fixture, script, (growth, call))? {
             Outcome::Wrong(wrong) => return Ok(Some(wrong)),
             Outcome::Refused => {}
             Outcome::NotRefused => {
@@ -84,14 +84,14 @@ fn by_other<T: Theatre>(
 
 // Plays a script with the first growth of its line `! call` refused, and with all of them, by each
 // of so many calls, none of which has one.
-fn by_none<T: Theatre>(
+fn by_none<T: Fixture>(
     alloc: Global,
-    theatre: &T,
+    fixture: &T,
     script: &Script<'_>,
     calls: usize,
 ) -> io::Result<Option<String>> {
     for call in 0..calls {
-        match with_growth(alloc, theatre, script, (1, call))? {
+        match with_growth(alloc, fixture, script, (1, call))? {
             Outcome::Wrong(wrong) => return Ok(Some(wrong)),
             Outcome::Refused => {
                 let text = format!(in alloc; "call {call} has a growth, and none is named")?;
@@ -116,13 +116,13 @@ fn named(names: &str) -> u64 {
 
 // Plays a script with each growth of its line `! call` refused, by each of so many calls. It has as
 // many as are named.
-fn by_each<T: Theatre>(
+fn by_each<T: Fixture>(
     alloc: Global,
-    theatre: &T,
+    fixture: &T,
     script: &Script<'_>,
     (calls, names): (usize, &str),
 ) -> io::Result<Option<String>> {
-    let (mut wrong, end) = each_growth(alloc, theatre, script)?;
+    let (mut wrong, end) = each_growth(alloc, fixture, script)?;
     let growths = end.saturating_sub(1);
     let named = named(names);
     if wrong.is_none() && growths != named {
@@ -130,16 +130,16 @@ fn by_each<T: Theatre>(
     }
     for call in 1..calls {
         if wrong.is_none() {
-            wrong = by_other(alloc, theatre, script, (end, call))?;
+            wrong = by_other(alloc, fixture, script, (end, call))?;
         }
     }
     Ok(wrong)
 }
 
 /// What is wrong with a script whose line `! call` is this, without the `! `.
-pub(crate) fn wrong_if_refused<T: Theatre>(
+pub(crate) fn wrong_if_refused<T: Fixture>(
     alloc: Global,
-    theatre: &T,
+    fixture: &T,
     script: &Script<'_>,
     line: &str,
 ) -> io::Result<Option<String>> {
@@ -148,8 +148,8 @@ pub(crate) fn wrong_if_refused<T: Theatre>(
     match answers.split_once(" | ") {
         Some((_, refusal)) => {
             let (_, names) = refusal.split_once(" | ").unwrap_or((refusal, ""));
-            by_each(alloc, theatre, script, (calls, names))
+            by_each(alloc, fixture, script, (calls, names))
         }
-        None => by_none(alloc, theatre, script, calls),
+        None => by_none(alloc, fixture, script, calls),
     }
 }

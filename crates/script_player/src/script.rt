@@ -21,7 +21,7 @@ pub(crate) const NONE: Refused = Refused {
 pub struct Script<'a> {
     /// What it shows.
     pub title: &'a str,
-    /// How the stage is opened.
+    /// How the subject is opened.
     pub opening: &'a str,
     /// The lines that are played, each ended but the last.
     pub lines: &'a str,
