@@ -15,8 +15,8 @@ struct Counts {
 }
 
 /// Plays the files that the program's arguments name, in their order, and prints a line for each,
-/// and what is wrong. A file whose name ends in `.wrong` has scripts that are wrong, and whose titles
-/// say of it what is to be found. The status is 0 where all went as it should.
+/// and what is wrong. A file whose name ends in `.wrong` has scripts that are wrong, and whose
+/// titles say of it what is to be found. The status is 0 where all went as it should.
 pub fn play_all<T: Fixture>(rt: &HostRuntime, fixture: &T) -> io::Result<ExitCode> {
     let mut wrong = 0u64;
     let mut files = 0u64;

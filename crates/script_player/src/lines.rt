@@ -50,8 +50,8 @@ fn range_of(asks: &str) -> Option<(&str, u64, u64)> {
     Some((call, first.parse::<u64>().ok()?, last.parse::<u64>().ok()?))
 }
 
-// What a subject answers to a call with each of these numbers: the one answer that all have, where the
-// number itself is `each`, and else the first other one.
+// What a subject answers to a call with each of these numbers: the one answer that all have, where
+// the number itself is `each`, and else the first other one.
 fn said_each<S: Subject>(
     alloc: Global,
     subject: &mut S,
