@@ -1,6 +1,6 @@
 -- Two patterns of events that have no explanation. They are seen without a search.
-use Rattle.std.specs.Prelude.{◌≡◌, ◌==◌, ℕ, Bool, true, false, ◌||◌, ◌&&◌, if◌then◌else◌}
-use Rattle.std.specs.Prelude.{List, [], ◌∷◌, ◌++◌}
+use Rattle.std.specs.Prelude.{◌≡◌, ◌==◌, ℕ, Bool, true, false, ◌||◌, ◌&&◌, if◌then◌else◌, List, [], ◌∷◌}
+use Rattle.std.specs.Prelude.{◌++◌}
 use Rattle.std.specs.List.{Contains}
 use Rattle.flume_concurrent.specs.declared.call.Call.{Call}
 use Rattle.flume_concurrent.specs.declared.call.Call.TheVariants.{Send, SendTimeout, SendAsync}
@@ -59,8 +59,8 @@ module _ {T A : Type 0} (equal : T → T → Bool) where
     pub inner : List (Event T A)
     pub receiver : ℕ
     pub call : Call T
-    pub parts :
-        events ≡ early ++ between ++ Begins receiver call ∷ inner ++ Returns receiver (Got first) ∷ []
+    pub parts : events ≡ early ++ between
+        ++ Begins receiver call ∷ inner ++ Returns receiver (Got first) ∷ []
     pub no_second : begins_send (equal second) early ≡ false
     pub first_sent : all_returned (equal first) early ≡ true
     pub no_first : begins_send (equal first) (between ++ Begins receiver call ∷ inner) ≡ false
