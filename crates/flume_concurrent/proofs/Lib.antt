@@ -6,3 +6,6 @@ pub mod LeanAlike
 pub mod LeanIdle
 pub mod LeanItems
 pub mod LeanSteps
+pub mod HandedSince
+pub mod CallsSince
+pub mod Received
