@@ -37,7 +37,6 @@ module _ {T : Type 0} where
   parking_from k (call.Send m) = tt
   parking_from k _ = tt
 
-
 module _ {T A : Type 0} where
   -- whether a reply issues no ticket
   abbrev issues_none : Reply T A → Bool

@@ -9,3 +9,7 @@ pub mod LeanSteps
 pub mod HandedSince
 pub mod CallsSince
 pub mod Received
+pub mod OffersMade
+pub mod SplitItems
+pub mod Unsent
+pub mod InOrder
