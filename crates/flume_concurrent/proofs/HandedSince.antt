@@ -1,12 +1,12 @@
 -- Since a moment of a run: which receivers were filled, and that a message that a receiver got was handed out.
-use Rattle.flume_model.proofs.Common.{◌≡◌, ℕ, zero, suc, ◌+◌, ◌<◌, ◌≤◌, Bool, true, false, ◌||◌, if◌then◌else◌, eqb, List, [], ◌∷◌, ◌++◌, Option, Some, None}
-use Rattle.flume_model.proofs.Common.{refl, sym, ap, ◌∙◌, subst, arith, ◌⊎◌, inl, inr, common_steps, length, length-append, append-nil, eq-eqb, eqb-true}
-use Rattle.flume_model.proofs.Common.{or_cases, or_from, slice_get, slice_get_within, Log, Opening, Offer, HandOut, Shown, FilledIn, Channel, channel}
+use Rattle.flume_model.proofs.Common.{◌≡◌, ℕ, zero, suc, ◌<◌, ◌≤◌, Bool, true, false, if◌then◌else◌, List, [], ◌∷◌, ◌++◌, Option, Some, None}
+use Rattle.flume_model.proofs.Common.{refl, sym, ap, ◌∙◌, arith, ◌⊎◌, inl, inr, common_steps, length, length-append, eq-eqb, eqb-true}
+use Rattle.flume_model.proofs.Common.{or_cases, or_from, slice_get, slice_get_within, Log, Opening, Offer, Shown, FilledIn, channel}
 use Rattle.flume_model.proofs.Common.{Change, Queues, Takes, Collects, Leaves, change, is_ticket, filled_by, was_filled, fill, handed, handed_out}
-use Rattle.flume_model.proofs.Common.{hand_outs, kept, next_ticket, issued, is_over, entry_of, entries, held_by, FillIs, shows_to, shown, or_else}
-use Rattle.flume_model.proofs.Common.{IsPolled, IsGone, IsReply, IsRun}
+use Rattle.flume_model.proofs.Common.{hand_outs, kept, next_ticket, is_over, entry_of, entries, held_by, FillIs, shows_to, shown, or_else}
+use Rattle.flume_model.proofs.Common.{IsReply, IsRun}
 use Rattle.flume_model.specs.declared.step.Step.{Step}
-use Rattle.flume_model.specs.declared.step.Step.TheVariants.{Send, PollSend, TryRecv, Recv, Poll, Withdraw}
+use Rattle.flume_model.specs.declared.step.Step.TheVariants.{TryRecv, Recv, Poll, Withdraw}
 use Rattle.flume_model.specs.declared.step.Reply.{Reply}
 use Rattle.flume_model.specs.declared.step.Reply.TheVariants as reply
 use Rattle.flume_model.proofs.AskingCases.{polled_cases, gone_cases}
@@ -96,7 +96,7 @@ module _ {T A : Type 0} where
     pub more_issued : k ≤ next_ticket o log
     pub filled_at : (t : ℕ) → k ≤ t → was_filled log t ≡ true → (j : ℕ) × (n ≤ j) × (slice_get (handed_out log) j ≡ Some (FilledIn t))
 
-  -- at that moment
+  -- it is so at that moment
   pub since_now : (o : Opening) (log : Log T A) → IsRun o log → Since (hand_outs log) (next_ticket o log) o log
   since_now o log run = record {
     more_handed = omega arith;
@@ -104,7 +104,7 @@ module _ {T A : Type 0} where
     filled_at = λ t le was. (let not = unfilled o log run t le in absurd (let none : ⊥ = cc in none));
   }
 
-  -- and after one more step
+  -- and stays so by one more step
   pub since_more : (n k : ℕ) (o : Opening) (past : Log T A) (p : Step T × Reply T A) → IsRun o (p ∷ past) → Since n k o past → Since n k o (p ∷ past)
   since_more n k o past p run h = record {
     more_handed = (let long = length-append (handed_out past) (handed (change past p.0 p.1)) in let before = h.more_handed in omega arith);
@@ -139,7 +139,7 @@ module _ {T A : Type 0} where
     pub is_kept : slice_get (kept log) number ≡ Some offer
     pub same : own ≡ offer.message
 
-  -- it stays so
+  -- it stays so by one more step
   pub handed_on : (n : ℕ) (o : Opening) (past : Log T A) (p : Step T × Reply T A) (own : T) → IsRun o (p ∷ past) → Handed n past own
       → Handed n (p ∷ past) own
   handed_on n o past p own run h = record {

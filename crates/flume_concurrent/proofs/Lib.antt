@@ -8,4 +8,5 @@ pub mod LeanItems
 pub mod LeanSteps
 pub mod HandedSince
 pub mod CallsSince
+pub mod BegunCalls
 pub mod Received
