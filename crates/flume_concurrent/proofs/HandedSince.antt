@@ -1,8 +1,10 @@
 -- Since a moment of a run: which receivers were filled, and that a message that a receiver got was handed out.
-use Rattle.flume_model.proofs.Common.{◌≡◌, ℕ, zero, suc, ◌<◌, ◌≤◌, Bool, true, false, if◌then◌else◌, List, [], ◌∷◌, ◌++◌, Option, Some, None}
+use Rattle.flume_model.proofs.Common.{◌≡◌, ℕ, zero, suc, ◌<◌, ◌≤◌, Bool, true, false, if◌then◌else◌, List, [], ◌∷◌, ◌++◌, Option, Some}
+use Rattle.flume_model.proofs.Common.{None}
 use Rattle.flume_model.proofs.Common.{refl, sym, ap, ◌∙◌, arith, ◌⊎◌, inl, inr, common_steps, length, length-append, eq-eqb, eqb-true}
 use Rattle.flume_model.proofs.Common.{or_cases, or_from, slice_get, slice_get_within, Log, Opening, Offer, Shown, FilledIn, channel}
-use Rattle.flume_model.proofs.Common.{Change, Queues, Takes, Collects, Leaves, change, is_ticket, filled_by, was_filled, fill, handed, handed_out}
+use Rattle.flume_model.proofs.Common.{Change, Queues, Takes, Collects, Leaves, change, is_ticket, filled_by, was_filled, fill, handed}
+use Rattle.flume_model.proofs.Common.{handed_out}
 use Rattle.flume_model.proofs.Common.{hand_outs, kept, next_ticket, is_over, entry_of, entries, held_by, FillIs, shows_to, shown, or_else}
 use Rattle.flume_model.proofs.Common.{IsReply, IsRun}
 use Rattle.flume_model.specs.declared.step.Step.{Step}
@@ -19,18 +21,18 @@ use Rattle.flume_model.proofs.order.Runs.{placed}
 use Rattle.flume_model.proofs.order.TicketLaws.{handed_out_stay}
 
 module _ {X : Type 0} where
-  -- what stands at a place of a list stands there if more stands behind the list
+  -- what stands at a place of a list stands there too if more is put behind the list
   get_more : (xs ys : List X) (j : ℕ) (x : X) → slice_get xs j ≡ Some x → slice_get (xs ++ ys) j ≡ Some x
   get_more [] ys j x e = absurd (let none : ⊥ = cc in none)
   get_more (y ∷ xs) ys zero x e = e
   get_more (y ∷ xs) ys (suc j) x e = get_more xs ys j x e
 
-  -- at the place of its length stands what is behind it
+  -- the element behind a list stands at the place that is the list's length
   get_behind : (xs : List X) (x : X) → slice_get (xs ++ x ∷ []) (length xs) ≡ Some x
   get_behind [] x = refl
   get_behind (y ∷ xs) x = get_behind xs x
 
--- a ticket that is one is that one
+-- if this is the ticket, then it is there
 ticket_is : (t : ℕ) (found : Option ℕ) → is_ticket t found ≡ true → found ≡ Some t
 ticket_is t None e = absurd (let none : ⊥ = cc in none)
 ticket_is t (Some u) e = ap (λ v. Some v) (eqb-true u t e)
@@ -89,8 +91,8 @@ module _ {T A : Type 0} where
       ∙ fills_none (channel o past) (change past p.0 p.1) t (fits_run o past p run) none)
       (unfilled o past run.1 t (omega arith))
 
-  -- Since a moment at which so many messages had been handed out, and this was the next ticket: no fewer are handed out, no lesser ticket
-  -- is next, and each receiver that was filled under a later ticket was so by a hand-out after that moment.
+  -- Since a moment at which so many messages had been handed out, and this was the next ticket: no fewer are handed out, no
+  -- lesser ticket is next, and each receiver that was filled under a later ticket was so by a hand-out after that moment.
   pub record Since (n k : ℕ) (o : Opening) (log : Log T A) : Type 0 where
     pub more_handed : n ≤ hand_outs log
     pub more_issued : k ≤ next_ticket o log
@@ -105,7 +107,8 @@ module _ {T A : Type 0} where
   }
 
   -- and stays so by one more step
-  pub since_more : (n k : ℕ) (o : Opening) (past : Log T A) (p : Step T × Reply T A) → IsRun o (p ∷ past) → Since n k o past → Since n k o (p ∷ past)
+  pub since_more : (n k : ℕ) (o : Opening) (past : Log T A) (p : Step T × Reply T A) → IsRun o (p ∷ past) → Since n k o past
+      → Since n k o (p ∷ past)
   since_more n k o past p run h = record {
     more_handed = (let long = length-append (handed_out past) (handed (change past p.0 p.1)) in let before = h.more_handed in omega arith);
     more_issued = (let before = h.more_issued in omega arith);

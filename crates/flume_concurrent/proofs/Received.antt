@@ -1,5 +1,6 @@
 -- A message that an open call may return was handed out, and not before the call began.
-use Rattle.std.proofs.Common.{◌≡◌, ℕ, ◌<◌, ◌≤◌, Bool, true, false, eqb, if◌then◌else◌, List, [], ◌∷◌, ◌++◌, Option, Some, None, ◌⊎◌, inl, inr, refl, sym, ◌∙◌, subst, arith, eq-eqb, eqb-true}
+use Rattle.std.proofs.Common.{◌≡◌, ℕ, ◌<◌, ◌≤◌, Bool, true, false, eqb, if◌then◌else◌, List, [], ◌∷◌, ◌++◌, Option, Some, None, ◌⊎◌}
+use Rattle.std.proofs.Common.{inl, inr, refl, sym, ◌∙◌, subst, arith, eq-eqb, eqb-true}
 use Rattle.std.proofs.lemmas.Bool.{or_cases}
 use Rattle.std.proofs.lemmas.List.{append-nil}
 use Rattle.std.specs.List.{slice_get}
@@ -37,7 +38,8 @@ module _ {T A : Type 0} (equal : T → T → Bool) where
   since o [] past run = since_now o (steps_in past) run
   since o (Happens event ∷ newer) past run = since o newer past run
   since o (Makes u step r ∷ newer) past run =
-      since_more (hand_outs (steps_in past)) (next_ticket o (steps_in past)) o (steps_in (newer ++ past)) (step, r) run (since o newer past run.1)
+      since_more (hand_outs (steps_in past)) (next_ticket o (steps_in past)) o (steps_in (newer ++ past)) (step, r) run
+      (since o newer past run.1)
 
   -- the open call, if it began among the newer items, was parked and got its message after the past
   begun_stands : (o : Opening) (newer past : List (Item T A)) → AreCalls equal (newer ++ past) → IsRun o (steps_in (newer ++ past))
@@ -135,7 +137,8 @@ module _ {T A : Type 0} (equal : T → T → Bool) where
   pub received_later : (o : Opening) (newer past : List (Item T A)) → IsExplanation equal o (newer ++ past) → (t : ℕ) (told : T)
       → BegunIn newer t → returns equal (open_call (newer ++ past) t) (answer.Got told) ≡ true → HandedTo newer past told
   received_later o newer past x t told begun e =
-      given_in newer past told (next_ticket o (steps_in past)) (open_call (newer ++ past) t) (begun_stands o newer past x.calls x.run t begun) e
+      given_in newer past told (next_ticket o (steps_in past)) (open_call (newer ++ past) t)
+      (begun_stands o newer past x.calls x.run t begun) e
 
   -- what may return is an open call
   returns_there : (far : Option (Call T × Stage T A)) (told : Answer T A) → returns equal far told ≡ true → IsThere far
