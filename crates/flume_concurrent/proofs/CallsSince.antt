@@ -15,7 +15,7 @@ use Rattle.flume_concurrent.specs.declared.stage.Stage.{Stage}
 use Rattle.flume_concurrent.specs.declared.stage.Stage.TheVariants.{Begun, Tried, Parked, Refused, Answered}
 use Rattle.flume_concurrent.specs.Calls.{first_step, parking_step, is_send, next_step, other_step, stage_after}
 use Rattle.flume_concurrent.specs.Explanations.{further, IsNextStep}
-use Rattle.flume_concurrent.proofs.HandedSince.{Since, Handed, handed_on, IsFrom, got}
+use Rattle.flume_concurrent.proofs.HandedSince.{Since, IsHandedSince, handed_on, IsFrom, gets_message}
 
 -- a parked call that asks does so under its ticket, if it is a send or a receive
 asking_from : (T : Type 0) (k t : ℕ) (send : Bool) → k ≤ t → IsFrom {T = T} k (if send then PollSend t else Poll t)
@@ -86,7 +86,7 @@ module _ {T : Type 0} (A : Type 0) where
 module _ {T A : Type 0} where
   -- the message that an answer gives, if it gives one, was handed out, after so many others at least
   abbrev pub Told : ℕ → Log T A → Answer T A → Type 0
-  Told n log (answer.Got own) = Handed n log own
+  Told n log (answer.Got own) = IsHandedSince n log own
   Told n log _ = Unit {0}
 
   -- a call that is so far is parked under a ticket that isn't below this, or answers so
@@ -158,7 +158,7 @@ module _ {T A : Type 0} where
       → IsRun o ((step, r) ∷ past) → Since n k o past → IsNextStep (Some (c, stage)) step → Stands n k past stage
       → Stands n k ((step, r) ∷ past) (stage_after c stage r)
   stands_after n k o past c stage step (reply.Got m) run since made h =
-      got n k o past step m run since (step_from n k past c stage step h made)
+      gets_message n k o past step m run since (step_from n k past c stage step h made)
   stands_after n k o past c stage step (reply.Pending t) run since made h =
       let next = pending_next A (channel o past) step t run.0 in
       let before = since.more_issued in

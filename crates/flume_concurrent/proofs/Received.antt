@@ -105,10 +105,11 @@ module _ {T A : Type 0} (equal : T → T → Bool) where
     pub same : equal told offer.message ≡ true
 
   -- a message that a call may return that is so far was handed out
-  given : (newer past : List (Item T A)) (told : T) (k : ℕ) (c : Call T) (stage : Stage T A)
+  handed_at_stage : (newer past : List (Item T A)) (told : T) (k : ℕ) (c : Call T) (stage : Stage T A)
       → Stands (hand_outs (steps_in past)) k (steps_in (newer ++ past)) stage → may_return equal c stage (answer.Got told) ≡ true
       → HandedTo newer past told
-  given newer past told k c (Answered (answer.Got own)) h e = by_case (or_cases (equal told own) (is_dropped {A = A} c (answer.Got told)) e)
+  handed_at_stage newer past told k c (Answered (answer.Got own)) h e =
+      by_case (or_cases (equal told own) (is_dropped {A = A} c (answer.Got told)) e)
     where
       by_case : (equal told own ≡ true) ⊎ (is_dropped {A = A} c (answer.Got told) ≡ true) → HandedTo newer past told
       by_case (inl same) = record {
@@ -120,24 +121,24 @@ module _ {T A : Type 0} (equal : T → T → Bool) where
         same = subst (λ x. equal told x ≡ true) h.same same;
       }
       by_case (inr dropped) = absurd (not_dropped A c told dropped)
-  given newer past told k c Begun h e = absurd (not_dropped A c told e)
-  given newer past told k c Tried h e = absurd (not_dropped A c told e)
-  given newer past told k c (Parked t) h e = absurd (let none : ⊥ = cc in none)
-  given newer past told k c (Refused t) h e = absurd (let none : ⊥ = cc in none)
-  given newer past told k c (Answered _) h e = absurd (not_dropped A c told e)
+  handed_at_stage newer past told k c Begun h e = absurd (not_dropped A c told e)
+  handed_at_stage newer past told k c Tried h e = absurd (not_dropped A c told e)
+  handed_at_stage newer past told k c (Parked t) h e = absurd (let none : ⊥ = cc in none)
+  handed_at_stage newer past told k c (Refused t) h e = absurd (let none : ⊥ = cc in none)
+  handed_at_stage newer past told k c (Answered _) h e = absurd (not_dropped A c told e)
 
   -- a message that the open call, if there is one, may return was handed out
-  given_in : (newer past : List (Item T A)) (told : T) (k : ℕ) (far : Option (Call T × Stage T A))
+  handed_in_call : (newer past : List (Item T A)) (told : T) (k : ℕ) (far : Option (Call T × Stage T A))
       → StandsIn (hand_outs (steps_in past)) k (steps_in (newer ++ past)) far → returns equal far (answer.Got told) ≡ true
       → HandedTo newer past told
-  given_in newer past told k None h e = absurd (let none : ⊥ = cc in none)
-  given_in newer past told k (Some far) h e = given newer past told k far.0 far.1 h e
+  handed_in_call newer past told k None h e = absurd (let none : ⊥ = cc in none)
+  handed_in_call newer past told k (Some far) h e = handed_at_stage newer past told k far.0 far.1 h e
 
   -- a message that an open call may return was handed out after what came before its call began
   pub received_later : (o : Opening) (newer past : List (Item T A)) → IsExplanation equal o (newer ++ past) → (t : ℕ) (told : T)
       → BegunIn newer t → returns equal (open_call (newer ++ past) t) (answer.Got told) ≡ true → HandedTo newer past told
   received_later o newer past x t told begun e =
-      given_in newer past told (next_ticket o (steps_in past)) (open_call (newer ++ past) t)
+      handed_in_call newer past told (next_ticket o (steps_in past)) (open_call (newer ++ past) t)
       (begun_stands o newer past x.calls x.run t begun) e
 
   -- what may return is an open call
