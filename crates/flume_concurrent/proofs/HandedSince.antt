@@ -1,12 +1,14 @@
 -- Since a moment of a run: which receivers were filled, and that a message that a receiver got was handed out.
-use Rattle.flume_model.proofs.Common.{◌≡◌, ℕ, zero, suc, ◌+◌, ◌<◌, ◌≤◌, Bool, true, false, ◌||◌, if◌then◌else◌, eqb, List, [], ◌∷◌, ◌++◌, Option, Some, None}
-use Rattle.flume_model.proofs.Common.{refl, sym, ap, ◌∙◌, subst, arith, ◌⊎◌, inl, inr, common_steps, length, length-append, append-nil, eq-eqb, eqb-true}
-use Rattle.flume_model.proofs.Common.{or_cases, or_from, slice_get, slice_get_within, Log, Opening, Offer, HandOut, Shown, FilledIn, Channel, channel}
-use Rattle.flume_model.proofs.Common.{Change, Queues, Takes, Collects, Leaves, change, is_ticket, filled_by, was_filled, fill, handed, handed_out}
-use Rattle.flume_model.proofs.Common.{hand_outs, kept, next_ticket, issued, is_over, entry_of, entries, held_by, FillIs, shows_to, shown, or_else}
-use Rattle.flume_model.proofs.Common.{IsPolled, IsGone, IsReply, IsRun}
+use Rattle.flume_model.proofs.Common.{◌≡◌, ℕ, zero, suc, ◌<◌, ◌≤◌, Bool, true, false, if◌then◌else◌, List, [], ◌∷◌, ◌++◌, Option, Some}
+use Rattle.flume_model.proofs.Common.{None}
+use Rattle.flume_model.proofs.Common.{refl, sym, ap, ◌∙◌, arith, ◌⊎◌, inl, inr, common_steps, length, length-append, eq-eqb, eqb-true}
+use Rattle.flume_model.proofs.Common.{or_cases, or_from, slice_get, slice_get_within, Log, Opening, Offer, Shown, FilledIn, channel}
+use Rattle.flume_model.proofs.Common.{Change, Queues, Takes, Collects, Leaves, change, is_ticket, filled_by, was_filled, fill, handed}
+use Rattle.flume_model.proofs.Common.{handed_out}
+use Rattle.flume_model.proofs.Common.{hand_outs, kept, next_ticket, is_over, entry_of, entries, held_by, FillIs, shows_to, shown, or_else}
+use Rattle.flume_model.proofs.Common.{IsReply, IsRun}
 use Rattle.flume_model.specs.declared.step.Step.{Step}
-use Rattle.flume_model.specs.declared.step.Step.TheVariants.{Send, PollSend, TryRecv, Recv, Poll, Withdraw}
+use Rattle.flume_model.specs.declared.step.Step.TheVariants.{TryRecv, Recv, Poll, Withdraw}
 use Rattle.flume_model.specs.declared.step.Reply.{Reply}
 use Rattle.flume_model.specs.declared.step.Reply.TheVariants as reply
 use Rattle.flume_model.proofs.AskingCases.{polled_cases, gone_cases}
@@ -19,18 +21,18 @@ use Rattle.flume_model.proofs.order.Runs.{placed}
 use Rattle.flume_model.proofs.order.TicketLaws.{handed_out_stay}
 
 module _ {X : Type 0} where
-  -- what stands at a place of a list stands there if more stands behind the list
+  -- what stands at a place of a list stands there too if more is put behind the list
   get_more : (xs ys : List X) (j : ℕ) (x : X) → slice_get xs j ≡ Some x → slice_get (xs ++ ys) j ≡ Some x
   get_more [] ys j x e = absurd (let none : ⊥ = cc in none)
   get_more (y ∷ xs) ys zero x e = e
   get_more (y ∷ xs) ys (suc j) x e = get_more xs ys j x e
 
-  -- at the place of its length stands what is behind it
+  -- the element behind a list stands at the place that is the list's length
   get_behind : (xs : List X) (x : X) → slice_get (xs ++ x ∷ []) (length xs) ≡ Some x
   get_behind [] x = refl
   get_behind (y ∷ xs) x = get_behind xs x
 
--- a ticket that is one is that one
+-- if this is the ticket, then it is there
 ticket_is : (t : ℕ) (found : Option ℕ) → is_ticket t found ≡ true → found ≡ Some t
 ticket_is t None e = absurd (let none : ⊥ = cc in none)
 ticket_is t (Some u) e = ap (λ v. Some v) (eqb-true u t e)
@@ -81,31 +83,32 @@ module _ {T A : Type 0} where
   told_is o past step r h = grind (arith, common_steps)
 
   -- no receiver is filled under a ticket that wasn't issued
-  unfilled : (o : Opening) (log : Log T A) → IsRun o log → (t : ℕ) → next_ticket o log ≤ t → was_filled log t ≡ false
-  unfilled o [] run t le = refl
-  unfilled o (p ∷ past) run t le =
+  unissued_not_filled : (o : Opening) (log : Log T A) → IsRun o log → (t : ℕ) → next_ticket o log ≤ t → was_filled log t ≡ false
+  unissued_not_filled o [] run t le = refl
+  unissued_not_filled o (p ∷ past) run t le =
       let none = none_past (next_ticket o past) t (entries o past) (omega arith) (entries_apart o past run.1) in
       or_from _ _ (ap (is_ticket t) (told_is o past p.0 p.1 run.0)
       ∙ fills_none (channel o past) (change past p.0 p.1) t (fits_run o past p run) none)
-      (unfilled o past run.1 t (omega arith))
+      (unissued_not_filled o past run.1 t (omega arith))
 
-  -- Since a moment at which so many messages had been handed out, and this was the next ticket: no fewer are handed out, no lesser ticket
-  -- is next, and each receiver that was filled under a later ticket was so by a hand-out after that moment.
+  -- Since a moment at which so many messages had been handed out, and this was the next ticket: no fewer are handed out, no
+  -- lesser ticket is next, and each receiver that was filled under a later ticket was so by a hand-out after that moment.
   pub record Since (n k : ℕ) (o : Opening) (log : Log T A) : Type 0 where
     pub more_handed : n ≤ hand_outs log
     pub more_issued : k ≤ next_ticket o log
     pub filled_at : (t : ℕ) → k ≤ t → was_filled log t ≡ true → (j : ℕ) × (n ≤ j) × (slice_get (handed_out log) j ≡ Some (FilledIn t))
 
-  -- at that moment
+  -- it is so at that moment
   pub since_now : (o : Opening) (log : Log T A) → IsRun o log → Since (hand_outs log) (next_ticket o log) o log
   since_now o log run = record {
     more_handed = omega arith;
     more_issued = omega arith;
-    filled_at = λ t le was. (let not = unfilled o log run t le in absurd (let none : ⊥ = cc in none));
+    filled_at = λ t le was. (let not = unissued_not_filled o log run t le in absurd (let none : ⊥ = cc in none));
   }
 
-  -- and after one more step
-  pub since_more : (n k : ℕ) (o : Opening) (past : Log T A) (p : Step T × Reply T A) → IsRun o (p ∷ past) → Since n k o past → Since n k o (p ∷ past)
+  -- and stays so by one more step
+  pub since_more : (n k : ℕ) (o : Opening) (past : Log T A) (p : Step T × Reply T A) → IsRun o (p ∷ past) → Since n k o past
+      → Since n k o (p ∷ past)
   since_more n k o past p run h = record {
     more_handed = (let long = length-append (handed_out past) (handed (change past p.0 p.1)) in let before = h.more_handed in omega arith);
     more_issued = (let before = h.more_issued in omega arith);
@@ -131,7 +134,7 @@ module _ {T A : Type 0} where
   kept_on o past p run j lt = at_front (hand_outs past) (kept (p ∷ past)) (kept past) j lt (handed_out_stay o p past run)
 
   -- the message was handed out, after so many others at least
-  pub record Handed (n : ℕ) (log : Log T A) (own : T) : Type 0 where
+  pub record IsHandedSince (n : ℕ) (log : Log T A) (own : T) : Type 0 where
     pub number : ℕ
     pub offer : Offer T
     pub not_before : n ≤ number
@@ -139,9 +142,9 @@ module _ {T A : Type 0} where
     pub is_kept : slice_get (kept log) number ≡ Some offer
     pub same : own ≡ offer.message
 
-  -- it stays so
-  pub handed_on : (n : ℕ) (o : Opening) (past : Log T A) (p : Step T × Reply T A) (own : T) → IsRun o (p ∷ past) → Handed n past own
-      → Handed n (p ∷ past) own
+  -- it stays so by one more step
+  pub handed_on : (n : ℕ) (o : Opening) (past : Log T A) (p : Step T × Reply T A) (own : T) → IsRun o (p ∷ past) → IsHandedSince n past own
+      → IsHandedSince n (p ∷ past) own
   handed_on n o past p own run h = record {
     number = h.number;
     offer = h.offer;
@@ -152,9 +155,9 @@ module _ {T A : Type 0} where
   }
 
   -- a message that a step takes from the line is handed out by it
-  taken : (n : ℕ) (o : Opening) (past : Log T A) (p : Step T × Reply T A) (m : T) (receiver : Option ℕ) → IsRun o (p ∷ past)
-      → n ≤ hand_outs past → change past p.0 p.1 ≡ Takes m receiver → Handed n (p ∷ past) m
-  taken n o past p m receiver run le is =
+  takes_hands_out : (n : ℕ) (o : Opening) (past : Log T A) (p : Step T × Reply T A) (m : T) (receiver : Option ℕ) → IsRun o (p ∷ past)
+      → n ≤ hand_outs past → change past p.0 p.1 ≡ Takes m receiver → IsHandedSince n (p ∷ past) m
+  takes_hands_out n o past p m receiver run le is =
       let at : slice_get (handed_out (p ∷ past)) (hand_outs past) ≡ Some (Shown m) =
       ap (λ done. slice_get (handed_out past ++ handed done) (hand_outs past)) is ∙ get_behind (handed_out past) (Shown m) in
       let kept_at = placed o (p ∷ past) run (hand_outs past) (Shown m) at in
@@ -168,10 +171,10 @@ module _ {T A : Type 0} where
       }
 
   -- a message that a filled receiver gets was handed out when it was filled
-  collected : (n k : ℕ) (o : Opening) (past : Log T A) (step : Step T) (m : T) (u : ℕ) → IsRun o ((step, reply.Got m) ∷ past)
+  collects_message : (n k : ℕ) (o : Opening) (past : Log T A) (step : Step T) (m : T) (u : ℕ) → IsRun o ((step, reply.Got m) ∷ past)
       → Since n k o past → k ≤ u → was_filled past u ≡ true → shows_to {A = A} u step (reply.Got m) ≡ Some m
-      → Handed n ((step, reply.Got m) ∷ past) m
-  collected n k o past step m u run since le was shows =
+      → IsHandedSince n ((step, reply.Got m) ∷ past) m
+  collects_message n k o past step m u run since le was shows =
       let log : Log T A = (step, reply.Got m) ∷ past in
       let filled = since.filled_at u le was in
       let at = get_more (handed_out past) (handed (change past step (reply.Got m))) filled.0 (FilledIn u) filled.2 in
@@ -187,25 +190,27 @@ module _ {T A : Type 0} where
       }
 
   -- a message that a parked receiver gets was handed out, by the step or when it was filled
-  parked_got : (n k : ℕ) (o : Opening) (past : Log T A) (step : Step T) (m : T) (u : ℕ) → IsRun o ((step, reply.Got m) ∷ past)
+  parked_gets : (n k : ℕ) (o : Opening) (past : Log T A) (step : Step T) (m : T) (u : ℕ) → IsRun o ((step, reply.Got m) ∷ past)
       → Since n k o past → k ≤ u → shows_to {A = A} u step (reply.Got m) ≡ Some m
       → change past step (reply.Got m) ≡ (if was_filled past u then Collects u else Takes m (Some u))
-      → Handed n ((step, reply.Got m) ∷ past) m
-  parked_got n k o past step m u run since le shows is = by_filled (was_filled past u) refl
+      → IsHandedSince n ((step, reply.Got m) ∷ past) m
+  parked_gets n k o past step m u run since le shows is = by_filled (was_filled past u) refl
     where
-      by_filled : (was : Bool) → was_filled past u ≡ was → Handed n ((step, reply.Got m) ∷ past) m
-      by_filled true was = collected n k o past step m u run since le was shows
+      by_filled : (was : Bool) → was_filled past u ≡ was → IsHandedSince n ((step, reply.Got m) ∷ past) m
+      by_filled true was = collects_message n k o past step m u run since le was shows
       by_filled false was =
-          taken n o past (step, reply.Got m) m (Some u) run since.more_handed
+          takes_hands_out n o past (step, reply.Got m) m (Some u) run since.more_handed
           (is ∙ ap (λ b. if b then Collects u else Takes m (Some u)) was)
 
   -- a message that a step got was handed out
-  pub got : (n k : ℕ) (o : Opening) (past : Log T A) (step : Step T) (m : T) → IsRun o ((step, reply.Got m) ∷ past) → Since n k o past
-      → IsFrom k step → Handed n ((step, reply.Got m) ∷ past) m
-  got n k o past TryRecv m run since from = taken n o past (TryRecv, reply.Got m) m None run since.more_handed refl
-  got n k o past (Recv kind) m run since from = taken n o past (Recv kind, reply.Got m) m None run since.more_handed refl
-  got n k o past (Poll u) m run since from =
-      parked_got n k o past (Poll u) m u run since from (ap (λ b. if b then Some m else None) (eq-eqb u u refl)) refl
-  got n k o past (Withdraw u) m run since from =
-      parked_got n k o past (Withdraw u) m u run since from (ap (λ b. if b then Some m else None) (eq-eqb u u refl)) refl
-  got n k o past _ m run since from = absurd run.0
+  pub gets_message : (n k : ℕ) (o : Opening) (past : Log T A) (step : Step T) (m : T) → IsRun o ((step, reply.Got m) ∷ past)
+      → Since n k o past → IsFrom k step → IsHandedSince n ((step, reply.Got m) ∷ past) m
+  gets_message n k o past TryRecv m run since from =
+      takes_hands_out n o past (TryRecv, reply.Got m) m None run since.more_handed refl
+  gets_message n k o past (Recv kind) m run since from =
+      takes_hands_out n o past (Recv kind, reply.Got m) m None run since.more_handed refl
+  gets_message n k o past (Poll u) m run since from =
+      parked_gets n k o past (Poll u) m u run since from (ap (λ b. if b then Some m else None) (eq-eqb u u refl)) refl
+  gets_message n k o past (Withdraw u) m run since from =
+      parked_gets n k o past (Withdraw u) m u run since from (ap (λ b. if b then Some m else None) (eq-eqb u u refl)) refl
+  gets_message n k o past _ m run since from = absurd run.0

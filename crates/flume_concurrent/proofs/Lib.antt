@@ -8,6 +8,7 @@ pub mod LeanItems
 pub mod LeanSteps
 pub mod HandedSince
 pub mod CallsSince
+pub mod BegunCalls
 pub mod Received
 pub mod OffersMade
 pub mod SplitItems

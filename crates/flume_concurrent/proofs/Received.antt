@@ -1,11 +1,9 @@
 -- A message that an open call may return was handed out, and not before the call began.
-use Rattle.std.proofs.Common.{◌≡◌, ℕ, ◌<◌, ◌≤◌, Bool, true, false, eqb, if◌then◌else◌, List, [], ◌∷◌, ◌++◌, Option, Some, None, ◌⊎◌, inl, inr, refl, sym, ap, ◌∙◌, subst, arith, eq-eqb, eqb-true, reverse}
+use Rattle.std.proofs.Common.{◌≡◌, ℕ, ◌<◌, ◌≤◌, Bool, true, false, eqb, if◌then◌else◌, List, [], ◌∷◌, ◌++◌, Option, Some, None, ◌⊎◌}
+use Rattle.std.proofs.Common.{inl, inr, refl, sym, ◌∙◌, subst, arith, eq-eqb, eqb-true}
 use Rattle.std.proofs.lemmas.Bool.{or_cases}
-use Rattle.std.proofs.lemmas.List.{reverse-append, append-nil}
-use Rattle.std.proofs.lemmas.List.Elements.{Contains-append_cases, Contains-append_right, Contains-push_cases}
-use Rattle.std.specs.List.{Contains, slice_get}
-use Rattle.flume_model.specs.declared.step.Step.{Step}
-use Rattle.flume_model.specs.declared.step.Reply.{Reply}
+use Rattle.std.proofs.lemmas.List.{append-nil}
+use Rattle.std.specs.List.{slice_get}
 use Rattle.flume_model.specs.Log.{Log, Opening, Offer}
 use Rattle.flume_model.specs.Offers.{hand_outs, kept}
 use Rattle.flume_model.specs.Line.{next_ticket}
@@ -14,16 +12,16 @@ use Rattle.flume_concurrent.specs.declared.call.Call.{Call}
 use Rattle.flume_concurrent.specs.declared.call.Call.TheVariants as call
 use Rattle.flume_concurrent.specs.declared.call.Answer.{Answer}
 use Rattle.flume_concurrent.specs.declared.call.Answer.TheVariants as answer
-use Rattle.flume_concurrent.specs.declared.event.Event.{Event}
 use Rattle.flume_concurrent.specs.declared.event.Event.TheVariants.{Begins, Returns}
 use Rattle.flume_concurrent.specs.declared.event.Item.{Item}
 use Rattle.flume_concurrent.specs.declared.event.Item.TheVariants.{Happens, Makes}
 use Rattle.flume_concurrent.specs.declared.stage.Stage.{Stage}
 use Rattle.flume_concurrent.specs.declared.stage.Stage.TheVariants.{Begun, Tried, Parked, Refused, Answered}
 use Rattle.flume_concurrent.specs.Answers.{is_dropped, may_return}
-use Rattle.flume_concurrent.specs.Explanations.{events_in, steps_in, further, open_call, IsNextStep, returns, AreCalls, IsExplanation}
+use Rattle.flume_concurrent.specs.Explanations.{steps_in, further, open_call, IsNextStep, returns, AreCalls, IsExplanation}
 use Rattle.flume_concurrent.proofs.HandedSince.{Since, since_now, since_more, kept_on}
-use Rattle.flume_concurrent.proofs.LeanItems.{events_reverse}
+pub use Rattle.flume_concurrent.proofs.BegunCalls.{BegunIn, begun_by_events}
+use Rattle.flume_concurrent.proofs.BegunCalls.{begun_before, IsThere, open_begun}
 use Rattle.flume_concurrent.proofs.CallsSince.{Stands, StandsIn, stands_in_on, stands_in_after}
 
 module _ {T : Type 0} (A : Type 0) where
@@ -32,42 +30,18 @@ module _ {T : Type 0} (A : Type 0) where
   not_dropped (call.SendAsync m) told e = let none : ⊥ = cc in none
   not_dropped _ told e = let none : ⊥ = cc in none
 
-module _ {T A : Type 0} where
-  -- the thread began a call among these items
-  abbrev pub BegunIn : List (Item T A) → ℕ → Type 0
-  BegunIn newer t = (call : Call T) × Contains newer (Happens (Begins t call))
-
-  -- by the newest item or among those before it
-  begun_before : (item : Item T A) (newer : List (Item T A)) (t : ℕ) → BegunIn (item ∷ newer) t
-      → ((call : Call T) × (item ≡ Happens (Begins t call))) ⊎ BegunIn newer t
-  begun_before item newer t h = by_place (Contains-append_cases (item ∷ []) newer (Happens (Begins t h.0)) h.1)
-    where
-      by_last : Contains {X = Item T A} [] (Happens (Begins t h.0)) ⊎ (item ≡ Happens (Begins t h.0))
-          → ((call : Call T) × (item ≡ Happens (Begins t call))) ⊎ BegunIn newer t
-      by_last (inl none) = absurd (let lt = none.1 in omega arith)
-      by_last (inr is) = inl (h.0, is)
-
-      by_place : Contains (item ∷ []) (Happens (Begins t h.0)) ⊎ Contains newer (Happens (Begins t h.0))
-          → ((call : Call T) × (item ≡ Happens (Begins t call))) ⊎ BegunIn newer t
-      by_place (inl last) = by_last (Contains-push_cases [] item (Happens (Begins t h.0)) last)
-      by_place (inr before) = inr (h.0, before)
-
-  begun_more : (item : Item T A) (newer : List (Item T A)) (t : ℕ) → BegunIn newer t → BegunIn (item ∷ newer) t
-  begun_more item newer t h = (h.0, Contains-append_right (item ∷ []) newer (Happens (Begins t h.0)) h.1)
-
-  begun_now : (newer : List (Item T A)) (u t : ℕ) (call : Call T) → eqb u t ≡ true → BegunIn (Happens (Begins u call) ∷ newer) t
-  begun_now newer u t call is = (call, (0, omega arith, ap (λ v. Happens (Begins v call)) (eqb-true u t is)))
-
 -- where `equal` compares messages
 module _ {T A : Type 0} (equal : T → T → Bool) where
+  -- what was handed out and filled after the past came after it
   since : (o : Opening) (newer past : List (Item T A)) → IsRun o (steps_in (newer ++ past))
       → Since (hand_outs (steps_in past)) (next_ticket o (steps_in past)) o (steps_in (newer ++ past))
   since o [] past run = since_now o (steps_in past) run
   since o (Happens event ∷ newer) past run = since o newer past run
   since o (Makes u step r ∷ newer) past run =
-      since_more (hand_outs (steps_in past)) (next_ticket o (steps_in past)) o (steps_in (newer ++ past)) (step, r) run (since o newer past run.1)
+      since_more (hand_outs (steps_in past)) (next_ticket o (steps_in past)) o (steps_in (newer ++ past)) (step, r) run
+      (since o newer past run.1)
 
-  -- a call that began among the newer items is so far as is said above
+  -- the open call, if it began among the newer items, was parked and got its message after the past
   begun_stands : (o : Opening) (newer past : List (Item T A)) → AreCalls equal (newer ++ past) → IsRun o (steps_in (newer ++ past))
       → (t : ℕ) → BegunIn newer t
       → StandsIn (hand_outs (steps_in past)) (next_ticket o (steps_in past)) (steps_in (newer ++ past)) (open_call (newer ++ past) t)
@@ -121,7 +95,7 @@ module _ {T A : Type 0} (equal : T → T → Bool) where
           (subst (λ v. IsNextStep (open_call (newer ++ past) v) step) (eqb-true u t is) calls.0) (before begun)
       by_thread false is before (inr begun) = stands_in_on n k o log (step, r) run (open_call (newer ++ past) t) (before begun)
 
-  -- a message that an open call may return was handed out: by a hand-out that comes after those before its call began
+  -- a message was handed out that equals the one that is told, and it was after the past
   pub record HandedTo (newer past : List (Item T A)) (told : T) : Type 0 where
     pub number : ℕ
     pub offer : Offer T
@@ -130,11 +104,12 @@ module _ {T A : Type 0} (equal : T → T → Bool) where
     pub is_kept : slice_get (kept (steps_in (newer ++ past))) number ≡ Some offer
     pub same : equal told offer.message ≡ true
 
-  -- what a call may return that is so far was handed out
-  given : (newer past : List (Item T A)) (told : T) (k : ℕ) (c : Call T) (stage : Stage T A)
+  -- a message that a call may return that is so far was handed out
+  handed_at_stage : (newer past : List (Item T A)) (told : T) (k : ℕ) (c : Call T) (stage : Stage T A)
       → Stands (hand_outs (steps_in past)) k (steps_in (newer ++ past)) stage → may_return equal c stage (answer.Got told) ≡ true
       → HandedTo newer past told
-  given newer past told k c (Answered (answer.Got own)) h e = by_case (or_cases (equal told own) (is_dropped {A = A} c (answer.Got told)) e)
+  handed_at_stage newer past told k c (Answered (answer.Got own)) h e =
+      by_case (or_cases (equal told own) (is_dropped {A = A} c (answer.Got told)) e)
     where
       by_case : (equal told own ≡ true) ⊎ (is_dropped {A = A} c (answer.Got told) ≡ true) → HandedTo newer past told
       by_case (inl same) = record {
@@ -146,55 +121,32 @@ module _ {T A : Type 0} (equal : T → T → Bool) where
         same = subst (λ x. equal told x ≡ true) h.same same;
       }
       by_case (inr dropped) = absurd (not_dropped A c told dropped)
-  given newer past told k c Begun h e = absurd (not_dropped A c told e)
-  given newer past told k c Tried h e = absurd (not_dropped A c told e)
-  given newer past told k c (Parked t) h e = absurd (let none : ⊥ = cc in none)
-  given newer past told k c (Refused t) h e = absurd (let none : ⊥ = cc in none)
-  given newer past told k c (Answered _) h e = absurd (not_dropped A c told e)
+  handed_at_stage newer past told k c Begun h e = absurd (not_dropped A c told e)
+  handed_at_stage newer past told k c Tried h e = absurd (not_dropped A c told e)
+  handed_at_stage newer past told k c (Parked t) h e = absurd (let none : ⊥ = cc in none)
+  handed_at_stage newer past told k c (Refused t) h e = absurd (let none : ⊥ = cc in none)
+  handed_at_stage newer past told k c (Answered _) h e = absurd (not_dropped A c told e)
 
-  given_in : (newer past : List (Item T A)) (told : T) (k : ℕ) (far : Option (Call T × Stage T A))
+  -- a message that the open call, if there is one, may return was handed out
+  handed_in_call : (newer past : List (Item T A)) (told : T) (k : ℕ) (far : Option (Call T × Stage T A))
       → StandsIn (hand_outs (steps_in past)) k (steps_in (newer ++ past)) far → returns equal far (answer.Got told) ≡ true
       → HandedTo newer past told
-  given_in newer past told k None h e = absurd (let none : ⊥ = cc in none)
-  given_in newer past told k (Some far) h e = given newer past told k far.0 far.1 h e
+  handed_in_call newer past told k None h e = absurd (let none : ⊥ = cc in none)
+  handed_in_call newer past told k (Some far) h e = handed_at_stage newer past told k far.0 far.1 h e
 
+  -- a message that an open call may return was handed out after what came before its call began
   pub received_later : (o : Opening) (newer past : List (Item T A)) → IsExplanation equal o (newer ++ past) → (t : ℕ) (told : T)
       → BegunIn newer t → returns equal (open_call (newer ++ past) t) (answer.Got told) ≡ true → HandedTo newer past told
   received_later o newer past x t told begun e =
-      given_in newer past told (next_ticket o (steps_in past)) (open_call (newer ++ past) t) (begun_stands o newer past x.calls x.run t begun) e
+      handed_in_call newer past told (next_ticket o (steps_in past)) (open_call (newer ++ past) t)
+      (begun_stands o newer past x.calls x.run t begun) e
 
-  -- a thread that has a call open began one
-  abbrev IsThere : Option (Call T × Stage T A) → Type 0
-  IsThere None = ⊥
-  IsThere (Some far) = Unit {0}
-
-  open_begun : (items : List (Item T A)) (t : ℕ) → IsThere (open_call items t) → BegunIn items t
-  open_begun [] t h = absurd h
-  open_begun (Happens (Begins u c) ∷ items) t h = by_thread (eqb u t) refl (open_begun items t) h
-    where
-      by_thread : (b : Bool) → eqb u t ≡ b → (IsThere (open_call items t) → BegunIn items t)
-          → IsThere (if b then Some (c, Begun) else open_call items t) → BegunIn (Happens (Begins u c) ∷ items) t
-      by_thread true is before h = begun_now items u t c is
-      by_thread false is before h = begun_more (Happens (Begins u c)) items t (before h)
-  open_begun (Happens (Returns u told) ∷ items) t h = by_thread (eqb u t) (open_begun items t) h
-    where
-      by_thread : (b : Bool) → (IsThere (open_call items t) → BegunIn items t) → IsThere (if b then None else open_call items t)
-          → BegunIn (Happens (Returns u told) ∷ items) t
-      by_thread true before h = absurd h
-      by_thread false before h = begun_more (Happens (Returns u told)) items t (before h)
-  open_begun (Makes u step r ∷ items) t h =
-      begun_more (Makes u step r) items t (open_begun items t (by_thread (eqb u t) (open_call items t) h))
-    where
-      by_thread : (b : Bool) (far : Option (Call T × Stage T A)) → IsThere (if b then further r far else far) → IsThere far
-      by_thread true None h = h
-      by_thread true (Some far) h = tt
-      by_thread false far h = h
-
+  -- what may return is an open call
   returns_there : (far : Option (Call T × Stage T A)) (told : Answer T A) → returns equal far told ≡ true → IsThere far
   returns_there None told e = let none : ⊥ = cc in none
   returns_there (Some far) told e = tt
 
-  -- a message that an open call may return was handed out
+  -- a message was handed out that equals the one that is told
   pub record HandedOut (items : List (Item T A)) (told : T) : Type 0 where
     pub number : ℕ
     pub offer : Offer T
@@ -202,6 +154,7 @@ module _ {T A : Type 0} (equal : T → T → Bool) where
     pub is_kept : slice_get (kept (steps_in items)) number ≡ Some offer
     pub same : equal told offer.message ≡ true
 
+  -- a message that an open call may return was handed out
   pub received : (o : Opening) (items : List (Item T A)) → IsExplanation equal o items → (t : ℕ) (told : T)
       → returns equal (open_call items t) (answer.Got told) ≡ true → HandedOut items told
   received o items x t told e =
@@ -222,7 +175,7 @@ module _ {T A : Type 0} (equal : T → T → Bool) where
       → hand_outs (steps_in past) ≤ hand_outs (steps_in (more ++ past))
   hand_outs_rise o more past x = (since o more past x.run).more_handed
 
-  -- after more items the kept offers that were handed out are the same, each at its place
+  -- by more steps of a run the kept offers that were handed out keep their places
   kept_over : (o : Opening) (more past : List (Item T A)) → IsRun o (steps_in (more ++ past)) → (j : ℕ) → j < hand_outs (steps_in past)
       → slice_get (kept (steps_in (more ++ past))) j ≡ slice_get (kept (steps_in past)) j
   kept_over o [] past run j lt = refl
@@ -231,44 +184,7 @@ module _ {T A : Type 0} (equal : T → T → Bool) where
       let rise = (since o more past run.1).more_handed in
       kept_on o (steps_in (more ++ past)) (step, r) run j (omega arith) ∙ kept_over o more past run.1 j lt
 
+  -- after more items the kept offers that were handed out are the same, each at its place
   pub kept_stays : (o : Opening) (more past : List (Item T A)) → IsExplanation equal o (more ++ past) → (j : ℕ)
       → j < hand_outs (steps_in past) → slice_get (kept (steps_in (more ++ past))) j ≡ slice_get (kept (steps_in past)) j
   kept_stays o more past x j lt = kept_over o more past x.run j lt
-
-module _ {X : Type 0} where
-  -- what is in a list in the other order is in the list
-  contains_reverse : (xs : List X) (x : X) → Contains (reverse xs) x → Contains xs x
-  contains_reverse [] x h = h
-  contains_reverse (y ∷ xs) x h =
-      by_place (contains_reverse xs x) (Contains-push_cases (reverse xs) y x (subst (λ l. Contains l x) (reverse-append (y ∷ []) xs) h))
-    where
-      by_place : (Contains (reverse xs) x → Contains xs x) → Contains (reverse xs) x ⊎ (y ≡ x) → Contains (y ∷ xs) x
-      by_place behind (inl there) = Contains-append_right (y ∷ []) xs x (behind there)
-      by_place behind (inr is) = (0, omega arith, is)
-
-module _ {T A : Type 0} where
-  -- an event of the items is one of them
-  event_item : (items : List (Item T A)) (event : Event T A) → Contains (events_in items) event → Contains items (Happens event)
-  event_item [] event h = absurd (let lt = h.1 in omega arith)
-  event_item (Makes u step r ∷ items) event h =
-      Contains-append_right (Makes u step r ∷ []) items (Happens event) (event_item items event h)
-  event_item (Happens first ∷ items) event h =
-      by_place (event_item items event) (Contains-append_cases (first ∷ []) (events_in items) event h)
-    where
-      by_last : Contains {X = Event T A} [] event ⊎ (first ≡ event) → Contains (Happens first ∷ items) (Happens event)
-      by_last (inl none) = absurd (let lt = none.1 in omega arith)
-      by_last (inr is) = (0, omega arith, ap (λ e. Happens e) is)
-
-      by_place : (Contains (events_in items) event → Contains items (Happens event))
-          → Contains (first ∷ []) event ⊎ Contains (events_in items) event → Contains (Happens first ∷ items) (Happens event)
-      by_place behind (inl here) = by_last (Contains-push_cases [] first event here)
-      by_place behind (inr there) = Contains-append_right (Happens first ∷ []) items (Happens event) (behind there)
-
-  -- by the events of the items, the oldest first
-  pub begun_by_events : (newer : List (Item T A)) (t : ℕ) (call : Call T) → Contains (events_in (reverse newer)) (Begins t call)
-      → BegunIn newer t
-  begun_by_events newer t call h = (
-    call,
-    event_item newer (Begins t call)
-        (contains_reverse (events_in newer) (Begins t call) (subst (λ l. Contains l (Begins t call)) (events_reverse newer) h)),
-  )
