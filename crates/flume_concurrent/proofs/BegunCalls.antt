@@ -1,29 +1,16 @@
 -- Calls that began among items: how a call is known to have begun there.
-use Rattle.std.proofs.Common.{◌≡◌, ℕ, Bool, true, false, eqb, if◌then◌else◌, List, [], ◌∷◌, Option, Some, None, ◌⊎◌, inl, inr, refl}
-use Rattle.std.proofs.Common.{ap, subst, arith, eqb-true, reverse}
-use Rattle.std.proofs.lemmas.List.{reverse-append}
+use Rattle.std.proofs.Common.{◌≡◌, ℕ, Bool, true, false, eqb, if◌then◌else◌, List, [], ◌∷◌, Option, Some, None, ◌⊎◌, inl}
+use Rattle.std.proofs.Common.{inr, refl}
+use Rattle.std.proofs.Common.{ap, arith, eqb-true}
 use Rattle.std.proofs.lemmas.List.Elements.{Contains-append_cases, Contains-append_right, Contains-push_cases}
 use Rattle.std.specs.List.{Contains}
 use Rattle.flume_concurrent.specs.declared.call.Call.{Call}
-use Rattle.flume_concurrent.specs.declared.event.Event.{Event}
 use Rattle.flume_concurrent.specs.declared.event.Event.TheVariants.{Begins, Returns}
 use Rattle.flume_concurrent.specs.declared.event.Item.{Item}
 use Rattle.flume_concurrent.specs.declared.event.Item.TheVariants.{Happens, Makes}
 use Rattle.flume_concurrent.specs.declared.stage.Stage.{Stage}
 use Rattle.flume_concurrent.specs.declared.stage.Stage.TheVariants.{Begun}
-use Rattle.flume_concurrent.specs.Explanations.{events_in, further, open_call}
-use Rattle.flume_concurrent.proofs.LeanItems.{events_reverse}
-
-module _ {X : Type 0} where
-  -- what is in a list in the other order is in the list
-  contains_reverse : (xs : List X) (x : X) → Contains (reverse xs) x → Contains xs x
-  contains_reverse [] x h = h
-  contains_reverse (y ∷ xs) x h =
-      by_place (contains_reverse xs x) (Contains-push_cases (reverse xs) y x (subst (λ l. Contains l x) (reverse-append (y ∷ []) xs) h))
-    where
-      by_place : (Contains (reverse xs) x → Contains xs x) → Contains (reverse xs) x ⊎ (y ≡ x) → Contains (y ∷ xs) x
-      by_place behind (inl there) = Contains-append_right (y ∷ []) xs x (behind there)
-      by_place behind (inr is) = (0, omega arith, is)
+use Rattle.flume_concurrent.specs.Explanations.{further, open_call}
 
 module _ {T A : Type 0} where
   -- the thread began a call among these items
@@ -52,32 +39,6 @@ module _ {T A : Type 0} where
   -- a call begins by the newest item
   begun_now : (newer : List (Item T A)) (u t : ℕ) (call : Call T) → eqb u t ≡ true → BegunIn (Happens (Begins u call) ∷ newer) t
   begun_now newer u t call is = (call, (0, omega arith, ap (λ v. Happens (Begins v call)) (eqb-true u t is)))
-
-  -- an event of the items is one of them
-  event_item : (items : List (Item T A)) (event : Event T A) → Contains (events_in items) event → Contains items (Happens event)
-  event_item [] event h = absurd (let lt = h.1 in omega arith)
-  event_item (Makes u step r ∷ items) event h =
-      Contains-append_right (Makes u step r ∷ []) items (Happens event) (event_item items event h)
-  event_item (Happens first ∷ items) event h =
-      by_place (event_item items event) (Contains-append_cases (first ∷ []) (events_in items) event h)
-    where
-      by_last : Contains {X = Event T A} [] event ⊎ (first ≡ event) → Contains (Happens first ∷ items) (Happens event)
-      by_last (inl none) = absurd (let lt = none.1 in omega arith)
-      by_last (inr is) = (0, omega arith, ap (λ e. Happens e) is)
-
-      by_place : (Contains (events_in items) event → Contains items (Happens event))
-          → Contains (first ∷ []) event ⊎ Contains (events_in items) event → Contains (Happens first ∷ items) (Happens event)
-      by_place behind (inl here) = by_last (Contains-push_cases [] first event here)
-      by_place behind (inr there) = Contains-append_right (Happens first ∷ []) items (Happens event) (behind there)
-
-  -- by the events of the items, the oldest first
-  pub begun_by_events : (newer : List (Item T A)) (t : ℕ) (call : Call T) → Contains (events_in (reverse newer)) (Begins t call)
-      → BegunIn newer t
-  begun_by_events newer t call h = (
-    call,
-    event_item newer (Begins t call)
-        (contains_reverse (events_in newer) (Begins t call) (subst (λ l. Contains l (Begins t call)) (events_reverse newer) h)),
-  )
 
   -- a call is open
   abbrev pub IsThere : Option (Call T × Stage T A) → Type 0

@@ -1,24 +1,26 @@
 -- Messages are received in the order in which they were sent.
-use Rattle.std.proofs.Common.{◌≡◌, ℕ, ◌<◌, ◌≤◌, ◌+◌, ◌-◌, Bool, true, false, List, [], ◌∷◌, ◌++◌, Option, Some, ◌⊎◌, inl, inr, zero, suc, refl, sym, ap, ◌∙◌, subst, length, take, drop, reverse, append_assoc, length-append, take-append-drop, drop-cons, arith}
+use Rattle.std.proofs.Common.{◌≡◌, ℕ, ◌<◌, ◌≤◌, Bool, true, false, List, [], ◌∷◌, ◌++◌, Some, ◌⊎◌, inl, inr, zero, suc, sym}
+use Rattle.std.proofs.Common.{ap, ◌∙◌, subst, length, take, drop, append_assoc, take-append-drop, drop-cons, arith}
 use Rattle.std.proofs.lemmas.Bool.{cases_lt}
 use Rattle.std.proofs.lemmas.List.Elements.{Contains-push}
 use Rattle.std.proofs.lemmas.Option.{slice_get_within}
 use Rattle.std.specs.List.{slice_get, Contains}
-use Rattle.flume_model.specs.Log.{Log, Opening, Offer, change}
-use Rattle.flume_model.specs.Offers.{handed, offers, kept, handed_out, hand_outs}
+use Rattle.flume_model.specs.Log.{Log, Opening, Offer}
+use Rattle.flume_model.specs.Offers.{offers, kept, hand_outs}
 use Rattle.flume_model.specs.Producers.{HandedOutInOrder}
 use Rattle.flume_model.proofs.users.Producing.{handed_out_in_order}
-use Rattle.flume_concurrent.specs.declared.call.Call.{Call}
 use Rattle.flume_concurrent.specs.declared.call.Answer.TheVariants.{Got}
 use Rattle.flume_concurrent.specs.declared.event.Event.{Event}
 use Rattle.flume_concurrent.specs.declared.event.Event.TheVariants.{Begins, Returns}
 use Rattle.flume_concurrent.specs.declared.event.Item.{Item}
-use Rattle.flume_concurrent.specs.declared.event.Item.TheVariants.{Happens, Makes}
+use Rattle.flume_concurrent.specs.declared.event.Item.TheVariants.{Happens}
 use Rattle.flume_concurrent.specs.Explanations.{events_in, steps_in, open_call, returns, IsExplanation, IsExplained}
 use Rattle.flume_concurrent.specs.Patterns.{begins_send, all_returned, IsOutOfOrder}
 use Rattle.flume_concurrent.proofs.Beginnings.{older}
-use Rattle.flume_concurrent.proofs.OffersMade.{Lacks, lacks_at, AreOthers, OffersOthers, offers_others, offers_none, begins_none, all_others}
-use Rattle.flume_concurrent.proofs.Received.{BegunIn, HandedTo, HandedOut, received, received_later, hand_outs_rise, kept_stays}
+use Rattle.flume_concurrent.proofs.OffersMade.{Lacks, lacks_at, AreOthers, OffersOthers, offers_others, offers_none}
+use Rattle.flume_concurrent.proofs.OffersMade.{begins_none, all_others}
+use Rattle.flume_concurrent.proofs.BegunCalls.{BegunIn}
+use Rattle.flume_concurrent.proofs.Received.{HandedTo, HandedOut, received, received_later, hand_outs_rise, kept_stays}
 use Rattle.flume_concurrent.proofs.SplitItems.{told_all, Split, split, split_at}
 
 module _ {X : Type 0} where

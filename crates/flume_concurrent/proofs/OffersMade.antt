@@ -1,5 +1,6 @@
 -- Of which messages the steps of calls make no offer.
-use Rattle.std.proofs.Common.{◌≡◌, ℕ, zero, suc, ◌==◌, Bool, true, false, ◌||◌, ◌&&◌, if◌then◌else◌, List, [], ◌∷◌, ◌++◌, Option, Some, None, inl, inr, refl, sym, ap, ◌∙◌, subst, append_assoc, reverse}
+use Rattle.std.proofs.Common.{◌≡◌, ℕ, zero, suc, ◌==◌, Bool, true, false, if◌then◌else◌, List, [], ◌∷◌, ◌++◌, Option, Some}
+use Rattle.std.proofs.Common.{None, inl, inr, refl, sym, ap, ◌∙◌, subst, append_assoc, reverse}
 use Rattle.std.proofs.lemmas.Bool.{and_parts, eqb-true, or_from, or_parts}
 use Rattle.std.proofs.lemmas.List.{append-nil, reverse-append}
 use Rattle.std.specs.List.{slice_get}
@@ -7,7 +8,7 @@ use Rattle.flume_model.specs.declared.step.Step.{Step}
 use Rattle.flume_model.specs.declared.step.Step.TheVariants as step
 use Rattle.flume_model.specs.declared.step.Reply.{Reply}
 use Rattle.flume_model.specs.declared.step.Reply.TheVariants as reply
-use Rattle.flume_model.specs.Log.{Log, Offer, Change, Takes, Collects, was_filled, change}
+use Rattle.flume_model.specs.Log.{Log, Offer, Takes, Collects, was_filled, change}
 use Rattle.flume_model.specs.Offers.{offered, offers}
 use Rattle.flume_concurrent.specs.declared.call.Call.{Call}
 use Rattle.flume_concurrent.specs.declared.call.Call.TheVariants as call
@@ -17,7 +18,7 @@ use Rattle.flume_concurrent.specs.declared.event.Item.{Item}
 use Rattle.flume_concurrent.specs.declared.event.Item.TheVariants.{Happens, Makes}
 use Rattle.flume_concurrent.specs.declared.stage.Stage.{Stage}
 use Rattle.flume_concurrent.specs.declared.stage.Stage.TheVariants.{Begun, Tried, Parked, Refused, Answered}
-use Rattle.flume_concurrent.specs.Calls.{first_step, parking_step, is_send, next_step, other_step, stage_after}
+use Rattle.flume_concurrent.specs.Calls.{first_step, parking_step, is_send, next_step, other_step}
 use Rattle.flume_concurrent.specs.Explanations.{events_in, steps_in, further, open_call, IsNextStep, AreCalls}
 use Rattle.flume_concurrent.specs.Patterns.{sends, begins_send, returns_in, all_returned}
 

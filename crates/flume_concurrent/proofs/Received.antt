@@ -1,5 +1,6 @@
 -- A message that an open call may return was handed out, and not before the call began.
-use Rattle.std.proofs.Common.{◌≡◌, ℕ, ◌<◌, ◌≤◌, Bool, true, false, eqb, if◌then◌else◌, List, [], ◌∷◌, ◌++◌, Option, Some, None, ◌⊎◌}
+use Rattle.std.proofs.Common.{◌≡◌, ℕ, ◌<◌, ◌≤◌, Bool, true, false, eqb, if◌then◌else◌, List, [], ◌∷◌, ◌++◌, Option, Some}
+use Rattle.std.proofs.Common.{None, ◌⊎◌}
 use Rattle.std.proofs.Common.{inl, inr, refl, sym, ◌∙◌, subst, arith, eq-eqb, eqb-true}
 use Rattle.std.proofs.lemmas.Bool.{or_cases}
 use Rattle.std.proofs.lemmas.List.{append-nil}
@@ -20,8 +21,7 @@ use Rattle.flume_concurrent.specs.declared.stage.Stage.TheVariants.{Begun, Tried
 use Rattle.flume_concurrent.specs.Answers.{is_dropped, may_return}
 use Rattle.flume_concurrent.specs.Explanations.{steps_in, further, open_call, IsNextStep, returns, AreCalls, IsExplanation}
 use Rattle.flume_concurrent.proofs.HandedSince.{Since, since_now, since_more, kept_on}
-pub use Rattle.flume_concurrent.proofs.BegunCalls.{BegunIn, begun_by_events}
-use Rattle.flume_concurrent.proofs.BegunCalls.{begun_before, IsThere, open_begun}
+use Rattle.flume_concurrent.proofs.BegunCalls.{BegunIn, begun_before, IsThere, open_begun}
 use Rattle.flume_concurrent.proofs.CallsSince.{Stands, StandsIn, stands_in_on, stands_in_after}
 
 module _ {T : Type 0} (A : Type 0) where

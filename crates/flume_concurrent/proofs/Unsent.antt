@@ -1,16 +1,14 @@
 -- A message that was received was sent.
-use Rattle.std.proofs.Common.{◌≡◌, ℕ, Bool, true, false, ◌||◌, not, List, [], ◌∷◌, ◌++◌, Option, Some, refl, sym, ap, ◌∙◌, subst, reverse}
-use Rattle.std.proofs.lemmas.List.{append-nil, reverse-append, reverse-reverse}
-use Rattle.std.specs.List.{slice_get}
-use Rattle.flume_model.specs.Log.{Log, Opening, Offer}
-use Rattle.flume_model.specs.Offers.{offers, withdrawn, kept}
+use Rattle.std.proofs.Common.{◌≡◌, ℕ, Bool, false, not, List, [], ◌∷◌, ap, ◌∙◌, subst}
+use Rattle.flume_model.specs.Log.{Opening, Offer}
+use Rattle.flume_model.specs.Offers.{offers, withdrawn}
 use Rattle.flume_model.proofs.users.FilterPlaces.{filter_place, at_filter_place}
 use Rattle.flume_concurrent.specs.declared.call.Answer.TheVariants.{Got}
 use Rattle.flume_concurrent.specs.declared.event.Event.{Event}
-use Rattle.flume_concurrent.specs.declared.event.Event.TheVariants.{Begins, Returns}
+use Rattle.flume_concurrent.specs.declared.event.Event.TheVariants.{Returns}
 use Rattle.flume_concurrent.specs.declared.event.Item.{Item}
 use Rattle.flume_concurrent.specs.declared.event.Item.TheVariants.{Happens}
-use Rattle.flume_concurrent.specs.Explanations.{events_in, steps_in, open_call, returns, IsExplanation, IsExplained}
+use Rattle.flume_concurrent.specs.Explanations.{events_in, steps_in, IsExplanation, IsExplained}
 use Rattle.flume_concurrent.specs.Patterns.{begins_send, IsUnsent}
 use Rattle.flume_concurrent.proofs.Beginnings.{older}
 use Rattle.flume_concurrent.proofs.OffersMade.{Lacks, lacks_at, offers_none, begins_none}
