@@ -18,7 +18,8 @@ use Rattle.flume_concurrent.specs.Explanations.{events_in, steps_in, open_call, 
 use Rattle.flume_concurrent.specs.Patterns.{begins_send, all_returned, IsOutOfOrder}
 use Rattle.flume_concurrent.proofs.Beginnings.{older}
 use Rattle.flume_concurrent.proofs.OffersMade.{Lacks, lacks_at, AreOthers, OffersOthers, offers_others, offers_none}
-use Rattle.flume_concurrent.proofs.OffersMade.{begins_none, all_others}
+use Rattle.flume_concurrent.proofs.OffersMade.{begins_none}
+use Rattle.flume_concurrent.proofs.SendsReturned.{all_others}
 use Rattle.flume_concurrent.proofs.BegunCalls.{BegunIn}
 use Rattle.flume_concurrent.proofs.Received.{HandedTo, HandedOut, received, received_later, hand_outs_rise, kept_stays}
 use Rattle.flume_concurrent.proofs.SplitItems.{told_all, Split, split, split_at}
@@ -84,7 +85,8 @@ module _ {T A : Type 0} (equal : T → T → Bool) where
         | inl early ↦ (let at = at_first (offers (steps_in past)) others.more (line.place j) second early second_at in
             let none = lacks_at other (offers (steps_in past)) (line.place j) second lacks at in
             let no_way : ⊥ = cc in no_way)
-        | inr late ↦ (let none = in_others such (offers (steps_in past)) others.more (line.place k) first first_at (omega arith) others.lacks in
+        | inr late ↦ (let after : length (offers (steps_in past)) ≤ line.place k = omega arith in
+            let none = in_others such (offers (steps_in past)) others.more (line.place k) first first_at after others.lacks in
             let no_way : ⊥ = cc in no_way)
       ]
 
@@ -103,8 +105,8 @@ module _ {T A : Type 0} (equal : T → T → Bool) where
       let stays = kept_stays equal o more start (subst (IsExplanation equal o) by_more x) b.number b.handed ∙ b.is_kept in
       let b_handed = b.handed in
       let a_after = a.after_past in
-      offers_not_swapped o early late a.offer b.offer b.number a.number (equal first) (equal second) (subst (IsExplanation equal o) by_late x) others lacks
-      (omega arith)
+      offers_not_swapped o early late a.offer b.offer b.number a.number (equal first) (equal second)
+      (subst (IsExplanation equal o) by_late x) others lacks (omega arith)
       (subst (λ l. a.number < hand_outs (steps_in l)) (sym by_newer ∙ by_late) a.handed)
       (subst (λ l. slice_get (kept (steps_in l)) b.number ≡ Some b.offer) (sym by_more ∙ by_late) stays)
       (subst (λ l. slice_get (kept (steps_in l)) a.number ≡ Some a.offer) (sym by_newer ∙ by_late) a.is_kept)
@@ -116,7 +118,8 @@ module _ {T A : Type 0} (equal : T → T → Bool) where
       → all ≡ late ++ early → BegunIn newer receiver → returns equal (open_call all receiver) (Got first) ≡ true
       → AreOthers (equal first) early → begins_send (equal first) (events_in late) ≡ false
       → begins_send (equal second) (events_in early) ≡ false → ⊥
-  returns_not_swapped o all newer past between start late early first second receiver other x by_newer past_is by_late begun is others no_first no_second =
+  returns_not_swapped o all newer past between start late early first second receiver other
+      x by_newer past_is by_late begun is others no_first no_second =
       let back : Item T A = Happens (Returns other (Got second)) in
       let by_grown : past ≡ (between ++ back ∷ []) ++ start = past_is ∙ sym (append_assoc between (back ∷ []) start) in
       let whole = subst (IsExplanation equal o) by_newer x in
@@ -133,8 +136,8 @@ module _ {T A : Type 0} (equal : T → T → Bool) where
       (offers_none (equal second) equal early (older equal o late early split_late).calls no_second)
 
   -- and if they are split at the events of the pattern
-  items_not_swapped : (o : Opening) (events : List (Event T A)) (p : IsOutOfOrder equal events) (all : List (Item T A)) → IsExplanation equal o all
-      → returns equal (open_call all p.receiver) (Got p.first) ≡ true
+  items_not_swapped : (o : Opening) (events : List (Event T A)) (p : IsOutOfOrder equal events) (all : List (Item T A))
+      → IsExplanation equal o all → returns equal (open_call all p.receiver) (Got p.first) ≡ true
       → (late : Split [] all p.early (p.between ++ Begins p.receiver p.call ∷ p.inner))
       → (call_at : Split (Happens (Begins p.receiver p.call) ∷ []) late.newer p.between p.inner) → (before after : List (Event T A))
       → Split (Happens (Returns p.other (Got p.second)) ∷ []) call_at.older before after → ⊥

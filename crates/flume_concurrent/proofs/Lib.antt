@@ -11,6 +11,7 @@ pub mod CallsSince
 pub mod BegunCalls
 pub mod Received
 pub mod OffersMade
+pub mod SendsReturned
 pub mod SplitItems
 pub mod Unsent
 pub mod InOrder

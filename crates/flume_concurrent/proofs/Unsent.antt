@@ -17,8 +17,8 @@ use Rattle.flume_concurrent.proofs.SplitItems.{told_all, split_at}
 
 module _ {T A : Type 0} (equal : T → T → Bool) where
   -- what was received is one of the offers
-  unlike : (past : List (Item T A)) (told : T) → HandedOut equal past told → Lacks (equal told) (offers (steps_in past)) → ⊥
-  unlike past told k lacks =
+  is_offered : (past : List (Item T A)) (told : T) → HandedOut equal past told → Lacks (equal told) (offers (steps_in past)) → ⊥
+  is_offered past told k lacks =
       let log = steps_in past in
       let keeps : Offer T → Bool = λ offer. not (withdrawn log offer) in
       let none : equal told k.offer.message ≡ false =
@@ -27,10 +27,11 @@ module _ {T A : Type 0} (equal : T → T → Bool) where
       let no_way : ⊥ = (let same = k.same in cc) in
       no_way
 
+  -- so some call sends it that has begun
   returned_unsent : (o : Opening) (past : List (Item T A)) (t : ℕ) (told : T)
       → IsExplanation equal o (Happens (Returns t (Got told)) ∷ past) → begins_send (equal told) (events_in past) ≡ false → ⊥
   returned_unsent o past t told x none =
-      unlike past told (received equal o past (record { calls = x.calls.1; run = x.run }) t told x.calls.0)
+      is_offered past told (received equal o past (record { calls = x.calls.1; run = x.run }) t told x.calls.0)
       (offers_none (equal told) equal past x.calls.1 none)
 
   pub unsent : (o : Opening) (events : List (Event T A)) → IsExplained equal o events → IsUnsent equal events → ⊥

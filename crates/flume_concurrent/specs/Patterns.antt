@@ -1,6 +1,6 @@
 -- Two patterns of events that have no explanation. They are seen without a search.
-use Rattle.std.specs.Prelude.{◌≡◌, ◌==◌, ℕ, Bool, true, false, ◌||◌, ◌&&◌, if◌then◌else◌, List, [], ◌∷◌}
-use Rattle.std.specs.Prelude.{◌++◌}
+use Rattle.std.specs.Prelude.{◌≡◌, ◌==◌, ℕ, Bool, true, false, ◌||◌, ◌&&◌, if◌then◌else◌}
+use Rattle.std.specs.Prelude.{List, [], ◌∷◌, ◌++◌}
 use Rattle.std.specs.List.{Contains}
 use Rattle.flume_concurrent.specs.declared.call.Call.{Call}
 use Rattle.flume_concurrent.specs.declared.call.Call.TheVariants.{Send, SendTimeout, SendAsync}
