@@ -5,3 +5,4 @@ pub mod LateSteps
 pub mod Told
 pub mod Following
 pub mod Lean
+pub mod Patterns

@@ -5,6 +5,7 @@ ghost use Rattle.flume_concurrent.specs.Answers.{equal_answers};
 ghost use Rattle.flume_concurrent.specs.Explanations.{IsExplained};
 ghost use Rattle.flume_concurrent.specs.LateSteps.{IsExplainedLate};
 ghost use Rattle.flume_concurrent.specs.Lean.{IsExplainedLean};
+ghost use Rattle.flume_concurrent.specs.Patterns.{IsOutOfOrder, IsUnsent};
 ghost use Rattle.flume_concurrent.specs.declared.call.Answer.{Answer};
 ghost use Rattle.flume_concurrent.specs.declared.event.Event.{Event};
 
@@ -37,4 +38,19 @@ pub fn beginnings_are_explained<T: Eq, A: Allocator>()
 pub fn lean_steps_suffice<T: Eq, A: Allocator>()
     ensures lean { (opening : Opening) (events : List (Event T A))
         → IsExplainedLate T.eq opening events → IsExplainedLean T.eq opening events }
+{}
+
+/// Events of which the last one is that a message is received have no explanation if no send of it
+/// has begun.
+pub fn only_what_was_sent_is_received<T: Eq, A: Allocator>()
+    ensures sent { (opening : Opening) (events : List (Event T A))
+        → IsExplained T.eq opening events → IsUnsent T.eq events → ⊥ }
+{}
+
+/// Events have no explanation in which a message is received out of order: each send of it had
+/// returned before a send of another message began, and that one had been received before the call
+/// began that receives this one.
+pub fn messages_are_received_in_order<T: Eq, A: Allocator>()
+    ensures order { (opening : Opening) (events : List (Event T A))
+        → IsExplained T.eq opening events → IsOutOfOrder T.eq events → ⊥ }
 {}
