@@ -1,4 +1,4 @@
--- Where no send is blocked and no receiver waits, no ticket becomes due by one step.
+-- If no send is blocked and no receiver waits, no ticket becomes due by one step.
 use Rattle.std.proofs.Common.{◌≡◌, ℕ, Bool, true, false, not, ◌&&◌, ◌||◌, eqb, cond, [], ◌∷◌, length, Option, Some, None}
 use Rattle.std.proofs.Common.{refl, sym, ◌∙◌, ap, ap₂, subst, arith, eqb-true}
 use Rattle.std.specs.FinMap.{get}
@@ -52,7 +52,7 @@ module _ {T S : Type 0} where
       due ∙ ap₂ (λ a b. is_some new && not waits && (a || (b && not (waits_in new)))) was unwaiting
       ∙ no_receiver (is_some new) (not waits) (not (waits_in new))
 
-  -- where none waits, that of a ticket doesn't
+  -- if none waits, that of a ticket doesn't
   none_waits : (t : ℕ) (entries : EntryList T S) → waiting_count entries ≡ 0 → waits_in (entry_of t entries) ≡ false
   none_waits t [] none = refl
   none_waits t (e ∷ entries) none =
@@ -65,7 +65,7 @@ module _ {T S : Type 0} where
       this true is = let some = rw is at none in absurd (omega (arith, some))
       this false is = is
 
-  -- where the tickets are apart and none is due by its ticket, none is due
+  -- if the tickets are apart and none is due by its ticket, none is due
   none_by_ticket : (bound : ℕ) (entries : EntryList T S) → Apart bound entries
       → ((t : ℕ) → receiver_due_in (entry_of t entries) ≡ false) → NoDueReceiver entries
   none_by_ticket bound [] apart each = All-nil _
@@ -80,7 +80,7 @@ module _ {T S : Type 0} where
       later t false is = subst (λ b. receiver_due_in (cond b (Some e) (entry_of t entries)) ≡ false) is (each t)
 
 module _ {T A S : Type 0} where
-  -- where no message is blocked, the send of a ticket isn't
+  -- if no message is blocked, the send of a ticket isn't
   none_blocked : (o : Opening) (log : Log T A) (s : State T S) → Represents o log s → length s.blocked ≡ 0 → (t : ℕ)
       → blocked_in (get s.sends t) ≡ false
   none_blocked o log s h none t = by_case (get s.sends t) refl
