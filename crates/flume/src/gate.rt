@@ -61,7 +61,7 @@ impl<T: Drop, R: Waits, A: Allocator + Copy> SendGate<T> for Gate<'_, T, R, A> {
 
     #[inline(always)]
     fn first(&mut self, message: T) -> SendNext<T> {
-        self.shared.call(FirstSend { message })
+        self.shared.call_once(FirstSend { message })
     }
 
     #[inline(always)]
@@ -105,7 +105,7 @@ impl<T: Drop, R: Waits, A: Allocator + Copy> RecvGate<T> for Gate<'_, T, R, A> {
 
     #[inline(always)]
     fn first(&mut self) -> RecvNext<T> {
-        self.shared.call(FirstReceive)
+        self.shared.call_once(FirstReceive)
     }
 
     #[inline(always)]

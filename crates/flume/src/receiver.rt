@@ -64,7 +64,7 @@ impl<T: Drop, R: Waits, A: Allocator + Copy> Receiver<T, R, A> {
         ensures made { HasMade {A = A} Step.TryRecv after_try_recv (answer.tried_receive result) }
         ensures never_no_memory { result ≢ Err TryRecvError.NoMemory }
     {
-        tried_receive(self.shared.call(FirstReceive))
+        tried_receive(self.shared.call_once(FirstReceive))
     }
 
     /// Takes the next message, and waits while there is none. `Disconnected`: none is there, and

@@ -68,7 +68,7 @@ impl<T: Drop, R: Waits, A: Allocator + Copy> Sender<T, R, A> {
         ensures no_memory { (back : T) → result ≡ Err (TrySendError.NoMemory back)
             → back ≡ message }
     {
-        tried_send(self.shared.call(FirstSend { message }))
+        tried_send(self.shared.call_once(FirstSend { message }))
     }
 
     /// Sends a message, and waits while the channel is full. `Disconnected`: all receivers have

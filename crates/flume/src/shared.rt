@@ -2,6 +2,8 @@
 ghost use Rattle.std.specs.Prelude.{◌≡◌, ◌+◌, ◌<◌, None, vec_len, vec_capacity};
 ghost use Rattle.futures.specs.Task.{Covers, Keeps};
 ghost use Rattle.flume_model.specs.declared.step.Step.TheVariants as step;
+ghost use Rattle.flume_state.specs.State.{State};
+ghost use Rattle.flume_calls.specs.Polls.{AtMostOneStep};
 ghost use Rattle.flume_calls.specs.Singles.{after_set_capacity};
 ghost use Rattle.flume.specs.Polling.{HasPolled};
 ghost use Rattle.flume.specs.ReceivePolls.{HasPolledMany};
@@ -209,6 +211,27 @@ impl<T: Drop, R: Waits, A: Allocator + Copy> Shared<T, R, A> {
         let mut guard = self.lock();
         let locked = &mut *guard;
         locked.facts();
+        locked.make(turn, &mut SignalBell { rt: self.rt })
+    }
+
+    /// Makes a turn of at most one step, as `call` does. If no send is blocked and no receiver
+    /// waits, nobody is to be told after it, and the look for who is isn't begun.
+    #[inline(always)]
+    pub(crate) fn call_once<C: Turn<T, Signal<A>, A>>(&self, turn: C) -> C::Answer
+        requires one_step { (old new : State T (Signal A)) (answer : C.Answer)
+            → C.does turn old new answer → AtMostOneStep A old new }
+        ensures answers { C.answers turn result }
+        ensures made { HasDone A (C.does turn) result }
+    {
+        let mut guard = match self.state.try_lock() {
+            Some(guard) => guard,
+            None => self.wait_for_lock(),
+        };
+        let locked = &mut *guard;
+        locked.facts();
+        if locked.is_quiet() {
+            return locked.make_quietly(turn);
+        }
         locked.make(turn, &mut SignalBell { rt: self.rt })
     }
 

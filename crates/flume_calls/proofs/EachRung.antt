@@ -40,8 +40,8 @@ module _ {T S : Type 0} where
   abbrev Due : State T S → ℕ → Type 0
   Due s t = (send_due_in (get s.sends t) ≡ true) ⊎ (receiver_due_in (entry_of t s.entries) ≡ true)
 
-  -- where none of the list is due, that of a ticket isn't
-  none_due : (t : ℕ) (entries : EntryList T S) → NoDueReceiver entries → receiver_due_in (entry_of t entries) ≡ false
+  -- if none of the list is due, that of a ticket isn't
+  pub none_due : (t : ℕ) (entries : EntryList T S) → NoDueReceiver entries → receiver_due_in (entry_of t entries) ≡ false
   none_due t [] none = refl
   none_due t (e ∷ entries) none =
       elim (eqb e.ticket t) as (λ b. receiver_due_in (cond b (Some e) (entry_of t entries)) ≡ false) [

@@ -3,6 +3,7 @@ mod DueCounts
 mod Ringing
 mod WhoIsDue
 mod EachRung
+mod Quiet
 pub mod Leading
 mod Available
 mod ManyReceiving

@@ -11,7 +11,8 @@ ghost use Rattle.flume_core.specs.Represents.{IsReachable};
 ghost use Rattle.flume_core.specs.StateFacts.{ChannelFacts, NobodyIsStuck};
 ghost use Rattle.flume_calls.specs.AtRest.{IsAtRest, IsCall};
 ghost use Rattle.flume_calls.specs.EachIsRung.{EachIsRung};
-ghost use Rattle.flume_calls.specs.Polls.{IsPollCall};
+ghost use Rattle.flume_calls.specs.Polls.{IsPollCall, AtMostOneStep};
+ghost use Rattle.flume_calls.specs.Quiet.{IsQuiet};
 
 use crate::due::{Bell, fire_due};
 use crate::polled::Polled;
@@ -89,6 +90,44 @@ impl<T: Drop, S: Drop, A: Allocator + Copy> Locked<T, S, A> {
         let answer = turn.apply(&mut self.chan);
         fire_due(&mut self.chan, bell);
         answer
+    }
+
+    /// Whether no send is blocked and no receiver waits. Then no ticket becomes due by the next
+    /// step. It changes nothing, is no step, and takes no memory.
+    ///
+    /// ```
+    /// let mut locked: Locked<u64, u64, Global> = Locked::new(rt.alloc(), Some(0));
+    /// locked.is_quiet();                                             // true
+    /// let message = 7;
+    /// let signal = 10;
+    /// locked.make(ParkSend { message, signal }, &mut bell);          // Park(call)
+    /// locked.is_quiet();                                             // false
+    /// ```
+    #[inline(always)]
+    pub fn is_quiet(&self) -> bool
+        ensures quiet { IsTrue result ↔ IsQuiet self.now }
+    {
+        self.chan.blocked_len() == 0 && self.chan.waiting_len() == 0
+    }
+
+    /// Makes a turn of at most one step, of a channel on which no send is blocked and no receiver
+    /// waits. No call may go on by it, so no bell is rung.
+    ///
+    /// ```
+    /// let mut locked: Locked<u64, u64, Global> = Locked::new(rt.alloc(), None);
+    /// locked.make_quietly(FirstSend { message: 7 });                 // Done(Ok(()))
+    /// ```
+    #[inline(always)]
+    pub fn make_quietly<C: Turn<T, S, A>>(&mut self, turn: C) -> C::Answer
+        requires quiet { IsQuiet self.old }
+        requires one_step { (new : State T S) (answer : C.Answer)
+            → C.does turn self.old new answer → AtMostOneStep A self.old new }
+        ensures does { C.does turn self.old self.new result }
+        ensures answers { C.answers turn result }
+    {
+        let made = turn.apply(&mut self.chan);
+        facts(&self.chan);
+        made
     }
 
     /// Whether a poll of the call would have to wait now. It changes nothing, and is no step.
