@@ -68,6 +68,9 @@ pub record Explains (A : Type 0) (input text : List ℕ) (status : ℕ) : Type 0
 -- each line is right, and the events are explained: the text is the first line, and then the events
 -- with steps between them, a line each, that tell of an explanation
 pub record ShowsSteps (A : Type 0) (input text : List ℕ) (status : ℕ) : Type 0 where
+  pub first : List ℕ
+  pub rest : List (List ℕ)
+  pub lines_are : lines input ≡ first ∷ rest
   pub capacity : Option ℕ
   pub events : List (Event ℕ A)
   pub names : List (List ℕ)
@@ -75,7 +78,7 @@ pub record ShowsSteps (A : Type 0) (input text : List ℕ) (status : ℕ) : Type
   pub items : List (Item ℕ A)
   pub events_are : events_in items ≡ events
   pub explains : TellExplanation (λ x y. x == y) (opens capacity 1) items
-  pub text_is : text ≡ reads.first ++ 10 ∷ item_lines names items
+  pub text_is : text ≡ first ++ 10 ∷ item_lines names items
   pub status_is : status ≡ 0
 
 -- each line is right, and an event is the first with which they aren't explained: the text names

@@ -82,9 +82,9 @@ fn judge<A: Allocator + Copy>(
     events: Vec<Event<u64, A>, A>,
     names: &[&[u8]],
 ) -> Result<Script<A>, NoMemory>
-    ensures judges { IfOk result (λ script. (input : List ℕ)
-        → (reads : IsRecordingText (lines input) capacity events.items (names_of names.now))
-        → reads.first ≡ first.now
+    ensures judges { IfOk result (λ script. (input : List ℕ) (rest : List (List ℕ))
+        → lines input ≡ first.now ∷ rest
+        → IsRecordingText (lines input) capacity events.items (names_of names.now)
         → JudgesCalls A shows input script.text.items script.status) }
 {
     match check_calls(alloc, capacity, &events, LIMIT) {
@@ -113,9 +113,9 @@ fn show<A: Allocator + Copy>(
     names: &[&[u8]],
 ) -> Result<Script<A>, NoMemory>
     requires explained { AreExplained capacity events.now }
-    ensures shows { IfOk result (λ script. (input : List ℕ)
-        → (reads : IsRecordingText (lines input) capacity events.now (names_of names.now))
-        → reads.first ≡ first.now
+    ensures shows { IfOk result (λ script. (input : List ℕ) (rest : List (List ℕ))
+        → lines input ≡ first.now ∷ rest
+        → IsRecordingText (lines input) capacity events.now (names_of names.now)
         → ShowsSteps A input script.text.items script.status
         ⊎ LeavesOpen A input script.text.items script.status) }
 {
@@ -132,7 +132,7 @@ fn show<A: Allocator + Copy>(
 
 // The line of the event at this place, up to which a search came.
 fn leave_open<A: Allocator + Copy>(alloc: A, place: usize) -> Result<Script<A>, NoMemory>
-    ensures open { IfOk result (λ script. (input : List ℕ) (capacity : Option ℕ)
+    ensures leaves_open { IfOk result (λ script. (input : List ℕ) (capacity : Option ℕ)
         (events : List (Event ℕ A)) (names : List (List ℕ))
         → IsRecordingText (lines input) capacity events names
         → LeavesOpen A input script.text.items script.status) }

@@ -13,7 +13,13 @@ loop-item-preserved g c =
     let items = c.args.items.now in
     let place = c.loop-item.item-index in
     let item = c.item-item.result in
-    let so_far = front ++ 10 ∷ item_lines names (take place items) in
+    let before = item_lines names (take place items) in
     let is : item ≡ get_or items place item = c.item-item.is in
     let more = lines_more names items place item (search rules) in
-    ?
+    let line : c.deref.result.now ≡ item_line names item = c.deref.ensures.value ∙ c.in_ok-line.ensures.value in
+    c.in_ok-extend_from_slice-3.ensures.items
+    ∙ ap (λ text. text ++ c.deref.result.now) c.loop-item.invariant
+    ∙ ap (λ text. (front ++ 10 ∷ before) ++ text) line
+    ∙ append_assoc front (10 ∷ before) (item_line names item)
+    ∙ ap (λ one. front ++ 10 ∷ (before ++ item_line names one)) is
+    ∙ ap (λ lines. front ++ 10 ∷ lines) (sym more)

@@ -5,4 +5,4 @@ use Rattle.flume_check.proofs.items.write_items.Given as goal
 
 -- so far the lines of the items before this place stand behind the first line
 abbrev pub invariant-loop-item : goal.invariant-loop-item
-invariant-loop-item l = l.text.items ≡ l.fn.first ++ 10 ∷ item_lines (names_of l.fn.names) (take l.item-index l.items)
+invariant-loop-item g l = l.text.items ≡ l.first ++ 10 ∷ item_lines (names_of l.names) (take l.item-index l.items)

@@ -1,31 +1,44 @@
 -- A search that was given up leaves the events open, or the place at which they stop being explained.
-use Rattle.std.proofs.Common.{inl, inr, refl, subst, sym, take}
-use Rattle.flume_check.specs.CallsText.{AreExplained}
+use Rattle.std.proofs.Common.{inl, inr, refl, subst, sym, take, ℕ, List, ◌≡◌, ◌∷◌, ◌⊎◌, eqb}
+use Rattle.std.specs.Str.Lines.{lines}
+use Rattle.std.proofs.lemmas.Result.{IfOk-weaker}
+use Rattle.flume_model.specs.Log.{opens}
+use Rattle.flume_explain.specs.Search.{BreaksAfter}
+use Rattle.flume_recording.specs.Recordings.{IsRecordingText, names_of}
+use Rattle.flume_check.specs.CallsText.{AreExplained, BreaksOff, JudgesCalls, LeavesOpen, ShowsSteps}
 use Rattle.flume_check.proofs.recording.judge.Goals as goal
 
-pub returns-in_ok-text-in-GaveUp : goal.returns-in_ok-text-in-GaveUp
-returns-in_ok-text-in-GaveUp g c = record {
-  judges = λ input names reads.
-      inr (inr (inl (record {
-        capacity = c.args.capacity;
-        events = c.args.events.items;
-        names = names;
-        reads = reads;
-        number = c.saturating_add.result;
-        text_is = c.in_ok-text-in-GaveUp.ensures.value;
-        status_is = refl;
-      })));
+pub returns-in-Explained : goal.returns-in-Explained
+returns-in-Explained g c = ?
+
+pub break_off-requires : goal.break_off-requires
+break_off-requires g c = record {
+  breaks = subst (λ l. BreaksAfter (λ x y. eqb x y) (opens c.args.capacity 1) l c.in-Breaks.place) c.deref.ensures.value
+      (c.in-Breaks.ensures.breaks c.in-Breaks.place refl);
 }
 
-pub returns-in_ok-text-in-Unexplained : goal.returns-in_ok-text-in-Unexplained
-returns-in_ok-text-in-Unexplained g c =
+pub returns-in-Breaks : goal.returns-in-Breaks
+returns-in-Breaks g c = record {
+  judges = IfOk-weaker c.break_off.result
+      (λ script. (input : List ℕ) (names : List (List ℕ))
+      → IsRecordingText (lines input) c.args.capacity c.args.events.items names
+      → BreaksOff g.row.A.Denot input script.text.items script.status)
+      (λ script. (input : List ℕ) (rest : List (List ℕ)) → lines input ≡ c.args.first.now ∷ rest
+      → IsRecordingText (lines input) c.args.capacity c.args.events.items (names_of c.args.names.now)
+      → JudgesCalls g.row.A.Denot c.args.shows input script.text.items script.status)
+      (λ script breaks input rest begins reads. inr (inl (breaks input (names_of c.args.names.now) reads)))
+      c.break_off.ensures.breaks;
+}
+
+pub returns-in-Unexplained : goal.returns-in-Unexplained
+returns-in-Unexplained g c =
     let at = c.in-Unexplained.ensures.unexplained c.in-Unexplained.place refl in
     record {
-      judges = λ input names reads.
+      judges = λ input rest begins reads.
           inr (inr (inr (inr (record {
             capacity = c.args.capacity;
             events = c.args.events.items;
-            names = names;
+            names = names_of c.args.names.now;
             reads = reads;
             count = c.in-Unexplained.place;
             explained = subst (λ l. AreExplained c.args.capacity (take c.in-Unexplained.place l)) c.deref.ensures.value at.before;
@@ -34,3 +47,6 @@ returns-in_ok-text-in-Unexplained g c =
             status_is = refl;
           }))));
     }
+
+pub returns : goal.returns
+returns g c = ?
