@@ -128,8 +128,8 @@ pub record RefusesRecording (A : Type 0) (input text : List ℕ) (status : ℕ) 
   pub text_is : text ≡ line_text line (fault_text fault)
   pub status_is : status ≡ 2
 
--- Of these bytes this text is printed, with this status. If the recording is explained, the text shows
--- the steps, or it doesn't. A is the allocator of the lists in answers.
+-- Of these bytes this text is printed, with this status. If the recording is explained, the text
+-- shows the steps, or it doesn't. A is the allocator of the lists in answers.
 abbrev pub JudgesCalls : Type 0 → Bool → List ℕ → List ℕ → ℕ → Type 0
 JudgesCalls A shows input text status =
     MatchBool shows (ShowsSteps A input text status) (Explains A input text status)

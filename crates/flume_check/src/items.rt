@@ -3,6 +3,7 @@ ghost use Rattle.std.specs.Prelude.{IfOk, OnOk, ◌≡◌, ◌∷◌, ◌++◌, 
 ghost use Rattle.flume_recording.specs.Recordings.{names_of};
 ghost use Rattle.flume_check.specs.ItemLines.{item_line, item_lines, step_number, step_text};
 ghost use Rattle.flume_check.specs.ItemLines.{step_word};
+ghost use Rattle.flume_model.specs.declared.step.Step.TheVariants.{Recv};
 
 use flume_concurrent::event::Item;
 use flume_core::error::NoMemory;
@@ -88,10 +89,7 @@ fn word_of(step: &Step<u64>) -> &'static str
         Step::PollSend(_) => "poll_send",
         Step::WithdrawSend(_) => "withdraw_send",
         Step::TryRecv => "try_recv",
-        Step::Recv(Kind::Block) => "recv block",
-        Step::Recv(Kind::Plain) => "recv plain",
-        Step::Recv(Kind::Stream) => "recv stream",
-        Step::Recv(Kind::Arm) => "recv arm",
+        Step::Recv(kind) => words_of(*kind),
         Step::Poll(_) => "poll",
         Step::Withdraw(_) => "withdraw",
         Step::Drain => "drain",
@@ -107,6 +105,18 @@ fn word_of(step: &Step<u64>) -> &'static str
         Step::SenderCount => "sender_count",
         Step::ReceiverCount => "receiver_count",
         Step::IsDisconnected => "is_disconnected",
+    }
+}
+
+// The words of a step that parks a receiver of this kind.
+fn words_of(kind: Kind) -> &'static str
+    ensures value { result.now ≡ step_word (Recv kind) }
+{
+    match kind {
+        Kind::Block => "recv block",
+        Kind::Plain => "recv plain",
+        Kind::Stream => "recv stream",
+        Kind::Arm => "recv arm",
     }
 }
 

@@ -44,9 +44,10 @@ fn asks_for_steps(rt: &HostRuntime) -> io::Result<bool> {
 }
 
 /// Reads the input to its end, checks the recording or the history that it is, and writes what that
-/// prints: of a recording that is explained, with the steps if it is to show them. The status: 0, a channel may have answered so; 1, it may not; 2, a line is wrong; 3, out
-/// of memory; 4, a fault of reading or writing, and then nothing more is written; 6, not decided,
-/// of a recording.
+/// prints: of a recording that is explained, this recording with steps, if it is to show them. The
+/// status: 0, a channel may have answered so; 1, it may not; 2, a line is wrong; 3, out of memory;
+/// 4, a fault of reading or writing, and then nothing more is written; 6, not decided, of a
+/// recording.
 fn serve<A: Allocator + Copy, R: Read, W: Write>(
     alloc: A,
     shows: bool,
