@@ -189,7 +189,7 @@ def signs(at, wrong):
     if any(call.answer is None for call in at.calls):
         yield lambda x, y: in_colour(at, first, [open_bar(x - 11, y, x + 11)]), "a call that hasn't returned"
     if at.has_steps:
-        yield lambda x, y: line(x, y - HALF - 3, x, y + HALF + 3, "tick"), "a step, as the call may have made it"
+        yield lambda x, y: line(x, y - HALF - 3, x, y + HALF + 3, "tick"), "a step, as the call may have made it there"
     if wrong is not None and "not decided" not in wrong[1]:
         yield cross, "the first wrong event"
 
