@@ -1,3 +1,4 @@
 mod Words
 mod Shown
+mod ItemLists
 mod Broken

@@ -1,6 +1,6 @@
 -- What is printed of the bytes of a recording.
 use Rattle.std.specs.Prelude.{◌≡◌, ◌==◌, ℕ, ◌+◌, ◌⊎◌, List, [], ◌∷◌, ◌++◌, length, take}
-use Rattle.std.specs.Prelude.{Option, codes}
+use Rattle.std.specs.Prelude.{Bool, MatchBool, Option, codes}
 use Rattle.std.specs.List.{All}
 use Rattle.std.specs.Fmt.{decimal}
 use Rattle.std.specs.Str.Lines.{lines}
@@ -8,13 +8,16 @@ use Rattle.flume_model.specs.Log.{opens}
 use Rattle.flume_concurrent.specs.declared.call.Answer.{Answer}
 use Rattle.flume_concurrent.specs.declared.event.Event.{Event}
 use Rattle.flume_concurrent.specs.declared.event.Event.TheVariants.{Begins, Returns}
-use Rattle.flume_concurrent.specs.Explanations.{IsExplained}
+use Rattle.flume_concurrent.specs.declared.event.Item.{Item}
+use Rattle.flume_concurrent.specs.Explanations.{events_in, IsExplained}
+use Rattle.flume_concurrent.specs.Told.{TellExplanation}
 use Rattle.flume_recording.specs.declared.fault.Fault.{Fault}
 use Rattle.flume_recording.specs.declared.fault.Fault.TheVariants.{NoOpening, NoEvent, NoCall}
 use Rattle.flume_recording.specs.declared.fault.Fault.TheVariants.{NoAnswer}
 use Rattle.flume_recording.specs.EventLines.{thread_of}
 use Rattle.flume_recording.specs.Recordings.{IsRecordingText, IsFirstWrongEvent}
 use Rattle.flume_recording.specs.Texts.{answer_text, call_text}
+use Rattle.flume_check.specs.ItemLines.{item_lines}
 
 -- what is printed at a line
 abbrev pub line_text : ℕ → List ℕ → List ℕ
@@ -60,6 +63,22 @@ pub record Explains (A : Type 0) (input text : List ℕ) (status : ℕ) : Type 0
   pub reads : IsRecordingText (lines input) capacity events names
   pub explained : AreExplained capacity events
   pub text_is : text ≡ codes "correct" ++ 10 ∷ []
+  pub status_is : status ≡ 0
+
+-- each line is right, and the events are explained: the text is the first line, and then the events
+-- with steps between them, a line each, that tell of an explanation
+pub record ShowsSteps (A : Type 0) (input text : List ℕ) (status : ℕ) : Type 0 where
+  pub first : List ℕ
+  pub rest : List (List ℕ)
+  pub lines_are : lines input ≡ first ∷ rest
+  pub capacity : Option ℕ
+  pub events : List (Event ℕ A)
+  pub names : List (List ℕ)
+  pub reads : IsRecordingText (lines input) capacity events names
+  pub items : List (Item ℕ A)
+  pub events_are : events_in items ≡ events
+  pub explains : TellExplanation (λ x y. x == y) (opens capacity 1) items
+  pub text_is : text ≡ first ++ 10 ∷ item_lines names items
   pub status_is : status ≡ 0
 
 -- each line is right, and an event is the first with which they aren't explained: the text names
@@ -109,9 +128,10 @@ pub record RefusesRecording (A : Type 0) (input text : List ℕ) (status : ℕ) 
   pub text_is : text ≡ line_text line (fault_text fault)
   pub status_is : status ≡ 2
 
--- of these bytes this text is printed, with this status; A is the allocator of the lists in answers
-abbrev pub JudgesCalls : Type 0 → List ℕ → List ℕ → ℕ → Type 0
-JudgesCalls A input text status =
-    Explains A input text status ⊎ (BreaksOff A input text status
-    ⊎ (LeavesOpen A input text status
+-- Of these bytes this text is printed, with this status. If the recording is explained, the text
+-- shows the steps, or it doesn't. A is the allocator of the lists in answers.
+abbrev pub JudgesCalls : Type 0 → Bool → List ℕ → List ℕ → ℕ → Type 0
+JudgesCalls A shows input text status =
+    MatchBool shows (ShowsSteps A input text status) (Explains A input text status)
+    ⊎ (BreaksOff A input text status ⊎ (LeavesOpen A input text status
     ⊎ (RefusesRecording A input text status ⊎ IsWrongLater A input text status)))

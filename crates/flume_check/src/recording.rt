@@ -1,22 +1,26 @@
 //! Whether a channel may have answered threads' calls as a recording says.
-ghost use Rattle.std.specs.Prelude.{IfOk, ◌==◌, ℕ, List};
+ghost use Rattle.std.specs.Prelude.{IfOk, ◌≡◌, ◌==◌, ◌⊎◌, ℕ, List, ◌∷◌, Option};
 ghost use Rattle.std.specs.List.{All};
 ghost use Rattle.std.specs.Str.Lines.{lines};
 ghost use Rattle.flume_recording.specs.EventLines.{thread_of};
-ghost use Rattle.flume_recording.specs.Recordings.{IsFirstWrongEvent, IsRecordingText};
+ghost use Rattle.flume_recording.specs.Recordings.{IsFirstWrongEvent, IsRecordingText, names_of};
+ghost use Rattle.flume_concurrent.specs.declared.event.Event.{Event};
 ghost use Rattle.flume_explain.specs.Search.{BreaksAfter};
 ghost use Rattle.flume_model.specs.Log.{opens};
-ghost use Rattle.flume_check.specs.CallsText.{IsPossible, JudgesCalls};
+ghost use Rattle.flume_check.specs.CallsText.{AreExplained, BreaksOff, IsPossible, JudgesCalls};
+ghost use Rattle.flume_check.specs.CallsText.{LeavesOpen, RefusesRecording, ShowsSteps};
 
+use crate::items::write_items;
 use crate::possible::answers_there;
 use crate::texts::{write_break, write_fault, write_line};
 use flume_concurrent::call::Answer;
 use flume_concurrent::event::Event;
 use flume_core::error::NoMemory;
-use flume_explain::explain::{Checked, check_calls};
+use flume_explain::explain::{Checked, Explanation, check_calls, explain};
 use flume_recording::fault::Fault;
 use flume_recording::recording::{Recording, read_recording};
 use flume_script::Script;
+use flume_script::reading::next_line;
 use std::alloc::Allocator;
 
 // How many configurations a search may enter.
@@ -24,32 +28,46 @@ pub(crate) const LIMIT: usize = 10_000_000;
 
 /// Whether a channel may have answered as a recording says. All lines are read first. If one is
 /// wrong, the text names the first wrong one and says why, with status 2. If the events are
-/// explained, the text is `correct`, with status 0. Else the text names the first line whose event
-/// no correct channel can have come to, what is told there, and answers that are possible there,
-/// with status 1. If that line wasn't found, the text names the first one that it can be. If the
-/// search was given up, the text names the line up to which it came, with status 6. `NoMemory`: the events, the search or a text found no room.
+/// explained, the text is `correct`, with status 0; or, if it is to show them, the recording with
+/// steps between its lines that explain it. Else the text names the first line whose event no
+/// correct channel can have come to, what is told there, and answers that are possible there, with
+/// status 1. If that line wasn't found, the text names the first one that it can be. If the search
+/// was given up, the text names the line up to which it came, with status 6. `NoMemory`: the
+/// events, the search or a text found no room.
 pub(crate) fn judge_recording<A: Allocator + Copy>(
     alloc: A,
+    shows: bool,
     input: &[u8],
 ) -> Result<Script<A>, NoMemory>
     ensures judges { IfOk result (λ script.
-        JudgesCalls A input.now script.text.items script.status) }
+        JudgesCalls A shows input.now script.text.items script.status) }
 {
     match read_recording(alloc, input)? {
         Recording::Wrong { line, fault } => refuse(alloc, line, fault),
         Recording::Right {
             capacity,
             events,
-            names: _,
-        } => judge(alloc, capacity, events),
+            names,
+        } => judge(alloc, shows, first_line(input), capacity, events, &names),
+    }
+}
+
+// The first line.
+fn first_line(input: &[u8]) -> &[u8]
+    ensures value { (first : List ℕ) (rest : List (List ℕ)) → lines input.now ≡ first ∷ rest
+        → result.now ≡ first }
+{
+    match next_line(input) {
+        Some((first, _)) => first,
+        None => &[],
     }
 }
 
 // The first wrong line, and why it is wrong.
 fn refuse<A: Allocator + Copy>(alloc: A, line: usize, fault: Fault) -> Result<Script<A>, NoMemory>
-    ensures judges { IfOk result (λ script. (input : List ℕ)
+    ensures refuses { IfOk result (λ script. (input : List ℕ)
         → IsFirstWrongEvent A (lines input) line fault
-        → JudgesCalls A input script.text.items script.status) }
+        → RefusesRecording A input script.text.items script.status) }
 {
     let text = write_fault(alloc, line, fault)?;
     Ok(Script { text, status: 2 })
@@ -58,14 +76,19 @@ fn refuse<A: Allocator + Copy>(alloc: A, line: usize, fault: Fault) -> Result<Sc
 // Searches for what explains the events.
 fn judge<A: Allocator + Copy>(
     alloc: A,
+    shows: bool,
+    first: &[u8],
     capacity: Option<usize>,
     events: Vec<Event<u64, A>, A>,
+    names: &[&[u8]],
 ) -> Result<Script<A>, NoMemory>
-    ensures judges { IfOk result (λ script. (input : List ℕ) (names : List (List ℕ))
-        → IsRecordingText (lines input) capacity events.items names
-        → JudgesCalls A input script.text.items script.status) }
+    ensures judges { IfOk result (λ script. (input : List ℕ) (rest : List (List ℕ))
+        → lines input ≡ first.now ∷ rest
+        → IsRecordingText (lines input) capacity events.items (names_of names.now)
+        → JudgesCalls A shows input script.text.items script.status) }
 {
     match check_calls(alloc, capacity, &events, LIMIT) {
+        Checked::Explained if shows => show(alloc, first, capacity, &events, names),
         Checked::Explained => {
             let mut text = Vec::new(alloc);
             text.extend_from_slice(b"correct\n")?;
@@ -77,11 +100,45 @@ fn judge<A: Allocator + Copy>(
             Ok(Script { text, status: 1 })
         }
         Checked::NoMemory => Err(NoMemory),
-        Checked::GaveUp(place) => {
-            let text = write_line(alloc, place.saturating_add(2), "not decided")?;
-            Ok(Script { text, status: 6 })
-        }
+        Checked::GaveUp(place) => leave_open(alloc, place),
     }
+}
+
+// The first line, and behind it the events, with steps between them that explain them.
+fn show<A: Allocator + Copy>(
+    alloc: A,
+    first: &[u8],
+    capacity: Option<usize>,
+    events: &[Event<u64, A>],
+    names: &[&[u8]],
+) -> Result<Script<A>, NoMemory>
+    requires explained { AreExplained capacity events.now }
+    ensures shows { IfOk result (λ script. (input : List ℕ) (rest : List (List ℕ))
+        → lines input ≡ first.now ∷ rest
+        → IsRecordingText (lines input) capacity events.now (names_of names.now)
+        → ShowsSteps A input script.text.items script.status
+        ⊎ LeavesOpen A input script.text.items script.status) }
+{
+    match explain(alloc, capacity, events, LIMIT) {
+        Explanation::Explained(items) => {
+            let text = write_items(alloc, first, names, &items)?;
+            Ok(Script { text, status: 0 })
+        }
+        Explanation::Unexplained => unreachable!(),
+        Explanation::NoMemory => Err(NoMemory),
+        Explanation::GaveUp(place) => leave_open(alloc, place),
+    }
+}
+
+// The line of the event at this place, up to which a search came.
+fn leave_open<A: Allocator + Copy>(alloc: A, place: usize) -> Result<Script<A>, NoMemory>
+    ensures leaves_open { IfOk result (λ script. (input : List ℕ) (capacity : Option ℕ)
+        (events : List (Event ℕ A)) (names : List (List ℕ))
+        → IsRecordingText (lines input) capacity events names
+        → LeavesOpen A input script.text.items script.status) }
+{
+    let text = write_line(alloc, place.saturating_add(2), "not decided")?;
+    Ok(Script { text, status: 6 })
 }
 
 // The line of the event at this place, with which the events aren't explained, and the answers that
@@ -93,9 +150,9 @@ fn break_off<A: Allocator + Copy>(
     place: usize,
 ) -> Result<Script<A>, NoMemory>
     requires breaks { BreaksAfter (λ x y. x == y) (opens capacity 1) events.items place }
-    ensures judges { IfOk result (λ script. (input : List ℕ) (names : List (List ℕ))
+    ensures breaks { IfOk result (λ script. (input : List ℕ) (names : List (List ℕ))
         → IsRecordingText (lines input) capacity events.items names
-        → JudgesCalls A input script.text.items script.status) }
+        → BreaksOff A input script.text.items script.status) }
 {
     let event = events.remove(place);
     events.truncate(place);

@@ -1,31 +1,67 @@
 -- A search that was given up leaves the events open, or the place at which they stop being explained.
-use Rattle.std.proofs.Common.{inl, inr, refl, subst, sym, take}
-use Rattle.flume_check.specs.CallsText.{AreExplained}
+use Rattle.std.proofs.Common.{inl, inr, refl, subst, sym, take, ℕ, Bool, true, Option, List, ◌≡◌, ◌∷◌, ◌⊎◌, eqb}
+use Rattle.std.specs.Prelude.{MatchBool}
+use Rattle.std.specs.Str.Lines.{lines}
+use Rattle.std.proofs.lemmas.Result.{IfOk-weaker}
+use Rattle.flume_model.specs.Log.{opens}
+use Rattle.flume_explain.specs.Search.{BreaksAfter}
+use Rattle.flume_concurrent.specs.declared.event.Event.{Event}
+use Rattle.flume_recording.specs.Recordings.{IsRecordingText, names_of}
+use Rattle.flume_check.specs.CallsText.{AreExplained, BreaksOff, Explains, JudgesCalls, LeavesOpen, ShowsSteps}
 use Rattle.flume_check.proofs.recording.judge.Goals as goal
 
-pub returns-in_ok-text-in-GaveUp : goal.returns-in_ok-text-in-GaveUp
-returns-in_ok-text-in-GaveUp g c = record {
-  judges = λ input names reads.
-      inr (inr (inl (record {
-        capacity = c.args.capacity;
-        events = c.args.events.items;
-        names = names;
-        reads = reads;
-        number = c.saturating_add.result;
-        text_is = c.in_ok-text-in-GaveUp.ensures.value;
-        status_is = refl;
-      })));
+-- If the steps are to be shown, they are, or the search for them was given up.
+shown_or_open : (A : Type 0) (input text : List ℕ) (status : ℕ) (shows : Bool) → shows ≡ true
+    → ShowsSteps A input text status ⊎ LeavesOpen A input text status → JudgesCalls A shows input text status
+shown_or_open A input text status shows is (inl shown) =
+    inl (subst (λ b. MatchBool b (ShowsSteps A input text status) (Explains A input text status)) (sym is) shown)
+shown_or_open A input text status shows is (inr leaves) = inr (inr (inl leaves))
+
+pub returns-in-Explained : goal.returns-in-Explained
+returns-in-Explained g c =
+    let A = g.row.A.Denot in
+    record {
+      judges = IfOk-weaker c.show.result
+          (λ script. (input : List ℕ) (rest : List (List ℕ)) → lines input ≡ c.args.first.now ∷ rest
+          → IsRecordingText (lines input) c.args.capacity c.deref-in-Explained.result.now (names_of c.args.names.now)
+          → ShowsSteps A input script.text.items script.status ⊎ LeavesOpen A input script.text.items script.status)
+          (λ script. (input : List ℕ) (rest : List (List ℕ)) → lines input ≡ c.args.first.now ∷ rest
+          → IsRecordingText (lines input) c.args.capacity c.args.events.items (names_of c.args.names.now)
+          → JudgesCalls A c.args.shows input script.text.items script.status)
+          (λ script shown input rest begins reads. shown_or_open A input script.text.items script.status c.args.shows c.if-shows.true
+          (shown input rest begins
+          (subst (λ l. IsRecordingText (lines input) c.args.capacity l (names_of c.args.names.now)) (sym c.deref-in-Explained.ensures.value) reads)))
+          c.show.ensures.shows;
+    }
+
+pub break_off-requires : goal.break_off-requires
+break_off-requires g c = record {
+  breaks = subst (λ l. BreaksAfter (λ x y. eqb x y) (opens c.args.capacity 1) l c.in-Breaks.place) c.deref.ensures.value
+      (c.in-Breaks.ensures.breaks c.in-Breaks.place refl);
 }
 
-pub returns-in_ok-text-in-Unexplained : goal.returns-in_ok-text-in-Unexplained
-returns-in_ok-text-in-Unexplained g c =
+pub returns-in-Breaks : goal.returns-in-Breaks
+returns-in-Breaks g c = record {
+  judges = IfOk-weaker c.break_off.result
+      (λ script. (input : List ℕ) (names : List (List ℕ))
+      → IsRecordingText (lines input) c.args.capacity c.args.events.items names
+      → BreaksOff g.row.A.Denot input script.text.items script.status)
+      (λ script. (input : List ℕ) (rest : List (List ℕ)) → lines input ≡ c.args.first.now ∷ rest
+      → IsRecordingText (lines input) c.args.capacity c.args.events.items (names_of c.args.names.now)
+      → JudgesCalls g.row.A.Denot c.args.shows input script.text.items script.status)
+      (λ script breaks input rest begins reads. inr (inl (breaks input (names_of c.args.names.now) reads)))
+      c.break_off.ensures.breaks;
+}
+
+pub returns-in-Unexplained : goal.returns-in-Unexplained
+returns-in-Unexplained g c =
     let at = c.in-Unexplained.ensures.unexplained c.in-Unexplained.place refl in
     record {
-      judges = λ input names reads.
+      judges = λ input rest begins reads.
           inr (inr (inr (inr (record {
             capacity = c.args.capacity;
             events = c.args.events.items;
-            names = names;
+            names = names_of c.args.names.now;
             reads = reads;
             count = c.in-Unexplained.place;
             explained = subst (λ l. AreExplained c.args.capacity (take c.in-Unexplained.place l)) c.deref.ensures.value at.before;
@@ -34,3 +70,17 @@ returns-in_ok-text-in-Unexplained g c =
             status_is = refl;
           }))));
     }
+
+pub returns : goal.returns
+returns g c = record {
+  judges = IfOk-weaker c.leave_open.result
+      (λ script. (input : List ℕ) (capacity : Option ℕ) (events : List (Event ℕ g.row.A.Denot)) (names : List (List ℕ))
+      → IsRecordingText (lines input) capacity events names
+      → LeavesOpen g.row.A.Denot input script.text.items script.status)
+      (λ script. (input : List ℕ) (rest : List (List ℕ)) → lines input ≡ c.args.first.now ∷ rest
+      → IsRecordingText (lines input) c.args.capacity c.args.events.items (names_of c.args.names.now)
+      → JudgesCalls g.row.A.Denot c.args.shows input script.text.items script.status)
+      (λ script leaves input rest begins reads.
+      inr (inr (inl (leaves input c.args.capacity c.args.events.items (names_of c.args.names.now) reads))))
+      c.leave_open.ensures.leaves_open;
+}

@@ -1,18 +1,23 @@
 -- Each line is right, and the events are judged.
-use Rattle.std.proofs.Common.{ℕ, List}
+use Rattle.std.proofs.Common.{ℕ, List, ◌≡◌, ◌∷◌, ◌∙◌, ap, sym, subst}
 use Rattle.std.specs.Str.Lines.{lines}
 use Rattle.std.proofs.lemmas.Result.{IfOk-weaker}
 use Rattle.flume_recording.specs.Recordings.{IsRecordingText, names_of}
 use Rattle.flume_check.specs.CallsText.{JudgesCalls}
 use Rattle.flume_check.proofs.recording.judge_recording.Goals as goal
 
-pub returns : goal.returns
-returns g c =
+pub returns-in-Right : goal.returns-in-Right
+returns-in-Right g c =
     let reads = rw c.in-Right.is at c.in_ok-line.ensures.value in
+    let input = c.args.input.now in
+    let begins : lines input ≡ c.first_line.result.now ∷ reads.rest =
+    reads.lines_are ∙ ap (λ line. line ∷ reads.rest) (sym (c.first_line.ensures.value reads.first reads.rest reads.lines_are)) in
+    let named = subst (λ names. IsRecordingText (lines input) c.in-Right.capacity c.in-Right.events.items (names_of names)) (sym c.deref.ensures.value) reads in
     record {
       judges = IfOk-weaker c.judge.result
-          (λ script. (input : List ℕ) (names : List (List ℕ)) → IsRecordingText (lines input) c.in-Right.capacity c.in-Right.events.items names
-          → JudgesCalls g.row.A.Denot input script.text.items script.status)
-          (λ script. JudgesCalls g.row.A.Denot c.args.input.now script.text.items script.status)
-          (λ script judges. judges c.args.input.now (names_of c.in-Right.names.items) reads) c.judge.ensures.judges;
+          (λ script. (input : List ℕ) (rest : List (List ℕ)) → lines input ≡ c.first_line.result.now ∷ rest
+          → IsRecordingText (lines input) c.in-Right.capacity c.in-Right.events.items (names_of c.deref.result.now)
+          → JudgesCalls g.row.A.Denot c.args.shows input script.text.items script.status)
+          (λ script. JudgesCalls g.row.A.Denot c.args.shows input script.text.items script.status)
+          (λ script judges. judges input reads.rest begins named) c.judge.ensures.judges;
     }

@@ -1,0 +1,43 @@
+-- The items have the events, and tell of an explanation.
+use Rattle.std.proofs.Common.{inl, inr, ℕ, List, ◌≡◌, ◌∷◌, ◌++◌, ◌⊎◌, ◌∙◌, ap, refl}
+use Rattle.std.specs.Str.Lines.{lines}
+use Rattle.std.proofs.lemmas.Result.{IfOk-weaker}
+use Rattle.flume_concurrent.specs.declared.event.Event.{Event}
+use Rattle.flume_recording.specs.Recordings.{IsRecordingText, names_of}
+use Rattle.flume_check.specs.CallsText.{LeavesOpen, ShowsSteps}
+use Rattle.flume_check.specs.ItemLines.{item_lines}
+use Rattle.flume_check.proofs.recording.show.Goals as goal
+
+pub returns-in_ok-text-in-Explained : goal.returns-in_ok-text-in-Explained
+returns-in_ok-text-in-Explained g c = record {
+  shows = λ input rest begins reads.
+      inl (record {
+        first = c.args.first.now;
+        rest = rest;
+        lines_are = begins;
+        capacity = c.args.capacity;
+        events = c.args.events.now;
+        names = names_of c.args.names.now;
+        reads = reads;
+        items = c.in-Explained.items.items;
+        events_are = c.in-Explained.ensures.events c.in-Explained.items refl;
+        explains = c.in-Explained.ensures.explains c.in-Explained.items refl;
+        text_is =
+            c.in_ok-text-in-Explained.ensures.value
+            ∙ ap (λ items. c.args.first.now ++ 10 ∷ item_lines (names_of c.args.names.now) items) c.deref.ensures.value;
+        status_is = refl;
+      });
+}
+
+pub returns-in-GaveUp : goal.returns-in-GaveUp
+returns-in-GaveUp g c = record {
+  shows = IfOk-weaker c.leave_open.result
+      (λ script. (input : List ℕ) (capacity : _) (events : List (Event ℕ g.row.A.Denot)) (names : List (List ℕ))
+      → IsRecordingText (lines input) capacity events names
+      → LeavesOpen g.row.A.Denot input script.text.items script.status)
+      (λ script. (input : List ℕ) (rest : List (List ℕ)) → lines input ≡ c.args.first.now ∷ rest
+      → IsRecordingText (lines input) c.args.capacity c.args.events.now (names_of c.args.names.now)
+      → ShowsSteps g.row.A.Denot input script.text.items script.status ⊎ LeavesOpen g.row.A.Denot input script.text.items script.status)
+      (λ script leaves input rest begins reads. inr (leaves input c.args.capacity c.args.events.now (names_of c.args.names.now) reads))
+      c.leave_open.ensures.leaves_open;
+}

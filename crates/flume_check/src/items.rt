@@ -1,0 +1,134 @@
+//! The lines of the items that explain a recording.
+ghost use Rattle.std.specs.Prelude.{IfOk, OnOk, ◌≡◌, ◌∷◌, ◌++◌, string_bytes};
+ghost use Rattle.flume_recording.specs.Recordings.{names_of};
+ghost use Rattle.flume_check.specs.ItemLines.{item_line, item_lines, step_number, step_text};
+ghost use Rattle.flume_check.specs.ItemLines.{step_word};
+ghost use Rattle.flume_model.specs.declared.step.Step.TheVariants.{Recv};
+
+use flume_concurrent::event::Item;
+use flume_core::error::NoMemory;
+use flume_model::step::{Kind, Step};
+use flume_recording::writing::write_event;
+use flume_script::writing::write_reply;
+use std::alloc::Allocator;
+
+/// The first line, and behind it a line for each item, where the threads have these names.
+/// `NoMemory`: the text found no room.
+pub(crate) fn write_items<A: Allocator + Copy>(
+    alloc: A,
+    first: &[u8],
+    names: &[&[u8]],
+    items: &[Item<u64, A>],
+) -> Result<Vec<u8, A>, NoMemory>
+    ensures value { IfOk result (λ text.
+        text.items ≡ first.now ++ 10 ∷ item_lines (names_of names.now) items.now) }
+{
+    let mut text = Vec::new(alloc);
+    text.extend_from_slice(first)?;
+    text.extend_from_slice(b"\n")?;
+    for item in items {
+        let line = line_of(alloc, names, item)?;
+        text.extend_from_slice(&line)?;
+    }
+    Ok(text)
+}
+
+// The line of an item, and its line feed.
+fn line_of<A: Allocator + Copy>(
+    alloc: A,
+    names: &[&[u8]],
+    item: &Item<u64, A>,
+) -> Result<Vec<u8, A>, NoMemory>
+    ensures value { IfOk result (λ line. line.items ≡ item_line (names_of names.now) item.now) }
+{
+    match item {
+        Item::Happens(event) => {
+            let mut line = write_event(alloc, names, event)?;
+            line.extend_from_slice(b"\n")?;
+            Ok(line)
+        }
+        Item::Makes {
+            thread,
+            step,
+            reply,
+        } => {
+            let mut told = String::new(alloc);
+            told.push_str(" makes ")?;
+            write_step(&mut told, step)?;
+            told.push_str(" -> ")?;
+            write_reply(&mut told, reply)?;
+            let mut line = Vec::new(alloc);
+            line.extend_from_slice(b"  ")?;
+            line.extend_from_slice(names.get(*thread).copied().unwrap_or(&[]))?;
+            line.extend_from_slice(told.as_bytes())?;
+            Ok(line)
+        }
+    }
+}
+
+// Adds the text of a step.
+fn write_step<A: Allocator>(text: &mut String<A>, step: &Step<u64>) -> Result<(), NoMemory>
+    ensures value { OnOk result
+        (string_bytes text.new ≡ string_bytes text.old ++ step_text step.now) }
+{
+    let word = word_of(step);
+    match number_in(step) {
+        None => text.push_str(word)?,
+        Some(number) => write!(text, "{word} {number}")?,
+    }
+    Ok(())
+}
+
+// The word of a step, or the two words of one that parks.
+fn word_of(step: &Step<u64>) -> &'static str
+    ensures value { result.now ≡ step_word step.now }
+{
+    match step {
+        Step::TrySend(_) => "try_send",
+        Step::Send(_) => "send",
+        Step::PollSend(_) => "poll_send",
+        Step::WithdrawSend(_) => "withdraw_send",
+        Step::TryRecv => "try_recv",
+        Step::Recv(kind) => words_of(*kind),
+        Step::Poll(_) => "poll",
+        Step::Withdraw(_) => "withdraw",
+        Step::Drain => "drain",
+        Step::CloneSender => "clone_sender",
+        Step::CloneReceiver => "clone_receiver",
+        Step::DropSender => "drop_sender",
+        Step::DropReceiver => "drop_receiver",
+        Step::SetCapacity(_) => "set_capacity",
+        Step::Len => "len",
+        Step::IsEmpty => "is_empty",
+        Step::IsFull => "is_full",
+        Step::Capacity => "capacity",
+        Step::SenderCount => "sender_count",
+        Step::ReceiverCount => "receiver_count",
+        Step::IsDisconnected => "is_disconnected",
+    }
+}
+
+// The words of a step that parks a receiver of this kind.
+fn words_of(kind: Kind) -> &'static str
+    ensures value { result.now ≡ step_word (Recv kind) }
+{
+    match kind {
+        Kind::Block => "recv block",
+        Kind::Plain => "recv plain",
+        Kind::Stream => "recv stream",
+        Kind::Arm => "recv arm",
+    }
+}
+
+// The number behind the word of a step.
+fn number_in(step: &Step<u64>) -> Option<u64>
+    ensures value { result ≡ step_number step.now }
+{
+    match step {
+        Step::TrySend(message) | Step::Send(message) => Some(*message),
+        Step::PollSend(ticket) | Step::WithdrawSend(ticket) => Some(*ticket),
+        Step::Poll(ticket) | Step::Withdraw(ticket) => Some(*ticket),
+        Step::SetCapacity(capacity) => Some(*capacity as u64),
+        _ => None,
+    }
+}
