@@ -6,6 +6,8 @@ pub struct Arguments {
     pub recordings: u64,
     pub threads: u64,
     pub calls: u64,
+    /// How many configurations a search enters at most.
+    pub limit: u64,
 }
 
 /// What the words of the call ask for.
@@ -20,31 +22,30 @@ pub enum Asked {
 }
 
 impl Arguments {
-    /// Reads `[RECORDINGS [THREADS [CALLS]]]`.
+    /// Reads `[RECORDINGS [THREADS [CALLS [LIMIT]]]]`.
     pub fn read(words: &[String]) -> Asked {
         if let [word] = words {
             if word.as_str() == "--help" || word.as_str() == "-h" {
                 return Asked::Help;
             }
         }
-        if words.len() > 3 {
+        if words.len() > 4 {
             return Asked::Wrong;
         }
-        let numbers = (
-            number_at(words, 0, 200),
-            number_at(words, 1, 6),
-            number_at(words, 2, 300),
-        );
-        match numbers {
-            (Some(recordings), Some(threads), Some(calls)) if 0 < threads && threads <= 64 => {
-                Asked::Runs(Arguments {
-                    recordings,
-                    threads,
-                    calls,
-                })
-            }
+        match Arguments::of(words) {
+            Some(asked) if 0 < asked.threads && asked.threads <= 64 => Asked::Runs(asked),
             _ => Asked::Wrong,
         }
+    }
+
+    // What the words say. None: one of them is no number.
+    fn of(words: &[String]) -> Option<Arguments> {
+        Some(Arguments {
+            recordings: number_at(words, 0, 200)?,
+            threads: number_at(words, 1, 6)?,
+            calls: number_at(words, 2, 300)?,
+            limit: number_at(words, 3, 1_000_000)?,
+        })
     }
 }
 

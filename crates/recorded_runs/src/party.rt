@@ -3,7 +3,7 @@
 use crate::draws::Draws;
 use crate::ends::{OpenReceive, OpenSend, OwnReceiver, OwnSender};
 use flume::Waits;
-use flume_recorder::Recorder;
+use flume_recorder::{End, Recorder};
 use futures::test::MockTask;
 use std::alloc::Global;
 use std::hint::spin_loop;
@@ -253,36 +253,18 @@ impl<'e, 'h, R: Waits> Party<'e, 'h, R> {
 }
 
 // Asks an end what the number says, or sets the capacity.
-fn ask_end<E: flume_recorder::End>(
-    recorder: &mut Recorder<u64>,
-    end: &E,
-    number: u64,
-    capacity: usize,
-) {
+fn ask_end<E: End>(recorder: &mut Recorder<u64>, end: &E, number: u64, capacity: usize) {
     match number {
-        0 | 1 => {
-            recorder.len(end);
-        }
-        2 => {
-            recorder.is_empty(end);
-        }
-        3 => {
-            recorder.is_full(end);
-        }
-        4 => {
-            recorder.capacity(end);
-        }
-        5 => {
-            recorder.sender_count(end);
-        }
-        6 => {
-            recorder.receiver_count(end);
-        }
-        7 => {
-            recorder.is_disconnected(end);
-        }
-        _ => {
-            let _ = recorder.set_capacity(end, capacity);
-        }
+        0 | 1 => ignore(recorder.len(end)),
+        2 => ignore(recorder.is_empty(end)),
+        3 => ignore(recorder.is_full(end)),
+        4 => ignore(recorder.capacity(end)),
+        5 => ignore(recorder.sender_count(end)),
+        6 => ignore(recorder.receiver_count(end)),
+        7 => ignore(recorder.is_disconnected(end)),
+        _ => ignore(recorder.set_capacity(end, capacity)),
     }
 }
+
+// The answer is in the recording.
+fn ignore<T: Drop>(_answer: T) {}

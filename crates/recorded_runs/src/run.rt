@@ -16,9 +16,6 @@ use std::alloc::{AllocError, Global};
 use std::random::RandomSource;
 use std::{fmt, thread};
 
-// How many configurations a search enters at most.
-const LIMIT: usize = 10_000_000;
-
 // Of a channel that is refused memory one request in so many is refused.
 const REFUSED: u64 = 12;
 
@@ -70,7 +67,7 @@ impl From<RecordingError> for Fault {
     }
 }
 
-/// What the search came to.
+/// What a search for an explanation came to.
 #[derive(Clone, Copy, Drop)]
 pub enum Verdict {
     /// The events are explained.
@@ -79,8 +76,8 @@ pub enum Verdict {
     Breaks(usize),
     /// So many events are, and all of them aren't. Where they stop wasn't found in time.
     Unexplained(usize),
-    /// The search was given up. It had come to the event at this place.
-    GaveUp(usize),
+    /// The search was given up: nothing is known of the events.
+    GaveUp,
     /// There was no memory for the search.
     NoMemory,
 }
@@ -91,31 +88,26 @@ impl fmt::Display for Verdict {
             Verdict::Explained => f.write_str("it is explained"),
             Verdict::Breaks(place) => {
                 let line = place.saturating_add(2);
-                write!(
-                    f,
-                    "up to line {line} nothing explains it, and up to the line before something does"
-                )
+                write!(f, "line {line} is the first one that nothing explains")
             }
             Verdict::Unexplained(place) => {
-                let line = place.saturating_add(1);
-                write!(f, "nothing explains it, and up to line {line} something does")
-            }
-            Verdict::GaveUp(place) => {
                 let line = place.saturating_add(2);
-                write!(f, "the search was given up; it had come to line {line}")
+                write!(f, "nothing explains line {line}, or one behind it")
             }
+            Verdict::GaveUp => f.write_str("the search was given up"),
             Verdict::NoMemory => f.write_str("out of memory"),
         }
     }
 }
 
-/// What a search says of a run's recording.
-pub fn judge(alloc: Global, run: &Run) -> Verdict {
-    match check_calls(alloc, run.capacity, run.events.as_slice(), LIMIT) {
+/// What a search says of a run's recording, which enters at most so many configurations.
+pub fn judge(alloc: Global, run: &Run, limit: u64) -> Verdict {
+    let limit = usize::try_from(limit).unwrap_or(usize::MAX);
+    match check_calls(alloc, run.capacity, run.events.as_slice(), limit) {
         Checked::Explained => Verdict::Explained,
         Checked::Breaks(place) => Verdict::Breaks(place),
         Checked::Unexplained(place) => Verdict::Unexplained(place),
-        Checked::GaveUp(place) => Verdict::GaveUp(place),
+        Checked::GaveUp(_) => Verdict::GaveUp,
         Checked::NoMemory => Verdict::NoMemory,
     }
 }
