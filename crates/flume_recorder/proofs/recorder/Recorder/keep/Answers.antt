@@ -1,0 +1,12 @@
+-- Where an event found no room, nothing more is said of what the recorder has.
+use Rattle.std.proofs.Common.{[]}
+use Rattle.flume_recorder.proofs.recorder.Recorder.keep.Goals as goal
+
+pub returns-then-is_err : goal.returns-then-is_err
+returns-then-is_err g c = record {
+  added = record {
+    thread = (c.lose.ensures.added []).thread;
+    complete = λ whole. absurd (c.lose.ensures.lost whole);
+    added = λ whole. absurd (c.lose.ensures.lost whole);
+  };
+}

@@ -1,0 +1,132 @@
+//! What a sender and a receiver have in common.
+ghost use Rattle.flume_calls.specs.Singles.{after_set_capacity};
+ghost use Rattle.flume.specs.CallSteps.{HasReplied};
+ghost use Rattle.flume.specs.Turning.{HasMade};
+
+use flume::error::CapacityError;
+use flume::{Receiver, Sender, Waits};
+use flume_model::step::{Reply, Step};
+use std::alloc::Allocator;
+
+/// An end of a channel: a sender or a receiver. Each method is the end's own of that name.
+///
+/// ```
+/// fn ask(recorder: &mut Recorder<u64>, end: &impl End) -> usize {
+///     recorder.len(end)
+/// }
+/// ```
+pub trait End {
+    /// What the channel carries.
+    type Message;
+    /// The channel's allocator.
+    type Memory: Allocator;
+
+    /// How many messages are queued.
+    fn len(&self) -> usize
+        ensures made { HasReplied {T = Self.Message} {A = Self.Memory} Step.Len
+            (Reply.Number result) };
+    /// Whether no message is queued.
+    fn is_empty(&self) -> bool
+        ensures made { HasReplied {T = Self.Message} {A = Self.Memory} Step.IsEmpty
+            (Reply.Truth result) };
+    /// Whether as many messages are queued as the channel holds.
+    fn is_full(&self) -> bool
+        ensures made { HasReplied {T = Self.Message} {A = Self.Memory} Step.IsFull
+            (Reply.Truth result) };
+    /// The capacity, or none of an unbounded channel.
+    fn capacity(&self) -> Option<usize>
+        ensures made { HasReplied {T = Self.Message} {A = Self.Memory} Step.Capacity
+            (Reply.Capacity result) };
+    /// How many senders live.
+    fn sender_count(&self) -> usize
+        ensures made { HasReplied {T = Self.Message} {A = Self.Memory} Step.SenderCount
+            (Reply.Number result) };
+    /// How many receivers live.
+    fn receiver_count(&self) -> usize
+        ensures made { HasReplied {T = Self.Message} {A = Self.Memory} Step.ReceiverCount
+            (Reply.Number result) };
+    /// Whether all receivers, or all senders, have been dropped.
+    fn is_disconnected(&self) -> bool
+        ensures made { HasReplied {T = Self.Message} {A = Self.Memory} Step.IsDisconnected
+            (Reply.Truth result) };
+    /// Sets how many messages the channel holds from now on.
+    fn set_capacity(&self, capacity: usize) -> Result<(), CapacityError>
+        ensures made { HasMade {T = Self.Message} {A = Self.Memory} (Step.SetCapacity capacity)
+            after_set_capacity result };
+}
+
+impl<T: Drop, R: Waits, C: Allocator + Copy> End for Sender<T, R, C> {
+    type Message = T;
+
+    type Memory = C;
+
+    fn len(&self) -> usize {
+        Sender::len(self)
+    }
+
+    fn is_empty(&self) -> bool {
+        Sender::is_empty(self)
+    }
+
+    fn is_full(&self) -> bool {
+        Sender::is_full(self)
+    }
+
+    fn capacity(&self) -> Option<usize> {
+        Sender::capacity(self)
+    }
+
+    fn sender_count(&self) -> usize {
+        Sender::sender_count(self)
+    }
+
+    fn receiver_count(&self) -> usize {
+        Sender::receiver_count(self)
+    }
+
+    fn is_disconnected(&self) -> bool {
+        Sender::is_disconnected(self)
+    }
+
+    fn set_capacity(&self, capacity: usize) -> Result<(), CapacityError> {
+        Sender::set_capacity(self, capacity)
+    }
+}
+
+impl<T: Drop, R: Waits, C: Allocator + Copy> End for Receiver<T, R, C> {
+    type Message = T;
+
+    type Memory = C;
+
+    fn len(&self) -> usize {
+        Receiver::len(self)
+    }
+
+    fn is_empty(&self) -> bool {
+        Receiver::is_empty(self)
+    }
+
+    fn is_full(&self) -> bool {
+        Receiver::is_full(self)
+    }
+
+    fn capacity(&self) -> Option<usize> {
+        Receiver::capacity(self)
+    }
+
+    fn sender_count(&self) -> usize {
+        Receiver::sender_count(self)
+    }
+
+    fn receiver_count(&self) -> usize {
+        Receiver::receiver_count(self)
+    }
+
+    fn is_disconnected(&self) -> bool {
+        Receiver::is_disconnected(self)
+    }
+
+    fn set_capacity(&self, capacity: usize) -> Result<(), CapacityError> {
+        Receiver::set_capacity(self, capacity)
+    }
+}

@@ -1,0 +1,63 @@
+//! Records what threads do on a channel: when each of their calls began, and what it returned.
+//!
+//! A `Recording` makes a `Recorder` for each thread. Each call of an end has a method of the
+//! recorder, which makes the call and hands its result on. At the end `Recording::events` puts what
+//! all of them recorded into one list, in the order of time, and `write_recording` writes it as
+//! text, which `flume_recording` reads.
+//!
+//! ```
+//! let recording = Recording::new(rt.alloc())?;
+//! let (tx, rx) = flume::on(rt).bounded(1)?;
+//! let mut recorder = recording.recorder()?;
+//! let mut other = recording.recorder()?;
+//! let thread = thread::spawn(&rt, move || {
+//!     let _ = other.send(&tx, 7);
+//!     other
+//! })?;
+//! assert_eq!(rt; recorder.recv(&rx), Ok(7));
+//! let recorders = vec![in rt.alloc(); recorder, thread.join(&rt)]?;
+//! let events = recording.events(recorders)?;
+//! let text = write_recording(rt.alloc(), Some(1), events.as_slice())?;
+//! ```
+//!
+//! # When a call began and when it returned
+//!
+//! All recorders share one number. A call takes the next one just before it begins, and the next
+//! one just after it has returned. So a call that returned before another began has the smaller
+//! number, and each step of a call lies between its two numbers. Nothing else is shared: a recorder
+//! takes no lock.
+//!
+//! # When memory is refused
+//!
+//! The call is made all the same, and its result is handed on. The recorder then knows that it
+//! isn't complete, and `Recording::events` answers `Incomplete`.
+//!
+//! # What isn't recorded
+//!
+//! Selections, iterators, streams, sinks, and calls of many messages. Nor `Sender::downgrade`, which
+//! makes no step of the channel. A thread that makes such a call on the channel makes the recording
+//! wrong.
+#![tactic(auto)]
+
+mod answers;
+mod call_futures;
+mod counters;
+mod drains;
+mod end;
+mod ends;
+mod queries;
+mod receives;
+mod recorder;
+mod recording;
+mod recording_error;
+mod sends;
+mod slot;
+mod writing;
+
+pub use call_futures::{CallFuture, FutureAnswer, RecordedFuture};
+pub use drains::DrainedMessages;
+pub use end::End;
+pub use recorder::Recorder;
+pub use recording::Recording;
+pub use recording_error::RecordingError;
+pub use writing::write_recording;

@@ -1,0 +1,126 @@
+//! The recorder of a thread.
+ghost use Rattle.std.specs.Prelude.{◌≡◌, IsTrue, List, [], ◌∷◌};
+ghost use Rattle.flume_recorder.specs.Records.{Adds, BeginsFuture, Records};
+ghost use Rattle.flume_recorder.specs.Records.{events_of, is_whole};
+
+use crate::counters::Counters;
+use crate::slot::{FutureSlot, Slot, SlotWriter};
+use flume_concurrent::call::{Answer, Call};
+use flume_concurrent::event::Event;
+use std::alloc::{Allocator, Global};
+use std::sync::{Arc, OnceLock};
+
+/// An event, and when it happened.
+#[derive(Drop)]
+pub(crate) struct Entry<T: Drop, A: Allocator> {
+    pub(crate) stamp: u64,
+    pub(crate) event: Event<T, A>,
+}
+
+/// What a thread records of its calls. `Recording::recorder` makes one. Each call of an end is a
+/// method, which makes the call and hands its result on.
+///
+/// ```
+/// let mut recorder = recording.recorder()?;
+/// recorder.try_send(&tx, 7)?;
+/// assert_eq!(rt; recorder.recv(&rx), Ok(7));
+/// recorder.drop_sender(tx);
+/// ```
+#[derive(Drop)]
+pub struct Recorder<T: Drop, A: Allocator + Copy = Global> {
+    pub(crate) counters: Arc<Counters, A>,
+    pub(crate) alloc: A,
+    pub(crate) thread: usize,
+    pub(crate) entries: Vec<Entry<T, A>, A>,
+    pub(crate) futures: Vec<FutureSlot<T, A>, A>,
+    pub(crate) is_complete: bool,
+}
+
+impl<T: Copy + Drop, A: Allocator + Copy> Recorder<T, A> {
+    /// One that has recorded nothing. Takes no memory.
+    pub(crate) fn new(alloc: A, counters: Arc<Counters, A>) -> Self
+        ensures none { events_of result ≡ [] }
+        ensures whole { IsTrue (is_whole result) }
+    {
+        counters.count_recorder();
+        let thread = counters.next_thread();
+        Recorder {
+            counters,
+            alloc,
+            thread,
+            entries: Vec::new(alloc),
+            futures: Vec::new(alloc),
+            is_complete: true,
+        }
+    }
+
+    /// Whether each call was recorded: no memory was refused.
+    ///
+    /// ```
+    /// recorder.try_send(&tx, 7)?;
+    /// assert!(rt; recorder.is_complete());
+    /// ```
+    pub fn is_complete(&self) -> bool
+        ensures whole { result ≡ is_whole self.now }
+    {
+        self.is_complete
+    }
+
+    /// Something that happened can't be recorded.
+    pub(crate) fn lose(&mut self)
+        ensures added { (events : List (Event T A)) → Adds self.old self.new events }
+        ensures lost { IsTrue (is_whole self.new) → ⊥ }
+    {
+        self.is_complete = false;
+    }
+
+    /// The stamp of a call that begins now.
+    pub(crate) fn begin(&self) -> u64 {
+        self.counters.next_stamp()
+    }
+
+    // Keeps an event.
+    fn keep(&mut self, stamp: u64, event: Event<T, A>)
+        ensures added { Adds self.old self.new (event ∷ []) }
+    {
+        if self.entries.push(Entry { stamp, event }).is_err() {
+            self.lose();
+        }
+    }
+
+    /// A call that began at this stamp returns now.
+    pub(crate) fn record(&mut self, began: u64, call: Call<T>, answer: Answer<T, A>)
+        ensures recorded { Records self.old self.new call answer }
+    {
+        let returned = self.counters.next_stamp();
+        let thread = self.thread;
+        self.keep(began, Event::Begins { thread, call });
+        self.keep(returned, Event::Returns { thread, answer });
+    }
+
+    /// A future's call begins now, under a number of its own. Where the future writes what its call
+    /// returns; none if memory was refused.
+    pub(crate) fn begin_future(&mut self, call: Call<T>) -> Option<SlotWriter<T, A>>
+        ensures begun { BeginsFuture self.old self.new call }
+    {
+        let thread = self.counters.next_thread();
+        let slot = self.place_future(thread);
+        if slot.is_none() {
+            self.lose();
+        }
+        let stamp = self.counters.next_stamp();
+        self.keep(stamp, Event::Begins { thread, call });
+        slot
+    }
+
+    // A place for one more future's return.
+    fn place_future(&mut self, thread: usize) -> Option<SlotWriter<T, A>>
+        ensures added { Adds self.old self.new [] }
+    {
+        let slot: Arc<Slot<T>, A> = Arc::new(self.alloc, OnceLock::new()).ok()?;
+        let counters = Arc::try_clone(&self.counters).ok()?;
+        let own = Arc::try_clone(&slot).ok()?;
+        self.futures.push(FutureSlot { thread, slot: own }).ok()?;
+        Some(SlotWriter { counters, slot })
+    }
+}

@@ -1,0 +1,69 @@
+//! Why there is no list of events.
+ghost use Rattle.std.specs.Prelude.{◌≡◌, Some};
+ghost use Rattle.std.specs.Fmt.{styled_text};
+ghost use Rattle.std.specs.IoError.{error_kind};
+ghost use Rattle.flume_recorder.specs.declared.recording_error.RecordingError.{RecordingError};
+ghost use Rattle.flume_recorder.specs.RecordingErrors.{error_text, kind_of};
+
+use std::alloc::AllocError;
+use std::error::Error;
+use std::io::ErrorKind;
+use std::{fmt, io};
+
+/// Why there is no list of events.
+#[derive(Clone, Copy, Debug, PartialEq, Eq, Drop)]
+pub enum RecordingError {
+    /// Memory was refused while the list was made.
+    NoMemory,
+    /// A recorder isn't complete: memory was refused while it recorded.
+    Incomplete,
+    /// Not all recorders that were made are there.
+    Missing,
+}
+
+impl RecordingError {
+    // What `{}` writes of it.
+    fn text(&self) -> &'static str
+        ensures text { result.now ≡ error_text self.now }
+    {
+        match self {
+            RecordingError::NoMemory => "out of memory",
+            RecordingError::Incomplete => "a recorder isn't complete: memory was refused",
+            RecordingError::Missing => "a recorder is missing",
+        }
+    }
+}
+
+/// One text for each case, padded and cut as text is.
+impl fmt::Display for RecordingError {
+    ghost output = { λ e. Some (error_text e) };
+
+    ghost styled_output = { λ e spec. Some (styled_text spec (error_text e)) };
+
+    fn fmt<W: fmt::Write>(&self, f: &mut fmt::Formatter<W>) -> fmt::Result {
+        f.pad(self.text())
+    }
+}
+
+impl Error for RecordingError {}
+
+impl From<AllocError> for RecordingError {
+    ghost from_gives = { λ _ error. error ≡ RecordingError.NoMemory };
+
+    fn from(_refused: AllocError) -> RecordingError {
+        RecordingError::NoMemory
+    }
+}
+
+/// Of the kind `InvalidInput` if a recorder is missing, and else `OutOfMemory`.
+impl From<RecordingError> for io::Error {
+    ghost from_gives = { λ e error. error_kind error ≡ kind_of e };
+
+    fn from(e: RecordingError) -> io::Error {
+        let kind = match e {
+            RecordingError::Missing => ErrorKind::InvalidInput,
+            RecordingError::NoMemory | RecordingError::Incomplete => ErrorKind::OutOfMemory,
+        };
+        io::Error::new(kind, e.text())
+    }
+}

@@ -1,0 +1,79 @@
+//! Recordings, written as text.
+ghost use Rattle.std.specs.Prelude.{◌≡◌, ◌++◌, IfOk, OnOk};
+ghost use Rattle.flume_recording.specs.EventLines as spec;
+ghost use Rattle.flume_recorder.specs.Texts.{line_text, opening_text, recording_text};
+
+use flume_concurrent::event::Event;
+use flume_error::error::NoMemory;
+use flume_recording::writing::write_event;
+use std::alloc::Allocator;
+
+// The number of the thread of an event.
+fn thread_of<A: Allocator>(event: &Event<u64, A>) -> usize
+    ensures value { result ≡ spec.thread_of event.now }
+{
+    match event {
+        Event::Begins { thread, call: _ } => *thread,
+        Event::Returns { thread, answer: _ } => *thread,
+    }
+}
+
+// Adds the line that opens a channel of this capacity.
+fn write_opening<A: Allocator + Copy>(
+    alloc: A,
+    text: &mut Vec<u8, A>,
+    capacity: Option<usize>,
+) -> Result<(), NoMemory>
+    ensures added { OnOk result (text.new.items ≡ text.old.items ++ opening_text capacity) }
+{
+    match capacity {
+        None => text.extend_from_slice(b"unbounded\n")?,
+        Some(capacity) => {
+            let line = format!(in alloc; "bounded {capacity}\n")?;
+            text.extend_from_slice(line.as_bytes())?;
+        }
+    }
+    Ok(())
+}
+
+// Adds the line of an event, whose thread is named by its number.
+fn write_line<A: Allocator + Copy>(
+    alloc: A,
+    text: &mut Vec<u8, A>,
+    event: &Event<u64, A>,
+) -> Result<(), NoMemory>
+    ensures added { OnOk result (text.new.items ≡ text.old.items ++ line_text event.now) }
+{
+    let thread = thread_of(event);
+    let name = format!(in alloc; "{thread}")?;
+    text.extend_from_slice(name.as_bytes())?;
+    let rest = write_event(alloc, &[], event)?;
+    text.extend_from_slice(rest.as_slice())?;
+    text.extend_from_slice(b"\n")?;
+    Ok(())
+}
+
+/// The text of a recording, which `flume_recording::recording::read_recording` reads: of a channel
+/// that was opened with this capacity, or with none. The threads' names are their numbers.
+/// `NoMemory`: the text found no room.
+///
+/// ```
+/// recorder.try_send(&tx, 7)?;
+/// let events = recording.events(vec![in rt.alloc(); recorder]?)?;
+/// let text = write_recording(rt.alloc(), Some(1), events.as_slice())?;
+/// assert_eq!(rt; str::from_utf8(&text)?, "bounded 1\n0: try_send 7\n0 -> sent\n");
+/// ```
+pub fn write_recording<A: Allocator + Copy>(
+    alloc: A,
+    capacity: Option<usize>,
+    events: &[Event<u64, A>],
+) -> Result<Vec<u8, A>, NoMemory>
+    ensures value { IfOk result (λ text. text.items ≡ recording_text capacity events.now) }
+{
+    let mut text = Vec::new(alloc);
+    write_opening(alloc, &mut text, capacity)?;
+    for event in events {
+        write_line(alloc, &mut text, event)?;
+    }
+    Ok(text)
+}

@@ -1,0 +1,217 @@
+//! A run of threads on a channel, and what a search says of its recording.
+
+use crate::arguments::Arguments;
+use crate::draws::Draws;
+use crate::ends::{Heap, OwnReceiver, OwnSender};
+use crate::seat::Seat;
+use ends_tests::counting::Counting;
+use ends_tests::ends::open;
+use flume::Runtime;
+use flume_concurrent::event::Event;
+use flume_error::error::NoMemory;
+use flume_explain::explain::{Checked, check_calls};
+use flume_recorder::{Recorder, Recording, RecordingError};
+use futures::test::MockTask;
+use std::alloc::{AllocError, Global};
+use std::random::RandomSource;
+use std::{fmt, thread};
+
+// Of a channel that is refused memory one request in so many is refused.
+const REFUSED: u64 = 12;
+
+/// What a run recorded.
+#[derive(Drop)]
+pub struct Run {
+    /// The capacity of its channel.
+    pub capacity: Option<usize>,
+    /// Its events, in the order of time.
+    pub events: Vec<Event<u64>>,
+}
+
+/// Why there is no recording.
+#[derive(Clone, Copy, Drop)]
+pub enum Fault {
+    /// There was no memory.
+    NoMemory,
+    /// A thread couldn't be started.
+    NoThread,
+    /// A recorder lost something.
+    NoRecording(RecordingError),
+}
+
+impl fmt::Display for Fault {
+    fn fmt<W: fmt::Write>(&self, f: &mut fmt::Formatter<W>) -> fmt::Result {
+        match self {
+            Fault::NoMemory => f.write_str("out of memory"),
+            Fault::NoThread => f.write_str("no thread can be started"),
+            Fault::NoRecording(error) => write!(f, "{error}"),
+        }
+    }
+}
+
+impl From<AllocError> for Fault {
+    fn from(_refused: AllocError) -> Fault {
+        Fault::NoMemory
+    }
+}
+
+impl From<NoMemory> for Fault {
+    fn from(_refused: NoMemory) -> Fault {
+        Fault::NoMemory
+    }
+}
+
+impl From<RecordingError> for Fault {
+    fn from(error: RecordingError) -> Fault {
+        Fault::NoRecording(error)
+    }
+}
+
+/// What a search for an explanation came to.
+#[derive(Clone, Copy, Drop)]
+pub enum Verdict {
+    /// The events are explained.
+    Explained,
+    /// So many events are, and with the next one they aren't.
+    Breaks(usize),
+    /// So many events are, and all of them aren't. Where they stop wasn't found in time.
+    Unexplained(usize),
+    /// The search was given up: nothing is known of the events.
+    GaveUp,
+    /// There was no memory for the search.
+    NoMemory,
+}
+
+impl fmt::Display for Verdict {
+    fn fmt<W: fmt::Write>(&self, f: &mut fmt::Formatter<W>) -> fmt::Result {
+        match *self {
+            Verdict::Explained => f.write_str("it is explained"),
+            Verdict::Breaks(place) => {
+                let line = place.saturating_add(2);
+                write!(f, "line {line} is the first one that nothing explains")
+            }
+            Verdict::Unexplained(place) => {
+                let line = place.saturating_add(2);
+                write!(f, "nothing explains line {line}, or one behind it")
+            }
+            Verdict::GaveUp => f.write_str("the search was given up"),
+            Verdict::NoMemory => f.write_str("out of memory"),
+        }
+    }
+}
+
+/// What a search says of a run's recording, which enters at most so many configurations.
+pub fn judge(alloc: Global, run: &Run, limit: u64) -> Verdict {
+    let limit = usize::try_from(limit).unwrap_or(usize::MAX);
+    match check_calls(alloc, run.capacity, run.events.as_slice(), limit) {
+        Checked::Explained => Verdict::Explained,
+        Checked::Breaks(place) => Verdict::Breaks(place),
+        Checked::Unexplained(place) => Verdict::Unexplained(place),
+        Checked::GaveUp(_) => Verdict::GaveUp,
+        Checked::NoMemory => Verdict::NoMemory,
+    }
+}
+
+// The capacity of the channel of a run.
+fn capacity_of(number: u64) -> Option<usize> {
+    match number % 5 {
+        0 => Some(0),
+        1 => Some(1),
+        2 => Some(2),
+        3 => Some(8),
+        _ => None,
+    }
+}
+
+// The ends of the thread of this number: of three threads one has a sender, one a receiver, and one
+// both.
+fn seat<'h, R: Runtime>(
+    own: &mut Recorder<u64>,
+    (tx, rx): (&OwnSender<'h, R>, &OwnReceiver<'h, R>),
+    (recording, asked): (&Recording, Arguments),
+    (number, thread): (u64, u64),
+) -> Result<Seat<'h, R>, Fault> {
+    let sender = match thread % 3 {
+        1 => None,
+        _ => Some(own.clone_sender(tx)?),
+    };
+    let receiver = match thread % 3 {
+        0 => None,
+        _ => Some(own.clone_receiver(rx)?),
+    };
+    Ok(Seat {
+        recorder: recording.recorder()?,
+        sender,
+        receiver,
+        draws: Draws::seeded(number.wrapping_mul(1_000).wrapping_add(thread)),
+        calls: asked.calls.checked_div(asked.threads).unwrap_or(0),
+        message: thread.wrapping_add(1).wrapping_mul(100_000),
+    })
+}
+
+// Starts the threads, drops the ends that it is handed, and waits for all. Their recorders.
+fn run_threads<'h, R: Runtime + RandomSource>(
+    rt: R,
+    seats: Vec<Seat<'h, R>>,
+) -> Result<Vec<Recorder<u64>>, Fault> {
+    thread::scope(
+        thread::scope_env(),
+        &rt,
+        |scope| -> Result<Vec<Recorder<u64>>, Fault> {
+            let (mut threads, mut recorders) = (Vec::new(rt.alloc()), Vec::new(rt.alloc()));
+            for seat in seats {
+                let Ok(task) = MockTask::new(&rt) else {
+                    return Err(Fault::NoMemory);
+                };
+                let serves = move || seat.serve(rt.alloc(), &task);
+                let Ok(thread) = scope.spawn(serves) else {
+                    return Err(Fault::NoThread);
+                };
+                threads.push(thread).map_err(AllocError::from)?;
+            }
+            for thread in threads {
+                recorders.push(thread.join(&rt)).map_err(AllocError::from)?;
+            }
+            Ok(recorders)
+        },
+    )
+}
+
+impl Run {
+    /// Makes the run of this number, and records it.
+    pub fn make<R: Runtime + RandomSource>(
+        rt: R,
+        asked: Arguments,
+        number: u64,
+    ) -> Result<Run, Fault> {
+        let heap = Counting::new(rt.alloc());
+        Run::on(rt, &heap, asked, number)
+    }
+
+    // The same, on a channel whose memory comes from this allocator.
+    fn on<R: Runtime + RandomSource>(
+        rt: R,
+        heap: Heap<'_>,
+        asked: Arguments,
+        number: u64,
+    ) -> Result<Run, Fault> {
+        let capacity = capacity_of(number);
+        let recording = Recording::new(rt.alloc())?;
+        let mut own = recording.recorder()?;
+        let (tx, rx) = open(rt, heap, capacity)?;
+        let mut seats = Vec::new(rt.alloc());
+        for thread in 0..asked.threads {
+            let seat = seat(&mut own, (&tx, &rx), (&recording, asked), (number, thread))?;
+            seats.push(seat).map_err(AllocError::from)?;
+        }
+        if number % 2 == 1 {
+            heap.refuse_one_in(REFUSED);
+        }
+        own.drop_sender(tx);
+        own.drop_receiver(rx);
+        let mut recorders = run_threads(rt, seats)?;
+        recorders.push(own).map_err(AllocError::from)?;
+        let events = recording.events(recorders)?;
+        Ok(Run { capacity, events })
+    }
+}
