@@ -49,7 +49,7 @@ module _ {T A : Type 0} (equal : T → T → Bool) where
             (let one = length-append (events_in (reverse past)) (event ∷ []) in let less = h.1 in omega arith))),
       )
 
-  older : (o : Opening) (later before : List (Item T A)) → IsExplanation equal o (later ++ before) → IsExplanation equal o before
+  pub older : (o : Opening) (later before : List (Item T A)) → IsExplanation equal o (later ++ before) → IsExplanation equal o before
   older o [] before x = x
   older o (item ∷ later) before x =
       older o later before (record { calls = x.calls.1; run = run_before equal o item (later ++ before) x.run })

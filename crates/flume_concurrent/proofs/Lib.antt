@@ -6,3 +6,11 @@ pub mod LeanAlike
 pub mod LeanIdle
 pub mod LeanItems
 pub mod LeanSteps
+pub mod HandedSince
+pub mod CallsSince
+pub mod BegunCalls
+pub mod Received
+pub mod OffersMade
+pub mod SplitItems
+pub mod Unsent
+pub mod InOrder

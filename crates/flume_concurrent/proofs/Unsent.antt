@@ -1,0 +1,43 @@
+-- A message that was received was sent.
+use Rattle.std.proofs.Common.{◌≡◌, ℕ, Bool, false, not, List, [], ◌∷◌, ap, ◌∙◌, subst}
+use Rattle.flume_model.specs.Log.{Opening, Offer}
+use Rattle.flume_model.specs.Offers.{offers, withdrawn}
+use Rattle.flume_model.proofs.users.FilterPlaces.{filter_place, at_filter_place}
+use Rattle.flume_concurrent.specs.declared.call.Answer.TheVariants.{Got}
+use Rattle.flume_concurrent.specs.declared.event.Event.{Event}
+use Rattle.flume_concurrent.specs.declared.event.Event.TheVariants.{Returns}
+use Rattle.flume_concurrent.specs.declared.event.Item.{Item}
+use Rattle.flume_concurrent.specs.declared.event.Item.TheVariants.{Happens}
+use Rattle.flume_concurrent.specs.Explanations.{events_in, steps_in, IsExplanation, IsExplained}
+use Rattle.flume_concurrent.specs.Patterns.{begins_send, IsUnsent}
+use Rattle.flume_concurrent.proofs.Beginnings.{older}
+use Rattle.flume_concurrent.proofs.OffersMade.{Lacks, lacks_at, offers_none, begins_none}
+use Rattle.flume_concurrent.proofs.Received.{HandedOut, received}
+use Rattle.flume_concurrent.proofs.SplitItems.{told_all, split_at}
+
+module _ {T A : Type 0} (equal : T → T → Bool) where
+  -- what was received is one of the offers
+  unlike : (past : List (Item T A)) (told : T) → HandedOut equal past told → Lacks (equal told) (offers (steps_in past)) → ⊥
+  unlike past told k lacks =
+      let log = steps_in past in
+      let keeps : Offer T → Bool = λ offer. not (withdrawn log offer) in
+      let none : equal told k.offer.message ≡ false =
+      lacks_at (equal told) (offers log) (filter_place keeps (offers log) k.number) k.offer lacks
+      (at_filter_place keeps (offers log) k.number k.offer k.is_kept) in
+      let no_way : ⊥ = (let same = k.same in cc) in
+      no_way
+
+  returned_unsent : (o : Opening) (past : List (Item T A)) (t : ℕ) (told : T)
+      → IsExplanation equal o (Happens (Returns t (Got told)) ∷ past) → begins_send (equal told) (events_in past) ≡ false → ⊥
+  returned_unsent o past t told x none =
+      unlike past told (received equal o past (record { calls = x.calls.1; run = x.run }) t told x.calls.0)
+      (offers_none (equal told) equal past x.calls.1 none)
+
+  pub unsent : (o : Opening) (events : List (Event T A)) → IsExplained equal o events → IsUnsent equal events → ⊥
+  unsent o events h pattern =
+      let k = split_at h.0 pattern.before (Returns pattern.thread (Got pattern.message)) []
+      (told_all h.0 ∙ h.1 ∙ pattern.parts) in
+      returned_unsent o k.older pattern.thread pattern.message
+      (older equal o k.newer _ (subst (IsExplanation equal o) k.parts h.2))
+      (begins_none (equal pattern.message) (events_in k.older)
+      (ap (begins_send (equal pattern.message)) k.older_are ∙ pattern.unsent))
