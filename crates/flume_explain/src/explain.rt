@@ -1,5 +1,5 @@
 //! What explains the events that threads recorded.
-ghost use Rattle.std.specs.Prelude.{◌≡◌, ◌≤◌, ◌<◌, ℕ, length, take};
+ghost use Rattle.std.specs.Prelude.{◌≡◌, ◌≤◌, ◌<◌, ◌+◌, ℕ, length, take};
 ghost use Rattle.std.specs.declared.vec.Vec.{Vec};
 ghost use Rattle.flume_model.specs.Log.{opens};
 ghost use Rattle.flume_concurrent.specs.Explanations.{events_in, IsExplained};
@@ -94,12 +94,34 @@ pub fn check_calls<T: Copy + Eq + Drop, A: Allocator + Copy>(
     ensures unexplained { (count : ℕ) → result ≡ Checked.Unexplained count
         → UnexplainedAfter T.eq (opens capacity 1) events.now count }
 {
+    match check_within(alloc, capacity, events, limit, limit.min(SOON)) {
+        Checked::GaveUp(_) => check_long(alloc, capacity, events, limit),
+        checked => checked,
+    }
+}
+
+// As `check_calls`. The search for an explanation of all events enters at most so many
+// configurations.
+fn check_within<T: Copy + Eq + Drop, A: Allocator + Copy>(
+    alloc: A,
+    capacity: Option<usize>,
+    events: &[Event<T, A>],
+    limit: usize,
+    most: usize,
+) -> Checked
+    ensures explained { result ≡ Checked.Explained
+        → IsExplained T.eq (opens capacity 1) events.now }
+    ensures breaks { (count : ℕ) → result ≡ Checked.Breaks count
+        → BreaksAfter T.eq (opens capacity 1) events.now count }
+    ensures unexplained { (count : ℕ) → result ≡ Checked.Unexplained count
+        → UnexplainedAfter T.eq (opens capacity 1) events.now count }
+{
     let start = Configuration::new(alloc, capacity);
-    match find_path(alloc, start, events, limit.min(SOON)) {
+    match find_path(alloc, start, events, most) {
         Found::Path(path) => checked_by(alloc, capacity, events, path.as_slice()),
         Found::Nothing(place) => find_break(alloc, capacity, events, limit / 10, place),
         Found::NoMemory => Checked::NoMemory,
-        Found::GaveUp(_) => check_long(alloc, capacity, events, limit),
+        Found::GaveUp(place) => Checked::GaveUp(place),
     }
 }
 
@@ -118,19 +140,29 @@ fn check_long<T: Copy + Eq + Drop, A: Allocator + Copy>(
         → UnexplainedAfter T.eq (opens capacity 1) events.now count }
 {
     match refuted_at(alloc, events) {
-        Ok(Some(place)) => {
-            return find_break(alloc, capacity, &events[..=place], limit / 10, place);
-        }
-        Ok(None) => {}
-        Err(NoMemory) => return Checked::NoMemory,
+        Ok(Some(place)) => check_refuted(alloc, capacity, events, limit, place),
+        Ok(None) => check_within(alloc, capacity, events, limit, limit),
+        Err(NoMemory) => Checked::NoMemory,
     }
-    let start = Configuration::new(alloc, capacity);
-    match find_path(alloc, start, events, limit) {
-        Found::Path(path) => checked_by(alloc, capacity, events, path.as_slice()),
-        Found::Nothing(place) => find_break(alloc, capacity, events, limit / 10, place),
-        Found::NoMemory => Checked::NoMemory,
-        Found::GaveUp(place) => Checked::GaveUp(place),
-    }
+}
+
+// How many of the events are explained, if those up to this place aren't.
+fn check_refuted<T: Copy + Eq + Drop, A: Allocator + Copy>(
+    alloc: A,
+    capacity: Option<usize>,
+    events: &[Event<T, A>],
+    limit: usize,
+    place: usize,
+) -> Checked
+    requires within { place < length events.now }
+    requires refuted { IsExplained T.eq (opens capacity 1) (take (place + 1) events.now) → ⊥ }
+    ensures found { result ≡ Checked.Explained → ⊥ }
+    ensures breaks { (count : ℕ) → result ≡ Checked.Breaks count
+        → BreaksAfter T.eq (opens capacity 1) events.now count }
+    ensures unexplained { (count : ℕ) → result ≡ Checked.Unexplained count
+        → UnexplainedAfter T.eq (opens capacity 1) events.now count }
+{
+    find_break(alloc, capacity, &events[..=place], limit / 10, place)
 }
 
 // The explanation that these choices make, if they make one.

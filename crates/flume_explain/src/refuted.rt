@@ -3,9 +3,9 @@ ghost use Rattle.std.specs.Prelude.{◌≡◌, ◌<◌, ◌+◌, take, length, I
 ghost use Rattle.flume_model.specs.Log.{Opening};
 ghost use Rattle.flume_concurrent.specs.Explanations.{IsExplained};
 
-use crate::patterns::{Overtaking, is_out_of_order, is_unsent, last_send};
-use flume_concurrent::call::Answer;
+use crate::patterns::{Overtaking, begins, got, is_out_of_order, is_unsent, last_send};
 use flume_concurrent::event::Event;
+use flume_concurrent::laws::{messages_are_received_in_order, only_what_was_sent_is_received};
 use flume_core::error::NoMemory;
 use std::alloc::{AllocError, Allocator};
 
@@ -49,60 +49,48 @@ fn is_refuted<T: Copy + Eq + Drop, A: Allocator>(
     ensures refuted { (opening : Opening) → IsTrue result
         → IsExplained T.eq opening events.now → ⊥ }
 {
-    is_unsent(events)
-        || match overtaking(events, latest) {
-            Some(at) => is_out_of_order(events, at),
-            None => false,
-        }
+    only_what_was_sent_is_received::<T, A>();
+    messages_are_received_in_order::<T, A>();
+    if is_unsent(events) {
+        return true;
+    }
+    match overtaking(events, latest) {
+        Some(at) => is_out_of_order(events, at),
+        None => false,
+    }
 }
 
-// The message that was received last of those sent after the send had returned of the message that
-// the last event receives.
+// Where the message of the last event may be out of order: after the message that was received,
+// before the receive began, of those sent last.
 fn overtaking<T: Copy + Eq + Drop, A: Allocator>(
     events: &[Event<T, A>],
     latest: &[Option<Latest>],
 ) -> Option<Overtaking> {
-    let [
-        before @ ..,
-        Event::Returns {
-            thread,
-            answer: Answer::Got(message),
-        },
-    ] = events
-    else {
-        return None;
-    };
-    let begun = begun_by(before, *thread)?;
+    let (last, before) = events.split_last()?;
+    let own = got(last)?;
+    let begun = begun_by(before, own.thread)?;
     let latest = latest.get(begun).copied()??;
-    let sent = last_send(before, *message)?;
-    // The send had not returned.
-    if sent >= latest.sent {
-        return None;
+    let sent = last_send(before, own.message)?;
+    // Else its send had not returned.
+    if sent < latest.sent {
+        Some(Overtaking {
+            sent: latest.sent,
+            received: latest.received,
+            begun,
+        })
+    } else {
+        None
     }
-    Some(Overtaking {
-        sent: latest.sent,
-        received: latest.received,
-        begun,
-    })
 }
 
-// If the event at a place receives a message, where its send began.
+// If the event at a place is that a message is received, where the last send of it before began.
 fn latest_at<T: Copy + Eq + Drop, A: Allocator>(
     events: &[Event<T, A>],
     received: usize,
 ) -> Option<Latest> {
-    match events.get(received) {
-        Some(
-            Event::Returns {
-                answer: Answer::Got(message),
-                ..
-            },
-        ) => {
-            let sent = last_send(&events[..received], *message)?;
-            Some(Latest { sent, received })
-        }
-        _ => None,
-    }
+    let own = got(events.get(received)?)?;
+    let sent = last_send(&events[..received], own.message)?;
+    Some(Latest { sent, received })
 }
 
 // The one of two whose send began later.
@@ -114,13 +102,11 @@ fn later(first: Option<Latest>, second: Option<Latest>) -> Option<Latest> {
     }
 }
 
-// Where the last call of this thread begins.
+// The place of the last of these events that begins a call of this thread, if one does.
 fn begun_by<T: Drop, A: Allocator>(events: &[Event<T, A>], own: usize) -> Option<usize> {
     for back in 0..events.len() {
         let place = events.len() - 1 - back;
-        if let Event::Begins { thread, .. } = &events[place]
-            && *thread == own
-        {
+        if begins(&events[place], own) {
             return Some(place);
         }
     }
