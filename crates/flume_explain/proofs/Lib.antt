@@ -27,6 +27,7 @@ pub mod Happening
 pub mod Ways
 pub mod Taken
 pub mod Beginnings
+pub mod SeenPatterns
 pub mod Starts
 pub mod Rounds
 pub mod Renaming

@@ -1,5 +1,5 @@
 //! What explains the events that threads recorded.
-ghost use Rattle.std.specs.Prelude.{◌≡◌, ◌≤◌, ℕ};
+ghost use Rattle.std.specs.Prelude.{◌≡◌, ◌≤◌, ◌<◌, ◌+◌, ℕ, length, take};
 ghost use Rattle.std.specs.declared.vec.Vec.{Vec};
 ghost use Rattle.flume_model.specs.Log.{opens};
 ghost use Rattle.flume_concurrent.specs.Explanations.{events_in, IsExplained};
@@ -9,11 +9,16 @@ ghost use Rattle.flume_explain.specs.Search.{BreaksAfter, UnexplainedAfter};
 
 use crate::choice::Choice;
 use crate::configuration::Configuration;
+use crate::refuted::refuted_at;
 use crate::replay::{Failure, make_choices};
 use crate::search::{Found, find_path};
 use flume_concurrent::event::{Event, Item};
 use flume_concurrent::explanation::{Explained, check_explanation};
+use flume_core::error::NoMemory;
 use std::alloc::Allocator;
+
+// If an explanation isn't found in so many configurations, patterns are looked for first.
+const SOON: usize = 100_000;
 
 /// What a search for an explanation came to.
 #[derive(Drop)]
@@ -89,13 +94,75 @@ pub fn check_calls<T: Copy + Eq + Drop, A: Allocator + Copy>(
     ensures unexplained { (count : ℕ) → result ≡ Checked.Unexplained count
         → UnexplainedAfter T.eq (opens capacity 1) events.now count }
 {
+    match check_within(alloc, capacity, events, limit, limit.min(SOON)) {
+        Checked::GaveUp(_) => check_long(alloc, capacity, events, limit),
+        checked => checked,
+    }
+}
+
+// As `check_calls`. The search for an explanation of all events enters at most so many
+// configurations.
+fn check_within<T: Copy + Eq + Drop, A: Allocator + Copy>(
+    alloc: A,
+    capacity: Option<usize>,
+    events: &[Event<T, A>],
+    limit: usize,
+    most: usize,
+) -> Checked
+    ensures explained { result ≡ Checked.Explained
+        → IsExplained T.eq (opens capacity 1) events.now }
+    ensures breaks { (count : ℕ) → result ≡ Checked.Breaks count
+        → BreaksAfter T.eq (opens capacity 1) events.now count }
+    ensures unexplained { (count : ℕ) → result ≡ Checked.Unexplained count
+        → UnexplainedAfter T.eq (opens capacity 1) events.now count }
+{
     let start = Configuration::new(alloc, capacity);
-    match find_path(alloc, start, events, limit) {
+    match find_path(alloc, start, events, most) {
         Found::Path(path) => checked_by(alloc, capacity, events, path.as_slice()),
         Found::Nothing(place) => find_break(alloc, capacity, events, limit / 10, place),
         Found::NoMemory => Checked::NoMemory,
         Found::GaveUp(place) => Checked::GaveUp(place),
     }
+}
+
+// As `check_calls`, of events of which an explanation isn't found soon: looks for a pattern first.
+fn check_long<T: Copy + Eq + Drop, A: Allocator + Copy>(
+    alloc: A,
+    capacity: Option<usize>,
+    events: &[Event<T, A>],
+    limit: usize,
+) -> Checked
+    ensures explained { result ≡ Checked.Explained
+        → IsExplained T.eq (opens capacity 1) events.now }
+    ensures breaks { (count : ℕ) → result ≡ Checked.Breaks count
+        → BreaksAfter T.eq (opens capacity 1) events.now count }
+    ensures unexplained { (count : ℕ) → result ≡ Checked.Unexplained count
+        → UnexplainedAfter T.eq (opens capacity 1) events.now count }
+{
+    match refuted_at(alloc, events) {
+        Ok(Some(place)) => check_refuted(alloc, capacity, events, limit, place),
+        Ok(None) => check_within(alloc, capacity, events, limit, limit),
+        Err(NoMemory) => Checked::NoMemory,
+    }
+}
+
+// How many of the events are explained, if those up to this place aren't.
+fn check_refuted<T: Copy + Eq + Drop, A: Allocator + Copy>(
+    alloc: A,
+    capacity: Option<usize>,
+    events: &[Event<T, A>],
+    limit: usize,
+    place: usize,
+) -> Checked
+    requires within { place < length events.now }
+    requires refuted { IsExplained T.eq (opens capacity 1) (take (place + 1) events.now) → ⊥ }
+    ensures found { result ≡ Checked.Explained → ⊥ }
+    ensures breaks { (count : ℕ) → result ≡ Checked.Breaks count
+        → BreaksAfter T.eq (opens capacity 1) events.now count }
+    ensures unexplained { (count : ℕ) → result ≡ Checked.Unexplained count
+        → UnexplainedAfter T.eq (opens capacity 1) events.now count }
+{
+    find_break(alloc, capacity, &events[..=place], limit / 10, place)
 }
 
 // The explanation that these choices make, if they make one.
@@ -177,11 +244,36 @@ fn find_break<T: Copy + Eq + Drop, A: Allocator + Copy>(
                 next = high - half_at_most(step, high - low);
             }
             Explanation::NoMemory => return Checked::NoMemory,
-            Explanation::GaveUp(_) => return Checked::Unexplained(low),
+            Explanation::GaveUp(place) => {
+                return Checked::Unexplained(raised(alloc, capacity, events, limit, low, place));
+            }
         }
         step = step.saturating_mul(2);
     }
     Checked::Breaks(low)
+}
+
+// So many events are explained: up to a place if these are, else as few as before.
+fn raised<T: Copy + Eq + Drop, A: Allocator + Copy>(
+    alloc: A,
+    capacity: Option<usize>,
+    events: &[Event<T, A>],
+    limit: usize,
+    low: usize,
+    place: usize,
+) -> usize
+    requires within { low < length events.now }
+    requires low { IsExplained T.eq (opens capacity 1) (take low events.now) }
+    ensures within { result < length events.now }
+    ensures explained { IsExplained T.eq (opens capacity 1) (take result events.now) }
+{
+    if place <= low || place >= events.len() {
+        return low;
+    }
+    match explain(alloc, capacity, &events[..place], limit) {
+        Explanation::Explained(_) => place,
+        _ => low,
+    }
 }
 
 // The step, but no more than half of what is left.

@@ -2,7 +2,7 @@
 use Rattle.std.proofs.Common.{refl, subst}
 use Rattle.flume_explain.specs.Dead.{IsDead}
 use Rattle.flume_explain.proofs.Starts.{unexplained}
-use Rattle.flume_explain.proofs.explain.check_calls.Goals as goal
+use Rattle.flume_explain.proofs.explain.check_within.Goals as goal
 
 pub find_break-requires : goal.find_break-requires
 find_break-requires g c =
