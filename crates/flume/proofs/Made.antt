@@ -8,12 +8,13 @@ use Rattle.flume_calls.specs.Turns.{Turned}
 use Rattle.flume.specs.Turning.{HasDone, HasMade}
 use Rattle.flume.specs.CallSteps.{HasReplied}
 
+-- a turn of one step makes no more
+pub one_step : {T S A N : Type 0} {step : Step T} {table : Reply T A → N → Type 0} {old new : State T S} {answer : N}
+    → Turned {A = A} step table old new answer → AtMostOneStep A old new
+one_step {step = step} turn = OneStep step turn.reply turn.stepped
+
 module _ {T S A N : Type 0} {step : Step T} {table : Reply T A → N → Type 0}
     {outcome : State T S → State T S → N → Type 0} {answer : N} where
-  -- the turn is made of one step
-  pub one_step : {old new : State T S} → Turned {A = A} step table old new answer × outcome old new answer → AtMostOneStep A old new
-  one_step does = OneStep step does.0.reply does.0.stepped
-
   -- the step was made
   pub step_made : HasDone A (λ old new told. Turned {A = A} step table old new told × outcome old new told) answer → HasMade step table answer
   step_made done =

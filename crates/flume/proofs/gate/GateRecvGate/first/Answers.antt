@@ -4,7 +4,7 @@ use Rattle.flume.proofs.Made.{one_step, step_made}
 use Rattle.flume.proofs.gate.GateRecvGate.first.Goals as goal
 
 pub call_once-requires : goal.call_once-requires
-call_once-requires g c = record { one_step = λ old new answer does. one_step does }
+call_once-requires g c = record { one_step = λ old new answer does. one_step does.0 }
 
 pub returns-clause-does : goal.returns-clause-does
 returns-clause-does g c =

@@ -4,7 +4,7 @@ use Rattle.flume.proofs.Made.{one_step, step_made}
 use Rattle.flume.proofs.gate.GateSendGate.first.Goals as goal
 
 pub call_once-requires : goal.call_once-requires
-call_once-requires g c = record { one_step = λ old new answer does. one_step does }
+call_once-requires g c = record { one_step = λ old new answer does. one_step does.0 }
 
 pub returns-clause-does : goal.returns-clause-does
 returns-clause-does g c = let turn = c.call_once.ensures in record { same = refl; answers = turn.answers; made = step_made turn.made }

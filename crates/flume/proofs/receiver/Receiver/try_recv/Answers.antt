@@ -8,7 +8,7 @@ use Rattle.flume.proofs.Made.{one_step, step_made}
 use Rattle.flume.proofs.receiver.Receiver.try_recv.Goals as goal
 
 pub call_once-requires : goal.call_once-requires
-call_once-requires g c = record { one_step = λ old new answer does. one_step does }
+call_once-requires g c = record { one_step = λ old new answer does. one_step does.0 }
 
 pub returns-clause-made : goal.returns-clause-made
 returns-clause-made g c =

@@ -1,6 +1,9 @@
 -- A run led to the channel that the turn was made of.
 use Rattle.flume.proofs.shared.Shared.call_once.Goals as goal
 
+pub make_quietly-requires-clause-one_step : goal.make_quietly-requires-clause-one_step
+make_quietly-requires-clause-one_step g c = λ new answer does. c.requires.one_step _ new answer does
+
 pub returns-then-is_quiet-clause-made : goal.returns-then-is_quiet-clause-made
 returns-then-is_quiet-clause-made g c =
     let led = c.facts.ensures.led in
