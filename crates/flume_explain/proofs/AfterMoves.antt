@@ -15,7 +15,8 @@ use Rattle.flume_explain.specs.declared.configuration.OpenCall.{OpenCall}
 use Rattle.flume_explain.specs.declared.step_of.Move.{Move}
 use Rattle.flume_explain.specs.Configurations.{State, call_at, thread_at, first_answer}
 use Rattle.flume_explain.specs.Agreement.{Agrees}
-use Rattle.flume_explain.specs.Moves.{move_of, IsMade, IsMove, IsWrong, LeadsTo, LeadsNowhere, CallLeadsTo, CallLeadsNowhere}
+use Rattle.flume_explain.specs.Moves.{move_of, IsMove}
+use Rattle.flume_explain.specs.Leads.{IsMade, IsWrong, LeadsTo, LeadsNowhere, CallLeadsTo, CallLeadsNowhere}
 use Rattle.flume_explain.proofs.StepMoves.{found}
 
 module _ {T A : Type 0} (equal : T → T → Bool) (events : List (Event T A)) (c : State) (one : OpenCall) (other refused : Bool)

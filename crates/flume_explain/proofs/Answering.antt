@@ -37,7 +37,8 @@ use Rattle.flume_explain.specs.Configurations.{State, progressed, is_parked, cal
 use Rattle.flume_explain.specs.Made.{made}
 use Rattle.flume_explain.specs.Mirrors.{Mirrors, Answers, IsAlike, IsLeft, parks, stays_parked, tickets_after}
 use Rattle.flume_explain.specs.Agreement.{Agrees, AreParked, IsOwn, IsProgress, parked_at, is_send_at}
-use Rattle.flume_explain.specs.Moves.{IsMade, IsWrong, move_of, is_refusal}
+use Rattle.flume_explain.specs.Moves.{move_of, is_refusal}
+use Rattle.flume_explain.specs.Leads.{IsMade, IsWrong}
 use Rattle.flume_explain.specs.Progresses.{progress_of, unticketed, is_wrong}
 use Rattle.flume_explain.proofs.MoveAnswers.{MoveAnswers, IsReady, IsNew, IsApart}
 use Rattle.flume_explain.proofs.CallLists.{parked_self, parked_there}

@@ -1,5 +1,5 @@
 -- Beginnings of events.
-use Rattle.std.proofs.Common.{◌≡◌, ◌≤◌, ◌<◌, ◌+◌, ℕ, Bool, List, [], ◌∷◌, refl, sym, subst, length, take, take-take, length-take, arith}
+use Rattle.std.proofs.Common.{◌≡◌, ◌<◌, ◌+◌, ℕ, Bool, List, [], ◌∷◌, refl, subst, length, take, take-take, length-take, arith}
 use Rattle.std.proofs.lemmas.List.{take_all}
 use Rattle.flume_model.specs.Log.{Opening}
 use Rattle.flume_concurrent.specs.declared.event.Event.{Event}

@@ -13,6 +13,7 @@ use Rattle.flume_explain.specs.Agreement.{IsOwn, parked_at}
 pub not_equal : (t u : ℕ) → t ≡ u → eqb t u ≡ false → ⊥
 not_equal t u e differs = let yes = eq-eqb t u e in let none : ⊥ = cc in none
 
+-- numbers that fail the test aren't equal
 pub differ : (t u : ℕ) → eqb t u ≡ false → t ≢ u
 differ t u differs e = not_equal t u e differs
 
@@ -28,11 +29,13 @@ once_other place q call other =
     let no : eqb call.place place ≡ false = ne_eqb call.place place other in
     ap (λ b. if b then record { place = call.place; progress = q } else call) no
 
+-- the call at its own place is so far now
 pub once_self : (q : Progress) (call : OpenCall) → once call.place q call ≡ record { place = call.place; progress = q }
 once_self q call =
     let yes : eqb call.place call.place ≡ true = eq-eqb call.place call.place refl in
     ap (λ b. if b then record { place = call.place; progress = q } else call) yes
 
+-- the test finds the thread itself
 thread_is : (t : ℕ) (o : Option ℕ) → is_thread t o ≡ true → o ≡ Some t
 thread_is t None e = absurd (let no : ⊥ = cc in no)
 thread_is t (Some u) e = ap (λ v. Some v) (eqb-true u t e)

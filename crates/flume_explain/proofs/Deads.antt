@@ -23,7 +23,7 @@ use Rattle.flume_explain.specs.declared.choice.Choice.{Choice}
 use Rattle.flume_explain.specs.declared.choice.Choice.TheVariants.{TakeEvent, MakeStep}
 use Rattle.flume_explain.specs.declared.configuration.OpenCall.{OpenCall}
 use Rattle.flume_explain.specs.Configurations.{State, event_at, thread_at, first_answer}
-use Rattle.flume_explain.specs.Moves.{IsWrong, LeadsTo, LeadsNowhere}
+use Rattle.flume_explain.specs.Leads.{IsWrong, LeadsTo, LeadsNowhere}
 use Rattle.flume_explain.specs.Dead.{onto, IsDead, IsDeadWithin, IsOf, AreLeft, IsSpent, EventLeads, EventWaits}
 
 module _ {T A : Type 0} (equal : T → T → Bool) (events : List (Event T A)) where
@@ -167,6 +167,7 @@ module _ {T A : Type 0} (equal : T → T → Bool) (events : List (Event T A)) w
       by on false is fits = on (ap (λ b. if b then None else open_call past t) is ∙ so)
           (sym (ap (λ b. if b then Some answer else first_answer t (events_in items)) is) ∙ first)
 
+  -- such a move of this open call, by whichever thread, leads to no explanation
   abbrev pub LeadsOff : ℕ → State → OpenCall → (other refused : Bool) → Type 0
   LeadsOff place c call other refused = (t : ℕ) → Contains c.calls call → thread_at events call.place ≡ Some t
       → LeadsNowhere equal events c (drop place events) t other refused

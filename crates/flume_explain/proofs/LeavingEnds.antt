@@ -33,6 +33,7 @@ woken_place r = by_waits (waits r.standing)
     by_waits true = refl
     by_waits false = refl
 
+-- receives that are woken keep their places
 woken_places : (rs : List ParkedReceive) → map (λ r. r.place) (map woken_if_waiting rs) ≡ map (λ r. r.place) rs
 woken_places [] = refl
 woken_places (r ∷ rs) = ap₂ (λ p l. p ∷ l) (woken_place r) (woken_places rs)

@@ -64,6 +64,7 @@ admitted_receives : (c : State) (ps : List ℕ) → (admit_of ps c).receives ≡
 admitted_receives c [] = refl
 admitted_receives c (p ∷ ps) = refl
 
+-- so does admitting sends into the room that there is
 refilled_receives : (c : State) → (refill c).receives ≡ c.receives
 refilled_receives c = by_case (full_now c) refl
   where
@@ -71,6 +72,7 @@ refilled_receives c = by_case (full_now c) refl
     by_case true full = rw full refl
     by_case false room = rw room (admitted_receives c c.blocked)
 
+-- so does admitting the first send to an empty queue
 fronted_receives : (c : State) → (with_front c).receives ≡ c.receives
 fronted_receives c = go c.queue
   where
@@ -78,6 +80,7 @@ fronted_receives c = go c.queue
     go [] = admitted_receives c c.blocked
     go (p ∷ queue) = refl
 
+-- so does the whole take
 pub taken_receives : (rest : List ℕ) (c : State) → (take_leaving rest c).receives ≡ c.receives
 taken_receives rest c = refilled_receives (record (with_front c) { queue = rest }) ∙ fronted_receives c
 

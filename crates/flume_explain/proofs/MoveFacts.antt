@@ -42,6 +42,7 @@ module _ {T : Type 0} where
   IsAllowed own p (move.Recv kind) = (is_parked p ≡ false) × (is_send own ≡ false)
   IsAllowed own p _ = is_parked p ≡ false
 
+  -- if there is a move, it is allowed
   abbrev AreAllowed : Call T → Progress → Option Move → Type 0
   AreAllowed own p None = Unit {0}
   AreAllowed own p (Some mv) = IsAllowed own p mv
@@ -122,6 +123,7 @@ module _ {T : Type 0} where
   move_for step.ReceiverCount = move.ReceiverCount
   move_for step.IsDisconnected = move.IsDisconnected
 
+  -- if there is a step, this move is for it
   abbrev AreFor : Move → Option (Step T) → Type 0
   AreFor mv None = Unit {0}
   AreFor mv (Some step) = move_for step ≡ mv
@@ -185,11 +187,13 @@ module _ (P : PlaceReply → Type 0) where
 abbrev May : Move → PlaceReply → Type 0
 May mv told = may_answer mv told ≡ true
 
+-- a receive that asks at the line may be answered so
 asked_may : (place : ℕ) (c : State) → May move.Poll (leaves_with place (looked place c)).0
 asked_may place c =
     leaves_has (May move.Poll) place (looked place c).0 (looked place c).1
     (received_has (May move.Poll) (reply.Waiting, ask_again place c) (reply.Ended, without_receive place c) c (λ p. refl) refl refl)
 
+-- a parked receive that stands so and asks
 polled_may : (place : ℕ) (kind : Kind) (stands : Standing) (c : State) → May move.Poll (polled_as place kind stands c).0
 polled_may place kind (Filled p) c = refl
 polled_may place Block Waiting c = refl
@@ -201,10 +205,12 @@ polled_may place Plain Woken c = asked_may place c
 polled_may place Stream Woken c = asked_may place c
 polled_may place Arm Woken c = asked_may place c
 
+-- a receive that asks, parked or not
 poll_may : (place : ℕ) (found : Option ParkedReceive) (c : State) → May move.Poll (polled_by place found c).0
 poll_may place None c = refl
 poll_may place (Some r) c = polled_may place r.kind r.standing c
 
+-- a receive that leaves and may take a message
 taken_may : (place : ℕ) (c : State)
     → May move.Withdraw (leaves_with place (received_from (with_front c).queue (reply.Gone (closed_now c), without_receive place c) c)).0
 taken_may place c = by_queue (with_front c).queue
@@ -213,6 +219,7 @@ taken_may place c = by_queue (with_front c).queue
     by_queue [] = refl
     by_queue (p ∷ rest) = refl
 
+-- a parked receive that stands so and leaves
 left_may : (place : ℕ) (kind : Kind) (stands : Standing) (c : State) → May move.Withdraw (left_as place kind stands c).0
 left_may place kind (Filled p) c = refl
 left_may place Block Waiting c = taken_may place c
@@ -224,10 +231,12 @@ left_may place Plain Woken c = refl
 left_may place Stream Woken c = refl
 left_may place Arm Woken c = refl
 
+-- a receive that leaves, parked or not
 leave_may : (place : ℕ) (found : Option ParkedReceive) (c : State) → May move.Withdraw (left_by place found c).0
 leave_may place None c = refl
 leave_may place (Some r) c = left_may place r.kind r.standing c
 
+-- a send that withdraws
 withdrawn_may : (place : ℕ) (c : State) → May move.WithdrawSend (send_withdrawn place c).0
 withdrawn_may place c = by_case (is_blocked place c)
   where
@@ -235,6 +244,7 @@ withdrawn_may place c = by_case (is_blocked place c)
     by_case true = refl
     by_case false = refl
 
+-- a send that asks
 send_may : (place : ℕ) (c : State) → May move.PollSend (send_polled place c).0
 send_may place c = by_case (is_blocked place c) (closed_now c)
   where
@@ -260,6 +270,7 @@ module _ (mv : Move) (done : May mv reply.Done) where
       by_case true = none
       by_case false = done
 
+-- a capacity that is set
 resized_may : (old : Option ℕ) (n : ℕ) (c : State) → May (move.SetCapacity n) (resized old n c).0
 resized_may None n c = refl
 resized_may (Some old) n c = by_case (closed_now c)

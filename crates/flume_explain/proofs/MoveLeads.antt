@@ -15,7 +15,7 @@ use Rattle.flume_explain.specs.Configurations.{State, progressed, first_answer}
 use Rattle.flume_explain.specs.Made.{made}
 use Rattle.flume_explain.specs.Mirrors.{IsAlike}
 use Rattle.flume_explain.specs.Agreement.{Agrees}
-use Rattle.flume_explain.specs.Moves.{CallLeadsTo, CallLeadsNowhere}
+use Rattle.flume_explain.specs.Leads.{CallLeadsTo, CallLeadsNowhere}
 use Rattle.flume_explain.specs.Progresses.{progress_of, unticketed, is_wrong}
 use Rattle.flume_explain.proofs.CallLists.{progressed_same}
 use Rattle.flume_explain.proofs.EachMove.{answers}

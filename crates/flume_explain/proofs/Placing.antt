@@ -18,9 +18,11 @@ use Rattle.flume_explain.specs.Mirrors.{entry_for}
 use Rattle.flume_explain.specs.Receives.{round_of, receive_of, without_place}
 
 module _ {T A : Type 0} (events : List (Event T A)) (tickets : ℕ → ℕ) where
+  -- a receive that is parked at a place
   abbrev parked : ℕ → Kind → Standing → ParkedReceive
   parked p k s = record { place = p; kind = k; standing = s }
 
+  -- what a log has of a receive, with its ticket and the message that it holds
   abbrev placed : ParkedReceive → LogEntry (Option T)
   placed r = entry_for events tickets r
 

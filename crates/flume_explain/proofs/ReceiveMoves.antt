@@ -18,7 +18,6 @@ use Rattle.flume_state.specs.State.{State as Channel}
 use Rattle.flume_state.specs.Effects.{after_take}
 use Rattle.flume_state.specs.Effects.{with_front as with_front_there}
 use Rattle.flume_core.specs.Represents.{Represents}
-use Rattle.flume_core.proofs.Keeping.{still}
 use Rattle.flume_core.proofs.Takes.{takes}
 use Rattle.flume_core.proofs.Receives.{parks}
 use Rattle.flume_core.proofs.Views.{open_at_log, closed_at_log}
@@ -30,10 +29,8 @@ use Rattle.flume_explain.specs.declared.place_reply.PlaceReply.TheVariants as re
 use Rattle.flume_explain.specs.declared.step_of.Move.TheVariants as move
 use Rattle.flume_explain.specs.Configurations.{State}
 use Rattle.flume_explain.specs.ByPlaces.{closed_now, with_front, take_leaving}
-use Rattle.flume_explain.specs.declared.place_reply.PlaceReply.{PlaceReply}
 use Rattle.flume_explain.specs.Made.{Answer, made, received_from, parked}
-use Rattle.flume_explain.specs.Mirrors.{Mirrors, Answers, IsLeft, IsAlike}
-use Rattle.flume_explain.specs.Mirrors.{parks as parks_by}
+use Rattle.flume_explain.specs.Mirrors.{Mirrors, Answers, IsLeft}
 use Rattle.flume_explain.specs.Moves.{is_refusal}
 use Rattle.flume_explain.proofs.MoveAnswers.{MoveAnswers, IsNew}
 use Rattle.flume_explain.proofs.MirrorViews.{closed_same}
@@ -41,7 +38,7 @@ use Rattle.flume_explain.proofs.MirrorTakes.{mirror_take, mirror_empty}
 use Rattle.flume_explain.proofs.MirrorReceives.{mirror_parked}
 use Rattle.flume_explain.proofs.LeftPlaces.{all_left, one_joins, none_of}
 use Rattle.flume_explain.proofs.LeftReceives.{places, taken_blocked, taken_receives}
-use Rattle.flume_explain.proofs.SendMoves.{closed_if, open_if}
+use Rattle.flume_explain.proofs.SendMoves.{closed_if, open_if, answers_unchanged}
 
 module _ {T A : Type 0} (events : List (Event T A)) (o : Opening) (log : Log T A) (s : Channel T (Unit {0})) (c : State) (tickets : ℕ → ℕ)
     (place : ℕ) (h : Represents o log s) (mirrors : Mirrors events tickets s c) (new : IsNew place c) where
@@ -67,19 +64,6 @@ module _ {T A : Type 0} (events : List (Event T A)) (o : Opening) (log : Log T A
         receives_left = rw (taken_receives later c) (all_left (reply.Got p) place (places c.receives) elsewhere);
       }
 
-  -- nothing changes
-  same : (step : Step T) (told : PlaceReply) (r : Reply T A) → parks_by told ≡ false → IsAlike events s.next c.queue told r
-      → Represents o ((step, r) ∷ log) s → Answers events o log tickets s c place step told c
-  same step told r stays alike stands = record {
-    reply = r;
-    alike = alike;
-    state = s;
-    stands = stands;
-    mirrors = rw stays mirrors;
-    blocked_left = all_left told place c.blocked new.not_blocked;
-    receives_left = all_left told place (places c.receives) elsewhere;
-  }
-
   -- a receive that doesn't wait
   tries : Answers events o log tickets s c place TryRecv (made move.TryRecv place c).0 (made move.TryRecv place c).1
   tries = go (with_front c).queue refl
@@ -91,12 +75,12 @@ module _ {T A : Type 0} (events : List (Event T A)) (o : Opening) (log : Log T A
           → Tried (if b then (reply.Ended, c) else (reply.Empty, c))
       none empty true closed =
           let is = closed_if s.senders s.receivers (sym (closed_same events tickets s c mirrors) ∙ closed) in
-          same TryRecv reply.Ended own.Ended refl tt
-          (still o log _ s s h (empty_line o log s h empty, closed_at_log h is) refl refl)
+          answers_unchanged events o log s c tickets place h mirrors new TryRecv reply.Ended own.Ended refl tt
+          (empty_line o log s h empty, closed_at_log h is) refl
       none empty false open_ =
           let is = open_if s.senders s.receivers (sym (closed_same events tickets s c mirrors) ∙ open_) in
-          same TryRecv reply.Empty own.Empty refl tt
-          (still o log _ s s h (empty_line o log s h empty, open_at_log h is) refl refl)
+          answers_unchanged events o log s c tickets place h mirrors new TryRecv reply.Empty own.Empty refl tt
+          (empty_line o log s h empty, open_at_log h is) refl
 
       go : (queue : List ℕ) → (with_front c).queue ≡ queue
           → Tried (received_from queue (if closed_now c then (reply.Ended, c) else (reply.Empty, c)) c)
@@ -145,8 +129,8 @@ module _ {T A : Type 0} (events : List (Event T A)) (o : Opening) (log : Log T A
           → Received (if b then (reply.Ended, c) else (reply.Parked, parked kind place c))
       none empty true closed =
           let is = closed_if s.senders s.receivers (sym (closed_same events tickets s c mirrors) ∙ closed) in
-          same (Recv kind) reply.Ended own.Ended refl tt
-          (still o log _ s s h (empty_line o log s h empty, closed_at_log h is) refl refl)
+          answers_unchanged events o log s c tickets place h mirrors new (Recv kind) reply.Ended own.Ended refl tt
+          (empty_line o log s h empty, closed_at_log h is) refl
       none empty false open_ =
           waits empty (open_if s.senders s.receivers (sym (closed_same events tickets s c mirrors) ∙ open_))
 

@@ -13,7 +13,8 @@ use Rattle.flume_explain.specs.declared.configuration.Progress.TheVariants.{Done
 use Rattle.flume_explain.specs.declared.step_of.Move.{Move}
 use Rattle.flume_explain.specs.Configurations.{State, with_progress, first_answer}
 use Rattle.flume_explain.specs.Agreement.{Agrees}
-use Rattle.flume_explain.specs.Moves.{step_for, CallLeadsTo, CallLeadsNowhere}
+use Rattle.flume_explain.specs.Moves.{step_for}
+use Rattle.flume_explain.specs.Leads.{CallLeadsTo, CallLeadsNowhere}
 use Rattle.flume_explain.specs.Progresses.{progress_of, unticketed, is_wrong}
 use Rattle.flume_explain.proofs.CallLists.{progressed_same}
 use Rattle.flume_explain.proofs.Furthered.{progress_is}

@@ -36,7 +36,8 @@ use Rattle.flume_explain.specs.Configurations.{State, progressed, is_parked, cal
 use Rattle.flume_explain.specs.Made.{made}
 use Rattle.flume_explain.specs.Mirrors.{Mirrors, Answers, IsAlike, IsLeft, parks, stays_parked, tickets_after}
 use Rattle.flume_explain.specs.Agreement.{Agrees, AreParked, IsOwn, IsProgress, parked_at}
-use Rattle.flume_explain.specs.Moves.{IsMade, IsWrong, move_of, is_refusal}
+use Rattle.flume_explain.specs.Moves.{move_of, is_refusal}
+use Rattle.flume_explain.specs.Leads.{IsMade, IsWrong}
 use Rattle.flume_explain.specs.Progresses.{progress_of, unticketed, is_wrong}
 use Rattle.flume_explain.proofs.MoveAnswers.{MoveAnswers, IsReady, IsNew, IsApart}
 use Rattle.flume_explain.proofs.CallLists.{parked_self, parked_there}
@@ -82,6 +83,7 @@ module _ {T A : Type 0} (equal : T → T → Bool) (events : List (Event T A))
   abbrev pub refused_stage : Stage T A
   refused_stage = stage_after own (unticketed h.stage) (NoMemory None)
 
+  -- how far the call is after this reply
   abbrev q : Progress
   q = progress_of (stage_after own h.stage reply)
 

@@ -15,6 +15,7 @@ use Rattle.flume_model.specs.Parked.{LogEntry, same_notice}
 use Rattle.flume_explain.specs.Mirrors.{some_mark, some_entry}
 
 module _ {T : Type 0} where
+  -- what a log has of a receive
   abbrev entry : ℕ → Kind → Mark T → LogEntry T
   entry t k m = record { ticket = t; kind = k; mark = m; notice = tt }
 

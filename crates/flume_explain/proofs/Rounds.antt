@@ -7,6 +7,7 @@ use Rattle.std.proofs.lemmas.List.{set_split}
 use Rattle.flume_explain.specs.declared.configuration.ParkedReceive.{ParkedReceive}
 use Rattle.flume_explain.specs.Receives.{waits, round_of}
 
+-- a wake round that changes one receive and goes no further
 pub ends_here : (front i : ℕ) (cur all : List ParkedReceive) (new r : ParkedReceive) → i < length cur
     → round_of front all ≡ take i cur ++ round_of front (drop i cur) → drop i cur ≡ r ∷ drop (suc i) cur
     → round_of front (r ∷ drop (suc i) cur) ≡ new ∷ drop (suc i) cur → set cur i new ≡ round_of front all

@@ -105,7 +105,7 @@ module _ {T A : Type 0} (events : List (Event T A)) (o : Opening) (log : Log T A
   IsAnswered step a = Answers events o log tickets s c place step a.0 a.1
 
   -- nothing changes
-  answers_unchanged : (step : Step T) (told : PlaceReply) (back : Reply T A) → parks told ≡ false → IsAlike events s.next c.queue told back
+  pub answers_unchanged : (step : Step T) (told : PlaceReply) (back : Reply T A) → parks told ≡ false → IsAlike events s.next c.queue told back
       → IsReply (channel o log) step back → change log step back ≡ Stays → IsAnswered step (told, c)
   answers_unchanged step told back none alike_ lawful stays = record {
     reply = back;

@@ -25,7 +25,8 @@ use Rattle.flume_explain.specs.declared.step_of.Move.{Move}
 use Rattle.flume_explain.specs.declared.step_of.Move.TheVariants as move
 use Rattle.flume_explain.specs.Configurations.{State, call_at, thread_at, call_by, first_answer}
 use Rattle.flume_explain.specs.Agreement.{Agrees, IsOpenAs, IsOwn, IsProgress}
-use Rattle.flume_explain.specs.Moves.{first_move, parking_move, next_move, other_move, move_of, step_for, is_refusal, IsStepOf, IsMove, IsMade, LeadsTo, LeadsNowhere, MoveLeadsTo, MoveLeadsNowhere}
+use Rattle.flume_explain.specs.Moves.{first_move, parking_move, next_move, other_move, move_of, step_for, is_refusal, IsStepOf, IsMove}
+use Rattle.flume_explain.specs.Leads.{IsMade, LeadsTo, LeadsNowhere, MoveLeadsTo, MoveLeadsNowhere}
 
 module _ {T : Type 0} where
   -- the step of a move, if there is one

@@ -38,7 +38,8 @@ use Rattle.flume_explain.specs.Configurations.{State, progressed, is_parked, cal
 use Rattle.flume_explain.specs.Made.{made}
 use Rattle.flume_explain.specs.Mirrors.{Mirrors, Answers, IsAlike, IsLeft, parks, stays_parked, tickets_after}
 use Rattle.flume_explain.specs.Agreement.{Agrees, AreParked, IsOwn, IsProgress, parked_at, is_send_at}
-use Rattle.flume_explain.specs.Moves.{IsMade, IsWrong, move_of, is_refusal}
+use Rattle.flume_explain.specs.Moves.{move_of, is_refusal}
+use Rattle.flume_explain.specs.Leads.{IsMade, IsWrong}
 use Rattle.flume_explain.specs.Progresses.{progress_of, unticketed, is_wrong}
 use Rattle.flume_explain.proofs.MoveAnswers.{MoveAnswers, IsReady, IsNew, IsApart}
 use Rattle.flume_explain.proofs.CallLists.{differ}
@@ -79,9 +80,11 @@ module _ {T A : Type 0} (equal : T → T → Bool) (events : List (Event T A)) (
     (c : State) (rest : List (Event T A)) (t : ℕ) (one : OpenCall) (own : Call T) (mv : Move) (other : Bool)
     (o : Opening) (past : List (Item T A)) (step : Step T) (reply : Reply T A)
     (h : IsMade equal events c rest t one own mv false o past step reply) (chosen : move_of own one.progress other ≡ Some mv) where
+  -- how the move is answered
   abbrev told : PlaceReply
   told = (made mv one.place c).0
 
+  -- what it leaves of the configuration
   abbrev left : State
   left = (made mv one.place c).1
 

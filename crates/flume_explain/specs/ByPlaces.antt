@@ -14,10 +14,11 @@ use Rattle.flume_explain.specs.Receives.{receive_of, without_place}
 abbrev pub some_waits : List ParkedReceive → Bool
 some_waits rs = list_any (λ r. waits r.standing) rs
 
--- whether all senders or all receivers are gone, and whether the queue is at its capacity
+-- whether all senders or all receivers are gone
 abbrev pub closed_now : State → Bool
 closed_now c = is_closed c.senders c.receivers
 
+-- whether the queue is at its capacity
 abbrev pub full_now : State → Bool
 full_now c = is_full c.capacity (length c.queue)
 
@@ -62,11 +63,12 @@ admit_all c = admit_all_of c.blocked c
 abbrev pub resize : ℕ → State → State
 resize n c = admit_all (record c { capacity = Some n })
 
--- the receives after a wake round, and whether it fills one, if this is the queue
+-- the receives after a wake round, if this is the queue
 abbrev pub round_with : List ℕ → List ParkedReceive → List ParkedReceive
 round_with [] rs = rs
 round_with (front ∷ queue) rs = round_of front rs
 
+-- whether a wake round fills a receive, if this is the queue
 abbrev pub fills_with : List ℕ → List ParkedReceive → Bool
 fills_with [] rs = false
 fills_with (front ∷ queue) rs = round_fills_one rs

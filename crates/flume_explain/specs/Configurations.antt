@@ -79,22 +79,25 @@ module _ {T A : Type 0} where
   event_at (event ∷ events) zero = Some event
   event_at (event ∷ events) (suc p) = event_at events p
 
-  -- the call that an event begins, if it begins one, and its thread
+  -- the call that an event begins, if it begins one
   abbrev pub call_of : Event T A → Option (Call T)
   call_of (Begins t call) = Some call
   call_of (Returns t answer) = None
 
+  -- the thread of an event
   abbrev pub thread_of : Event T A → ℕ
   thread_of (Begins t call) = t
   thread_of (Returns t answer) = t
 
-  -- the call that began at a place, its thread, and the message that it sends
+  -- the call that began at a place
   abbrev pub call_at : List (Event T A) → ℕ → Option (Call T)
   call_at events p = option_and_then call_of (event_at events p)
 
+  -- the thread of the event at a place
   abbrev pub thread_at : List (Event T A) → ℕ → Option ℕ
   thread_at events p = option_map thread_of (event_at events p)
 
+  -- the message that the call sends that began at a place
   abbrev pub message_at : List (Event T A) → ℕ → Option T
   message_at events p = option_and_then message_of (call_at events p)
 

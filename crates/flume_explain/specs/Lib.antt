@@ -7,6 +7,7 @@ pub mod Mirrors
 pub mod Agreement
 pub mod Progresses
 pub mod Moves
+pub mod Leads
 pub mod Happens
 pub mod Refusals
 pub mod Dead

@@ -38,12 +38,13 @@ abbrev pub taken_back : ℕ → State → Answer
 taken_back place c =
     (reply.Returned (closed_now c), record c { blocked = without_send place c.blocked })
 
--- a parked send asks, and leaves
+-- a parked send asks
 abbrev pub send_polled : ℕ → State → Answer
 send_polled place c =
     if is_blocked place c then (if closed_now c then taken_back place c else (reply.Waiting, c))
     else (reply.Accepted, c)
 
+-- a parked send leaves
 abbrev pub send_withdrawn : ℕ → State → Answer
 send_withdrawn place c = if is_blocked place c then taken_back place c else (reply.Accepted, c)
 
@@ -78,10 +79,12 @@ polled_as place kind (standing.Filled p) c = (reply.Got p, without_receive place
 polled_as place Block standing.Waiting c = (reply.Waiting, c)
 polled_as place kind standing c = leaves_with place (looked place c)
 
+-- the receive at this place asks, if this is what is parked there
 abbrev pub polled_by : ℕ → Option ParkedReceive → State → Answer
 polled_by place None c = (reply.NoTicket, c)
 polled_by place (Some r) c = polled_as place r.kind r.standing c
 
+-- the receive at this place asks
 abbrev pub polled : ℕ → State → Answer
 polled place c = polled_by place (receive_of place c.receives) c
 
@@ -93,18 +96,21 @@ left_as place Block standing c =
     (received_from (with_front c).queue (reply.Gone (closed_now c), without_receive place c) c)
 left_as place kind standing c = (reply.Gone (closed_now c), leave place c)
 
+-- the receive at this place leaves, if this is what is parked there
 abbrev pub left_by : ℕ → Option ParkedReceive → State → Answer
 left_by place None c = (reply.NoTicket, c)
 left_by place (Some r) c = left_as place r.kind r.standing c
 
+-- the receive at this place leaves
 abbrev pub left : ℕ → State → Answer
 left place c = left_by place (receive_of place c.receives) c
 
--- one more of an end of which there are so many, and one less
+-- one more of an end of which there are so many
 abbrev pub cloned : ℕ → State → State → Answer
 cloned n more c =
     if n == 0 then (reply.NoEnd, c) else (if n == most then (reply.CountFull, c) else (reply.Done, more))
 
+-- one less of an end of which there are so many
 abbrev pub dropped : ℕ → State → State → Answer
 dropped n fewer c =
     if n == 0 then (reply.NoEnd, c) else (reply.Done, end_dropped (closed_now c) fewer)

@@ -24,12 +24,13 @@ use Rattle.flume_explain.specs.Configurations.{State, message_at}
 abbrev pub ticketed : ℕ → ℕ → (ℕ → ℕ) → ℕ → ℕ
 ticketed place ticket tickets p = if p == place then ticket else tickets p
 
--- whether a call that is answered so parks, and whether it is parked then
+-- whether a call that is answered so parks
 abbrev pub parks : PlaceReply → Bool
 parks reply.Pending = true
 parks reply.Parked = true
 parks _ = false
 
+-- whether a call that is answered so is parked then
 abbrev pub stays_parked : PlaceReply → Bool
 stays_parked reply.Pending = true
 stays_parked reply.Parked = true

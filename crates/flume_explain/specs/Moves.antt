@@ -1,35 +1,23 @@
--- What an open call may do next, and where that leads a configuration.
-use Rattle.std.specs.Prelude.{◌≡◌, ℕ, Bool, true, false, if◌then◌else◌, List, ◌∷◌, Option, Some, None}
+-- What an open call may do next.
+use Rattle.std.specs.Prelude.{◌≡◌, ℕ, Bool, true, false, if◌then◌else◌, List, Option, Some, None}
 use Rattle.std.specs.Option.{option_map}
 use Rattle.flume_model.specs.declared.step.Kind.TheVariants.{Block, Plain}
 use Rattle.flume_model.specs.declared.step.Step.{Step}
 use Rattle.flume_model.specs.declared.step.Step.TheVariants as step
 use Rattle.flume_model.specs.declared.step.Reply.{Reply}
 use Rattle.flume_model.specs.declared.step.Reply.TheVariants.{NoMemory, Spent}
-use Rattle.flume_model.specs.Channel.{channel}
-use Rattle.flume_model.specs.Log.{Opening}
-use Rattle.flume_model.specs.Replies.{IsRun, IsReply}
 use Rattle.flume_concurrent.specs.declared.call.Call.{Call}
 use Rattle.flume_concurrent.specs.declared.call.Call.TheVariants as call
-use Rattle.flume_concurrent.specs.declared.call.Answer.{Answer}
-use Rattle.flume_concurrent.specs.declared.event.Event.{Event}
 use Rattle.flume_concurrent.specs.declared.event.Item.{Item}
 use Rattle.flume_concurrent.specs.declared.event.Item.TheVariants.{Happens, Makes}
 use Rattle.flume_concurrent.specs.declared.stage.Stage.{Stage}
-use Rattle.flume_concurrent.specs.declared.stage.Stage.TheVariants.{Answered}
-use Rattle.flume_concurrent.specs.Answers.{may_return}
 use Rattle.flume_concurrent.specs.Calls.{next_step, other_step, is_send}
-use Rattle.flume_concurrent.specs.Explanations.{open_call, steps_in}
-use Rattle.flume_explain.specs.declared.configuration.OpenCall.{OpenCall}
+use Rattle.flume_concurrent.specs.Explanations.{open_call}
 use Rattle.flume_explain.specs.declared.configuration.Progress.{Progress}
 use Rattle.flume_explain.specs.declared.configuration.Progress.TheVariants as progress
-use Rattle.flume_explain.specs.declared.moves.Outcome.{Outcome}
-use Rattle.flume_explain.specs.declared.moves.Outcome.TheVariants as outcome
 use Rattle.flume_explain.specs.declared.step_of.Move.{Move}
 use Rattle.flume_explain.specs.declared.step_of.Move.TheVariants as move
-use Rattle.flume_explain.specs.Configurations.{State, thread_at, first_answer, call_by, call_at}
-use Rattle.flume_explain.specs.Configurations.{message_of, with_progress}
-use Rattle.flume_explain.specs.Agreement.{Agrees, IsProgress}
+use Rattle.flume_explain.specs.Configurations.{message_of}
 
 module _ {T : Type 0} where
   -- the first move of a call, and its only one if it doesn't wait
@@ -65,7 +53,7 @@ module _ {T : Type 0} where
   parking_move call.RecvAsync = Some (move.Recv Plain)
   parking_move _ = None
 
-  -- the move that a call makes next that is so far, and the other one that it may make instead
+  -- the move that a call makes next that is so far
   abbrev pub next_move : Call T → Progress → Option Move
   next_move call progress.Begun = Some (first_move call)
   next_move call progress.Tried = parking_move call
@@ -73,6 +61,7 @@ module _ {T : Type 0} where
   next_move call progress.Refused = Some move.Withdraw
   next_move call progress.Done = None
 
+  -- the other move that a call that is so far may make instead, if there is one
   abbrev pub other_move : Call T → Progress → Option Move
   other_move (call.SendAsync m) progress.Begun = Some move.TrySend
   other_move call.RecvAsync progress.Begun = Some move.TryRecv
@@ -83,11 +72,12 @@ module _ {T : Type 0} where
   other_move call.RecvAsync progress.Parked = Some move.Withdraw
   other_move _ _ = None
 
+  -- the next move of a call that is so far, or the other one
   abbrev pub move_of : Call T → Progress → Bool → Option Move
   move_of call progress other =
       if other then other_move call progress else next_move call progress
 
-  -- the step that such a move of a call is, where this is the call's ticket; none if the call has
+  -- the step that such a move of a call is, if this is the call's ticket; none if the call has
   -- no message to send
   abbrev pub step_for : Call T → ℕ → Move → Option (Step T)
   step_for call ticket move.TrySend = option_map step.TrySend (message_of call)
@@ -130,71 +120,3 @@ module _ {T A : Type 0} where
   IsMove past t other refused (Happens event) = ⊥
   IsMove past t other refused (Makes u step reply) =
       (u ≡ t) × (is_refusal reply ≡ refused) × IsStepOf other (open_call past t) step
-
--- the events that were recorded, where `equal` compares messages
-module _ {T A : Type 0} (equal : T → T → Bool) (events : List (Event T A)) where
-  -- the open call, which is recorded to return so, has come to another answer
-  abbrev pub IsWrong : Option (Call T × Stage T A) → Option (Answer T A) → Type 0
-  IsWrong (Some far) (Some told) = (may_return equal far.0 far.1 told ≡ false)
-      × ((own : Answer T A) × (far.1 ≡ Answered own))
-  IsWrong _ _ = ⊥
-
-  -- such a move leads to items that agree with the new configuration
-  abbrev pub LeadsTo : State → List (Event T A) → ℕ → (other refused : Bool) → State → Type 0
-  LeadsTo c rest t other refused new =
-      (opening : Opening) (past : List (Item T A)) (item : Item T A)
-      → Agrees equal events opening past rest c → IsMove past t other refused item
-      → IsRun opening (steps_in (item ∷ past)) → Agrees equal events opening (item ∷ past) rest new
-
-  -- it leads to no explanation: no channel answers so, or the call comes to a wrong answer
-  abbrev pub LeadsNowhere : State → List (Event T A) → ℕ → (other refused : Bool) → Type 0
-  LeadsNowhere c rest t other refused =
-      (opening : Opening) (past : List (Item T A)) (item : Item T A)
-      → Agrees equal events opening past rest c → IsMove past t other refused item
-      → IsRun opening (steps_in (item ∷ past))
-      → IsWrong (open_call (item ∷ past) t) (first_answer t rest)
-
-  -- The open call of a thread makes this move, which is this step, and is answered so, memory being
-  -- refused or not.
-  pub record IsMade (c : State) (rest : List (Event T A)) (t : ℕ) (one : OpenCall) (own : Call T)
-      (move : Move) (refused : Bool) (opening : Opening) (past : List (Item T A))
-      (step : Step T) (reply : Reply T A) : Type 0 where
-    pub agrees : Agrees equal events opening past rest c
-    pub is_own : call_by events t c.calls ≡ Some one
-    pub call_is : call_at events one.place ≡ Some own
-    pub stage : Stage T A
-    pub is_open : open_call past t ≡ Some (own, stage)
-    pub progress_is : IsProgress equal events own (first_answer t rest) (agrees.tickets one.place)
-        one.progress stage
-    pub step_is : step_for own (agrees.tickets one.place) move ≡ Some step
-    pub refused_is : is_refusal reply ≡ refused
-    pub lawful : IsReply (channel opening (steps_in past)) step reply
-
-  abbrev pub MoveLeadsTo : State → List (Event T A) → ℕ → OpenCall → Call T → Move → Bool → State
-      → Type 0
-  MoveLeadsTo c rest t one own move refused new =
-      (opening : Opening) (past : List (Item T A)) (step : Step T) (reply : Reply T A)
-      → IsMade c rest t one own move refused opening past step reply
-      → Agrees equal events opening (Makes t step reply ∷ past) rest new
-
-  abbrev pub MoveLeadsNowhere : State → List (Event T A) → ℕ → OpenCall → Call T → Move → Bool
-      → Type 0
-  MoveLeadsNowhere c rest t one own move refused =
-      (opening : Opening) (past : List (Item T A)) (step : Step T) (reply : Reply T A)
-      → IsMade c rest t one own move refused opening past step reply
-      → IsWrong (open_call (Makes t step reply ∷ past) t) (first_answer t rest)
-
-  -- such a move of a call that is recorded to return so leads to the new configuration
-  abbrev pub CallLeadsTo : State → Option (Answer T A) → OpenCall → Call T → Move → Bool → State
-      → Type 0
-  CallLeadsTo c recorded one own move refused new =
-      (rest : List (Event T A)) (t : ℕ) (other : Bool) → first_answer t rest ≡ recorded
-      → move_of own one.progress other ≡ Some move
-      → MoveLeadsTo c rest t one own move refused new
-
-  abbrev pub CallLeadsNowhere : State → Option (Answer T A) → OpenCall → Call T → Move → Bool
-      → Type 0
-  CallLeadsNowhere c recorded one own move refused =
-      (rest : List (Event T A)) (t : ℕ) (other : Bool) → first_answer t rest ≡ recorded
-      → move_of own one.progress other ≡ Some move
-      → MoveLeadsNowhere c rest t one own move refused

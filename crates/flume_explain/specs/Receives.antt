@@ -7,11 +7,12 @@ use Rattle.flume_explain.specs.declared.configuration.ParkedReceive.{ParkedRecei
 use Rattle.flume_explain.specs.declared.configuration.Standing.{Standing}
 use Rattle.flume_explain.specs.declared.configuration.Standing.TheVariants.{Waiting, Woken, Filled}
 
--- whether a receive waits, and whether it was woken
+-- whether a receive waits
 abbrev pub waits : Standing → Bool
 waits Waiting = true
 waits _ = false
 
+-- whether a receive was woken
 abbrev pub is_awake : Standing → Bool
 is_awake Woken = true
 is_awake _ = false
@@ -20,21 +21,21 @@ is_awake _ = false
 abbrev pub standing_as : Standing → ParkedReceive → ParkedReceive
 standing_as standing r = record r { standing = standing }
 
--- a waiting receive that a wake round meets, with those behind it: as they are where the round ends
--- here, as it leaves them where it goes on
+-- a waiting receive that a wake round meets, with those behind it: as they are if the round ends
+-- here, as it leaves them if it goes on
 abbrev pub met_by : Kind → ℕ → ParkedReceive → List ParkedReceive → List ParkedReceive
     → List ParkedReceive
 met_by Stream front r as_are goes_on = standing_as Woken r ∷ goes_on
 met_by Block front r as_are goes_on = standing_as (Filled front) r ∷ as_are
 met_by kind front r as_are goes_on = standing_as Woken r ∷ as_are
 
--- the receives after a wake round, where the send at this place is the front of the queue
+-- the receives after a wake round, if the send at this place is the front of the queue
 abbrev pub round_of : ℕ → List ParkedReceive → List ParkedReceive
 round_of front [] = []
 round_of front (r ∷ rs) =
     if waits r.standing then met_by r.kind front r rs (round_of front rs) else r ∷ round_of front rs
 
--- whether a round that meets such a waiting receive fills one, where behind that it would or not
+-- whether a round that meets such a waiting receive fills one, if behind that it would or not
 abbrev pub fills_at : Kind → Bool → Bool
 fills_at Stream on = on
 fills_at Block on = true

@@ -5,7 +5,7 @@ ghost use Rattle.std.specs.Option.{option_copied};
 ghost use Rattle.std.specs.List.{Contains};
 ghost use Rattle.flume_concurrent.specs.declared.event.Event.{Event};
 ghost use Rattle.flume_explain.specs.Configurations.{State, thread_at, first_answer, progressed};
-ghost use Rattle.flume_explain.specs.Moves.{LeadsTo, LeadsNowhere, CallLeadsTo, CallLeadsNowhere};
+ghost use Rattle.flume_explain.specs.Leads.{LeadsTo, LeadsNowhere, CallLeadsTo, CallLeadsNowhere};
 
 use crate::configuration::{Configuration, OpenCall, Progress, progressed};
 use crate::place_reply::PlaceReply;

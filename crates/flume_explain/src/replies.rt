@@ -12,8 +12,8 @@ use flume_model::step::Reply;
 use std::alloc::Allocator;
 
 /// A reply of a channel that is this one by places, with the ticket 0: of a call that sends this
-/// message, if it sends one, where these are the sends whose messages were queued. None if there was
-/// no memory, or if a message is wanted that isn't sent.
+/// message, if it sends one, while these are the sends whose messages are queued. None if there was no
+/// memory, or if a message is wanted that isn't sent.
 pub fn reply_for<T: Copy + Eq + Drop, A: Allocator + Copy>(
     alloc: A,
     told: PlaceReply,

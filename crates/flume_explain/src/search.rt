@@ -185,8 +185,8 @@ impl<A: Allocator + Copy> Search<A> {
         }
     }
 
-    // Leaves a frame for the configuration, unless it is dead, where the event at the place returns
-    // this call.
+    // Leaves a frame for the configuration, unless it is dead. The event at the place returns this
+    // call.
     fn stop<T: Copy + Eq + Drop>(
         &mut self,
         alloc: A,

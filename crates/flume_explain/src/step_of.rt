@@ -13,7 +13,7 @@ use flume_model::step::Kind;
 pub enum Move {
     /// Send, without waiting.
     TrySend,
-    /// Send, and park where that is not taken in at once.
+    /// Send, and park if that is not taken in at once.
     Send,
     /// Ask how the blocked send stands.
     PollSend,
@@ -21,7 +21,7 @@ pub enum Move {
     WithdrawSend,
     /// Receive, without waiting.
     TryRecv,
-    /// Receive, and park where there is no message.
+    /// Receive, and park if there is no message.
     Recv(Kind),
     /// Ask again, as the parked receive.
     Poll,

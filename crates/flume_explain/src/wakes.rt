@@ -21,9 +21,9 @@ impl ParkedReceive {
     }
 }
 
-/// A wake round, where the send at this place is the front of the queue: wakes each waiting stream,
-/// until it meets a waiting receive of another kind. That is woken, or, where it blocks, filled.
-/// Whether one was filled: then the front leaves the queue.
+/// A wake round. The send at this place is the front of the queue. Wakes each waiting stream, until it
+/// meets a waiting receive of another kind: that is woken, or, if it blocks, filled. Whether one was
+/// filled: then the front leaves the queue.
 pub(crate) fn wake_round(receives: &mut [ParkedReceive], front: usize) -> bool
     ensures round { receives.new ≡ round_of front receives.old }
     ensures fills { result ≡ round_fills_one receives.old }

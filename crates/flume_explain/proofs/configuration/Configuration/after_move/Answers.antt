@@ -5,7 +5,7 @@ use Rattle.flume_explain.specs.contracts.configuration.Progress.{the_type}
 use Rattle.flume_explain.specs.declared.configuration.OpenCall.{OpenCall}
 use Rattle.flume_explain.specs.declared.configuration.Progress.{Progress}
 use Rattle.flume_explain.specs.Configurations.{State, progressed}
-use Rattle.flume_explain.specs.Moves.{CallLeadsTo}
+use Rattle.flume_explain.specs.Leads.{CallLeadsTo}
 use Rattle.std.specs.Option.{option_copied}
 use Rattle.flume_explain.specs.Made.{made}
 use Rattle.flume_explain.specs.Progresses.{progress_of}

@@ -5,7 +5,7 @@ use Rattle.flume_explain.specs.contracts.configuration.Progress.{the_type}
 use Rattle.flume_explain.specs.declared.configuration.Progress.{Progress}
 use Rattle.flume_explain.specs.Configurations.{State, with_progress}
 use Rattle.flume_explain.specs.Progresses.{progress_of}
-use Rattle.flume_explain.specs.Moves.{CallLeadsTo}
+use Rattle.flume_explain.specs.Leads.{CallLeadsTo}
 use Rattle.std.specs.Option.{option_copied}
 use Rattle.flume_explain.proofs.RefusalLeads.{never_refused, refusal_leads, refusal_same, refusal_wrong}
 use Rattle.flume_explain.proofs.configuration.Configuration.after_refusal.Goals as goal
