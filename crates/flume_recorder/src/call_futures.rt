@@ -1,6 +1,7 @@
 //! The futures of a send and of a receive.
 ghost use Rattle.std.specs.Prelude.{◌≡◌, Bool, true, false, Option, None};
 ghost use Rattle.flume.specs.Ends.{end_of};
+ghost use Rattle.flume_model.specs.declared.step.Kind.TheVariants.{Plain};
 ghost use Rattle.flume_calls.specs.declared.polled.send.PolledSend.{PolledSend};
 ghost use Rattle.flume_recorder.specs.declared.slot.FutureAnswer.{FutureAnswer};
 ghost use Rattle.flume_recorder.specs.Answers.{future_send_answer, future_receive_answer};
@@ -180,7 +181,7 @@ impl<T: Copy + Drop, A: Allocator + Copy> Recorder<T, A> {
     ) -> RecordedFuture<RecvFut<'a, T, R, C>, T, A>
         ensures begun { BeginsFuture self.old self.new Call.RecvAsync }
         ensures channel { end_of result.future.receiver ≡ rx.now }
-        ensures call { result.future.call ≡ record { kind = Kind.Plain; call = None } }
+        ensures call { result.future.call ≡ record { kind = Plain; call = None } }
     {
         let slot = self.begin_future(Call::RecvAsync);
         RecordedFuture::new(rx.recv_async(), slot)
