@@ -24,7 +24,7 @@ use flume_script::reading::next_line;
 use std::alloc::Allocator;
 
 // How many configurations a search may enter.
-pub(crate) const LIMIT: usize = 10_000_000;
+const LIMIT: usize = 10_000_000;
 
 /// Whether a channel may have answered as a recording says. All lines are read first. If one is
 /// wrong, the text names the first wrong one and says why, with status 2. If the events are
