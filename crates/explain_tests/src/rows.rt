@@ -131,3 +131,23 @@ fn sends_and_receives_that_overlap_take_effect_in_any_order(rt: HostRuntime) -> 
     assert_eq!(rt; checked, Checked::Explained);
     Ok(())
 }
+
+#[test]
+fn two_calls_that_make_a_step_each_take_two_configurations(rt: HostRuntime) -> Result<(), Fail> {
+    let events = [
+        begins(0, Call::Send(5)),
+        returns(0, Answer::Sent),
+        begins(1, Call::Recv),
+        returns(1, Answer::Got(5)),
+    ];
+    // The first configuration stands before the return of the send, and is free. Each step leads to
+    // one more, and from there the events are taken up to the next return of a call without its
+    // answer.
+    let checked = check_calls(rt.alloc(), None, &events, 0);
+    assert_eq!(rt; checked, Checked::GaveUp(1));
+    let checked = check_calls(rt.alloc(), None, &events, 1);
+    assert_eq!(rt; checked, Checked::GaveUp(3));
+    let checked = check_calls(rt.alloc(), None, &events, 2);
+    assert_eq!(rt; checked, Checked::Explained);
+    Ok(())
+}

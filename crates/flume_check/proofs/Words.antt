@@ -15,7 +15,7 @@ one_word (x ∷ line) none =
     let P : ℕ → Type 0 = λ y. eqb y 32 ≡ false in
     rw (All-head P x line none) (ap (λ l. x ∷ l) (one_word line (All-tail P x line none)))
 
--- the first word stands before the first space
+-- the first word is before the first space
 pub word_before : (word rest : List ℕ) → NoSpace word → first_word (word ++ 32 ∷ rest) ≡ word
 word_before [] rest none = refl
 word_before (x ∷ word) rest none =

@@ -35,7 +35,7 @@ module _ {A : Type 0} where
   abbrev pub AreExplained : Option ℕ → List (Event ℕ A) → Type 0
   AreExplained capacity events = IsExplained (λ x y. x == y) (opens capacity 1) events
 
-  -- what is told in an event: the call, or the answer
+  -- the recorded text of an event: the call, or the answer
   abbrev pub told_text : Event ℕ A → List ℕ
   told_text (Begins thread call) = call_text call
   told_text (Returns thread answer) = answer_text answer
@@ -66,7 +66,7 @@ pub record Explains (A : Type 0) (input text : List ℕ) (status : ℕ) : Type 0
   pub status_is : status ≡ 0
 
 -- each line is right, and the events are explained: the text is the first line, and then the events
--- with steps between them, a line each, that tell of an explanation
+-- with steps between them, a line each, that describe an explanation
 pub record ShowsSteps (A : Type 0) (input text : List ℕ) (status : ℕ) : Type 0 where
   pub first : List ℕ
   pub rest : List (List ℕ)
@@ -82,7 +82,7 @@ pub record ShowsSteps (A : Type 0) (input text : List ℕ) (status : ℕ) : Type
   pub status_is : status ≡ 0
 
 -- each line is right, and an event is the first with which they aren't explained: the text names
--- its line, what is told there, and answers that are possible there
+-- its line, what is recorded there, and answers that are possible there
 pub record BreaksOff (A : Type 0) (input text : List ℕ) (status : ℕ) : Type 0 where
   pub capacity : Option ℕ
   pub before : List (Event ℕ A)
@@ -110,14 +110,16 @@ pub record IsWrongLater (A : Type 0) (input text : List ℕ) (status : ℕ) : Ty
   pub text_is : text ≡ line_text (count + 2) (codes "wrong, here or later")
   pub status_is : status ≡ 1
 
--- each line is right, and nothing else is known
+-- each line is right, and the search was given up: the text names a line before which the events are
+-- explained
 pub record LeavesOpen (A : Type 0) (input text : List ℕ) (status : ℕ) : Type 0 where
   pub capacity : Option ℕ
   pub events : List (Event ℕ A)
   pub names : List (List ℕ)
   pub reads : IsRecordingText (lines input) capacity events names
-  pub number : ℕ
-  pub text_is : text ≡ line_text number (codes "not decided")
+  pub count : ℕ
+  pub explained : AreExplained capacity (take count events)
+  pub text_is : text ≡ line_text (count + 2) (codes "not decided")
   pub status_is : status ≡ 6
 
 -- a line is wrong: the text names the first one, and says why

@@ -39,7 +39,7 @@ step_word SenderCount = codes "sender_count"
 step_word ReceiverCount = codes "receiver_count"
 step_word IsDisconnected = codes "is_disconnected"
 
--- the number that stands behind the word of a step, if there is one
+-- the number that is behind the word of a step, if there is one
 abbrev pub step_number : Step ℕ → Option ℕ
 step_number (TrySend message) = Some message
 step_number (Send message) = Some message

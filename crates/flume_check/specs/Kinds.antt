@@ -2,7 +2,7 @@
 use Rattle.std.specs.Prelude.{◌≡◌, ◌==◌, ℕ, if◌then◌else◌, List, [], ◌∷◌, ◌++◌}
 use Rattle.std.specs.Str.Lines.{lines}
 
--- what stands before the first space
+-- what is before the first space
 abbrev pub first_word : List ℕ → List ℕ
 first_word [] = []
 first_word (x ∷ line) = if x == 32 then [] else x ∷ first_word line

@@ -38,10 +38,10 @@ const WORDS: [Word; 12] = [
     Word::Unbounded,
 ];
 
-/// The answers that such a call returns, in the order of their texts, but `nomemory`, `dropped` and
-/// drained lists: of the messages those that calls begun in these events send, of the numbers those
-/// up to the number of these calls, of the capacities those that the channel was opened with or
-/// that such calls set, each once, and 16 at most. `NoMemory`: a list found no room.
+/// The answers to try for this call, in the order of their texts, without `nomemory`, `dropped` and
+/// drained lists. The messages are those that calls begun in these events send, the numbers those
+/// up to the number of these calls, the capacities the opening's and those that calls set: each
+/// once, and 16 at most. `NoMemory`: a list couldn't be allocated.
 pub(crate) fn candidates<A: Allocator + Copy>(
     alloc: A,
     capacity: Option<usize>,
@@ -65,7 +65,6 @@ pub(crate) fn candidates<A: Allocator + Copy>(
     Ok(answers)
 }
 
-// Adds the answer that a message was received, for each.
 fn push_messages<A: Allocator>(
     answers: &mut Vec<Answer<u64, A>, A>,
     messages: &[u64],
@@ -78,7 +77,6 @@ fn push_messages<A: Allocator>(
     Ok(())
 }
 
-// Adds the numbers up to this one.
 fn push_counts<A: Allocator>(
     answers: &mut Vec<Answer<u64, A>, A>,
     last: usize,
@@ -93,7 +91,6 @@ fn push_counts<A: Allocator>(
     Ok(())
 }
 
-// Adds the capacities.
 fn push_capacities<A: Allocator>(
     answers: &mut Vec<Answer<u64, A>, A>,
     capacities: &[u64],
@@ -105,7 +102,6 @@ fn push_capacities<A: Allocator>(
     Ok(())
 }
 
-// Adds the answers of one word that the call returns.
 fn push_words<A: Allocator>(
     answers: &mut Vec<Answer<u64, A>, A>,
     call: &Call<u64>,
@@ -118,7 +114,6 @@ fn push_words<A: Allocator>(
     Ok(())
 }
 
-// Whether a call returns the answer of this word.
 fn is_told_by(word: Word, call: &Call<u64>) -> bool {
     match word {
         Word::Sent => message_of(call).is_some(),
@@ -135,7 +130,6 @@ fn is_told_by(word: Word, call: &Call<u64>) -> bool {
     }
 }
 
-// The answer of a word.
 fn answer_of<A: Allocator>(word: Word) -> Answer<u64, A> {
     match word {
         Word::Sent => Answer::Sent,
@@ -153,7 +147,6 @@ fn answer_of<A: Allocator>(word: Word) -> Answer<u64, A> {
     }
 }
 
-// Whether a call receives one message.
 fn receives(call: &Call<u64>) -> bool {
     matches!(
         call,
@@ -161,17 +154,14 @@ fn receives(call: &Call<u64>) -> bool {
     )
 }
 
-// Whether a call clones an end.
 fn clones(call: &Call<u64>) -> bool {
     matches!(call, Call::CloneSender | Call::CloneReceiver)
 }
 
-// Whether a call drops an end.
 fn drops(call: &Call<u64>) -> bool {
     matches!(call, Call::DropSender | Call::DropReceiver)
 }
 
-// Whether a call asks what is so or isn't.
 fn asks(call: &Call<u64>) -> bool {
     matches!(call, Call::IsEmpty | Call::IsFull | Call::IsDisconnected)
 }

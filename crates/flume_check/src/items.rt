@@ -13,7 +13,7 @@ use flume_script::writing::write_reply;
 use std::alloc::Allocator;
 
 /// The first line, and behind it a line for each item, where the threads have these names.
-/// `NoMemory`: the text found no room.
+/// `NoMemory`: the text couldn't be allocated.
 pub(crate) fn write_items<A: Allocator + Copy>(
     alloc: A,
     first: &[u8],
@@ -33,7 +33,6 @@ pub(crate) fn write_items<A: Allocator + Copy>(
     Ok(text)
 }
 
-// The line of an item, and its line feed.
 fn line_of<A: Allocator + Copy>(
     alloc: A,
     names: &[&[u8]],
@@ -66,7 +65,6 @@ fn line_of<A: Allocator + Copy>(
     }
 }
 
-// Adds the text of a step.
 fn write_step<A: Allocator>(text: &mut String<A>, step: &Step<u64>) -> Result<(), NoMemory>
     ensures value { OnOk result
         (string_bytes text.new ≡ string_bytes text.old ++ step_text step.now) }
@@ -79,7 +77,6 @@ fn write_step<A: Allocator>(text: &mut String<A>, step: &Step<u64>) -> Result<()
     Ok(())
 }
 
-// The word of a step, or the two words of one that parks.
 fn word_of(step: &Step<u64>) -> &'static str
     ensures value { result.now ≡ step_word step.now }
 {
@@ -108,7 +105,6 @@ fn word_of(step: &Step<u64>) -> &'static str
     }
 }
 
-// The words of a step that parks a receiver of this kind.
 fn words_of(kind: Kind) -> &'static str
     ensures value { result.now ≡ step_word (Recv kind) }
 {
@@ -120,7 +116,6 @@ fn words_of(kind: Kind) -> &'static str
     }
 }
 
-// The number behind the word of a step.
 fn number_in(step: &Step<u64>) -> Option<u64>
     ensures value { result ≡ step_number step.now }
 {

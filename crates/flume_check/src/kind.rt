@@ -18,14 +18,12 @@ pub(crate) fn is_of_calls(input: &[u8]) -> bool
     ends_in_colon(first_word(second))
 }
 
-// Whether a word ends in a colon.
 fn ends_in_colon(word: &[u8]) -> bool
     ensures value { IsTrue result ↔ EndsInColon word.now }
 {
     matches!(word, [.., b':'])
 }
 
-// What stands before the first space.
 fn first_word(line: &[u8]) -> &[u8]
     ensures value { result.now ≡ word_of line.now }
 {

@@ -1,5 +1,5 @@
-//! Reads from standard input what was recorded of a channel, and says whether a channel may have
-//! answered so: a recording of threads' calls, or a history of steps.
+//! Reads a recording of threads' calls, or a history of steps, from standard input, and says
+//! whether a correct channel could have produced it.
 #![tactic(auto)]
 
 ghost use Rattle.std.specs.Prelude.{IfOk, ◌≡◌, ℕ, List, Some};
@@ -13,6 +13,7 @@ mod items;
 mod kind;
 mod numbers;
 mod possible;
+mod reasons;
 mod recording;
 mod texts;
 
@@ -21,6 +22,7 @@ use flume_history::script::check_script;
 use flume_script::Script;
 use flume_script::serving::{FAULT, Unread, read_all, write_answer};
 use kind::is_of_calls;
+use reasons::explain_input;
 use recording::judge_recording;
 use std::alloc::Allocator;
 use std::io::{Read, Write};
@@ -29,7 +31,17 @@ use std::{env, io};
 
 fn main(rt: HostRuntime) -> ExitCode {
     match asks_for_steps(&rt) {
-        Ok(shows) => serve(rt.alloc(), shows, &mut rt.reader(), &mut io::writer(&rt)).into(),
+        Ok(shows) => {
+            let (mut output, mut messages) = (io::writer(&rt), rt.stderr());
+            serve(
+                rt.alloc(),
+                shows,
+                &mut rt.reader(),
+                &mut output,
+                &mut messages,
+            )
+            .into()
+        }
         Err(_) => FAULT.into(),
     }
 }
@@ -43,16 +55,17 @@ fn asks_for_steps(rt: &HostRuntime) -> io::Result<bool> {
     )
 }
 
-/// Reads the input to its end, checks the recording or the history that it is, and writes what that
-/// prints: of a recording that is explained, this recording with steps, if it is to show them. The
-/// status: 0, a channel may have answered so; 1, it may not; 2, a line is wrong; 3, out of memory;
-/// 4, a fault of reading or writing, and then nothing more is written; 6, not decided, of a
-/// recording.
-fn serve<A: Allocator + Copy, R: Read, W: Write>(
+/// Reads the input to its end, checks the recording or the history, and writes the result: with
+/// `--steps`, an explained recording is written with the steps that explain it. The status: 0, a
+/// correct channel could have produced it; 1, none could; 2, a line is wrong, and a message says
+/// why; 3, out of memory; 4, a fault of reading or writing, and then nothing more is written; 6, of
+/// a recording, not decided.
+fn serve<A: Allocator + Copy, R: Read, W: Write, M: Write>(
     alloc: A,
     shows: bool,
     input: &mut R,
     output: &mut W,
+    messages: &mut M,
 ) -> u8
     ensures recording { (bytes before : List ℕ) → R.remaining input.old ≡ Some bytes
         → W.contents output.old ≡ Some before → IsOfCalls bytes
@@ -68,8 +81,27 @@ fn serve<A: Allocator + Copy, R: Read, W: Write>(
     };
     // Each case by itself: the prover then knows which of the two is written.
     match judge(alloc, shows, &bytes) {
-        Ok(script) => write_answer(output, Ok(script)),
+        Ok(script) => {
+            say_why(alloc, &bytes, &script, messages);
+            write_answer(output, Ok(script))
+        }
         Err(NoMemory) => write_answer(output, Err::<Script<A>, _>(NoMemory)),
+    }
+}
+
+// Says what is wrong with the first wrong line, if one is. If that can't be said, the text that is
+// printed still has its number.
+fn say_why<A: Allocator + Copy, M: Write>(
+    alloc: A,
+    input: &[u8],
+    told: &Script<A>,
+    messages: &mut M,
+) {
+    if told.status != 2 {
+        return;
+    }
+    if let Ok(why) = explain_input(alloc, input, told) {
+        let _ = messages.write_all(why.as_bytes());
     }
 }
 

@@ -1,5 +1,5 @@
-//! Whether a channel may have answered threads' calls as a recording says.
-ghost use Rattle.std.specs.Prelude.{IfOk, ◌≡◌, ◌==◌, ◌⊎◌, ℕ, List, ◌∷◌, Option};
+//! Whether a correct channel could have given the answers of a recording.
+ghost use Rattle.std.specs.Prelude.{IfOk, ◌≡◌, ◌==◌, ◌+◌, ◌<◌, ◌^◌, ◌⊎◌, ℕ, List, ◌∷◌, Option, length, take};
 ghost use Rattle.std.specs.List.{All};
 ghost use Rattle.std.specs.Str.Lines.{lines};
 ghost use Rattle.flume_recording.specs.EventLines.{thread_of};
@@ -26,14 +26,18 @@ use std::alloc::Allocator;
 // How many configurations a search may enter.
 const LIMIT: usize = 10_000_000;
 
-/// Whether a channel may have answered as a recording says. All lines are read first. If one is
-/// wrong, the text names the first wrong one and says why, with status 2. If the events are
-/// explained, the text is `correct`, with status 0; or, if it is to show them, the recording with
-/// steps between its lines that explain it. Else the text names the first line whose event no
-/// correct channel can have come to, what is told there, and answers that are possible there, with
-/// status 1. If that line wasn't found, the text names the first one that it can be. If the search
-/// was given up, the text names the line up to which it came, with status 6. `NoMemory`: the
-/// events, the search or a text found no room.
+/// Whether a correct channel could have given the answers of a recording. All lines are read first.
+///
+/// - Status 2: a line is wrong; the text names the first wrong one and says why.
+/// - Status 0: the events are explained. The text is `correct`, or, if `shows`, the recording with the
+///   steps that explain it between its lines.
+/// - Status 1: the text names the first line whose event no correct channel can have come to, what is
+///   recorded there, and answers that are possible there. If that line wasn't found, the text names
+///   the first one that it can be.
+/// - Status 6: the search was given up; the text names a line before which the events
+///   are explained.
+///
+/// `NoMemory`: the events, the search or a text couldn't be allocated.
 pub(crate) fn judge_recording<A: Allocator + Copy>(
     alloc: A,
     shows: bool,
@@ -52,7 +56,6 @@ pub(crate) fn judge_recording<A: Allocator + Copy>(
     }
 }
 
-// The first line.
 fn first_line(input: &[u8]) -> &[u8]
     ensures value { (first : List ℕ) (rest : List (List ℕ)) → lines input.now ≡ first ∷ rest
         → result.now ≡ first }
@@ -63,7 +66,6 @@ fn first_line(input: &[u8]) -> &[u8]
     }
 }
 
-// The first wrong line, and why it is wrong.
 fn refuse<A: Allocator + Copy>(alloc: A, line: usize, fault: Fault) -> Result<Script<A>, NoMemory>
     ensures refuses { IfOk result (λ script. (input : List ℕ)
         → IsFirstWrongEvent A (lines input) line fault
@@ -73,7 +75,6 @@ fn refuse<A: Allocator + Copy>(alloc: A, line: usize, fault: Fault) -> Result<Sc
     Ok(Script { text, status: 2 })
 }
 
-// Searches for what explains the events.
 fn judge<A: Allocator + Copy>(
     alloc: A,
     shows: bool,
@@ -113,6 +114,7 @@ fn show<A: Allocator + Copy>(
     names: &[&[u8]],
 ) -> Result<Script<A>, NoMemory>
     requires explained { AreExplained capacity events.now }
+    requires room { length events.now + 2 < 2 ^ 64 }
     ensures shows { IfOk result (λ script. (input : List ℕ) (rest : List (List ℕ))
         → lines input ≡ first.now ∷ rest
         → IsRecordingText (lines input) capacity events.now (names_of names.now)
@@ -130,19 +132,19 @@ fn show<A: Allocator + Copy>(
     }
 }
 
-// The line of the event at this place, up to which a search came.
+// The line of the event at this place, before which the events are explained.
 fn leave_open<A: Allocator + Copy>(alloc: A, place: usize) -> Result<Script<A>, NoMemory>
+    requires room { place + 2 < 2 ^ 64 }
     ensures leaves_open { IfOk result (λ script. (input : List ℕ) (capacity : Option ℕ)
         (events : List (Event ℕ A)) (names : List (List ℕ))
         → IsRecordingText (lines input) capacity events names
+        → AreExplained capacity (take place events)
         → LeavesOpen A input script.text.items script.status) }
 {
-    let text = write_line(alloc, place.saturating_add(2), "not decided")?;
+    let text = write_line(alloc, place + 2, "not decided")?;
     Ok(Script { text, status: 6 })
 }
 
-// The line of the event at this place, with which the events aren't explained, and the answers that
-// are possible there.
 fn break_off<A: Allocator + Copy>(
     alloc: A,
     capacity: Option<usize>,

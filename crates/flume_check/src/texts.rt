@@ -11,7 +11,7 @@ use flume_recording::calls::write_call;
 use flume_recording::fault::Fault;
 use std::alloc::Allocator;
 
-/// What is printed at a line. `NoMemory`: the text found no room.
+/// What is printed at a line. `NoMemory`: the text couldn't be allocated.
 pub(crate) fn write_line<A: Allocator + Copy>(
     alloc: A,
     number: usize,
@@ -24,7 +24,7 @@ pub(crate) fn write_line<A: Allocator + Copy>(
     Ok(text.into_bytes())
 }
 
-/// What is printed of a line that is wrong. `NoMemory`: the text found no room.
+/// What is printed of a line that is wrong. `NoMemory`: the text couldn't be allocated.
 pub(crate) fn write_fault<A: Allocator + Copy>(
     alloc: A,
     number: usize,
@@ -42,7 +42,7 @@ pub(crate) fn write_fault<A: Allocator + Copy>(
 }
 
 /// What is printed of a line whose event can't come there, but these answers can. `NoMemory`: the
-/// text found no room.
+/// text couldn't be allocated.
 pub(crate) fn write_break<A: Allocator + Copy>(
     alloc: A,
     number: usize,
@@ -61,7 +61,6 @@ pub(crate) fn write_break<A: Allocator + Copy>(
     write_line(alloc, number, &told)
 }
 
-// Adds the answers that are possible.
 fn write_but<A: Allocator>(text: &mut String<A>, answers: &[Answer<u64, A>]) -> Result<(), NoMemory>
     ensures value { OnOk result
         (string_bytes text.new ≡ string_bytes text.old ++ but_text answers.now) }
@@ -74,7 +73,6 @@ fn write_but<A: Allocator>(text: &mut String<A>, answers: &[Answer<u64, A>]) -> 
     write_or(text, others)
 }
 
-// Adds the answers, with ` or ` before each.
 fn write_or<A: Allocator>(text: &mut String<A>, answers: &[Answer<u64, A>]) -> Result<(), NoMemory>
     ensures value { OnOk result
         (string_bytes text.new ≡ string_bytes text.old ++ or_text answers.now) }

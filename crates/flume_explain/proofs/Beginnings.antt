@@ -1,11 +1,13 @@
 -- Beginnings of events.
-use Rattle.std.proofs.Common.{◌≡◌, ◌<◌, ◌+◌, ℕ, Bool, List, [], ◌∷◌, refl, subst, length, take, take-take, length-take, arith}
+use Rattle.std.proofs.Common.{◌≡◌, ◌<◌, max, sym, ◌+◌, ℕ, Bool, List, [], ◌∷◌, refl, subst, length, take, take-take, length-take, arith}
 use Rattle.std.proofs.lemmas.List.{take_all}
 use Rattle.flume_model.specs.Log.{Opening}
 use Rattle.flume_concurrent.specs.declared.event.Event.{Event}
 use Rattle.flume_concurrent.specs.Explanations.{IsExplained}
 use Rattle.flume_concurrent.proofs.Beginnings.{beginning_explained}
+use Rattle.flume_explain.specs.Reached.{AreExplained}
 use Rattle.flume_explain.specs.Search.{BreaksAfter, UnexplainedAfter}
+use Rattle.flume_explain.proofs.ReachedEvents.{further_explained}
 
 module _ {T A : Type 0} (equal : T → T → Bool) where
   -- no events are explained
@@ -47,3 +49,31 @@ module _ {T A : Type 0} (equal : T → T → Bool) where
         before = subst (IsExplained equal o) (take-take count n events (omega arith)) breaks.before;
         not_all = λ explained. breaks.not_all (beginning_explained equal o events n explained);
       }
+
+  -- so many of a beginning of the events are so many of the events
+  pub explained_on : (o : Opening) (events : List (Event T A)) (n count : ℕ) → AreExplained equal (take n events) o count
+      → AreExplained equal events o count
+  explained_on o events n count far =
+      let size = length-take n events in
+      let within = far.within in
+      record {
+        within = omega arith;
+        explained = subst (IsExplained equal o) (take-take count n events (omega arith)) far.explained;
+      }
+
+  -- all events
+  pub all_of : (o : Opening) (events : List (Event T A)) → IsExplained equal o events → AreExplained equal events o (length events)
+  all_of o events explained = record {
+    within = omega arith;
+    explained = subst (IsExplained equal o) (sym (take_all (length events) events (omega arith))) explained;
+  }
+
+  -- the further one of two beginnings that are explained, of events that aren't
+  pub unexplained_after : (o : Opening) (events : List (Event T A)) (low count place : ℕ) → low < length events → count < length events
+      → IsExplained equal o (take low events) → AreExplained equal (take count events) o place → (IsExplained equal o events → ⊥)
+      → UnexplainedAfter equal o events (max low place)
+  unexplained_after o events low count place few fewer low_is place_is not_all =
+      let size = length-take count events in
+      let within = place_is.within in
+      let both = further_explained equal events o low place (record { within = omega arith; explained = low_is }) (explained_on o events count place place_is) in
+      record { is_within = omega arith; before = both.explained; not_all = not_all }

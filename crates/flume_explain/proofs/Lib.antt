@@ -52,3 +52,9 @@ pub mod EndMoves
 pub mod AdmitMoves
 pub mod LeavingEnds
 pub mod EachMove
+pub mod TicketsIssued
+pub mod SomeReplies
+pub mod RefusalsAllowed
+pub mod Reaching
+pub mod ReachedEvents
+pub mod SearchReaches

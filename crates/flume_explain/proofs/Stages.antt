@@ -27,7 +27,7 @@ module _ {T : Type 0} where
 
 module _ {T A : Type 0} (events : List (Event T A)) (call : Call T) where
   -- messages that are there are the same, if they are told the same
-  some_apart : (xs ys : List T) → map Some xs ≡ map Some ys → xs ≡ ys
+  pub some_apart : (xs ys : List T) → map Some xs ≡ map Some ys → xs ≡ ys
   some_apart [] [] e = refl
   some_apart [] (y ∷ ys) e = absurd (let none : ⊥ = cc in none)
   some_apart (x ∷ xs) [] e = absurd (let none : ⊥ = cc in none)

@@ -1,5 +1,5 @@
 -- The configuration of a new channel agrees with no items; so if it is dead, nothing explains the events.
-use Rattle.std.proofs.Common.{◌≡◌, ℕ, Bool, List, [], ◌∷◌, ◌++◌, Option, reverse, append_assoc, refl, sym, ap, ◌∙◌, subst}
+use Rattle.std.proofs.Common.{◌≡◌, ℕ, Bool, List, [], ◌∷◌, ◌++◌, Option, reverse, append_assoc, refl, sym, ap, ◌∙◌, subst, arith}
 use Rattle.std.specs.FinMap.{get-empty}
 use Rattle.std.proofs.lemmas.Bool.{false≢true}
 use Rattle.std.proofs.lemmas.List.{reverse-append, append-nil}
@@ -14,6 +14,7 @@ use Rattle.flume_concurrent.proofs.Late.{explained_late}
 use Rattle.flume_explain.specs.Configurations.{start_of}
 use Rattle.flume_explain.specs.Agreement.{Agrees, IsOwn}
 use Rattle.flume_explain.specs.Dead.{IsDead, onto}
+use Rattle.flume_explain.specs.Reached.{IsReached}
 
 module _ {T A : Type 0} where
   -- a new channel stands for the empty log
@@ -40,7 +41,7 @@ module _ {T A : Type 0} where
 
 module _ {T A : Type 0} (equal : T → T → Bool) (events : List (Event T A)) where
   -- the start agrees with no items
-  start_agrees : (capacity : Option ℕ) (first : ℕ) → Agrees equal events (opens capacity first) [] events (start_of capacity)
+  pub start_agrees : (capacity : Option ℕ) (first : ℕ) → Agrees equal events (opens capacity first) [] events (start_of capacity)
   start_agrees capacity first = record {
     state = new_state (opens capacity first);
     stands = new_stands (opens capacity first);
@@ -63,6 +64,16 @@ module _ {T A : Type 0} (equal : T → T → Bool) (events : List (Event T A)) w
       blocked_send = All-nil _;
       receives_apart = All-nil _;
     };
+  }
+
+  -- so it is reached
+  pub start_reached : (capacity : Option ℕ) → IsReached equal events (opens capacity 1) 0 (start_of capacity)
+  start_reached capacity = record {
+    past = [];
+    events_are = refl;
+    explains = record { calls = tt; run = tt };
+    agrees = start_agrees capacity 1;
+    first_is = omega arith;
   }
 
   -- if it is dead, the events have no explanation

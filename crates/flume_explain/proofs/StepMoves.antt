@@ -30,7 +30,7 @@ use Rattle.flume_explain.specs.Leads.{IsMade, LeadsTo, LeadsNowhere, MoveLeadsTo
 
 module _ {T : Type 0} where
   -- the step of a move, if there is one
-  abbrev step_by : Call T → ℕ → Option Move → Option (Step T)
+  abbrev pub step_by : Call T → ℕ → Option Move → Option (Step T)
   step_by own ticket mv = option_and_then (λ m. step_for own ticket m) mv
 
   first_so : (own : Call T) (ticket : ℕ) → Some (first_step own) ≡ step_for own ticket (first_move own)
@@ -72,7 +72,7 @@ module _ {T A : Type 0} (equal : T → T → Bool) (events : List (Event T A)) w
   other_so _ recorded ticket _ _ h = absurd h
 
   -- the step that a call makes is that of its move
-  step_so : (own : Call T) (recorded : Option (Answer T A)) (ticket : ℕ) (p : Progress) (s : Stage T A) (other : Bool)
+  pub step_so : (own : Call T) (recorded : Option (Answer T A)) (ticket : ℕ) (p : Progress) (s : Stage T A) (other : Bool)
       → IsProgress equal events own recorded ticket p s
       → (if other then other_step own s else next_step own s) ≡ step_by own ticket (move_of own p other)
   step_so own recorded ticket p s true h = other_so own recorded ticket p s h

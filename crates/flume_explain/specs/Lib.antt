@@ -12,3 +12,4 @@ pub mod Happens
 pub mod Refusals
 pub mod Dead
 pub mod Search
+pub mod Reached

@@ -5,13 +5,14 @@ ghost use Rattle.flume_model.specs.Log.{opens};
 ghost use Rattle.flume_concurrent.specs.Explanations.{events_in, IsExplained};
 ghost use Rattle.flume_concurrent.specs.Told.{TellExplanation};
 ghost use Rattle.flume_concurrent.specs.declared.event.Item.{Item};
+ghost use Rattle.flume_explain.specs.Reached.{AreExplained};
 ghost use Rattle.flume_explain.specs.Search.{BreaksAfter, UnexplainedAfter};
 
 use crate::choice::Choice;
-use crate::configuration::Configuration;
+use crate::paths::find_choices;
 use crate::refuted::refuted_at;
 use crate::replay::{Failure, make_choices};
-use crate::search::{Found, find_path};
+use crate::search::Found;
 use flume_concurrent::event::{Event, Item};
 use flume_concurrent::explanation::{Explained, check_explanation};
 use flume_core::error::NoMemory;
@@ -29,8 +30,8 @@ pub enum Explanation<T, A: Allocator> {
     Unexplained,
     /// There was no memory: nothing is known of the events.
     NoMemory,
-    /// The search was given up: nothing is known of the events. The furthest configuration that it
-    /// entered was one before the event at this place.
+    /// The search was given up. So many events are explained; of all of them nothing is known. If
+    /// these are all, they are explained, but the items weren't found.
     GaveUp(usize),
 }
 
@@ -46,8 +47,7 @@ pub enum Checked {
     Unexplained(usize),
     /// There was no memory: nothing is known of the events.
     NoMemory,
-    /// A search was given up: nothing is known of the events. The furthest configuration that it
-    /// entered was one before the event at this place.
+    /// The search was given up. So many events are explained; of all of them nothing is known.
     GaveUp(usize),
 }
 
@@ -67,9 +67,10 @@ pub fn explain<T: Copy + Eq + Drop, A: Allocator + Copy>(
         → IsExplained T.eq (opens capacity 1) events.now }
     ensures unexplained { result ≡ Explanation.Unexplained
         → IsExplained T.eq (opens capacity 1) events.now → ⊥ }
+    ensures gave_up { (count : ℕ) → result ≡ Explanation.GaveUp count
+        → AreExplained T.eq events.now (opens capacity 1) count }
 {
-    let start = Configuration::new(alloc, capacity);
-    match find_path(alloc, start, events, limit) {
+    match find_choices(alloc, capacity, events, limit) {
         Found::Path(path) => explained_by(alloc, capacity, events, path.as_slice()),
         Found::Nothing(_) => Explanation::Unexplained,
         Found::NoMemory => Explanation::NoMemory,
@@ -94,6 +95,8 @@ pub fn check_calls<T: Copy + Eq + Drop, A: Allocator + Copy>(
         → BreaksAfter T.eq (opens capacity 1) events.now count }
     ensures unexplained { (count : ℕ) → result ≡ Checked.Unexplained count
         → UnexplainedAfter T.eq (opens capacity 1) events.now count }
+    ensures gave_up { (count : ℕ) → result ≡ Checked.GaveUp count
+        → AreExplained T.eq events.now (opens capacity 1) count }
 {
     match check_within(alloc, capacity, events, limit, limit.min(SOON)) {
         Checked::GaveUp(_) => check_long(alloc, capacity, events, limit),
@@ -116,10 +119,11 @@ fn check_within<T: Copy + Eq + Drop, A: Allocator + Copy>(
         → BreaksAfter T.eq (opens capacity 1) events.now count }
     ensures unexplained { (count : ℕ) → result ≡ Checked.Unexplained count
         → UnexplainedAfter T.eq (opens capacity 1) events.now count }
+    ensures gave_up { (count : ℕ) → result ≡ Checked.GaveUp count
+        → AreExplained T.eq events.now (opens capacity 1) count }
 {
-    let start = Configuration::new(alloc, capacity);
-    match find_path(alloc, start, events, most) {
-        Found::Path(path) => checked_by(alloc, capacity, events, path.as_slice()),
+    match find_choices(alloc, capacity, events, most) {
+        Found::Path(_) => Checked::Explained,
         Found::Nothing(place) => find_break(alloc, capacity, events, limit / 10, place),
         Found::NoMemory => Checked::NoMemory,
         Found::GaveUp(place) => Checked::GaveUp(place),
@@ -139,6 +143,8 @@ fn check_long<T: Copy + Eq + Drop, A: Allocator + Copy>(
         → BreaksAfter T.eq (opens capacity 1) events.now count }
     ensures unexplained { (count : ℕ) → result ≡ Checked.Unexplained count
         → UnexplainedAfter T.eq (opens capacity 1) events.now count }
+    ensures gave_up { (count : ℕ) → result ≡ Checked.GaveUp count
+        → AreExplained T.eq events.now (opens capacity 1) count }
 {
     match refuted_at(alloc, events) {
         Ok(Some(place)) => check_refuted(alloc, capacity, events, limit, place),
@@ -162,23 +168,27 @@ fn check_refuted<T: Copy + Eq + Drop, A: Allocator + Copy>(
         → BreaksAfter T.eq (opens capacity 1) events.now count }
     ensures unexplained { (count : ℕ) → result ≡ Checked.Unexplained count
         → UnexplainedAfter T.eq (opens capacity 1) events.now count }
+    ensures decided { (count : ℕ) → result ≡ Checked.GaveUp count → ⊥ }
 {
     find_break(alloc, capacity, &events[..=place], limit / 10, place)
 }
 
-// The explanation that these choices make, if they make one.
+// The explanation that these choices make, if they make one. The events have one.
 fn explained_by<T: Copy + Eq + Drop, A: Allocator + Copy>(
     alloc: A,
     capacity: Option<usize>,
     events: &[Event<T, A>],
     path: &[Choice],
 ) -> Explanation<T, A>
+    requires { IsExplained T.eq (opens capacity 1) events.now }
     ensures events { (items : Vec (Item T A) A) → result ≡ Explanation.Explained items
         → events_in items.items ≡ events.now }
     ensures explains { (items : Vec (Item T A) A) → result ≡ Explanation.Explained items
         → TellExplanation T.eq (opens capacity 1) items.items }
     ensures explained { (items : Vec (Item T A) A) → result ≡ Explanation.Explained items
         → IsExplained T.eq (opens capacity 1) events.now }
+    ensures gave_up { (count : ℕ) → result ≡ Explanation.GaveUp count
+        → AreExplained T.eq events.now (opens capacity 1) count }
     ensures found { result ≡ Explanation.Unexplained → ⊥ }
 {
     let items = match make_choices(alloc, capacity, events, path) {
@@ -190,26 +200,6 @@ fn explained_by<T: Copy + Eq + Drop, A: Allocator + Copy>(
         Explained::Explains => Explanation::Explained(items),
         Explained::Breaks(_) => Explanation::GaveUp(events.len()),
         Explained::NoMemory => Explanation::NoMemory,
-    }
-}
-
-// Whether these choices explain the events.
-fn checked_by<T: Copy + Eq + Drop, A: Allocator + Copy>(
-    alloc: A,
-    capacity: Option<usize>,
-    events: &[Event<T, A>],
-    path: &[Choice],
-) -> Checked
-    ensures explained { result ≡ Checked.Explained
-        → IsExplained T.eq (opens capacity 1) events.now }
-    ensures found { (count : ℕ) → result ≡ Checked.Breaks count → ⊥ }
-    ensures all { (count : ℕ) → result ≡ Checked.Unexplained count → ⊥ }
-{
-    match explained_by(alloc, capacity, events, path) {
-        Explanation::Explained(_) => Checked::Explained,
-        Explanation::Unexplained => Checked::GaveUp(events.len()),
-        Explanation::NoMemory => Checked::NoMemory,
-        Explanation::GaveUp(place) => Checked::GaveUp(place),
     }
 }
 
@@ -228,6 +218,7 @@ fn find_break<T: Copy + Eq + Drop, A: Allocator + Copy>(
         → BreaksAfter T.eq (opens capacity 1) events.now count }
     ensures unexplained { (count : ℕ) → result ≡ Checked.Unexplained count
         → UnexplainedAfter T.eq (opens capacity 1) events.now count }
+    ensures decided { (count : ℕ) → result ≡ Checked.GaveUp count → ⊥ }
 {
     let mut low = 0;
     let mut high = events.len();
@@ -235,46 +226,21 @@ fn find_break<T: Copy + Eq + Drop, A: Allocator + Copy>(
     let mut step = 1;
     while low + 1 < high {
         let count = next.clamp(low + 1, high - 1);
-        match explain(alloc, capacity, &events[..count], limit) {
-            Explanation::Explained(_) => {
+        match find_choices(alloc, capacity, &events[..count], limit) {
+            Found::Path(_) => {
                 low = count;
                 next = low + half_at_most(step, high - low);
             }
-            Explanation::Unexplained => {
+            Found::Nothing(_) => {
                 high = count;
                 next = high - half_at_most(step, high - low);
             }
-            Explanation::NoMemory => return Checked::NoMemory,
-            Explanation::GaveUp(place) => {
-                return Checked::Unexplained(raised(alloc, capacity, events, limit, low, place));
-            }
+            Found::NoMemory => return Checked::NoMemory,
+            Found::GaveUp(place) => return Checked::Unexplained(low.max(place)),
         }
         step = step.saturating_mul(2);
     }
     Checked::Breaks(low)
-}
-
-// So many events are explained: up to a place if these are, else as few as before.
-fn raised<T: Copy + Eq + Drop, A: Allocator + Copy>(
-    alloc: A,
-    capacity: Option<usize>,
-    events: &[Event<T, A>],
-    limit: usize,
-    low: usize,
-    place: usize,
-) -> usize
-    requires within { low < length events.now }
-    requires low { IsExplained T.eq (opens capacity 1) (take low events.now) }
-    ensures within { result < length events.now }
-    ensures explained { IsExplained T.eq (opens capacity 1) (take result events.now) }
-{
-    if place <= low || place >= events.len() {
-        return low;
-    }
-    match explain(alloc, capacity, &events[..place], limit) {
-        Explanation::Explained(_) => place,
-        _ => low,
-    }
 }
 
 // The step, but no more than half of what is left.

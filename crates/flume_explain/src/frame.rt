@@ -2,6 +2,7 @@
 ghost use Rattle.std.specs.Prelude.{◌≡◌, ◌<◌, ℕ, [], length};
 ghost use Rattle.flume_explain.specs.Configurations.{State};
 ghost use Rattle.flume_explain.specs.Dead.{AreLeft, IsDead};
+ghost use Rattle.flume_explain.specs.Reached.{Reaches};
 ghost use Rattle.flume_explain.specs.declared.choice.Choice.{Choice};
 
 use crate::choice::Choice;
@@ -46,6 +47,9 @@ impl<A: Allocator + Copy> Frame<A> {
             → result ≡ Next.Leads choice new at → IsDead T.eq events.now at new
             → AreLeft T.eq events.now self.new.place self.new.configuration
             self.new.choices.items }
+        ensures reaches { (choice : Choice) (new : State) (at : ℕ)
+            → result ≡ Next.Leads choice new at
+            → Reaches T.eq events.now self.old.place self.old.configuration at new }
         ensures dead { result ≡ Next.Nowhere
             → IsDead T.eq events.now self.new.place self.new.configuration }
     {

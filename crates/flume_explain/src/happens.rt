@@ -1,7 +1,10 @@
 //! The next event, and where it leads a configuration.
 ghost use Rattle.std.specs.Prelude.{◌≡◌, ◌<◌, ℕ, false, IsTrue, length};
 ghost use Rattle.flume_explain.specs.Configurations.{call_at};
+ghost use Rattle.flume_model.specs.Log.{Opening};
+ghost use Rattle.flume_concurrent.specs.Explanations.{IsExplained};
 ghost use Rattle.flume_explain.specs.Dead.{EventLeads, EventWaits, IsDead};
+ghost use Rattle.flume_explain.specs.Reached.{AreExplained, EventFits, IsReached, Reaches};
 ghost use Rattle.flume_explain.specs.Happens.{may_end, with_call, without_call};
 ghost use Rattle.flume_explain.specs.declared.configuration.OpenCall.{OpenCall};
 
@@ -31,6 +34,7 @@ impl<A: Allocator + Copy> Configuration<A> {
     /// Whether the event at a place may come now.
     pub fn may_take_event<T: Copy + Eq + Drop>(&self, events: &[Event<T, A>], place: usize) -> bool
         requires { place < length events.now }
+        ensures fits { IsTrue result → EventFits T.eq events.now place self.now }
         ensures waits { result ≡ false → EventWaits T.eq events.now place self.now }
     {
         match &events[place] {
@@ -95,6 +99,14 @@ impl<A: Allocator + Copy> Configuration<A> {
             → IsDead T.eq events.now next self.new → IsDead T.eq events.now place self.old }
         ensures dead { (next : ℕ) → result ≡ Forced.Dead next
             → IsDead T.eq events.now place self.old }
+        ensures all { result ≡ Forced.AtEnd → (opening : Opening)
+            → IsReached T.eq events.now opening place self.old
+            → IsExplained T.eq opening events.now }
+        ensures reaches { (next : ℕ) (own : OpenCall) → result ≡ Forced.Stops next own
+            → Reaches T.eq events.now place self.old next self.new }
+        ensures far { (next : ℕ) → result ≡ Forced.Dead next → (opening : Opening)
+            → IsReached T.eq events.now opening place self.old
+            → AreExplained T.eq events.now opening next }
     {
         for next in place..events.len() {
             if let Some(own) = self.returning_call(events, next) {

@@ -1,17 +1,20 @@
 //! Looks for an explanation of what threads recorded of their calls on a channel.
 #![tactic(auto)]
 
+mod call_records;
 mod choice;
 mod configuration;
 mod dead;
 mod ends;
 pub mod explain;
 mod frame;
+mod guess;
 mod happens;
 mod line;
 mod made;
 mod moves;
 mod order;
+mod paths;
 mod patterns;
 mod place_reply;
 mod places;

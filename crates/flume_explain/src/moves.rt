@@ -6,6 +6,7 @@ ghost use Rattle.std.specs.List.{Contains};
 ghost use Rattle.flume_concurrent.specs.declared.event.Event.{Event};
 ghost use Rattle.flume_explain.specs.Configurations.{State, thread_at, first_answer, progressed};
 ghost use Rattle.flume_explain.specs.Leads.{LeadsTo, LeadsNowhere, CallLeadsTo, CallLeadsNowhere};
+ghost use Rattle.flume_explain.specs.Reached.{StepReaches, MoveReaches};
 
 use crate::configuration::{Configuration, OpenCall, Progress, progressed};
 use crate::place_reply::PlaceReply;
@@ -48,6 +49,8 @@ impl<A: Allocator + Copy> Configuration<A> {
             → (rest : List (Event T A)) (t : ℕ) → Contains self.now.calls one
             → thread_at events.now one.place ≡ Some t → first_answer t rest ≡ option_copied recorded.entry
             → LeadsTo T.eq events.now self.now rest t other refused new }
+        ensures reaches { (new : State) → result ≡ Outcome.Leads new → (place : ℕ)
+            → StepReaches T.eq events.now place self.now (option_copied recorded.entry) one new }
         ensures same { result ≡ Outcome.Same
             → (rest : List (Event T A)) (t : ℕ) → Contains self.now.calls one
             → thread_at events.now one.place ≡ Some t → first_answer t rest ≡ option_copied recorded.entry
@@ -81,6 +84,9 @@ impl<A: Allocator + Copy> Configuration<A> {
     ) -> Outcome<A>
         ensures leads { (events : List (Event T A)) (new : State) → result ≡ Outcome.Leads new
             → CallLeadsTo T.eq events self.now (option_copied recorded.entry) one call.now mv true new }
+        ensures reaches { (events : List (Event T A)) (new : State) → result ≡ Outcome.Leads new
+            → (place : ℕ) → MoveReaches T.eq events place self.now (option_copied recorded.entry)
+            one call.now mv new }
         ensures same { (events : List (Event T A)) → result ≡ Outcome.Same
             → CallLeadsTo T.eq events self.now (option_copied recorded.entry) one call.now mv true
             self.now }
@@ -118,6 +124,9 @@ impl<A: Allocator + Copy> Configuration<A> {
         ensures leads { (new : State) → result ≡ Outcome.Leads new
             → CallLeadsTo T.eq events.now self.now (option_copied recorded.entry) one call.now mv
             false new }
+        ensures reaches { (new : State) → result ≡ Outcome.Leads new → (place : ℕ)
+            → MoveReaches T.eq events.now place self.now (option_copied recorded.entry) one call.now
+            mv new }
         ensures same { result ≡ Outcome.Same
             → CallLeadsTo T.eq events.now self.now (option_copied recorded.entry) one call.now mv
             false self.now }

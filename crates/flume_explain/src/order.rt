@@ -4,117 +4,33 @@ ghost use Rattle.std.specs.Prelude.{◌≡◌, IsTrue};
 ghost use Rattle.std.specs.List.{Contains};
 ghost use Rattle.flume_explain.specs.declared.choice.Choice.{Choice};
 
+use crate::call_records::{CallRecords, NEVER, message_of};
 use crate::choice::Choice;
 use crate::configuration::{Configuration, OpenCall, Progress};
-use flume_concurrent::call::{Answer, Call};
 use flume_concurrent::event::Event;
 use std::alloc::Allocator;
 
-/// For each event that begins a call, when the message that the call sends or receives is returned.
+/// What is tried first, by what the events tell of each call.
 #[derive(Drop)]
 pub struct Order<A: Allocator> {
-    // By the place of an event: the place of the event that returns the message, or `NEVER`.
-    returned: Vec<usize, A>,
-    // The places of the sends whose messages weren't returned yet.
-    sends: Vec<usize, A>,
-    // The open calls so far: a thread and a place each.
-    open: Vec<(usize, usize), A>,
+    records: CallRecords<A>,
 }
 
-// No event returns the message.
-const NEVER: usize = usize::MAX;
-
 impl<A: Allocator + Copy> Order<A> {
-    /// The order for these events; none if there was no memory. Of two sends of equal messages, the
-    /// one that began first is taken to be the one whose message is returned first.
+    /// The order for these events; none if there was no memory.
     pub fn new<T: Copy + Eq + Drop>(alloc: A, events: &[Event<T, A>]) -> Option<Self> {
-        let mut order = Order {
-            returned: Vec::new(alloc),
-            sends: Vec::new(alloc),
-            open: Vec::new(alloc),
-        };
-        for place in 0..events.len() {
-            if !order.add(events, place) {
-                return None;
-            }
-        }
-        Some(order)
+        let records = CallRecords::new(alloc, events)?;
+        Some(Order { records })
     }
 
-    // Takes the next event. `false`: there was no memory.
-    fn add<T: Copy + Eq + Drop>(&mut self, events: &[Event<T, A>], place: usize) -> bool {
-        if self.returned.push(NEVER).is_err() {
-            return false;
-        }
-        match events.get(place) {
-            Some(Event::Begins { thread, call }) => {
-                (message_of(call).is_none() || self.sends.push(place).is_ok())
-                    && self.open.push((*thread, place)).is_ok()
-            }
-            Some(Event::Returns { thread, answer }) => {
-                self.end(*thread, place, answer);
-                self.come_out(events, place, answer);
-                true
-            }
-            None => true,
-        }
-    }
-
-    // The thread's call returns this answer at a place.
-    fn end<T: Copy + Eq + Drop>(&mut self, thread: usize, place: usize, answer: &Answer<T, A>) {
-        for index in 0..self.open.len() {
-            if let Some((own, begin)) = self.open.get(index).copied() {
-                if own == thread {
-                    let _ = self.open.remove(index);
-                    if let Answer::Got(_) = answer {
-                        self.set(begin, place);
-                    }
-                    return;
-                }
-            }
-        }
-    }
-
-    // The messages in an answer are returned at a place.
-    fn come_out<T: Copy + Eq + Drop>(
-        &mut self,
-        events: &[Event<T, A>],
-        place: usize,
-        answer: &Answer<T, A>,
-    ) {
-        match answer {
-            Answer::Got(message) => self.comes_out(events, place, *message),
-            Answer::Drained(messages) => {
-                for message in messages.as_slice() {
-                    self.comes_out(events, place, *message);
-                }
-            }
-            _ => {}
-        }
-    }
-
-    // This message is returned at a place.
-    fn comes_out<T: Copy + Eq + Drop>(&mut self, events: &[Event<T, A>], place: usize, message: T) {
-        for index in 0..self.sends.len() {
-            if let Some(begin) = self.sends.get(index).copied() {
-                if sends_this(events, begin, message) {
-                    let _ = self.sends.remove(index);
-                    self.set(begin, place);
-                    return;
-                }
-            }
-        }
-    }
-
-    fn set(&mut self, begin: usize, place: usize) {
-        if let Some(returned) = self.returned.get_mut(begin) {
-            *returned = place;
-        }
+    /// What the events tell of each call.
+    pub fn records(&self) -> &CallRecords<A> {
+        &self.records
     }
 
     // When the message of an open call is returned.
     fn of(&self, call: OpenCall) -> usize {
-        self.returned.get(call.place).copied().unwrap_or(NEVER)
+        self.records.of(call.place).received
     }
 
     // The open call, other than this one, whose message is returned first, if it can still be made.
@@ -217,31 +133,5 @@ fn push_step<A: Allocator + Copy>(choices: &mut Vec<Choice, A>, call: Option<Ope
             })
             .is_ok(),
         None => true,
-    }
-}
-
-// The message that a call sends, if it sends one.
-fn message_of<T: Copy>(call: &Call<T>) -> Option<T> {
-    match *call {
-        Call::Send(message)
-        | Call::SendTimeout(message)
-        | Call::SendAsync(message)
-        | Call::TrySend(message) => Some(message),
-        _ => None,
-    }
-}
-
-// Whether the call that begins at a place sends this message.
-fn sends_this<T: Copy + Eq + Drop, A: Allocator>(
-    events: &[Event<T, A>],
-    begin: usize,
-    message: T,
-) -> bool {
-    match events.get(begin) {
-        Some(Event::Begins { call, .. }) => match message_of(call) {
-            Some(own) => own == message,
-            None => false,
-        },
-        _ => false,
     }
 }

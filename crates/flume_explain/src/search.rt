@@ -1,7 +1,11 @@
 //! The search for choices that lead past all the events.
 ghost use Rattle.std.specs.Prelude.{◌≡◌, ◌<◌, ℕ, [], length};
 ghost use Rattle.flume_explain.specs.Configurations.{State};
+ghost use Rattle.flume_model.specs.Log.{Opening};
+ghost use Rattle.flume_concurrent.specs.Explanations.{IsExplained};
+ghost use Rattle.std.specs.declared.vec.Vec.{Vec};
 ghost use Rattle.flume_explain.specs.Dead.{IsDead};
+ghost use Rattle.flume_explain.specs.Reached.{AreExplained, HasReached, IsReached};
 ghost use Rattle.flume_explain.specs.declared.choice.Choice.{Choice};
 
 use crate::choice::Choice;
@@ -64,8 +68,16 @@ pub fn find_path<T: Copy + Eq + Drop, A: Allocator + Copy>(
     events: &[Event<T, A>],
     limit: usize,
 ) -> Found<A>
+    ensures path { (path : Vec Choice A) → result ≡ Found.Path path → (opening : Opening)
+        → IsReached T.eq events.now opening 0 start → IsExplained T.eq opening events.now }
     ensures nothing { (furthest : ℕ) → result ≡ Found.Nothing furthest
         → IsDead T.eq events.now 0 start }
+    ensures furthest { (furthest : ℕ) → result ≡ Found.Nothing furthest → (opening : Opening)
+        → IsReached T.eq events.now opening 0 start
+        → AreExplained T.eq events.now opening furthest }
+    ensures gave_up { (furthest : ℕ) → result ≡ Found.GaveUp furthest → (opening : Opening)
+        → IsReached T.eq events.now opening 0 start
+        → AreExplained T.eq events.now opening furthest }
 {
     let Some(order) = Order::new(alloc, events) else {
         return Found::NoMemory;
@@ -93,6 +105,7 @@ impl<A: Allocator + Copy> Search<A> {
     fn new(alloc: A, order: Order<A>) -> Self
         ensures no_frames { result.frames.items ≡ [] }
         ensures none_dead { result.dead.dead.items ≡ [] }
+        ensures no_way { result.furthest ≡ 0 }
     {
         Search {
             frames: Vec::new(alloc),
@@ -109,6 +122,14 @@ impl<A: Allocator + Copy> Search<A> {
         ensures goes_on { result ≡ Turn.GoesOn → (start : State)
             → Searches T.eq events.now start (Unit {0}) self.old
             → Searches T.eq events.now start (Unit {0}) self.new }
+        ensures reached { result ≡ Turn.GoesOn → (opening : Opening)
+            → HasReached T.eq events.now opening self.old
+            → HasReached T.eq events.now opening self.new }
+        ensures at_end { result ≡ Turn.AtEnd → (opening : Opening)
+            → HasReached T.eq events.now opening self.old → IsExplained T.eq opening events.now }
+        ensures furthest { result ≡ Turn.Nowhere → (opening : Opening)
+            → HasReached T.eq events.now opening self.old
+            → AreExplained T.eq events.now opening self.new.furthest }
         ensures nowhere { result ≡ Turn.Nowhere → (start : State)
             → Searches T.eq events.now start (Unit {0}) self.old
             → IsDead T.eq events.now 0 start }
@@ -133,6 +154,15 @@ impl<A: Allocator + Copy> Search<A> {
             → result ≡ Next.Leads choice new at → (start : State)
             → Searches T.eq events.now start (Unit {0}) self.old
             → Searches T.eq events.now start (IsDead T.eq events.now at new) self.new }
+        ensures reached { (choice : Choice) (new : State) (at : ℕ)
+            → result ≡ Next.Leads choice new at → (opening : Opening)
+            → HasReached T.eq events.now opening self.old
+            → HasReached T.eq events.now opening self.new }
+        ensures reaches { (choice : Choice) (new : State) (at : ℕ)
+            → result ≡ Next.Leads choice new at → (opening : Opening)
+            → HasReached T.eq events.now opening self.old
+            → IsReached T.eq events.now opening at new }
+        ensures furthest { self.new.furthest ≡ self.old.furthest }
         ensures nowhere { result ≡ Next.Nowhere → (start : State)
             → Searches T.eq events.now start (Unit {0}) self.old
             → IsDead T.eq events.now 0 start }
@@ -169,6 +199,13 @@ impl<A: Allocator + Copy> Search<A> {
         ensures goes_on { result ≡ Turn.GoesOn → (start : State)
             → Searches T.eq events.now start (IsDead T.eq events.now place configuration) self.old
             → Searches T.eq events.now start (Unit {0}) self.new }
+        ensures reached { result ≡ Turn.GoesOn → (opening : Opening)
+            → HasReached T.eq events.now opening self.old
+            → IsReached T.eq events.now opening place configuration
+            → HasReached T.eq events.now opening self.new }
+        ensures at_end { result ≡ Turn.AtEnd → (opening : Opening)
+            → IsReached T.eq events.now opening place configuration
+            → IsExplained T.eq opening events.now }
         ensures goes { (result ≡ Turn.Nowhere) → ⊥ }
     {
         match configuration.take_forced(events, place, &mut self.chosen) {
@@ -199,7 +236,12 @@ impl<A: Allocator + Copy> Search<A> {
         ensures goes_on { result ≡ Turn.GoesOn → (start : State)
             → Searches T.eq events.now start (IsDead T.eq events.now place configuration) self.old
             → Searches T.eq events.now start (Unit {0}) self.new }
+        ensures reached { result ≡ Turn.GoesOn → (opening : Opening)
+            → HasReached T.eq events.now opening self.old
+            → IsReached T.eq events.now opening place configuration
+            → HasReached T.eq events.now opening self.new }
         ensures goes { (result ≡ Turn.Nowhere) → ⊥ }
+        ensures goes_on_only { (result ≡ Turn.AtEnd) → ⊥ }
     {
         if self.dead.has(&configuration, place) {
             return Turn::GoesOn;

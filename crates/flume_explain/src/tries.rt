@@ -1,10 +1,11 @@
 //! Where a choice leads a configuration.
-ghost use Rattle.std.specs.Prelude.{◌≡◌, ◌<◌, ◌+◌, ℕ, length, drop, Option, List};
+ghost use Rattle.std.specs.Prelude.{◌≡◌, ◌<◌, ◌+◌, ℕ, false, IsTrue, length, drop, Option, List};
 ghost use Rattle.std.specs.Option.{option_copied};
 ghost use Rattle.std.specs.List.{Contains};
 ghost use Rattle.flume_concurrent.specs.declared.event.Event.{Event};
 ghost use Rattle.flume_explain.specs.Configurations.{State, first_answer, thread_at};
 ghost use Rattle.flume_explain.specs.Dead.{EventLeads, EventWaits, IsDead, IsSpent};
+ghost use Rattle.flume_explain.specs.Reached.{Reaches};
 ghost use Rattle.flume_explain.specs.declared.choice.Choice.{Choice};
 
 use crate::choice::Choice;
@@ -38,6 +39,8 @@ impl<A: Allocator + Copy> Configuration<A> {
         requires { place < length events.now }
         ensures leads { (new : State) (at : ℕ) → result ≡ Tried.Leads new at
             → IsDead T.eq events.now at new → IsSpent T.eq events.now place self.now choice }
+        ensures reaches { (new : State) (at : ℕ) → result ≡ Tried.Leads new at
+            → Reaches T.eq events.now place self.now at new }
         ensures spent { result ≡ Tried.Spent → IsSpent T.eq events.now place self.now choice }
     {
         match choice {
@@ -61,6 +64,8 @@ impl<A: Allocator + Copy> Configuration<A> {
         ensures leads { (new : State) (at : ℕ) → result ≡ Tried.Leads new at
             → IsDead T.eq events.now at new
             → IsSpent T.eq events.now place self.now Choice.TakeEvent }
+        ensures reaches { (new : State) (at : ℕ) → result ≡ Tried.Leads new at
+            → Reaches T.eq events.now place self.now at new }
         ensures spent { result ≡ Tried.Spent
             → IsSpent T.eq events.now place self.now Choice.TakeEvent }
     {
@@ -87,12 +92,18 @@ impl<A: Allocator + Copy> Configuration<A> {
         other: bool,
         refused: bool,
     ) -> Tried<A>
+        requires { place < length events.now }
         ensures leads { (new : State) (at : ℕ) → result ≡ Tried.Leads new at
             → IsDead T.eq events.now at new
             → IsSpent T.eq events.now place self.now (Choice.MakeStep call other refused) }
+        ensures reaches { (new : State) (at : ℕ) → result ≡ Tried.Leads new at
+            → Reaches T.eq events.now place self.now at new }
         ensures spent { result ≡ Tried.Spent
             → IsSpent T.eq events.now place self.now (Choice.MakeStep call other refused) }
     {
+        if !has_call(self.calls.as_slice(), call) {
+            return Tried::Spent;
+        }
         let recorded = recorded(events, place, call);
         match self.after(alloc, events, recorded, call, other, refused) {
             Outcome::Leads(new) => Tried::Leads(new, place),
@@ -101,6 +112,14 @@ impl<A: Allocator + Copy> Configuration<A> {
             Outcome::NoMemory => Tried::NoMemory,
         }
     }
+}
+
+// Whether one of these open calls is this one.
+fn has_call(calls: &[OpenCall], call: OpenCall) -> bool
+    ensures has { IsTrue result → Contains calls.now call }
+    ensures no { result ≡ false → Contains calls.now call → ⊥ }
+{
+    calls.contains(&call)
 }
 
 // What an open call is recorded to return, by the events from a place on.

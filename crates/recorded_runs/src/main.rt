@@ -25,7 +25,7 @@ Threads make calls on a channel, and record them; then a search looks for an exp
 they recorded. Does so for RECORDINGS channels (200), with THREADS threads (6) and CALLS calls in
 all (300), beside those that clone and drop the threads' first ends. A fifth of the channels each
 has the capacity 0, 1, 2 or 8, or none. Each other channel is refused memory now and then. A search
-is given up after LIMIT configurations (1000000): then nothing is known of its recording.
+is given up after LIMIT configurations (1000000): then its recording may be explained or not.
 
 Prints the first recording that nothing explains, with its number and what the search came to. Else
 one line, the same in each run, and on standard error how many of the recordings are explained. More
@@ -73,7 +73,6 @@ fn run_all<R: Runtime + RandomSource + Print + Eprint>(
     print_tally(rt, asked, &tally)
 }
 
-// Says that there was no memory.
 fn no_memory<R: Runtime + Eprint>(rt: R) -> io::Result<ExitCode> {
     eprintln!(rt; "out of memory")?;
     Ok(ExitCode::from(3))

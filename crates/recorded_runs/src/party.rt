@@ -49,7 +49,7 @@ impl<'e, 'h, R: Waits> Party<'e, 'h, R> {
         }
     }
 
-    /// Makes so many calls, and then drops its futures and its ends but the first ones.
+    /// Makes this many calls, and then drops its futures and its ends but the first ones.
     pub fn run(mut self, task: &MockTask, calls: u64) -> Recorder<u64> {
         for _ in 0..calls {
             self.pause();
@@ -95,7 +95,6 @@ impl<'e, 'h, R: Waits> Party<'e, 'h, R> {
         self.message
     }
 
-    // Makes a call.
     fn draw_call(&mut self, task: &MockTask) {
         let sends = match (self.sender, self.receiver) {
             (Some(_), Some(_)) => self.draws.below(2) == 0,
@@ -113,7 +112,6 @@ impl<'e, 'h, R: Waits> Party<'e, 'h, R> {
         }
     }
 
-    // Makes a call of the first sender.
     fn call_sender(&mut self) {
         let (message, short) = (self.next_message(), self.short());
         let Some(tx) = self.sender else {
@@ -132,7 +130,6 @@ impl<'e, 'h, R: Waits> Party<'e, 'h, R> {
         }
     }
 
-    // Makes a call of the first receiver.
     fn call_receiver(&mut self) {
         let short = self.short();
         let Some(rx) = self.receiver else {

@@ -16,7 +16,7 @@ use std::alloc::{AllocError, Global};
 use std::random::RandomSource;
 use std::{fmt, thread};
 
-// Of a channel that is refused memory one request in so many is refused.
+// One request in this many is refused, on a channel that is refused memory.
 const REFUSED: u64 = 12;
 
 /// What a run recorded.
@@ -72,11 +72,11 @@ impl From<RecordingError> for Fault {
 pub enum Verdict {
     /// The events are explained.
     Explained,
-    /// So many events are, and with the next one they aren't.
+    /// This many events are, and with the next one they aren't.
     Breaks(usize),
-    /// So many events are, and all of them aren't. Where they stop wasn't found in time.
+    /// This many events are, and all of them aren't. Where they stop wasn't found in time.
     Unexplained(usize),
-    /// The search was given up: nothing is known of the events.
+    /// The search was given up: it isn't known whether the events are explained.
     GaveUp,
     /// There was no memory for the search.
     NoMemory,
@@ -100,7 +100,7 @@ impl fmt::Display for Verdict {
     }
 }
 
-/// What a search says of a run's recording, which enters at most so many configurations.
+/// What a search says of a run's recording, which enters at most this many configurations.
 pub fn judge(alloc: Global, run: &Run, limit: u64) -> Verdict {
     let limit = usize::try_from(limit).unwrap_or(usize::MAX);
     match check_calls(alloc, run.capacity, run.events.as_slice(), limit) {
@@ -112,7 +112,6 @@ pub fn judge(alloc: Global, run: &Run, limit: u64) -> Verdict {
     }
 }
 
-// The capacity of the channel of a run.
 fn capacity_of(number: u64) -> Option<usize> {
     match number % 5 {
         0 => Some(0),

@@ -1,4 +1,4 @@
--- One more line stands behind the others.
+-- One more line is behind the others.
 use Rattle.std.proofs.Common.{◌≡◌, ◌∙◌, ap, ◌∷◌, ◌++◌, get_or, take, sym, rules}
 use Rattle.std.proofs.lemmas.List.{append_assoc}
 use Rattle.flume_recording.specs.Recordings.{names_of}

@@ -75,12 +75,14 @@ pub returns : goal.returns
 returns g c = record {
   judges = IfOk-weaker c.leave_open.result
       (λ script. (input : List ℕ) (capacity : Option ℕ) (events : List (Event ℕ g.row.A.Denot)) (names : List (List ℕ))
-      → IsRecordingText (lines input) capacity events names
+      → IsRecordingText (lines input) capacity events names → AreExplained capacity (take c.in-GaveUp.place events)
       → LeavesOpen g.row.A.Denot input script.text.items script.status)
       (λ script. (input : List ℕ) (rest : List (List ℕ)) → lines input ≡ c.args.first.now ∷ rest
       → IsRecordingText (lines input) c.args.capacity c.args.events.items (names_of c.args.names.now)
       → JudgesCalls g.row.A.Denot c.args.shows input script.text.items script.status)
       (λ script leaves input rest begins reads.
-      inr (inr (inl (leaves input c.args.capacity c.args.events.items (names_of c.args.names.now) reads))))
+      inr (inr (inl (leaves input c.args.capacity c.args.events.items (names_of c.args.names.now) reads
+      (subst (λ l. AreExplained c.args.capacity (take c.in-GaveUp.place l)) c.deref.ensures.value
+      (c.in-GaveUp.ensures.gave_up c.in-GaveUp.place refl).explained)))))
       c.leave_open.ensures.leaves_open;
 }

@@ -1,4 +1,4 @@
--- One more answer stands behind the others.
+-- One more answer is behind the others.
 use Rattle.std.proofs.Common.{◌≡◌, ◌∙◌, ap, ◌++◌, string_bytes, get_or, take, sym, rules, codes}
 use Rattle.std.proofs.lemmas.List.{append_assoc}
 use Rattle.flume_recording.specs.Texts.{answer_text}

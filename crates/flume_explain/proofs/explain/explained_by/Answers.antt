@@ -1,8 +1,10 @@
 -- The items were found to tell of an explanation of the events.
-use Rattle.std.proofs.Common.{◌≡◌, refl, sym, ap, ◌∙◌, subst}
+use Rattle.std.proofs.Common.{◌≡◌, length, refl, sym, ap, ◌∙◌, subst}
 use Rattle.flume_model.specs.Log.{opens}
 use Rattle.flume_concurrent.specs.Explanations.{events_in, IsExplained}
 use Rattle.flume_concurrent.specs.Told.{TellExplanation}
+use Rattle.flume_explain.specs.Reached.{AreExplained}
+use Rattle.flume_explain.proofs.Beginnings.{all_of}
 use Rattle.flume_explain.proofs.explain.explained_by.Goals as goal
 
 pub returns-in-Explains-clause-explains : goal.returns-in-Explains-clause-explains
@@ -16,3 +18,15 @@ pub returns-in-Explains-clause-explained : goal.returns-in-Explains-clause-expla
 returns-in-Explains-clause-explained g c = λ items is.
     subst (IsExplained g.T.PartialEq.eq (opens c.args.capacity 1)) (ap events_in c.as_slice.ensures.value ∙ c.in-Ok.ensures.events)
     (c.in-Explains.ensures.explained refl)
+
+pub returns-in-Err-NoPath-clause-gave_up : goal.returns-in-Err-NoPath-clause-gave_up
+returns-in-Err-NoPath-clause-gave_up g c = λ count is.
+    let same : count ≡ length c.args.events.now = cc in
+    subst (AreExplained g.T.PartialEq.eq c.args.events.now (opens c.args.capacity 1)) (sym same)
+    (all_of g.T.PartialEq.eq (opens c.args.capacity 1) c.args.events.now c.requires)
+
+pub returns-in-Breaks-clause-gave_up : goal.returns-in-Breaks-clause-gave_up
+returns-in-Breaks-clause-gave_up g c = λ count is.
+    let same : count ≡ length c.args.events.now = cc in
+    subst (AreExplained g.T.PartialEq.eq c.args.events.now (opens c.args.capacity 1)) (sym same)
+    (all_of g.T.PartialEq.eq (opens c.args.capacity 1) c.args.events.now c.requires)

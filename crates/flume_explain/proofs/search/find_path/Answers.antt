@@ -1,10 +1,12 @@
 -- The search begins at the start, and goes on from there while there may be choices left.
-use Rattle.std.proofs.Common.{◌≡◌, sym, ◌∙◌, subst}
+use Rattle.std.proofs.Common.{◌≡◌, sym, ◌∙◌, subst, arith}
 use Rattle.std.proofs.lemmas.List.Elements.{All-nil}
 use Rattle.std.specs.List.{All}
 use Rattle.flume_explain.specs.declared.search.Turn.TheVariants.{GoesOn}
 use Rattle.std.proofs.lemmas.Bool.{false≢true}
 use Rattle.flume_explain.specs.Dead.{IsDead}
+use Rattle.flume_explain.specs.Reached.{AreExplained, IsReached}
+use Rattle.flume_explain.proofs.ReachedEvents.{reached_explained}
 use Rattle.flume_explain.specs.Search.{AreOnTheWay}
 use Rattle.flume_explain.proofs.search.find_path.Goals as goal
 use Rattle.flume_explain.proofs.search.find_path.Goals.{in-GoesOn, in_default-matches}
@@ -17,6 +19,13 @@ loop-init g c = record {
     dead = subst (All (λ d. IsDead g.T.PartialEq.eq c.args.events.now d.place d.configuration)) (sym c.new-search.ensures.none_dead) (All-nil _);
   });
   nowhere = λ is. absurd (c.enter-turn.ensures.goes is);
+  reached = λ is o r. c.enter-turn.ensures.reached is o (record {
+    frames = subst (All (λ f. IsReached g.T.PartialEq.eq c.args.events.now o f.place f.configuration)) (sym c.new-search.ensures.no_frames) (All-nil _);
+    furthest = subst (AreExplained g.T.PartialEq.eq c.args.events.now o) (sym c.new-search.ensures.no_way)
+        (reached_explained g.T.PartialEq.eq c.args.events.now o 0 c.args.start (omega arith) r);
+  }) r;
+  at_end = λ is o r. c.enter-turn.ensures.at_end is o r;
+  furthest = λ is. absurd (c.enter-turn.ensures.goes is);
 }
 
 pub turn-turn-requires : goal.turn-turn-requires
@@ -36,7 +45,23 @@ loop-preserved g c =
     record {
       goes_on = λ is. c.turn-turn.ensures.goes_on is c.args.start (c.loop.invariant.goes_on going);
       nowhere = λ is. c.turn-turn.ensures.nowhere is c.args.start (c.loop.invariant.goes_on going);
+      reached = λ is o r. c.turn-turn.ensures.reached is o (c.loop.invariant.reached going o r);
+      at_end = λ is o r. c.turn-turn.ensures.at_end is o (c.loop.invariant.reached going o r);
+      furthest = λ is o r. c.turn-turn.ensures.furthest is o (c.loop.invariant.reached going o r);
     }
 
-pub returns-in-Nowhere : goal.returns-in-Nowhere
-returns-in-Nowhere g c = record { nothing = λ furthest is. c.loop.invariant.nowhere c.in-Nowhere.is }
+pub returns-in-Nowhere-clause-nothing : goal.returns-in-Nowhere-clause-nothing
+returns-in-Nowhere-clause-nothing g c = λ furthest is. c.loop.invariant.nowhere c.in-Nowhere.is
+
+pub returns-in-Nowhere-clause-furthest : goal.returns-in-Nowhere-clause-furthest
+returns-in-Nowhere-clause-furthest g c = λ furthest is o r.
+    let same : furthest ≡ c.loop.search.furthest = cc in
+    subst (AreExplained g.T.PartialEq.eq c.args.events.now o) (sym same) (c.loop.invariant.furthest c.in-Nowhere.is o r)
+
+pub returns-in-GoesOn-turn-clause-gave_up : goal.returns-in-GoesOn-turn-clause-gave_up
+returns-in-GoesOn-turn-clause-gave_up g c = λ furthest is o r.
+    let same : furthest ≡ c.loop.search.furthest = cc in
+    subst (AreExplained g.T.PartialEq.eq c.args.events.now o) (sym same) (c.loop.invariant.reached c.in-GoesOn-turn.is o r).furthest
+
+pub returns-in-AtEnd-clause-path : goal.returns-in-AtEnd-clause-path
+returns-in-AtEnd-clause-path g c = λ path is o r. c.loop.invariant.at_end c.in-AtEnd.is o r

@@ -1,12 +1,22 @@
 use Rattle.std.proofs.Common.{◌≡◌}
-use Rattle.flume_explain.specs.declared.search.Turn.TheVariants.{GoesOn, Nowhere}
+use Rattle.flume_explain.specs.declared.search.Turn.TheVariants.{GoesOn, AtEnd, Nowhere}
+use Rattle.flume_model.specs.Log.{Opening}
+use Rattle.flume_concurrent.specs.Explanations.{IsExplained}
 use Rattle.flume_explain.specs.Dead.{IsDead}
+use Rattle.flume_explain.specs.Reached.{AreExplained, HasReached, IsReached}
 use Rattle.flume_explain.specs.Search.{Searches}
 use Rattle.flume_explain.proofs.search.find_path.Given as goal
 
--- while there may be choices left, the search goes on from the start; if nothing is left, the start is dead
+-- while there may be choices left, the search goes on from the start; if nothing is left, the start is dead. If the start is
+-- reached, so is what is on the way, and past the last event all are explained
 abbrev pub invariant-loop : goal.invariant-loop
 invariant-loop g l = record {
   goes_on : l.turn ≡ GoesOn → Searches g.T.PartialEq.eq l.events l.fn.start (Unit {0}) l.search;
   nowhere : l.turn ≡ Nowhere → IsDead g.T.PartialEq.eq l.events 0 l.fn.start;
+  reached : l.turn ≡ GoesOn → (opening : Opening) → IsReached g.T.PartialEq.eq l.events opening 0 l.fn.start
+      → HasReached g.T.PartialEq.eq l.events opening l.search;
+  at_end : l.turn ≡ AtEnd → (opening : Opening) → IsReached g.T.PartialEq.eq l.events opening 0 l.fn.start
+      → IsExplained g.T.PartialEq.eq opening l.events;
+  furthest : l.turn ≡ Nowhere → (opening : Opening) → IsReached g.T.PartialEq.eq l.events opening 0 l.fn.start
+      → AreExplained g.T.PartialEq.eq l.events opening l.search.furthest;
 }

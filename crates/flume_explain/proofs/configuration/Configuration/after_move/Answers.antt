@@ -6,10 +6,13 @@ use Rattle.flume_explain.specs.declared.configuration.OpenCall.{OpenCall}
 use Rattle.flume_explain.specs.declared.configuration.Progress.{Progress}
 use Rattle.flume_explain.specs.Configurations.{State, progressed}
 use Rattle.flume_explain.specs.Leads.{CallLeadsTo}
+use Rattle.flume_explain.specs.Mirrors.{IsAlike}
+use Rattle.flume_explain.specs.declared.place_reply.PlaceReply.{PlaceReply}
 use Rattle.std.specs.Option.{option_copied}
 use Rattle.flume_explain.specs.Made.{made}
 use Rattle.flume_explain.specs.Progresses.{progress_of}
 use Rattle.flume_explain.proofs.MoveLeads.{leads, leads_same, leads_wrong, left_with}
+use Rattle.flume_explain.proofs.Reaching.{move_reaches}
 use Rattle.flume_explain.proofs.configuration.Configuration.after_move.Goals as goal
 
 pub returns-then-is_wrong-clause-nowhere : goal.returns-then-is_wrong-clause-nowhere
@@ -46,3 +49,12 @@ returns-in-Some-calls_with-clause-leads g c = λ new e.
     (c.in-Some-make.ensures.made ∙ ap (made c.args.mv c.args.one.place) c.in-Some.ensures.same) 0 c.in-Some-reply_to.reply
     c.in-Some-reply_to.ensures.alike c.stage.result c.stage_after-stage.result c.stage.ensures.stage c.stage_after-stage.ensures.stage
     (sym c.is_wrong.ensures.wrong ∙ c.if-is_wrong.false))
+
+pub returns-in-Some-calls_with-clause-reaches : goal.returns-in-Some-calls_with-clause-reaches
+returns-in-Some-calls_with-clause-reaches g c = λ new e place.
+    let told : c.in-Some-make.told ≡ (made c.args.mv c.args.one.place c.args.self.now).0 =
+    ap (λ (x : PlaceReply × State). x.0) (c.in-Some-make.ensures.made ∙ ap (made c.args.mv c.args.one.place) c.in-Some.ensures.same) in
+    move_reaches g.T.PartialEq.eq c.args.events.now place c.args.self.now (option_copied c.args.recorded) c.args.one c.args.call.now c.args.mv
+    0 c.in-Some-reply_to.reply new
+    (subst (λ (x : PlaceReply). IsAlike c.args.events.now 0 c.args.self.now.queue x c.in-Some-reply_to.reply) told c.in-Some-reply_to.ensures.alike)
+    (returns-in-Some-calls_with-clause-leads g c new e)

@@ -1,6 +1,8 @@
 -- A step is spent where it leads to a dead configuration, to the same one, or nowhere.
-use Rattle.std.proofs.Common.{◌≡◌, refl, subst, drop}
+use Rattle.std.proofs.Common.{◌≡◌, refl, sym, ap, ◌∙◌, subst, drop, arith, Contains}
+use Rattle.flume_explain.specs.Configurations.{State}
 use Rattle.flume_explain.specs.Dead.{IsDead}
+use Rattle.flume_explain.specs.Reached.{Reaches}
 use Rattle.flume_explain.proofs.Deads.{spent_step, spent_same, spent_nowhere}
 use Rattle.flume_explain.proofs.configuration.Configuration.try_step.Goals as goal
 
@@ -25,3 +27,19 @@ returns-in-Nowhere-clause-spent g c = λ e.
     spent_nowhere g.T.PartialEq.eq c.args.events.now c.args.place c.args.self.now c.args.call c.args.other c.args.refused
     (λ t has there. c.in-Nowhere.ensures.nowhere refl (drop c.args.place c.args.events.now) t has there
     (c.recorded-recorded.ensures.first t there))
+
+pub returns-in-Leads-clause-reaches : goal.returns-in-Leads-clause-reaches
+returns-in-Leads-clause-reaches g c = λ new at e.
+    let a : new ≡ c.in-Leads.new = cc in
+    let b : at ≡ c.args.place = cc in
+    let calls = c.as_slice.ensures.value ∙ ap (λ (s : State). s.calls) c.self.view_is in
+    subst (λ n. Reaches g.T.PartialEq.eq c.args.events.now c.args.place c.args.self.now n new) (sym b)
+    (subst (Reaches g.T.PartialEq.eq c.args.events.now c.args.place c.args.self.now c.args.place) (sym a)
+    (c.in-Leads.ensures.reaches c.in-Leads.new refl c.args.place (let within = c.requires in omega arith)
+    (subst (λ l. Contains l c.args.call) calls (c.has_call.ensures.has c.if-not-has_call.false))
+    (λ t there. c.recorded-recorded.ensures.first t there)))
+
+pub returns-then-not-has_call-clause-spent : goal.returns-then-not-has_call-clause-spent
+returns-then-not-has_call-clause-spent g c = λ e o past item items agrees short on of.
+    let calls = c.as_slice.ensures.value ∙ ap (λ (s : State). s.calls) c.self.view_is in
+    absurd (c.has_call.ensures.no c.if-not-has_call.true (subst (λ l. Contains l c.args.call) (sym calls) of.1))

@@ -1,7 +1,8 @@
 -- A choice that leads to a dead configuration, or is spent, is one less; with none left, the configuration is dead.
-use Rattle.std.proofs.Common.{◌≡◌, refl, subst, length, arith}
+use Rattle.std.proofs.Common.{◌≡◌, refl, sym, subst, length, arith}
 use Rattle.std.proofs.lemmas.List.{nil_from_length}
 use Rattle.flume_explain.specs.Dead.{AreLeft, IsDead}
+use Rattle.flume_explain.specs.Reached.{Reaches}
 use Rattle.flume_explain.proofs.Deads.{dead, fewer}
 use Rattle.flume_explain.proofs.Ways.{some_left}
 use Rattle.flume_explain.proofs.frame.Frame.next.Goals as goal
@@ -35,3 +36,13 @@ returns-clause-dead g c = λ is.
     (some_left g.T.PartialEq.eq c.args.events.now c.loop-choice.self.place c.loop-choice.invariant.within)
     (subst (AreLeft g.T.PartialEq.eq c.args.events.now c.loop-choice.self.place c.loop-choice.self.configuration)
     (nil_from_length c.loop-choice.self.choices.items empty) c.loop-choice.invariant.left)
+
+pub returns-in-Leads-clause-reaches : goal.returns-in-Leads-clause-reaches
+returns-in-Leads-clause-reaches g c = λ choice new at is.
+    let a : new ≡ c.in-Leads.new = cc in
+    let b : at ≡ c.in-Leads.at = cc in
+    subst (λ n. Reaches g.T.PartialEq.eq c.args.events.now n c.args.self.now.configuration at new) c.loop-choice.invariant.same_place
+    (subst (λ s. Reaches g.T.PartialEq.eq c.args.events.now c.loop-choice.self.place s at new) c.loop-choice.invariant.same
+    (subst (λ n. Reaches g.T.PartialEq.eq c.args.events.now c.loop-choice.self.place c.loop-choice.self.configuration n new) (sym b)
+    (subst (Reaches g.T.PartialEq.eq c.args.events.now c.loop-choice.self.place c.loop-choice.self.configuration c.in-Leads.at) (sym a)
+    (c.in-Leads.ensures.reaches c.in-Leads.new c.in-Leads.at refl))))

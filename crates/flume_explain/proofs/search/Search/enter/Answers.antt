@@ -1,6 +1,8 @@
 -- The events that only may come next lead to a frame, or to a configuration that is dead.
-use Rattle.std.proofs.Common.{refl}
+use Rattle.std.proofs.Common.{refl, sym, subst, arith}
 use Rattle.flume_explain.specs.Dead.{IsDead}
+use Rattle.flume_explain.specs.Reached.{AreExplained}
+use Rattle.flume_explain.proofs.ReachedEvents.{further_explained, reached_explained}
 use Rattle.flume_explain.proofs.Ways.{way_from}
 use Rattle.flume_explain.proofs.search.Search.enter.Goals as goal
 
@@ -19,3 +21,25 @@ returns-in-Dead-clause-goes_on g c = λ e start s. record {
       (λ x. c.in-Dead.ensures.dead c.in-Dead.at refl) s.way;
   dead = s.dead;
 }
+
+pub returns-in-Stops-clause-reached : goal.returns-in-Stops-clause-reached
+returns-in-Stops-clause-reached g c = λ e o s r.
+    let at = c.in-Stops.ensures.reaches c.in-Stops.at c.in-Stops.own refl o r in
+    let before = c.in-Stops.ensures.within c.in-Stops.at c.in-Stops.own refl in
+    c.stop.ensures.reached e o (record {
+      frames = s.frames;
+      furthest = subst (AreExplained g.T.PartialEq.eq c.args.events.now o) (sym c.max-self.ensures)
+          (further_explained g.T.PartialEq.eq c.args.events.now o c.args.self.now.furthest c.in-Stops.at s.furthest
+          (reached_explained g.T.PartialEq.eq c.args.events.now o c.in-Stops.at c.take_forced.new.self (omega arith) at));
+    }) at
+
+pub returns-in-Dead-clause-reached : goal.returns-in-Dead-clause-reached
+returns-in-Dead-clause-reached g c = λ e o s r. record {
+  frames = s.frames;
+  furthest = subst (AreExplained g.T.PartialEq.eq c.args.events.now o) (sym c.max-self-in-Dead.ensures)
+      (further_explained g.T.PartialEq.eq c.args.events.now o c.args.self.now.furthest c.in-Dead.at s.furthest
+      (c.in-Dead.ensures.far c.in-Dead.at refl o r));
+}
+
+pub returns-in-AtEnd-clause-at_end : goal.returns-in-AtEnd-clause-at_end
+returns-in-AtEnd-clause-at_end g c = λ is o r. c.in-AtEnd.ensures.all refl o r

@@ -1,12 +1,16 @@
-use Rattle.std.proofs.Common.{vec_len}
+use Rattle.std.proofs.Common.{◌≡◌, vec_len}
+use Rattle.flume_model.specs.Log.{Opening}
 use Rattle.flume_explain.specs.Configurations.{State}
+use Rattle.flume_explain.specs.Reached.{HasReached}
 use Rattle.flume_explain.specs.Search.{Searches}
 use Rattle.flume_explain.proofs.search.Search.next.Given as goal
 
--- frames that are gone were dead
+-- frames that are gone were dead; the others are of reached configurations
 abbrev pub invariant-loop-frame : goal.invariant-loop-frame
 invariant-loop-frame g l = record {
   searches : (start : State) → Searches g.T.PartialEq.eq l.events start (Unit {0}) l.fn.self → Searches g.T.PartialEq.eq l.events start (Unit {0}) l.self;
+  reached : (opening : Opening) → HasReached g.T.PartialEq.eq l.events opening l.fn.self → HasReached g.T.PartialEq.eq l.events opening l.self;
+  furthest : l.self.furthest ≡ l.fn.self.furthest;
 }
 
 abbrev pub decreases-loop-frame : goal.decreases-loop-frame

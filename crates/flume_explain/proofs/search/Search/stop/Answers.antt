@@ -1,9 +1,11 @@
 -- A dead configuration is left; another one leaves a frame, with all that may come next.
 use Rattle.std.proofs.Common.{sym, ap, ◌∙◌, subst, not}
-use Rattle.std.proofs.lemmas.List.Elements.{All-contains}
+use Rattle.std.proofs.lemmas.List.Elements.{All-contains, All-push}
+use Rattle.std.specs.List.{All}
 use Rattle.flume_explain.specs.declared.choice.Choice.TheVariants.{TakeEvent, MakeStep}
 use Rattle.flume_explain.specs.Dead.{IsDead}
 use Rattle.flume_explain.specs.Search.{AreOnTheWay, dead_at}
+use Rattle.flume_explain.specs.Reached.{IsReached}
 use Rattle.flume_explain.proofs.Covers.{each_step}
 use Rattle.flume_explain.proofs.ThreadCalls.{call_by-found}
 use Rattle.flume_explain.proofs.Ways.{way_from, way_push, was_pushed}
@@ -29,4 +31,16 @@ returns-clause-goes_on g c = λ e start s. record {
       (λ call other refused among. c.push_first.ensures.kept c.if-not-push_first.false (MakeStep call other refused)
       (c.in-Some.ensures.steps call other refused among)) (λ t one own. call_by-found c.args.events.now t c.args.configuration.calls one own)));
   dead = s.dead;
+}
+
+pub returns-then-has-clause-reached : goal.returns-then-has-clause-reached
+returns-then-has-clause-reached g c = λ e o s r. record { frames = s.frames; furthest = s.furthest }
+
+pub returns-clause-reached : goal.returns-clause-reached
+returns-clause-reached g c = λ e o s r. record {
+  frames = subst (All (λ f. IsReached g.T.PartialEq.eq c.args.events.now o f.place f.configuration))
+      (sym (was_pushed _ _ _ _ c.push.ensures.items (c.is_err.ensures.negation ∙ ap not c.if-is_err.false)))
+      (All-push (λ f. IsReached g.T.PartialEq.eq c.args.events.now o f.place f.configuration) c.args.self.now.frames.items
+      (record { configuration = c.args.configuration; place = c.args.place; choices = c.push_first.new.choices; depth = c.len.result }) s.frames r);
+  furthest = s.furthest;
 }

@@ -1,0 +1,100 @@
+//! What is wrong with a line of a history or of a recording, in words for who wrote it.
+
+use flume_core::error::NoMemory;
+use flume_recording::calls::call_of;
+use flume_script::Script;
+use flume_script::faults::{
+    first_word, line_at, number_fault, opening_fault, step_fault, write_line_fault, write_place,
+    write_shown,
+};
+use flume_script::reading::{number, part_at};
+use std::alloc::Allocator;
+
+/// Says what is wrong with the line that is the first wrong one by what is printed of the input.
+/// `NoMemory`: the text found no room.
+pub(crate) fn explain_input<A: Allocator + Copy>(
+    alloc: A,
+    input: &[u8],
+    told: &Script<A>,
+) -> Result<String<A>, NoMemory> {
+    let mut text = String::new(alloc);
+    if input.is_empty() {
+        text.push_str("the input is empty\n")?;
+        return Ok(text);
+    }
+    let (place, said) = parts_of(&told.text);
+    let line = line_at(input, place);
+    write_place(&mut text, place, line)?;
+    match said {
+        _ if place == 1 => write_line_fault(&mut text, line, opening_fault(line))?,
+        b"not a step\n" => explain_pair(&mut text, line)?,
+        b"not a call\n" => explain_call(alloc, &mut text, behind(line, b": "))?,
+        b"not an answer\n" => {
+            text.push_str("'")?;
+            write_shown(&mut text, behind(line, b" -> "))?;
+            text.push_str("' is no answer")?;
+        }
+        _ => text.push_str(
+            "it is neither a thread's name, ': ' and a call, nor a name, ' -> ' and an answer",
+        )?,
+    }
+    text.push_str("\n")?;
+    Ok(text)
+}
+
+// The number of a line, and what is said of it, in a text such as `line 2: not a step`.
+fn parts_of(told: &[u8]) -> (usize, &[u8]) {
+    let told = told.strip_prefix(b"line ").unwrap_or(told);
+    let Some((digits, said)) = part_at(told, b':') else {
+        return (1, told);
+    };
+    let place = number(digits).unwrap_or(1);
+    (place as usize, said.strip_prefix(b" ").unwrap_or(said))
+}
+
+// What stands before the first such mark in a line, and what behind it.
+fn parts_at<'l>(line: &'l [u8], mark: &[u8]) -> Option<(&'l [u8], &'l [u8])> {
+    for place in 0..line.len() {
+        if let Some(behind) = line[place..].strip_prefix(mark) {
+            return Some((&line[..place], behind));
+        }
+    }
+    None
+}
+
+// What stands behind the first such mark.
+fn behind<'l>(line: &'l [u8], mark: &[u8]) -> &'l [u8] {
+    match parts_at(line, mark) {
+        Some((_, behind)) => behind,
+        None => &[],
+    }
+}
+
+// Adds what is wrong with a line of a history.
+fn explain_pair<A: Allocator>(text: &mut String<A>, line: &[u8]) -> Result<(), NoMemory> {
+    match parts_at(line, b" -> ") {
+        Some((step, _)) => write_line_fault(text, step, step_fault(step)),
+        None => Ok(text.push_str("there is no ' -> ' between a step and its answer")?),
+    }
+}
+
+// Adds what is wrong with a call.
+fn explain_call<A: Allocator + Copy>(
+    alloc: A,
+    text: &mut String<A>,
+    call: &[u8],
+) -> Result<(), NoMemory> {
+    let (word, rest) = first_word(call);
+    let mut numbered = Vec::new(alloc);
+    numbered.extend_from_slice(word)?;
+    numbered.extend_from_slice(b" 0")?;
+    if call_of(&numbered).is_none() {
+        text.push_str("'")?;
+        write_shown(text, call)?;
+        Ok(text.push_str("' is no call")?)
+    } else if number(rest).is_some() {
+        Ok(text.push_str("a zero stands before the number")?)
+    } else {
+        write_line_fault(text, call, number_fault(rest))
+    }
+}

@@ -1,0 +1,331 @@
+//! What the events tell of each call: when it returns, and who receives its message.
+use crate::configuration::{Configuration, OpenCall, ParkedReceive, Progress, Standing};
+use flume_concurrent::call::{Answer, Call};
+use flume_concurrent::event::Event;
+use std::alloc::Allocator;
+
+/// There is no such event.
+pub const NEVER: usize = usize::MAX;
+
+/// What the events tell of a call, by places of events.
+#[derive(Clone, Copy, Debug, Drop)]
+pub struct CallRecord {
+    /// The event by which it returns, or `NEVER`.
+    pub returned: usize,
+    /// The event that begins the receive of the message that it sends or receives, or `NEVER`.
+    pub receive: usize,
+    /// The event by which this message is received, or `NEVER`.
+    pub received: usize,
+}
+
+/// What the events tell of each call, by the place of the event by which it begins.
+#[derive(Drop)]
+pub struct CallRecords<A: Allocator> {
+    // By the place of an event.
+    records: Vec<CallRecord, A>,
+    // The places of the sends whose messages weren't received yet.
+    sends: Vec<usize, A>,
+    // The open calls so far: a thread and a place each.
+    open: Vec<(usize, usize), A>,
+}
+
+impl<A: Allocator + Copy> CallRecords<A> {
+    /// What these events tell; none if there was no memory. Of two sends of equal messages, the one
+    /// that began first is taken to be the one whose message is received first.
+    pub fn new<T: Copy + Eq + Drop>(alloc: A, events: &[Event<T, A>]) -> Option<Self> {
+        let mut records = CallRecords {
+            records: Vec::new(alloc),
+            sends: Vec::new(alloc),
+            open: Vec::new(alloc),
+        };
+        for place in 0..events.len() {
+            if !records.add(events, place) {
+                return None;
+            }
+        }
+        Some(records)
+    }
+
+    /// What is told of the call that begins at a place.
+    pub fn of(&self, place: usize) -> CallRecord {
+        self.records.get(place).copied().unwrap_or(UNKNOWN)
+    }
+
+    // Takes the next event. `false`: there was no memory.
+    fn add<T: Copy + Eq + Drop>(&mut self, events: &[Event<T, A>], place: usize) -> bool {
+        if self.records.push(UNKNOWN).is_err() {
+            return false;
+        }
+        match events.get(place) {
+            Some(Event::Begins { thread, call }) => {
+                (message_of(call).is_none() || self.sends.push(place).is_ok())
+                    && self.open.push((*thread, place)).is_ok()
+            }
+            Some(Event::Returns { thread, answer }) => {
+                if let Some(begin) = self.end(*thread) {
+                    self.add_answer(events, begin, place, answer);
+                }
+                true
+            }
+            None => true,
+        }
+    }
+
+    // The thread's call ends: the place of the event by which it began.
+    fn end(&mut self, thread: usize) -> Option<usize> {
+        for index in 0..self.open.len() {
+            if let Some((own, begin)) = self.open.get(index).copied() {
+                if own == thread {
+                    let _ = self.open.remove(index);
+                    return Some(begin);
+                }
+            }
+        }
+        None
+    }
+
+    // The call that began at a place returns this answer at another one.
+    fn add_answer<T: Copy + Eq + Drop>(
+        &mut self,
+        events: &[Event<T, A>],
+        begin: usize,
+        place: usize,
+        answer: &Answer<T, A>,
+    ) {
+        if let Some(record) = self.records.get_mut(begin) {
+            record.returned = place;
+        }
+        match answer {
+            Answer::Got(message) => {
+                self.set_received(begin, begin, place);
+                self.receive(events, begin, place, *message);
+            }
+            Answer::Drained(messages) => {
+                for message in messages.as_slice() {
+                    self.receive(events, begin, place, *message);
+                }
+            }
+            _ => {}
+        }
+    }
+
+    // The call that began at a place receives this message, at another one.
+    fn receive<T: Copy + Eq + Drop>(
+        &mut self,
+        events: &[Event<T, A>],
+        begin: usize,
+        place: usize,
+        message: T,
+    ) {
+        for index in 0..self.sends.len() {
+            if let Some(send) = self.sends.get(index).copied() {
+                if sends_this(events, send, message) {
+                    let _ = self.sends.remove(index);
+                    self.set_received(send, begin, place);
+                    return;
+                }
+            }
+        }
+    }
+
+    fn set_received(&mut self, of: usize, begin: usize, place: usize) {
+        if let Some(record) = self.records.get_mut(of) {
+            record.receive = begin;
+            record.received = place;
+        }
+    }
+
+    /// Whether a configuration before the event at a place likely leads to no explanation: a receive
+    /// was handed a message that it doesn't return, a send has come to another answer than its own,
+    /// or messages are in another order than that in which they are received.
+    pub fn are_against<T: Copy + Eq + Drop>(
+        &self,
+        events: &[Event<T, A>],
+        configuration: &Configuration<A>,
+        place: usize,
+    ) -> bool {
+        let queued = self.latest(configuration.queue.as_slice(), place);
+        let in_line = match queued {
+            Some(latest) => self.latest(configuration.blocked.as_slice(), latest),
+            None => None,
+        };
+        in_line.is_none()
+            || self.has_wrong_receive(events, configuration.receives.as_slice())
+            || self.has_wrong_send(events, configuration.calls.as_slice())
+    }
+
+    // The latest begin of a receive of these messages, in their order, if each of them may be received
+    // after this place and behind those before it.
+    fn latest(&self, line: &[usize], place: usize) -> Option<usize> {
+        let mut latest = place;
+        for send in line {
+            let record = self.of(*send);
+            if record.received != NEVER {
+                if record.received < latest {
+                    return None;
+                }
+                latest = latest.max(record.receive);
+            }
+        }
+        Some(latest)
+    }
+
+    // Whether one of these receives was handed a message that it doesn't return.
+    fn has_wrong_receive<T: Copy + Eq + Drop>(
+        &self,
+        events: &[Event<T, A>],
+        receives: &[ParkedReceive],
+    ) -> bool {
+        for receive in receives {
+            if let Standing::Filled(send) = receive.standing {
+                if !self.may_receive(events, receive.place, send) {
+                    return true;
+                }
+            }
+        }
+        false
+    }
+
+    // Whether the receive that begins at a place may have the message of this send. One that is
+    // dropped may, if no other one returns the message.
+    fn may_receive<T: Copy + Eq + Drop>(
+        &self,
+        events: &[Event<T, A>],
+        receive: usize,
+        send: usize,
+    ) -> bool {
+        match self.answer(events, receive) {
+            Some(Answer::Got(message)) => sends_this(events, send, *message),
+            Some(Answer::Dropped) => self.of(send).received == NEVER,
+            Some(_) => false,
+            None => true,
+        }
+    }
+
+    // Whether one of these calls is a future that found no room, and returns that its message was
+    // sent, or that the channel is closed.
+    fn has_wrong_send<T: Copy + Eq + Drop>(
+        &self,
+        events: &[Event<T, A>],
+        calls: &[OpenCall],
+    ) -> bool {
+        for call in calls {
+            if call.progress == Progress::Tried && is_send_async(events, call.place) {
+                match self.answer(events, call.place) {
+                    Some(Answer::NoMemory) | Some(Answer::Dropped) | None => {}
+                    Some(_) => return true,
+                }
+            }
+        }
+        false
+    }
+
+    /// Whether the answer is recorded of the call that begins at a place, and is that there was no
+    /// memory.
+    pub fn is_refused<T: Copy + Drop>(&self, events: &[Event<T, A>], place: usize) -> bool {
+        matches!(self.answer(events, place), Some(Answer::NoMemory))
+    }
+
+    /// Whether a receive that is dropped took the message that was first in line, though another one
+    /// returns it.
+    pub fn is_taken_away<T: Copy + Eq + Drop>(
+        &self,
+        events: &[Event<T, A>],
+        receive: usize,
+        (before, after): (&Configuration<A>, &Configuration<A>),
+    ) -> bool {
+        let Some(front) = before.front() else {
+            return false;
+        };
+        is_recv_async(events, receive)
+            && matches!(self.answer(events, receive), Some(Answer::Dropped))
+            && self.of(front).received != NEVER
+            && !after.has_message_of(front)
+    }
+
+    // What the call that begins at a place returns.
+    fn answer<'e, T: Drop>(
+        &self,
+        events: &'e [Event<T, A>],
+        place: usize,
+    ) -> Option<&'e Answer<T, A>> {
+        match events.get(self.of(place).returned) {
+            Some(Event::Returns { answer, .. }) => Some(answer),
+            _ => None,
+        }
+    }
+}
+
+// Nothing is told of a call.
+const UNKNOWN: CallRecord = CallRecord {
+    returned: NEVER,
+    receive: NEVER,
+    received: NEVER,
+};
+
+impl<A: Allocator + Copy> Configuration<A> {
+    // The send whose message is the first in line.
+    fn front(&self) -> Option<usize> {
+        match self.queue.first() {
+            Some(front) => Some(*front),
+            None => self.blocked.first().copied(),
+        }
+    }
+
+    // Whether the message of this send is queued, blocked, or handed to a parked receive.
+    fn has_message_of(&self, send: usize) -> bool {
+        self.queue.contains(&send) || self.blocked.contains(&send) || self.is_handed_out(send)
+    }
+
+    // Whether the message of this send is handed to a parked receive.
+    fn is_handed_out(&self, send: usize) -> bool {
+        for receive in self.receives.as_slice() {
+            if receive.standing == Standing::Filled(send) {
+                return true;
+            }
+        }
+        false
+    }
+}
+
+/// The message that a call sends, if it sends one.
+pub fn message_of<T: Copy>(call: &Call<T>) -> Option<T> {
+    match *call {
+        Call::Send(message)
+        | Call::SendTimeout(message)
+        | Call::SendAsync(message)
+        | Call::TrySend(message) => Some(message),
+        _ => None,
+    }
+}
+
+// Whether the call that begins at a place sends this message.
+fn sends_this<T: Copy + Eq + Drop, A: Allocator>(
+    events: &[Event<T, A>],
+    begin: usize,
+    message: T,
+) -> bool {
+    match events.get(begin) {
+        Some(Event::Begins { call, .. }) => match message_of(call) {
+            Some(own) => own == message,
+            None => false,
+        },
+        _ => false,
+    }
+}
+
+// Whether the call that begins at a place is a send by a future.
+fn is_send_async<T: Drop, A: Allocator>(events: &[Event<T, A>], place: usize) -> bool {
+    match events.get(place) {
+        Some(Event::Begins { call, .. }) => matches!(call, Call::SendAsync(_)),
+        _ => false,
+    }
+}
+
+// Whether the call that begins at a place is a receive by a future.
+fn is_recv_async<T: Drop, A: Allocator>(events: &[Event<T, A>], place: usize) -> bool {
+    match events.get(place) {
+        Some(Event::Begins { call, .. }) => matches!(call, Call::RecvAsync),
+        _ => false,
+    }
+}

@@ -1,0 +1,194 @@
+//! A search that leaves out what likely leads to no explanation. So it is soon at one, if there is
+//! one; if it finds none, that says nothing.
+use crate::choice::Choice;
+use crate::configuration::{Configuration, OpenCall, Progress};
+use crate::dead::DeadTable;
+use crate::frame::{Frame, Next};
+use crate::happens::Forced;
+use crate::order::Order;
+use crate::tries::Tried;
+use flume_concurrent::event::Event;
+use std::alloc::Allocator;
+
+// A search, depth first.
+#[derive(Drop)]
+struct Guess<A: Allocator> {
+    // The configurations on the way, the first of them first.
+    frames: Vec<Frame<A>, A>,
+    // What was chosen so far, in order.
+    chosen: Vec<Choice, A>,
+    // The configurations from which nothing was found.
+    left: DeadTable<A>,
+    // What is tried first.
+    order: Order<A>,
+}
+
+/// Choices that lead from this configuration past all the events, if some are found before so many
+/// configurations are entered.
+pub fn guess_path<T: Copy + Eq + Drop, A: Allocator + Copy>(
+    alloc: A,
+    start: Configuration<A>,
+    events: &[Event<T, A>],
+    limit: usize,
+) -> Option<Vec<Choice, A>> {
+    let mut guess = Guess {
+        frames: Vec::new(alloc),
+        chosen: Vec::new(alloc),
+        left: DeadTable::new(alloc),
+        order: Order::new(alloc, events)?,
+    };
+    let (mut next, mut place) = (start, 0);
+    for _ in 0..limit {
+        if guess.enter(alloc, events, next, place)? {
+            return Some(guess.chosen);
+        }
+        (next, place) = guess.next(alloc, events)?;
+    }
+    None
+}
+
+impl<A: Allocator + Copy> Guess<A> {
+    // Takes the events that only may come next. Whether that led past the last one; if not, leaves a
+    // frame with all choices, unless the configuration likely leads nowhere. None: no memory.
+    fn enter<T: Copy + Eq + Drop>(
+        &mut self,
+        alloc: A,
+        events: &[Event<T, A>],
+        mut configuration: Configuration<A>,
+        place: usize,
+    ) -> Option<bool> {
+        match configuration.take_forced(events, place, &mut self.chosen) {
+            Forced::AtEnd => Some(true),
+            Forced::Stops(at, own) => {
+                if !self.is_left(events, &configuration, at) {
+                    self.push_frame(alloc, events, configuration, at, own)?;
+                }
+                Some(false)
+            }
+            Forced::Dead(_) => Some(false),
+            Forced::NoMemory => None,
+        }
+    }
+
+    // Whether nothing is looked for from this configuration.
+    fn is_left<T: Copy + Eq + Drop>(
+        &self,
+        events: &[Event<T, A>],
+        configuration: &Configuration<A>,
+        place: usize,
+    ) -> bool {
+        self.left.has(configuration, place)
+            || self
+                .order
+                .records()
+                .are_against(events, configuration, place)
+    }
+
+    // Leaves a frame with all choices. None: no memory.
+    fn push_frame<T: Copy + Eq + Drop>(
+        &mut self,
+        alloc: A,
+        events: &[Event<T, A>],
+        configuration: Configuration<A>,
+        place: usize,
+        own: OpenCall,
+    ) -> Option<()> {
+        let mut choices = configuration.choices(alloc, own)?;
+        if !self
+            .order
+            .push_first(events, &configuration, own, &mut choices)
+        {
+            return None;
+        }
+        let depth = self.chosen.len();
+        let frame = Frame {
+            configuration,
+            place,
+            choices,
+            depth,
+        };
+        self.frames.push(frame).ok()
+    }
+
+    // Tries what is left, the newest frame first, until a choice leads on: where to. None: nothing is
+    // left, or no memory.
+    fn next<T: Copy + Eq + Drop>(
+        &mut self,
+        alloc: A,
+        events: &[Event<T, A>],
+    ) -> Option<(Configuration<A>, usize)> {
+        while let Some(mut frame) = self.frames.pop() {
+            match self.tried(alloc, events, &mut frame) {
+                Next::Leads(choice, new, at) => {
+                    self.chosen.truncate(frame.depth);
+                    self.chosen.push(choice).ok()?;
+                    self.frames.push(frame).ok()?;
+                    return Some((new, at));
+                }
+                Next::Nowhere => {
+                    if !self.left.remember(frame.configuration, frame.place) {
+                        return None;
+                    }
+                }
+                Next::NoMemory => return None,
+            }
+        }
+        None
+    }
+
+    // Tries the choices of a frame, until one leads on.
+    fn tried<T: Copy + Eq + Drop>(
+        &self,
+        alloc: A,
+        events: &[Event<T, A>],
+        frame: &mut Frame<A>,
+    ) -> Next<A> {
+        while let Some(choice) = frame.choices.pop() {
+            if frame.place < events.len() && self.is_likely(events, choice) {
+                match frame
+                    .configuration
+                    .try_choice(alloc, events, frame.place, choice)
+                {
+                    Tried::Leads(new, at) => {
+                        if !self.is_against(events, choice, &frame.configuration, &new) {
+                            return Next::Leads(choice, new, at);
+                        }
+                    }
+                    Tried::Spent => {}
+                    Tried::NoMemory => return Next::NoMemory,
+                }
+            }
+        }
+        Next::Nowhere
+    }
+
+    // Whether a choice may lead on: a call that has its answer makes no step, and one whose answer
+    // isn't that there was no memory is likely refused none.
+    fn is_likely<T: Copy + Eq + Drop>(&self, events: &[Event<T, A>], choice: Choice) -> bool {
+        match choice {
+            Choice::TakeEvent => true,
+            Choice::MakeStep { call, refused, .. } => {
+                call.progress != Progress::Done
+                    && (!refused || self.order.records().is_refused(events, call.place))
+            }
+        }
+    }
+
+    // Whether a step took a message away that another call returns.
+    fn is_against<T: Copy + Eq + Drop>(
+        &self,
+        events: &[Event<T, A>],
+        choice: Choice,
+        before: &Configuration<A>,
+        after: &Configuration<A>,
+    ) -> bool {
+        match choice {
+            Choice::TakeEvent => false,
+            Choice::MakeStep { call, .. } => {
+                self.order
+                    .records()
+                    .is_taken_away(events, call.place, (before, after))
+            }
+        }
+    }
+}
