@@ -1,9 +1,9 @@
-mod InTime
-mod Made
-mod ManyReceives
-mod ManySendCalls
-mod ManySendSteps
-mod ManySteps
-pub mod Outlives
-mod ReceivePolls
-mod SendPolls
+mod InTimeLemmas
+mod ManyReceiveLemmas
+mod ManyReceiveStepLemmas
+mod ManySendLemmas
+mod ManySendStepLemmas
+pub mod OutlivesLemmas
+mod ReceivePollLemmas
+mod SendPollLemmas
+mod StepLemmas

@@ -1,76 +1,119 @@
--- The arms of a selector: how they complete, and where a step takes them.
-use Rattle.std.specs.Prelude.{◌≡◌, Option, Some, None, Result, Ok, Err}
-use Rattle.flume_core.specs.declared.error.SendError.{SendError}
-use Rattle.flume_core.specs.declared.error.SendError.TheVariants as send
-use Rattle.flume_core.specs.declared.error.RecvError.{RecvError}
-use Rattle.flume_core.specs.declared.error.RecvError.TheVariants as receive
-use Rattle.flume_core.specs.declared.error.SendTimeoutError.{SendTimeoutError}
-use Rattle.flume_core.specs.declared.error.RecvTimeoutError.{RecvTimeoutError}
+-- The turns of a selector's arms, and their withdrawals: each answers as one step of a channel does
+-- (`HasMade`).
+use Rattle.std.specs.Prelude.{◌≡◌, ◌⊎◌, ℕ, Bool, false, true}
+use Rattle.flume_model.specs.declared.step.Kind.TheVariants.{Arm}
+use Rattle.flume_model.specs.declared.step.Step.{Step}
+use Rattle.flume_model.specs.declared.step.Step.TheVariants.{Send, Recv, TrySend, TryRecv}
+use Rattle.flume_model.specs.declared.step.Reply.{Reply}
 use Rattle.flume_calls.specs.declared.calls.send.SendNext.{SendNext}
 use Rattle.flume_calls.specs.declared.calls.receive.RecvNext.{RecvNext}
 use Rattle.flume_calls.specs.declared.gates.select.ArmNext.{ArmNext}
 use Rattle.flume_calls.specs.declared.gates.select.ArmNext.TheVariants as next
+use Rattle.flume_calls.specs.SendTurns.{after_send, after_parked_send, step_of_parked_send}
+use Rattle.flume_calls.specs.SendTurns.{after_try_send}
+use Rattle.flume_calls.specs.SendTurns as send_turn
+use Rattle.flume_calls.specs.ReceiveTurns.{after_recv, after_parked_receive, step_of_parked_receive}
+use Rattle.flume_calls.specs.ReceiveTurns.{after_try_recv}
+use Rattle.flume_calls.specs.ReceiveTurns as receive_turn
+use Rattle.flume.specs.LockedTurns.{HasMade}
+use Rattle.flume.specs.ArmStates.{IsAfterSend, IsAfterReceive}
 use Rattle.flume.specs.declared.select.send.SendState.{SendState}
 use Rattle.flume.specs.declared.select.send.SendState.TheVariants as sending
 use Rattle.flume.specs.declared.select.receive.ReceiveState.{ReceiveState}
 use Rattle.flume.specs.declared.select.receive.ReceiveState.TheVariants as receiving
 
-module _ {T : Type 0} where
-  -- how a send arm completes: the message was taken in, or comes back since the channel is closed
-  abbrev pub EndsSend : Result (Unit {0}) (SendError T) → Type 0
-  EndsSend (Ok sent) = Unit {0}
-  EndsSend (Err (send.Disconnected back)) = Unit {0}
-  EndsSend (Err (send.NoMemory back)) = ⊥
+-- a parked send arm took its message back, by one step
+abbrev pub HasWithdrawnSend : (T A : Type 0) → ℕ → Type 0
+HasWithdrawnSend T A ticket = (turn : SendNext T)
+    × HasMade (step_of_parked_send ticket true) (after_parked_send {A = A} ticket true) turn
 
-  -- how a receive arm completes: with a message, or since the channel is closed
-  abbrev pub EndsReceive : Result T RecvError → Type 0
-  EndsReceive (Ok message) = Unit {0}
-  EndsReceive (Err receive.Disconnected) = Unit {0}
-  EndsReceive (Err receive.NoMemory) = ⊥
+-- a parked receive arm left, by one step
+abbrev pub HasWithdrawnReceive : (T A : Type 0) → ℕ → Type 0
+HasWithdrawnReceive T A ticket = (turn : RecvNext T)
+    × HasMade (step_of_parked_receive ticket true) (after_parked_receive {A = A} ticket true) turn
 
-  -- the result that a send arm has completed with
-  abbrev pub send_result : SendState T → Option (Result (Unit {0}) (SendError T))
-  send_result (sending.Completed (Ok sent)) = Some (Ok tt)
-  send_result (sending.Completed (Err back)) = Some (Err (send.Disconnected back))
-  send_result _ = None
+module _ {T : Type 0} (A : Type 0) where
+  -- one step of some channel was made, and the turn answered as it may: what that leads a send arm
+  -- to, and its state after
+  abbrev pub MakesSend : Step T → (Reply T A → SendNext T → Type 0) → (SendNext T → Type 0)
+      → ArmNext → SendState T → Type 0
+  MakesSend step table answers answer new =
+      (turn : SendNext T) × HasMade step table turn × answers turn × IsAfterSend turn answer new
 
-  -- the result that a receive arm has completed with
-  abbrev pub receive_result : ReceiveState T → Option (Result T RecvError)
-  receive_result (receiving.Completed (Some message)) = Some (Ok message)
-  receive_result (receiving.Completed None) = Some (Err receive.Disconnected)
-  receive_result _ = None
+  -- a send arm starts by one step, or there was no memory for a start
+  abbrev pub StartsSend : T → ArmNext → SendState T → Type 0
+  StartsSend message answer new =
+      MakesSend (Send message) after_send (send_turn.IsParking message) answer new
+      ⊎ ((answer ≡ next.NoMemory) × (new ≡ sending.Finished))
 
-  -- a step of a send arm: it is never too late
-  abbrev pub IsArmSend : SendNext T → Type 0
-  IsArmSend (SendNext.Done (Err (SendTimeoutError.Timeout back))) = ⊥
-  IsArmSend _ = Unit {0}
+  -- a send arm is tried, by one step, and isn't parked
+  abbrev pub TriesSend : T → ArmNext → SendState T → Type 0
+  TriesSend message =
+      MakesSend (TrySend message) after_try_send (send_turn.IsFirst message)
 
-  -- a step of a receive arm: it is never too late, and never ends because memory ran out once it is
-  -- parked
-  abbrev pub IsArmReceive : RecvNext T → Type 0
-  IsArmReceive (RecvNext.Done (Err RecvTimeoutError.Timeout)) = ⊥
-  IsArmReceive (RecvNext.Refused ticket) = ⊥
-  IsArmReceive _ = Unit {0}
+  -- the first turn of a send arm, by whether it may park
+  abbrev pub BeginsSend : Bool → T → ArmNext → SendState T → Type 0
+  BeginsSend true message answer new = StartsSend message answer new
+  BeginsSend false message answer new = TriesSend message answer new
 
-  -- where a step takes a send arm
-  abbrev pub TakesSend : SendNext T → ArmNext → SendState T → Type 0
-  TakesSend (SendNext.Park ticket) next.Waits new = new ≡ sending.Parked ticket
-  TakesSend (SendNext.NeedSignal back) next.Waits new = new ≡ sending.Unstarted back
-  TakesSend (SendNext.Done (Ok sent)) next.Completed new = new ≡ sending.Completed (Ok tt)
-  TakesSend (SendNext.Done (Err (SendTimeoutError.Disconnected back))) next.Completed new =
-      new ≡ sending.Completed (Err back)
-  TakesSend (SendNext.Done (Err (SendTimeoutError.NoMemory back))) next.NoMemory new =
-      new ≡ sending.Over
-  TakesSend _ _ _ = ⊥
+  -- a parked send arm is polled, by one step
+  abbrev pub PollsSend : ℕ → ArmNext → SendState T → Type 0
+  PollsSend ticket = MakesSend (step_of_parked_send ticket false) (after_parked_send ticket false)
+      (send_turn.IsAgain ticket false)
 
-  -- where a step takes a receive arm
-  abbrev pub TakesReceive : RecvNext T → ArmNext → ReceiveState T → Type 0
-  TakesReceive (RecvNext.Park ticket) next.Waits new = new ≡ receiving.Parked ticket
-  TakesReceive RecvNext.NeedSignal next.Waits new = new ≡ receiving.Unstarted
-  TakesReceive (RecvNext.Done (Ok message)) next.Completed new =
-      new ≡ receiving.Completed (Some message)
-  TakesReceive (RecvNext.Done (Err RecvTimeoutError.Disconnected)) next.Completed new =
-      new ≡ receiving.Completed None
-  TakesReceive (RecvNext.Done (Err RecvTimeoutError.NoMemory)) next.NoMemory new =
-      new ≡ receiving.Over
-  TakesReceive _ _ _ = ⊥
+  -- a turn of a send arm, by whether it may park: its state, what the turn leads to, and the state
+  -- after
+  abbrev pub SendTurn : Bool → SendState T → ArmNext → SendState T → Type 0
+  SendTurn parks (sending.Unstarted message) answer new = BeginsSend parks message answer new
+  SendTurn parks (sending.Parked ticket) answer new = PollsSend ticket answer new
+  SendTurn parks (sending.Completed result) answer new =
+      (answer ≡ next.Completed) × (new ≡ sending.Completed result)
+  SendTurn parks sending.Finished answer new =
+      (answer ≡ next.NoMemory) × (new ≡ sending.Finished)
+
+  -- a withdrawal of a send arm, which changes only one that is parked
+  abbrev pub WithdrawsSend : SendState T → SendState T → Type 0
+  WithdrawsSend (sending.Parked ticket) new =
+      (new ≡ sending.Finished) × HasWithdrawnSend T A ticket
+  WithdrawsSend old new = new ≡ old
+
+  -- the same of a receive arm
+  abbrev pub MakesReceive : Step T → (Reply T A → RecvNext T → Type 0) → (RecvNext T → Type 0)
+      → ArmNext → ReceiveState T → Type 0
+  MakesReceive step table answers answer new =
+      (turn : RecvNext T) × HasMade step table turn × answers turn × IsAfterReceive turn answer new
+
+  -- a receive arm starts by one step, or there was no memory for a start
+  abbrev pub StartsReceive : ArmNext → ReceiveState T → Type 0
+  StartsReceive answer new =
+      MakesReceive (Recv Arm) after_recv receive_turn.IsParking answer new
+      ⊎ ((answer ≡ next.NoMemory) × (new ≡ receiving.Finished))
+
+  -- a receive arm is tried, by one step, and isn't parked
+  abbrev pub TriesReceive : ArmNext → ReceiveState T → Type 0
+  TriesReceive = MakesReceive TryRecv after_try_recv receive_turn.IsFirst
+
+  -- the first turn of a receive arm, by whether it may park
+  abbrev pub BeginsReceive : Bool → ArmNext → ReceiveState T → Type 0
+  BeginsReceive true answer new = StartsReceive answer new
+  BeginsReceive false answer new = TriesReceive answer new
+
+  -- a parked receive arm is polled, by one step
+  abbrev pub PollsReceive : ℕ → ArmNext → ReceiveState T → Type 0
+  PollsReceive ticket = MakesReceive (step_of_parked_receive ticket false)
+      (after_parked_receive ticket false) (receive_turn.IsAgain ticket false)
+
+  -- a turn of a receive arm
+  abbrev pub ReceiveTurn : Bool → ReceiveState T → ArmNext → ReceiveState T → Type 0
+  ReceiveTurn parks receiving.Unstarted answer new = BeginsReceive parks answer new
+  ReceiveTurn parks (receiving.Parked ticket) answer new = PollsReceive ticket answer new
+  ReceiveTurn parks (receiving.Completed message) answer new =
+      (answer ≡ next.Completed) × (new ≡ receiving.Completed message)
+  ReceiveTurn parks receiving.Finished answer new =
+      (answer ≡ next.NoMemory) × (new ≡ receiving.Finished)
+
+  -- a withdrawal of a receive arm
+  abbrev pub WithdrawsReceive : ReceiveState T → ReceiveState T → Type 0
+  WithdrawsReceive (receiving.Parked ticket) new =
+      (new ≡ receiving.Finished) × HasWithdrawnReceive T A ticket
+  WithdrawsReceive old new = new ≡ old

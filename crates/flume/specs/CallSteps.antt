@@ -1,5 +1,5 @@
--- Which answer of a turn, or of a call with a deadline, a call's answer stands for; and the replies
--- that some answers tell.
+-- The answer of a call as that of a turn, or of a call with a deadline, that it comes from; and the
+-- replies that some answers stand for.
 use Rattle.std.specs.Prelude.{◌≡◌, ◌⊎◌, ℕ, Bool, true, false, Option, Some, None, Result, Ok, Err}
 use Rattle.flume_model.specs.declared.step.Step.{Step}
 use Rattle.flume_model.specs.declared.step.Step.TheVariants.{IsDisconnected, IsEmpty}
@@ -21,12 +21,12 @@ use Rattle.flume_calls.specs.declared.calls.send.SendNext.{SendNext}
 use Rattle.flume_calls.specs.declared.calls.send.SendNext.TheVariants as send_next
 use Rattle.flume_calls.specs.declared.calls.receive.RecvNext.{RecvNext}
 use Rattle.flume_calls.specs.declared.calls.receive.RecvNext.TheVariants as recv_next
-use Rattle.flume.specs.Turning.{HasMade}
+use Rattle.flume.specs.LockedTurns.{HasMade}
 
 module _ {T A : Type 0} where
   -- some channel's run goes on with this step and this reply
   abbrev pub HasReplied : Step T → Reply T A → Type 0
-  HasReplied step reply = HasMade step (λ given told. given ≡ told) reply
+  HasReplied step reply = HasMade step (λ given expected. given ≡ expected) reply
 
   -- what a channel replies to one more sender, by what an upgrade answers
   abbrev pub upgrade_reply : Option ℕ → Reply T A
@@ -42,30 +42,37 @@ module _ (T A : Type 0) where
       ⊎ HasReplied {T = T} {A = A} IsEmpty (Truth false)
 
 module _ {T : Type 0} where
-  -- the turn's answer to which a tried send answers so
-  abbrev pub tried_send : Result (Unit {0}) (TrySendError T) → SendNext T
-  tried_send (Ok sent) = send_next.Done (Ok tt)
-  tried_send (Err (try_send.Full back)) = send_next.NeedSignal back
-  tried_send (Err (try_send.Disconnected back)) =
+  -- the turn's answer to which a `try_send` answers so
+  abbrev pub try_send_as_turn : Result (Unit {0}) (TrySendError T) → SendNext T
+  try_send_as_turn (Ok sent) = send_next.Done (Ok tt)
+  try_send_as_turn (Err (try_send.Full back)) = send_next.NeedSignal back
+  try_send_as_turn (Err (try_send.Disconnected back)) =
       send_next.Done (Err (send_timeout.Disconnected back))
-  tried_send (Err (try_send.NoMemory back)) = send_next.Done (Err (send_timeout.NoMemory back))
+  try_send_as_turn (Err (try_send.NoMemory back)) =
+      send_next.Done (Err (send_timeout.NoMemory back))
 
-  -- the turn's answer to which a tried receive answers so
-  abbrev pub tried_receive : Result T TryRecvError → RecvNext T
-  tried_receive (Ok message) = recv_next.Done (Ok message)
-  tried_receive (Err try_recv.Empty) = recv_next.NeedSignal
-  tried_receive (Err try_recv.Disconnected) = recv_next.Done (Err recv_timeout.Disconnected)
-  tried_receive (Err try_recv.NoMemory) = recv_next.Done (Err recv_timeout.NoMemory)
+  -- a turn of a send that neither parks it nor is too late
+  abbrev pub NeverParks : SendNext T → Type 0
+  NeverParks (send_next.Park ticket) = ⊥
+  NeverParks (send_next.Done (Err (send_timeout.Timeout back))) = ⊥
+  NeverParks _ = Unit {0}
 
-  -- the end of a send that may have a deadline, of one that has none
-  abbrev pub untimed_send : Result (Unit {0}) (SendError T)
+  -- the turn's answer to which a `try_recv` answers so
+  abbrev pub try_receive_as_turn : Result T TryRecvError → RecvNext T
+  try_receive_as_turn (Ok message) = recv_next.Done (Ok message)
+  try_receive_as_turn (Err try_recv.Empty) = recv_next.NeedSignal
+  try_receive_as_turn (Err try_recv.Disconnected) = recv_next.Done (Err recv_timeout.Disconnected)
+  try_receive_as_turn (Err try_recv.NoMemory) = recv_next.Done (Err recv_timeout.NoMemory)
+
+  -- the result of a send that may have a deadline, by that of one that has none
+  abbrev pub send_as_timed : Result (Unit {0}) (SendError T)
       → Result (Unit {0}) (SendTimeoutError T)
-  untimed_send (Ok sent) = Ok tt
-  untimed_send (Err (send.Disconnected back)) = Err (send_timeout.Disconnected back)
-  untimed_send (Err (send.NoMemory back)) = Err (send_timeout.NoMemory back)
+  send_as_timed (Ok sent) = Ok tt
+  send_as_timed (Err (send.Disconnected back)) = Err (send_timeout.Disconnected back)
+  send_as_timed (Err (send.NoMemory back)) = Err (send_timeout.NoMemory back)
 
-  -- the end of a receive that may have a deadline, of one that has none
-  abbrev pub untimed_receive : Result T RecvError → Result T RecvTimeoutError
-  untimed_receive (Ok message) = Ok message
-  untimed_receive (Err recv.Disconnected) = Err recv_timeout.Disconnected
-  untimed_receive (Err recv.NoMemory) = Err recv_timeout.NoMemory
+  -- the same of a receive
+  abbrev pub receive_as_timed : Result T RecvError → Result T RecvTimeoutError
+  receive_as_timed (Ok message) = Ok message
+  receive_as_timed (Err recv.Disconnected) = Err recv_timeout.Disconnected
+  receive_as_timed (Err recv.NoMemory) = Err recv_timeout.NoMemory

@@ -1,5 +1,5 @@
 -- The gates of the ends, turn by turn, and the calls that go through them. Each turn answers as one
--- step of some channel does: `HasMade` is what the clause says of it.
+-- step of some channel does (`HasMade`).
 use Rattle.std.specs.Prelude.{◌≡◌, ◌≢◌, ℕ, Bool, true, false, Result}
 use Rattle.flume_model.specs.declared.step.Kind.TheVariants.{Block}
 use Rattle.flume_model.specs.declared.step.Step.TheVariants.{TrySend, Send, TryRecv, Recv}
@@ -14,11 +14,11 @@ use Rattle.flume_calls.specs.ReceiveGates.{WholeReceive}
 use Rattle.flume_deadline.specs.declared.Deadline.{Deadline}
 use Rattle.flume_deadline.specs.declared.Deadline.TheVariants.{Never}
 use Rattle.flume_deadline.specs.Deadlines.{CanBeAhead}
-use Rattle.flume.specs.Turning.{HasMade}
+use Rattle.flume.specs.LockedTurns.{HasMade}
 
--- the gate after what a call waits on was made, or couldn't be
-abbrev pub Arms : Deadline → Deadline → Bool → Type 0
-Arms old new made = new ≡ old
+-- what a call waits on was made, or couldn't be: the gate stays the same
+abbrev pub MakesWaiter : Deadline → Deadline → Bool → Type 0
+MakesWaiter old new made = new ≡ old
 
 -- a wait: it says that the deadline is reached, or the clock showed a time before it
 pub record WaitsUpTo (old new : Deadline) (late : Bool) : Type 0 where
@@ -49,11 +49,10 @@ module _ {T : Type 0} (A : Type 0) where
     pub made : HasMade {A = A} (send.step_of_parked_send ticket late)
         (send.after_parked_send ticket late) next
 
-  -- a send of this message up to this deadline, with this result: the turns that it made, and its
-  -- waits
+  -- a send of this message up to this deadline, with this result: its turns and its waits
   abbrev pub Sends : Deadline → T → Result (Unit {0}) (SendTimeoutError T) → Type 0
   Sends deadline message result = (end : Deadline)
-      × WholeSend SendFirst Arms SendPark SendAgain WaitsUpTo deadline message end result
+      × WholeSend SendFirst MakesWaiter SendPark SendAgain WaitsUpTo deadline message end result
 
   -- a receive's first turn makes a `try_recv`
   pub record ReceiveFirst (old new : Deadline) (next : RecvNext T) : Type 0 where
@@ -77,7 +76,7 @@ module _ {T : Type 0} (A : Type 0) where
     pub made : HasMade {A = A} (receive.step_of_parked_receive ticket late)
         (receive.after_parked_receive ticket late) next
 
-  -- a receive up to this deadline, with this result
+  -- a receive up to this deadline, with this result: its turns and its waits
   abbrev pub Receives : Deadline → Result T RecvTimeoutError → Type 0
   Receives deadline result = (end : Deadline)
-      × WholeReceive ReceiveFirst Arms ReceivePark ReceiveAgain WaitsUpTo deadline end result
+      × WholeReceive ReceiveFirst MakesWaiter ReceivePark ReceiveAgain WaitsUpTo deadline end result

@@ -16,7 +16,7 @@ use Rattle.flume_core.specs.declared.error.NoMemory.{NoMemory}
 use Rattle.flume.specs.GateSteps.{Receives}
 
 -- what a contract sees of an iterator over received messages
-pub record Receiving : Type 0 where
+pub record IterValue : Type 0 where
   -- the number of its channel
   pub channel : ℕ
   -- whether the last `next` ended because memory ran out
@@ -25,38 +25,37 @@ pub record Receiving : Type 0 where
   pub left : ℕ
 
 -- the iterator over a channel's messages as it begins
-abbrev pub receiving_from : ℕ → Receiving
-receiving_from channel = record { channel = channel; fault = false; left = 2 ^ 64 - 1 }
+abbrev pub new_iter : ℕ → IterValue
+new_iter channel = record { channel = channel; fault = false; left = 2 ^ 64 - 1 }
 
 -- one `next`, which gave this
-pub record GoesOn {T : Type 0} (old : Receiving) (item : Option T) (new : Receiving) : Type 0 where
+pub record IsNext {T : Type 0} (old : IterValue) (item : Option T) (new : IterValue) : Type 0 where
   pub channel : new.channel ≡ old.channel
   pub left : old.left ≡ new.left + 1
-  -- it may have ended because memory ran out only where it gave nothing
+  -- memory ran out only if it gave nothing
   pub fault : new.fault ≡ true → item ≡ None
 
--- what a contract sees of an iterator over received messages that ends at a deadline
-pub record ReceivingUntil : Type 0 where
+-- the same of an iterator that ends at a deadline
+pub record DeadlineIterValue : Type 0 where
   -- the number of its channel
   pub channel : ℕ
   pub deadline : Deadline
-  -- why the last `next` gave nothing, where it gave nothing
+  -- why the last `next` gave nothing, if so
   pub end : Option RecvTimeoutError
-  -- how often `next` may still be called; no run uses that up
   pub left : ℕ
 
 -- the iterator over a channel's messages up to a deadline as it begins
-abbrev pub receiving_until : ℕ → Deadline → ReceivingUntil
-receiving_until channel deadline =
+abbrev pub new_deadline_iter : ℕ → Deadline → DeadlineIterValue
+new_deadline_iter channel deadline =
     record { channel = channel; deadline = deadline; end = None; left = 2 ^ 64 - 1 }
 
 -- one `next` of it, which gave this
-pub record GoesOnInTime {T : Type 0} (A : Type 0) (old : ReceivingUntil) (item : Option T)
-    (new : ReceivingUntil) : Type 0 where
+pub record IsNextInTime {T : Type 0} (A : Type 0) (old : DeadlineIterValue) (item : Option T)
+    (new : DeadlineIterValue) : Type 0 where
   pub channel : new.channel ≡ old.channel
   pub deadline : new.deadline ≡ old.deadline
   pub left : old.left ≡ new.left + 1
-  -- why it gave nothing is known exactly where it gave nothing
+  -- there is a reason exactly if it gave nothing
   pub end : IsSome new.end ↔ IsNone item
   -- one without a deadline is never late
   pub late : new.end ≡ Some timeout.Timeout → old.deadline ≢ Never

@@ -7,8 +7,8 @@ use Rattle.flume_calls.specs.declared.polled.send.PolledSend.{PolledSend}
 use Rattle.flume_calls.specs.declared.polled.send.PolledSend.TheVariants.{Unsent, Parked, Finished}
 
 module _ {T : Type 0} where
-  -- What is left of these messages after one of them waited: that one and all behind it. The first
-  -- is what the channel gave back for it.
+  -- What is left of these messages after one of them waited: what the channel gave back for it, and
+  -- all behind it.
   pub record IsRestAfterWait (messages left : List T) : Type 0 where
     pub sent : List T
     pub first : T
@@ -21,9 +21,8 @@ module _ {T : Type 0} where
   abbrev pub IsEndOf : List T → List T → Type 0
   IsEndOf messages left = (sent : List T) × (messages ≡ sent ++ left)
 
-  -- What a poll that sends these messages leaves of them, by its answer; none says that it waits.
-  -- Where it waits one of them is blocked, and where it fails one comes back: those behind that one
-  -- are left.
+  -- What a poll that sends these messages leaves of them, by its answer: those behind the one that
+  -- is blocked, if it waits, or comes back, if it fails.
   abbrev pub LeavesList : List T → List T → Option (Result (Unit {0}) (SendError T)) → Type 0
   LeavesList messages left None = (blocked : T) × IsEndOf messages (blocked ∷ left)
   LeavesList messages left (Some (Ok sent)) =
@@ -31,9 +30,9 @@ module _ {T : Type 0} where
   LeavesList messages left (Some (Err (Disconnected back))) = IsEndOf messages (back ∷ left)
   LeavesList messages left (Some (Err (NoMemory back))) = IsEndOf messages (back ∷ left)
 
-  -- The same of a poll that first polls this send, as a sink does that keeps it. Its message goes
-  -- before the list. Of one that is parked only the channel knows the message: where that one waits
-  -- on, or comes back, the list is as it was.
+  -- The same of a poll that first polls this send, whose message goes before the list. Of one that
+  -- is parked only the channel knows the message: if that one waits on, or comes back, the list is
+  -- as it was.
   abbrev pub PollLeaves : PolledSend T → List T → List T
       → Option (Result (Unit {0}) (SendError T)) → Type 0
   PollLeaves (Unsent message) messages left answer = LeavesList (message ∷ messages) left answer

@@ -9,16 +9,16 @@ use Rattle.flume_core.specs.declared.error.SendTimeoutError.TheVariants as send_
 use Rattle.flume_calls.specs.ManySends.{SendsMany}
 use Rattle.flume_deadline.specs.declared.Deadline.{Deadline}
 use Rattle.flume.specs.GateSteps.{Sends}
-use Rattle.flume.specs.ManySteps.{HasMadeAll}
+use Rattle.flume.specs.ManyReceiveSteps.{HasMadeAll}
 
 module _ {L T : Type 0} (listed : L → List T) where
-  -- the answer of a tried send of many, with the messages that its error has as a list
-  abbrev pub tried_list : Result (Unit {0}) (TrySendError L)
+  -- the result of a `try_send` of many, with the messages that its error has as a list
+  abbrev pub try_result_list : Result (Unit {0}) (TrySendError L)
       → Result (Unit {0}) (TrySendError (List T))
-  tried_list (Ok sent) = Ok tt
-  tried_list (Err (try_send.Full left)) = Err (try_send.Full (listed left))
-  tried_list (Err (try_send.Disconnected left)) = Err (try_send.Disconnected (listed left))
-  tried_list (Err (try_send.NoMemory left)) = Err (try_send.NoMemory (listed left))
+  try_result_list (Ok sent) = Ok tt
+  try_result_list (Err (try_send.Full left)) = Err (try_send.Full (listed left))
+  try_result_list (Err (try_send.Disconnected left)) = Err (try_send.Disconnected (listed left))
+  try_result_list (Err (try_send.NoMemory left)) = Err (try_send.NoMemory (listed left))
 
   -- the error of a send up to a deadline, with the messages that it has as a list
   abbrev pub error_list : SendTimeoutError L → SendTimeoutError (List T)
@@ -33,13 +33,13 @@ module _ {L T : Type 0} (listed : L → List T) where
   result_list (Err error) = Err (error_list error)
 
 module _ {T : Type 0} (A : Type 0) where
-  -- A batch: some channel's run goes on with the tried sends of these messages, up to the first
-  -- that isn't taken in, and this is what they answer.
+  -- A batch: some channel's run goes on with a `try_send` of each of these messages, up to the
+  -- first that isn't taken in, and this is the answer.
   pub record SendsBatch (messages : List T) (answer : Result (Unit {0}) (TrySendError (List T)))
       : Type 0 where
     pub batch : Result (Unit {0}) (TrySendError (VecDeque T A))
     pub made : HasMadeAll (SendsMany messages) batch
-    pub answer_is : answer ≡ tried_list deque_items batch
+    pub answer_is : answer ≡ try_result_list deque_items batch
 
   -- The send of the first of these messages, up to the deadline, by itself. The others are left.
   pub data SendsFirst (deadline : Deadline)
@@ -53,8 +53,8 @@ module _ {T : Type 0} (A : Type 0) where
         (Err (error_list (λ back. back ∷ behind) error))
 
   -- A send of these messages up to the deadline, with this result: a batch of them; if that finds
-  -- the channel full, the first that it leaves is sent by itself, and may wait; and so on with those
-  -- behind it.
+  -- the channel full, the first that it leaves is sent by itself, and may wait; and so on with
+  -- those behind it.
   pub data SendsManyUpTo (deadline : Deadline)
       : List T → Result (Unit {0}) (SendTimeoutError (List T)) → Type 0 where
     -- no message is left

@@ -8,7 +8,7 @@ use Rattle.flume_core.specs.declared.error.RecvError.TheVariants.{Disconnected, 
 use Rattle.flume_calls.specs.declared.polled.receive.PolledReceive.{PolledReceive}
 use Rattle.flume_calls.specs.PolledReceives.{ReceivePoll}
 use Rattle.flume.specs.declared.signal.Signal.{Signal}
-use Rattle.flume.specs.Polling.{HasPolled}
+use Rattle.flume.specs.LockedPolls.{HasPolled}
 
 module _ {N : Type 0} where
   -- What a poll makes of its receive, by its answer: a message, or how many came.
@@ -17,7 +17,7 @@ module _ {N : Type 0} where
     pub kind : new.kind ≡ old.kind
     -- it waits only under a ticket
     pub parked : answer ≡ None → IsSome new.call
-    -- one that was parked waits on under its ticket
+    -- one that was parked keeps its ticket
     pub stays : answer ≡ None → IsSome old.call → new.call ≡ old.call
     pub got : (given : N) → answer ≡ Some (Ok given) → new.call ≡ None
     pub disconnected : answer ≡ Some (Err Disconnected) → new.call ≡ None
@@ -25,7 +25,7 @@ module _ {N : Type 0} where
     pub no_memory : answer ≡ Some (Err NoMemory) → new.call ≡ old.call
 
 module _ {T : Type 0} where
-  -- what the receive of a stream answered, by the stream's item and whether it has a fault then
+  -- what the receive of a stream answered, by the stream's item and fault
   abbrev pub answer_of_item : Poll (Option T) → Bool → Option (Result T RecvError)
   answer_of_item (Ready (Some message)) fault = Some (Ok message)
   answer_of_item (Ready None) true = Some (Err NoMemory)
@@ -39,8 +39,8 @@ module _ {T : Type 0} (A : Type 0) where
       (new.kind ≡ old.kind) × ReceivePoll A old.kind old.call signal before after new.call answer)
 
 module _ {T : Type 0} where
-  -- What a poll of many leaves of the list and answers, by what its receive answered. Behind a
-  -- message stand those that were taken after it.
+  -- What a poll of many leaves of the list and answers, by what its receive answered. Those that
+  -- were taken after a message stand behind it.
   abbrev pub WithMore : ℕ → List T → Option (Result T RecvError) → List T
       → Option (Result ℕ RecvError) → Type 0
   WithMore most before (Some (Ok message)) after answer = (more : List T)
@@ -51,8 +51,8 @@ module _ {T : Type 0} where
   WithMore most before None after answer = (after ≡ before) × (answer ≡ None)
 
 module _ {T : Type 0} (A : Type 0) where
-  -- one poll of a receive was made, and where it gave a message at most so many came with it: from
-  -- the list and the receive before to both after and the answer
+  -- one poll of a receive was made, and if it gave a message others came with it, at most so many
+  -- in all: from the list and the receive before to both after and the answer
   pub record HasPolledMany (most : ℕ) (before : List T) (old : PolledReceive) (after : List T)
       (new : PolledReceive) (answer : Option (Result ℕ RecvError)) : Type 0 where
     pub first : Option (Result T RecvError)

@@ -9,7 +9,7 @@ use Rattle.flume_calls.specs.declared.polled.send.PolledSend.{PolledSend}
 use Rattle.flume_calls.specs.declared.polled.send.PolledSend.TheVariants.{Unsent, Parked, Finished}
 use Rattle.flume_calls.specs.PolledSends.{SendPoll}
 use Rattle.flume.specs.declared.signal.Signal.{Signal}
-use Rattle.flume.specs.Polling.{HasPolled, answer_of}
+use Rattle.flume.specs.LockedPolls.{HasPolled, answer_of}
 
 module _ {T : Type 0} (A : Type 0) where
   -- one poll of a send was made: from the send before to the send after and the answer
@@ -26,7 +26,7 @@ module _ {T : Type 0} (A : Type 0) where
     pub polled : old ≢ Finished → HasPolledSend old new (answer_of result)
     pub finished : IfReady result (λ _. new ≡ Finished)
     pub parked : OnPending result ((ticket : ℕ) × (new ≡ Parked ticket))
-    -- one that is parked waits on under its ticket
+    -- one that is parked keeps its ticket
     pub stays : (ticket : ℕ) → old ≡ Parked ticket → OnPending result (new ≡ Parked ticket)
     -- a message that comes back by the first poll is the one that was to be sent
     pub disconnected : (message back : T) → old ≡ Unsent message

@@ -1,10 +1,10 @@
-//! What an end answers once its call has ended: tables of values, which know of no lock.
+//! What a call answers, by how its turn or its wait ended.
 ghost use Rattle.std.specs.Prelude.{◌≡◌, ◌≢◌, vec_items, Err};
 ghost use Rattle.std.specs.VecDeque.{deque_items};
 ghost use Rattle.flume_calls.specs.ReceiveTurns as receive;
 ghost use Rattle.flume.specs.CallSteps as answer;
-ghost use Rattle.flume.specs.Endings.{NeverParks};
-ghost use Rattle.flume.specs.ManySendSteps.{tried_list};
+ghost use Rattle.flume.specs.CallSteps.{NeverParks};
+ghost use Rattle.flume.specs.ManySendSteps.{try_result_list};
 
 use flume_calls::calls::{RecvNext, SendNext};
 use flume_core::error::{
@@ -13,11 +13,10 @@ use flume_core::error::{
 use std::alloc::Allocator;
 use std::collections::VecDeque;
 
-/// What a tried send answers, by its one turn.
 #[inline(always)]
-pub(crate) fn tried_send<T: Drop>(turn: SendNext<T>) -> Result<(), TrySendError<T>>
+pub(crate) fn try_send_answer<T: Drop>(turn: SendNext<T>) -> Result<(), TrySendError<T>>
     requires never_parks { NeverParks turn }
-    ensures turn { turn ≡ answer.tried_send result }
+    ensures turn { turn ≡ answer.try_send_as_turn result }
 {
     match turn {
         SendNext::Done(Ok(())) => Ok(()),
@@ -32,12 +31,11 @@ pub(crate) fn tried_send<T: Drop>(turn: SendNext<T>) -> Result<(), TrySendError<
     }
 }
 
-/// What a tried send of many answers, by its turn. What is left goes to the front of the list that
-/// it was taken from.
-pub(crate) fn tried_sends<T: Drop, A: Allocator>(
+// What is left goes to the front of the list that it was taken from.
+pub(crate) fn try_send_many_answer<T: Drop, A: Allocator>(
     turn: Result<(), TrySendError<VecDeque<T, A>>>,
 ) -> Result<(), TrySendError<Vec<T, A>>>
-    ensures list { tried_list vec_items result ≡ tried_list deque_items turn }
+    ensures list { try_result_list vec_items result ≡ try_result_list deque_items turn }
 {
     match turn {
         Ok(()) => Ok(()),
@@ -47,13 +45,12 @@ pub(crate) fn tried_sends<T: Drop, A: Allocator>(
     }
 }
 
-/// What a send without a deadline answers, by how it ended.
 #[inline(always)]
-pub(crate) fn waited_send<T: Drop>(
+pub(crate) fn send_answer<T: Drop>(
     ended: Result<(), SendTimeoutError<T>>,
 ) -> Result<(), SendError<T>>
     requires in_time { (back : T) → ended ≢ Err (SendTimeoutError.Timeout back) }
-    ensures ended { ended ≡ answer.untimed_send result }
+    ensures ended { ended ≡ answer.send_as_timed result }
 {
     match ended {
         Ok(()) => Ok(()),
@@ -63,11 +60,11 @@ pub(crate) fn waited_send<T: Drop>(
     }
 }
 
-/// What a tried receive answers, by its one turn: of a message, or of how many came.
+// A `T` is a message, or how many came.
 #[inline(always)]
-pub(crate) fn tried_receive<T: Drop>(turn: RecvNext<T>) -> Result<T, TryRecvError>
+pub(crate) fn try_receive_answer<T: Drop>(turn: RecvNext<T>) -> Result<T, TryRecvError>
     requires first { receive.IsFirst turn }
-    ensures turn { turn ≡ answer.tried_receive result }
+    ensures turn { turn ≡ answer.try_receive_as_turn result }
 {
     match turn {
         RecvNext::Done(Ok(came)) => Ok(came),
@@ -79,11 +76,10 @@ pub(crate) fn tried_receive<T: Drop>(turn: RecvNext<T>) -> Result<T, TryRecvErro
     }
 }
 
-/// What a receive without a deadline answers, by how it ended.
 #[inline(always)]
-pub(crate) fn waited_receive<T: Drop>(ended: Result<T, RecvTimeoutError>) -> Result<T, RecvError>
+pub(crate) fn receive_answer<T: Drop>(ended: Result<T, RecvTimeoutError>) -> Result<T, RecvError>
     requires in_time { ended ≢ Err RecvTimeoutError.Timeout }
-    ensures ended { ended ≡ answer.untimed_receive result }
+    ensures ended { ended ≡ answer.receive_as_timed result }
 {
     match ended {
         Ok(message) => Ok(message),

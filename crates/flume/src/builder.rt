@@ -1,6 +1,6 @@
-//! Opening a channel by saying only what isn't usual.
+//! How a channel is opened, if only what isn't usual is said.
 ghost use Rattle.std.specs.Prelude.{◌≡◌, IfOk, ⊤};
-ghost use Rattle.flume.specs.Openings.{Plan};
+ghost use Rattle.flume.specs.Builders.{BuilderValue};
 
 use crate::opening;
 use crate::receiver::Receiver;
@@ -11,15 +11,14 @@ use std::alloc::{Alloc, AllocError, Allocator};
 use std::fmt;
 use std::marker::Model;
 
-/// How a channel is to be opened: the runtime value, the allocator and the number. `on` makes one,
-/// `number` and `allocator` change one thing each, and `unbounded` and `bounded` open the channel.
+/// How a channel is to be opened: `on` makes one, `number` and `allocator` change one thing each,
+/// `unbounded` and `bounded` open the channel.
 ///
 /// Whatever its capacity, a channel holds at most 4,294,967,295 messages, as many parked receivers
 /// and as many live sends. Past that a call answers `NoMemory`, though no allocation was refused.
 ///
-/// It can be copied, and opens any number of channels. They all have its number. One that holds a
-/// reference, as to an allocator of one's own, opens one channel: the checker refuses a copy of it
-/// ("a struct with an `impl Model` is copied where it holds a reference").
+/// A copy of it opens another channel with the same number. One that holds a reference, as to an
+/// allocator of one's own, can't be copied, and opens one channel.
 #[derive(Copy)]
 pub struct Builder<R: Waits, A: Allocator + Copy> {
     rt: R,
@@ -28,9 +27,9 @@ pub struct Builder<R: Waits, A: Allocator + Copy> {
 }
 
 impl<R: Waits, A: Allocator + Copy> Model for Builder<R, A> {
-    ghost use Rattle.flume.specs.Openings.{Plan};
+    ghost use Rattle.flume.specs.Builders.{BuilderValue};
 
-    ghost Value = { Plan R A };
+    ghost Value = { BuilderValue R A };
 
     ghost view = { λ builder. record {
       runtime = builder.rt;
@@ -45,8 +44,8 @@ impl<R: Waits, A: Allocator + Copy> Model for Builder<R, A> {
     } };
 }
 
-/// A channel on this runtime, with the allocator that the runtime gives, which is the global one of
-/// the host's runtime, and with the number 0. Nothing is opened yet, and no memory is taken.
+/// A builder with the allocator that the runtime gives, which is the global one of the host's
+/// runtime, and with the number 0. It takes no memory.
 ///
 /// ```
 /// let (tx, rx) = flume::on(rt).unbounded()?;
@@ -69,9 +68,9 @@ where
 }
 
 impl<R: Waits, A: Allocator + Copy> Builder<R, A> {
-    /// Opens the channel under this number, for those who compare channels: `same_channel` of two
-    /// ends compares the numbers of their channels and nothing else. So two channels that are
-    /// opened with equal numbers, as with the 0 of those that were given none, count as the same.
+    /// Opens the channel under this number. `same_channel` of two ends compares the numbers of
+    /// their channels and nothing else, so channels that are opened with equal numbers count as the
+    /// same.
     ///
     /// ```
     /// let (first, _) = flume::on(rt).number(1).unbounded::<u64>()?;
@@ -105,13 +104,7 @@ impl<R: Waits, A: Allocator + Copy> Builder<R, A> {
         }
     }
 
-    /// Opens a channel without a capacity. `NoMemory`: there was no memory for what its ends share.
-    ///
-    /// ```
-    /// let (tx, rx) = flume::on(rt).unbounded()?;
-    /// tx.send(42)?;
-    /// assert_eq!(rt; rx.recv(), Ok(42));
-    /// ```
+    /// Opens a channel without a capacity. `NoMemory`: there was none for what its ends share.
     pub fn unbounded<T: Drop>(self) -> Result<(Sender<T, R, A>, Receiver<T, R, A>), NoMemory>
         ensures sender { IfOk result (λ ends. ends.0 ≡ self.number) }
         ensures receiver { IfOk result (λ ends. ends.1 ≡ self.number) }
@@ -121,7 +114,7 @@ impl<R: Waits, A: Allocator + Copy> Builder<R, A> {
 
     /// Opens a channel that holds at most `capacity` messages, apart from those sent while a
     /// receiver waits. At capacity 0, the rendezvous channel, a send waits until a receiver takes
-    /// its message. `NoMemory`: there was no memory for what its ends share.
+    /// its message. `NoMemory` as of `unbounded`.
     ///
     /// ```
     /// let (tx, rx) = flume::on(rt).bounded(1)?;

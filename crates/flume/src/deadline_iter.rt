@@ -5,7 +5,7 @@ ghost use Rattle.flume_deadline.specs.declared.Deadline.{Deadline};
 ghost use Rattle.flume_deadline.specs.declared.Deadline.TheVariants.{At, Never};
 ghost use Rattle.flume_deadline.specs.Deadlines.{IsAfter, CanBeAhead};
 ghost use Rattle.flume.specs.GateSteps.{Receives};
-ghost use Rattle.flume.specs.Iterators.{receiving_until, GoesOnInTime};
+ghost use Rattle.flume.specs.Iterators.{new_deadline_iter, IsNextInTime};
 
 use crate::gate::Gate;
 use crate::iterators::show;
@@ -20,10 +20,8 @@ use std::fmt;
 use std::marker::Model;
 use std::time::{Duration, Instant};
 
-/// The messages of a receiver, one after the other, up to a deadline: `Receiver::iter_deadline` and
-/// `Receiver::iter_timeout`. It waits for each message. `None`: the deadline is reached; or none is
-/// there and all senders have been dropped; or there was no memory for what a wait needs. `ended`
-/// says which.
+/// The messages of a receiver up to a deadline: `Receiver::iter_deadline` and
+/// `Receiver::iter_timeout`. It waits for each message. After a `None`, `ended` says why.
 ///
 /// ```
 /// let (tx, rx) = flume::on(rt).unbounded()?;
@@ -41,14 +39,14 @@ pub struct DeadlineIter<'a, T, R: Waits, A: Allocator + Copy = Global> {
     receiver: &'a Receiver<T, R, A>,
     deadline: Deadline,
     progress: Progress,
-    // Why the last `next` gave nothing, if it gave nothing.
+    // Why the last `next` gave nothing.
     end: Option<RecvTimeoutError>,
 }
 
 impl<'a, T, R: Waits, A: Allocator + Copy> Model for DeadlineIter<'a, T, R, A> {
-    ghost use Rattle.flume.specs.Iterators.{ReceivingUntil};
+    ghost use Rattle.flume.specs.Iterators.{DeadlineIterValue};
 
-    ghost Value = { ReceivingUntil };
+    ghost Value = { DeadlineIterValue };
 
     ghost view = { λ it. record {
       channel = it.receiver.now;
@@ -59,9 +57,9 @@ impl<'a, T, R: Waits, A: Allocator + Copy> Model for DeadlineIter<'a, T, R, A> {
 }
 
 impl<T: Drop, R: Waits, A: Allocator + Copy> Receiver<T, R, A> {
-    /// The messages, one after the other, up to the deadline: it ends there, even if messages
-    /// are left, which stay in the channel. It waits for each, and ends too if `recv` is
-    /// refused. A clock that can't be read counts as past each deadline. Takes no memory.
+    /// The messages, one after the other, up to the deadline, at which it ends even if messages are
+    /// left: they stay in the channel. It waits for each, and ends too if `recv` is refused. A
+    /// clock that can't be read counts as past each deadline. Takes no memory.
     ///
     /// ```
     /// let (tx, rx) = flume::on(rt).unbounded()?;
@@ -71,35 +69,23 @@ impl<T: Drop, R: Waits, A: Allocator + Copy> Receiver<T, R, A> {
     /// assert_eq!(rt; rx.try_recv(), Ok(42));
     /// ```
     pub fn iter_deadline(&self, deadline: Instant) -> DeadlineIter<'_, T, R, A>
-        ensures new { result ≡ receiving_until self.now (At deadline) }
+        ensures new { result ≡ new_deadline_iter self.now (At deadline) }
     {
-        DeadlineIter::over(self, Deadline::At(deadline))
+        DeadlineIter::new(self, Deadline::At(deadline))
     }
 
-    /// The messages, one after the other, up to so long from now, as `iter_deadline` gives them.
-    /// If the deadline overflows, it goes on as `iter` does.
-    ///
-    /// ```
-    /// let (tx, rx) = flume::on(rt).unbounded()?;
-    /// tx.send(42)?;
-    /// drop(tx);
-    /// let mut messages = rx.iter_timeout(Duration::from_secs(60));
-    /// assert_eq!(rt; messages.next(), Some(42));
-    /// assert_eq!(rt; messages.next(), None);
-    /// assert_eq!(rt; messages.ended(), Ok(()));
-    /// ```
+    /// As `iter_deadline`, up to so long from now. If the deadline overflows, as `iter`.
     pub fn iter_timeout(&self, timeout: Duration) -> DeadlineIter<'_, T, R, A>
         ensures new { (deadline : Deadline) × IsAfter timeout deadline
-            × (result ≡ receiving_until self.now deadline) }
+            × (result ≡ new_deadline_iter self.now deadline) }
     {
-        DeadlineIter::over(self, Deadline::after(self.runtime(), timeout))
+        DeadlineIter::new(self, Deadline::after(self.runtime(), timeout))
     }
 }
 
 impl<'a, T: Drop, R: Waits, A: Allocator + Copy> DeadlineIter<'a, T, R, A> {
-    // The messages of this receiver up to this deadline.
-    fn over(receiver: &'a Receiver<T, R, A>, deadline: Deadline) -> Self
-        ensures new { result ≡ receiving_until receiver.now deadline }
+    fn new(receiver: &'a Receiver<T, R, A>, deadline: Deadline) -> Self
+        ensures new { result ≡ new_deadline_iter receiver.now deadline }
     {
         DeadlineIter {
             receiver,
@@ -111,8 +97,8 @@ impl<'a, T: Drop, R: Waits, A: Allocator + Copy> DeadlineIter<'a, T, R, A> {
 
     /// Why the last `next` gave nothing: `Timeout`, the deadline is reached; `NoMemory`, there was
     /// none for what a wait needs. `Ok`: no message was there and all senders had been dropped, or
-    /// it gave a message, or there was no `next` yet. Never `Disconnected`. After any of them the
-    /// receiver can be used on.
+    /// it gave a message, or there was no `next` yet. Never `Disconnected`. The receiver can be
+    /// used on after each.
     ///
     /// ```
     /// let (_tx, rx) = flume::on(rt).unbounded::<u64>()?;
@@ -133,7 +119,7 @@ impl<'a, T: Drop, R: Waits, A: Allocator + Copy> DeadlineIter<'a, T, R, A> {
         }
     }
 
-    /// Whether the last `next` ended because memory ran out: `ended` says `NoMemory` then.
+    /// Whether `ended` says `NoMemory`.
     pub fn fault(&self) -> bool
         ensures fault { IsTrue result ↔ (self.now.end ≡ Some RecvTimeoutError.NoMemory) }
     {
@@ -141,7 +127,6 @@ impl<'a, T: Drop, R: Waits, A: Allocator + Copy> DeadlineIter<'a, T, R, A> {
     }
 }
 
-// The next message of the receiver, or why there is none.
 fn receive<T: Drop, R: Waits, A: Allocator + Copy>(
     receiver: &Receiver<T, R, A>,
     deadline: Deadline,
@@ -161,7 +146,7 @@ fn receive<T: Drop, R: Waits, A: Allocator + Copy>(
 impl<'a, T: Drop, R: Waits, A: Allocator + Copy> Iterator for DeadlineIter<'a, T, R, A> {
     type Item = T;
 
-    ghost next_gives = { GoesOnInTime A };
+    ghost next_gives = { IsNextInTime A };
 
     ghost remaining = { λ it. at_most it.left };
 

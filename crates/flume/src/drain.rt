@@ -12,20 +12,9 @@ use std::collections::VecDeque;
 use std::fmt;
 use std::marker::{Model, PhantomData};
 
-/// The messages that `Receiver::drain` took, in order. What is left of them is dropped with it.
-///
-/// ```
-/// let (tx, rx) = flume::on(rt).unbounded()?;
-/// tx.send(1)?;
-/// tx.send(2)?;
-/// let mut messages = rx.drain()?;
-/// assert_eq!(rt; messages.len(), 2);
-/// assert_eq!(rt; messages.next(), Some(1));
-/// assert_eq!(rt; rx.len(), 0);
-/// ```
+/// The messages that `Receiver::drain` took, in order. Those that are left are dropped with it.
 #[derive(Drop)]
 pub struct Drain<'a, T, A: Allocator = Global> {
-    // The list that the step took, which becomes a deque without more memory.
     queue: VecDeque<T, A>,
     receiver: PhantomData<&'a ()>,
 }
@@ -39,9 +28,8 @@ impl<'a, T, A: Allocator> Model for Drain<'a, T, A> {
 }
 
 impl<'a, T: Drop, A: Allocator> Drain<'a, T, A> {
-    /// The answer of a drain, to its step's reply.
     pub(crate) fn answer(reply: Reply<T, A>) -> Result<Self, NoMemory>
-        requires comes { PossibleReply Step.Drain reply }
+        requires possible { PossibleReply Step.Drain reply }
         ensures table { after_drain reply result }
     {
         match reply {

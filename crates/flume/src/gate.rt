@@ -1,7 +1,7 @@
 //! The gate of the ends: each turn of a call is made under the channel's lock, and the call waits
-//! on a parker of its own.
+//! on a parker of its own. The loop of a call that waits is written and proved once, over any gate.
 ghost use Rattle.std.specs.Prelude.{◌≡◌, ⊤};
-ghost use Rattle.flume.specs.GateSteps.{Arms, WaitsUpTo, SendFirst, SendPark, SendAgain};
+ghost use Rattle.flume.specs.GateSteps.{MakesWaiter, WaitsUpTo, SendFirst, SendPark, SendAgain};
 ghost use Rattle.flume.specs.GateSteps.{ReceiveFirst, ReceivePark, ReceiveAgain};
 
 use crate::shared::{Shared, Waits};
@@ -17,9 +17,6 @@ use std::alloc::Allocator;
 use std::marker::Model;
 use std::sync::Arc;
 
-/// What one blocking call of an end goes through. Its methods only hand on: the loop of a call that
-/// waits is written and proved once, over any gate, and this one leads it to the lock and the
-/// parker.
 #[derive(Drop)]
 pub(crate) struct Gate<'a, T, R: Waits, A: Allocator + Copy> {
     shared: &'a Shared<T, R, A>,
@@ -35,7 +32,6 @@ impl<'a, T, R: Waits, A: Allocator + Copy> Model for Gate<'a, T, R, A> {
 }
 
 impl<'a, T: Drop, R: Waits, A: Allocator + Copy> Gate<'a, T, R, A> {
-    /// A gate of a call that waits up to the deadline. Takes no memory.
     #[inline(always)]
     pub(crate) fn new(shared: &'a Shared<T, R, A>, deadline: Deadline) -> Self
         ensures deadline { result ≡ deadline }
@@ -51,7 +47,7 @@ impl<T: Drop, R: Waits, A: Allocator + Copy> SendGate<T> for Gate<'_, T, R, A> {
 
     ghost firsts = { SendFirst A };
 
-    ghost arms = { Arms };
+    ghost arms = { MakesWaiter };
 
     ghost parks = { SendPark A };
 
@@ -93,7 +89,7 @@ impl<T: Drop, R: Waits, A: Allocator + Copy> RecvGate<T> for Gate<'_, T, R, A> {
 
     ghost firsts = { ReceiveFirst A };
 
-    ghost arms = { Arms };
+    ghost arms = { MakesWaiter };
 
     ghost parks = { ReceivePark A };
 

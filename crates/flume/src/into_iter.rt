@@ -1,7 +1,7 @@
-//! The iterator over received messages that has its receiver.
+//! The iterator over received messages that owns its receiver.
 ghost use Rattle.std.specs.Prelude.{◌≡◌, ◌↔◌, true, IsErr};
 ghost use Rattle.std.specs.Iterator.{at_most};
-ghost use Rattle.flume.specs.Iterators.{receiving_from, GoesOn};
+ghost use Rattle.flume.specs.Iterators.{new_iter, IsNext};
 
 use crate::iterators::show;
 use crate::progress::Progress;
@@ -12,7 +12,7 @@ use std::alloc::{Allocator, Global};
 use std::fmt;
 use std::marker::Model;
 
-/// The iterator over received messages that has its receiver in it, which goes with it.
+/// As `Iter`, with the receiver in it.
 ///
 /// ```
 /// let (tx, rx) = flume::on(rt).unbounded()?;
@@ -31,9 +31,9 @@ pub struct IntoIter<T, R: Waits, A: Allocator + Copy = Global> {
 }
 
 impl<T, R: Waits, A: Allocator + Copy> Model for IntoIter<T, R, A> {
-    ghost use Rattle.flume.specs.Iterators.{Receiving};
+    ghost use Rattle.flume.specs.Iterators.{IterValue};
 
-    ghost Value = { Receiving };
+    ghost Value = { IterValue };
 
     ghost view = { λ it. record {
       channel = it.receiver;
@@ -43,35 +43,14 @@ impl<T, R: Waits, A: Allocator + Copy> Model for IntoIter<T, R, A> {
 }
 
 impl<T: Drop, R: Waits, A: Allocator + Copy> IntoIter<T, R, A> {
-    /// Whether the last `next` ended because memory ran out, and not since all senders had been
-    /// dropped. More calls of `next` may follow.
-    ///
-    /// ```
-    /// let (tx, rx) = flume::on(rt).unbounded::<u64>()?;
-    /// drop(tx);
-    /// let mut messages = rx.into_iter();
-    /// assert_eq!(rt; messages.next(), None);
-    /// assert!(rt; !messages.fault());
-    /// ```
+    /// Whether the last `next` ended because memory ran out, as `Iter::fault`.
     pub fn fault(&self) -> bool
         ensures fault { result ≡ self.now.fault }
     {
         self.progress.fault
     }
 
-    /// The same as a `Result`, for a program that goes on by `?` after a loop: an error exactly
-    /// if `fault` is true.
-    ///
-    /// ```
-    /// let (tx, rx) = flume::on(rt).unbounded::<u64>()?;
-    /// tx.send(42)?;
-    /// drop(tx);
-    /// let mut messages = rx.into_iter();
-    /// for message in messages.by_ref() {
-    ///     assert_eq!(rt; message, 42);
-    /// }
-    /// messages.ended()?;
-    /// ```
+    /// An error if `fault` is true, as `Iter::ended`.
     pub fn ended(&self) -> Result<(), NoMemory>
         ensures no_memory { IsErr result ↔ self.now.fault ≡ true }
     {
@@ -86,7 +65,7 @@ impl<T: Drop, R: Waits, A: Allocator + Copy> IntoIter<T, R, A> {
 impl<T: Drop, R: Waits, A: Allocator + Copy> Iterator for IntoIter<T, R, A> {
     type Item = T;
 
-    ghost next_gives = { GoesOn };
+    ghost next_gives = { IsNext };
 
     ghost remaining = { λ it. at_most it.left };
 
@@ -106,7 +85,7 @@ impl<T: Drop, R: Waits, A: Allocator + Copy> IntoIterator for Receiver<T, R, A> 
 
     type IntoIter = IntoIter<T, R, A>;
 
-    ghost into_iter_gives = { λ receiver it. it ≡ receiving_from receiver };
+    ghost into_iter_gives = { λ receiver it. it ≡ new_iter receiver };
 
     fn into_iter(self) -> IntoIter<T, R, A> {
         IntoIter {

@@ -1,7 +1,7 @@
 //! Iterators over the messages of a receiver that they borrow.
 ghost use Rattle.std.specs.Prelude.{◌≡◌, ◌↔◌, true, false, IsErr};
 ghost use Rattle.std.specs.Iterator.{at_most};
-ghost use Rattle.flume.specs.Iterators.{receiving_from, GoesOn};
+ghost use Rattle.flume.specs.Iterators.{new_iter, IsNext};
 
 use crate::progress::Progress;
 use crate::receiver::Receiver;
@@ -32,9 +32,9 @@ pub struct Iter<'a, T, R: Waits, A: Allocator + Copy = Global> {
 }
 
 impl<'a, T, R: Waits, A: Allocator + Copy> Model for Iter<'a, T, R, A> {
-    ghost use Rattle.flume.specs.Iterators.{Receiving};
+    ghost use Rattle.flume.specs.Iterators.{IterValue};
 
-    ghost Value = { Receiving };
+    ghost Value = { IterValue };
 
     ghost view = { λ it. record {
       channel = it.receiver.now;
@@ -44,9 +44,8 @@ impl<'a, T, R: Waits, A: Allocator + Copy> Model for Iter<'a, T, R, A> {
 }
 
 impl<'a, T: Drop, R: Waits, A: Allocator + Copy> Iter<'a, T, R, A> {
-    /// The messages of this receiver.
-    pub(crate) fn over(receiver: &'a Receiver<T, R, A>) -> Self
-        ensures new { result ≡ receiving_from receiver.now }
+    pub(crate) fn new(receiver: &'a Receiver<T, R, A>) -> Self
+        ensures new { result ≡ new_iter receiver.now }
     {
         Iter {
             receiver,
@@ -54,7 +53,7 @@ impl<'a, T: Drop, R: Waits, A: Allocator + Copy> Iter<'a, T, R, A> {
         }
     }
 
-    /// Whether the last `next` ended because memory ran out, and not since all senders had been
+    /// Whether the last `next` ended because memory ran out, and not because all senders had been
     /// dropped. The receiver can be used on after it. An adapter owns what it adapts and hides
     /// this: lend the iterator to it by `by_ref`, as in `messages.by_ref().take(10)`.
     ///
@@ -71,8 +70,7 @@ impl<'a, T: Drop, R: Waits, A: Allocator + Copy> Iter<'a, T, R, A> {
         self.progress.fault
     }
 
-    /// The same as a `Result`, for a program that goes on by `?` after a loop: an error exactly
-    /// if `fault` is true.
+    /// An error if `fault` is true, for a program that goes on by `?` after a loop.
     ///
     /// ```
     /// let (tx, rx) = flume::on(rt).unbounded::<u64>()?;
@@ -98,7 +96,7 @@ impl<'a, T: Drop, R: Waits, A: Allocator + Copy> Iter<'a, T, R, A> {
 impl<'a, T: Drop, R: Waits, A: Allocator + Copy> Iterator for Iter<'a, T, R, A> {
     type Item = T;
 
-    ghost next_gives = { GoesOn };
+    ghost next_gives = { IsNext };
 
     ghost remaining = { λ it. at_most it.left };
 
@@ -118,25 +116,15 @@ impl<'a, T: Drop, R: Waits, A: Allocator + Copy> IntoIterator for &'a Receiver<T
 
     type IntoIter = Iter<'a, T, R, A>;
 
-    ghost into_iter_gives = { λ receiver it. it ≡ receiving_from receiver.now };
+    ghost into_iter_gives = { λ receiver it. it ≡ new_iter receiver.now };
 
     fn into_iter(self) -> Iter<'a, T, R, A> {
-        Iter::over(self)
+        Iter::new(self)
     }
 }
 
-/// The messages of a receiver, one after the other; it waits for none. `None`: none is there. After
-/// a `None` there may be more.
-///
-/// ```
-/// let (tx, rx) = flume::on(rt).unbounded()?;
-/// tx.send(42)?;
-/// let mut last = 0;
-/// for message in rx.try_iter() {
-///     last = message;
-/// }
-/// assert_eq!(rt; last, 42);
-/// ```
+/// The messages of a receiver, one after the other; it waits for none. After a `None` there may be
+/// more.
 #[derive(Drop)]
 pub struct TryIter<'a, T, R: Waits, A: Allocator + Copy = Global> {
     receiver: &'a Receiver<T, R, A>,
@@ -145,9 +133,9 @@ pub struct TryIter<'a, T, R: Waits, A: Allocator + Copy = Global> {
 
 impl<'a, T, R: Waits, A: Allocator + Copy> Model for TryIter<'a, T, R, A> {
     ghost use Rattle.std.specs.Prelude.{false};
-    ghost use Rattle.flume.specs.Iterators.{Receiving};
+    ghost use Rattle.flume.specs.Iterators.{IterValue};
 
-    ghost Value = { Receiving };
+    ghost Value = { IterValue };
 
     ghost view = { λ it. record {
       channel = it.receiver.now;
@@ -157,9 +145,8 @@ impl<'a, T, R: Waits, A: Allocator + Copy> Model for TryIter<'a, T, R, A> {
 }
 
 impl<'a, T: Drop, R: Waits, A: Allocator + Copy> TryIter<'a, T, R, A> {
-    /// The messages that this receiver has.
-    pub(crate) fn over(receiver: &'a Receiver<T, R, A>) -> Self
-        ensures new { result ≡ receiving_from receiver.now }
+    pub(crate) fn new(receiver: &'a Receiver<T, R, A>) -> Self
+        ensures new { result ≡ new_iter receiver.now }
     {
         TryIter {
             receiver,
@@ -167,8 +154,7 @@ impl<'a, T: Drop, R: Waits, A: Allocator + Copy> TryIter<'a, T, R, A> {
         }
     }
 
-    /// Whether the last `next` ended because memory ran out: never, since it needs none. It is
-    /// there since the other iterators have it.
+    /// Never, since it needs no memory. The other iterators have it too.
     pub fn fault(&self) -> bool
         ensures never { result ≡ false }
     {
@@ -179,7 +165,7 @@ impl<'a, T: Drop, R: Waits, A: Allocator + Copy> TryIter<'a, T, R, A> {
 impl<'a, T: Drop, R: Waits, A: Allocator + Copy> Iterator for TryIter<'a, T, R, A> {
     type Item = T;
 
-    ghost next_gives = { GoesOn };
+    ghost next_gives = { IsNext };
 
     ghost remaining = { λ it. at_most it.left };
 
@@ -195,7 +181,6 @@ impl<'a, T: Drop, R: Waits, A: Allocator + Copy> fmt::Debug for TryIter<'a, T, R
     }
 }
 
-/// Shows an iterator by its receiver.
 pub(crate) fn show<D: fmt::Debug, W: fmt::Write>(
     f: &mut fmt::Formatter<W>,
     name: &str,

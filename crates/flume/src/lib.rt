@@ -13,8 +13,8 @@
 //!
 //! # Unbounded channels
 //!
-//! `flume::on(rt).unbounded()` opens a channel in which `send` never waits. Like every channel, it
-//! holds at most 4,294,967,295 messages; past that a send answers `NoMemory`.
+//! `flume::on(rt).unbounded()` opens a channel in which `send` never waits. `Builder` says how many
+//! messages a channel holds at the most.
 //!
 //! # Bounded channels
 //!
@@ -44,7 +44,7 @@
 //! When the last sender is dropped, receivers still get the queued messages, and then
 //! `Disconnected`. When the last receiver is dropped, a send answers `Disconnected` with its
 //! message. After the last sender's drop, a loop over a receiver ends once no message is left;
-//! `ended` of its iterator is an error if it ended early because an allocation failed.
+//! `ended` of its iterator says if it ended early because an allocation failed.
 //!
 //! ```
 //! let (tx, rx) = flume::on(rt).unbounded()?;
@@ -82,6 +82,7 @@
 #![tactic(auto)]
 
 mod answers;
+mod backoff;
 mod builder;
 mod deadline_iter;
 mod drain;

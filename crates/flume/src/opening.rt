@@ -8,9 +8,8 @@ use flume_core::error::NoMemory;
 use std::alloc::Allocator;
 use std::sync::Arc;
 
-/// A program writes `flume::on(rt).unbounded()?`, which calls this: it opens a channel without a
-/// capacity. The number `id` names it: ends of channels with one number count as ends of the same.
-/// `NoMemory`: there was no memory for what the ends share. `Builder` says how much a channel holds.
+/// Opens a channel without a capacity, as `flume::on(rt).unbounded()` does. `id` is its number, as
+/// of `Builder::number`. `NoMemory`: there was none for what the ends share.
 ///
 /// ```
 /// let (tx, rx) = unbounded(rt, rt.alloc(), 1)?;
@@ -28,9 +27,8 @@ pub fn unbounded<T: Drop, R: Waits, A: Allocator + Copy>(
     ends(rt, alloc, id, None)
 }
 
-/// A program writes `flume::on(rt).bounded(4)?`, which calls this: it opens a channel that holds at
-/// most `capacity` messages, apart from those sent while a receiver waits. At capacity 0 a send
-/// waits until a receiver takes its message. `id` and `NoMemory` as of `unbounded`.
+/// Opens a channel as `flume::on(rt).bounded(capacity)` does. `id` and `NoMemory` as of
+/// `unbounded`.
 ///
 /// ```
 /// let (tx, rx) = bounded(rt, rt.alloc(), 2, 1)?;
@@ -63,5 +61,5 @@ fn ends<T: Drop, R: Waits, A: Allocator + Copy>(
         return Err(NoMemory);
     };
     let other = Arc::try_clone(&one)?;
-    Ok((Sender::over(one), Receiver::over(other)))
+    Ok((Sender::from_shared(one), Receiver::from_shared(other)))
 }

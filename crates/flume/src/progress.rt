@@ -9,16 +9,15 @@ use flume_core::error::RecvError;
 use std::alloc::Allocator;
 use std::sync::Wait;
 
-/// How often an iterator's `next` may still be called, so that a loop over it is proved to end, and
-/// whether the last one ended because memory ran out.
 #[derive(Drop)]
 pub(crate) struct Progress {
+    // How often `next` may still be called: so a loop over the iterator is proved to end.
     left: u64,
+    // Whether the last `next` ended because memory ran out.
     pub(crate) fault: bool,
 }
 
 impl Progress {
-    /// No call of `next` was made yet.
     pub(crate) const fn new() -> Progress
         ensures left { result.left ≡ 2 ^ 64 - 1 }
         ensures fault { result.fault ≡ false }
@@ -29,7 +28,7 @@ impl Progress {
         }
     }
 
-    /// One call less. If none is left it waits for good; no run comes to that.
+    // One call less. If none is left it waits for good; no run comes to that.
     pub(crate) fn count<R: Wait>(&mut self, rt: &R)
         ensures left { self.old.left ≡ self.new.left + 1 }
         ensures fault { self.new.fault ≡ self.old.fault }
@@ -41,7 +40,6 @@ impl Progress {
         self.left -= 1;
     }
 
-    /// One call, by one receive.
     pub(crate) fn receive<T: Drop, R: Waits, A: Allocator + Copy>(
         &mut self,
         receiver: &Receiver<T, R, A>,
@@ -50,11 +48,10 @@ impl Progress {
         ensures fault { self.new.fault ≡ true → result ≡ None }
     {
         self.count(receiver.runtime());
-        self.note(receiver.recv())
+        self.item(receiver.recv())
     }
 
-    // The message of a receive's answer, if it has one; and notes whether it was refused memory.
-    fn note<T: Drop>(&mut self, answer: Result<T, RecvError>) -> Option<T>
+    fn item<T: Drop>(&mut self, answer: Result<T, RecvError>) -> Option<T>
         ensures item { result ≡ result_ok answer }
         ensures fault { self.new.fault ≡ is_refused answer }
         ensures left { self.new.left ≡ self.old.left }

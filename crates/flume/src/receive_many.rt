@@ -3,11 +3,11 @@ ghost use Rattle.std.specs.Prelude.{◌≡◌, ◌≢◌, ◌⊎◌, ◌+◌, �
 ghost use Rattle.std.specs.Prelude.{vec_len, vec_capacity};
 ghost use Rattle.flume_deadline.specs.declared.Deadline.TheVariants.{Never};
 ghost use Rattle.flume.specs.CallSteps as answer;
-ghost use Rattle.flume.specs.ManyCalls.{Came, GrowsBy, AnswersMany, IsntDone};
-ghost use Rattle.flume.specs.ManySteps.{TakesFirst, FindsNone, ReceivesMany};
-ghost use Rattle.flume.specs.Turning.{HasDone};
+ghost use Rattle.flume.specs.ManyReceiveCalls.{Appends, GrowsBy, AnswersMany, IsntDone};
+ghost use Rattle.flume.specs.ManyReceiveSteps.{ReceivesBatch, FindsNone, ReceivesMany};
+ghost use Rattle.flume.specs.LockedTurns.{HasDone};
 
-use crate::answers::{tried_receive, waited_receive};
+use crate::answers::{receive_answer, try_receive_answer};
 use crate::receiver::Receiver;
 use crate::shared::{Shared, Waits};
 use crate::signal::{Parker, Signal};
@@ -25,10 +25,10 @@ use std::sync::Arc;
 use std::time::{Duration, Instant};
 
 impl<T: Drop, R: Waits, A: Allocator + Copy> Receiver<T, R, A> {
-    /// Takes the messages that are there, at most `most`, and puts them behind what `into` holds,
-    /// in order. It answers how many. Doesn't wait for a sender. Blocked sends are let in as each
-    /// message leaves, as by so many single receives, so that it may take more than the channel
-    /// holds. `most` of 0 takes nothing and answers 0.
+    /// Takes the messages that are there, at most `most`, puts them behind what `into` holds, in
+    /// order, and answers how many. Doesn't wait for a sender. Blocked sends are let in as each
+    /// message leaves, as by so many single receives, so that it may take more than the capacity. A
+    /// `most` of 0 takes nothing and answers 0.
     ///
     /// `Empty`: none is there. `Disconnected`: none is, and all senders have been dropped.
     /// `NoMemory`: some are there, and there was no room for them in `into`. Each leaves `into` as
@@ -47,8 +47,8 @@ impl<T: Drop, R: Waits, A: Allocator + Copy> Receiver<T, R, A> {
     /// ```
     pub fn try_recv_many(&self, into: &mut Vec<T, A>, most: usize) -> Result<usize, TryRecvError>
         ensures made { 0 < most
-            → TakesFirst A into.old.items into.new.items (answer.tried_receive result) }
-        ensures came { IfOk result (Came most into.old.items into.new.items) }
+            → ReceivesBatch A into.old.items into.new.items (answer.try_receive_as_turn result) }
+        ensures appended { IfOk result (Appends most into.old.items into.new.items) }
         ensures unchanged { OnErr result (into.new.items ≡ into.old.items) }
         ensures none { most ≡ 0 → result ≡ Ok 0 }
         ensures no_memory { result ≡ Err TryRecvError.NoMemory
@@ -62,17 +62,16 @@ impl<T: Drop, R: Waits, A: Allocator + Copy> Receiver<T, R, A> {
             .shared()
             .call_all(FirstReceiveMany { into: list, most });
         *into = list;
-        tried_receive(next)
+        try_receive_answer(next)
     }
 
-    /// Takes messages as `try_recv_many` does, and waits while none is there. Once one has come it
-    /// takes what else is there, at most `most` in all, and waits no longer. It answers how many;
-    /// that is 0 only if `most` is 0, and then it doesn't wait.
+    /// As `try_recv_many`, but waits while no message is there; once one has come it waits no
+    /// longer. It answers 0 only if `most` is 0, and then it doesn't wait.
     ///
     /// `Disconnected`: none is there, and all senders have been dropped. `NoMemory`: there was no
     /// room for what is there, or no memory for what a call waits on with room for one message.
-    /// Each leaves `into` as it was, and takes nothing. If a call that waited finds more
-    /// messages than there is room for, it takes as many as there is room for, one at least.
+    /// Each leaves `into` as it was, and takes nothing. If a call that waited finds more messages
+    /// than there is room for, it takes as many as there is room for, one at least.
     ///
     /// ```
     /// let (tx, rx) = flume::on(rt).unbounded()?;
@@ -86,19 +85,18 @@ impl<T: Drop, R: Waits, A: Allocator + Copy> Receiver<T, R, A> {
     /// ```
     pub fn recv_many(&self, into: &mut Vec<T, A>, most: usize) -> Result<usize, RecvError>
         ensures made { 0 < most → ReceivesMany A into.old.items into.new.items
-            (answer.untimed_receive result) }
-        ensures came { IfOk result (Came most into.old.items into.new.items) }
+            (answer.receive_as_timed result) }
+        ensures appended { IfOk result (Appends most into.old.items into.new.items) }
         ensures unchanged { OnErr result (into.new.items ≡ into.old.items) }
         ensures none { most ≡ 0 → result ≡ Ok 0 }
         ensures no_memory { result ≡ Err RecvError.NoMemory
             → (vec_capacity into.old < vec_len into.old + most) ⊎ FindsNone T A }
     {
-        waited_receive(self.many_by(into, most, Deadline::Never))
+        receive_answer(self.recv_many_until(into, most, Deadline::Never))
     }
 
-    /// Takes messages as `recv_many` does, and waits up to the deadline. `Timeout`: it is reached,
-    /// and no message came; `into` is as it was. The clock and a closed channel count as in
-    /// `recv_deadline`.
+    /// As `recv_many`, waiting up to the deadline. `Timeout`: it is reached, and no message came;
+    /// `into` is as it was. The clock and a closed channel count as in `recv_deadline`.
     ///
     /// ```
     /// let (_tx, rx) = flume::on(rt).unbounded::<u64>()?;
@@ -114,25 +112,16 @@ impl<T: Drop, R: Waits, A: Allocator + Copy> Receiver<T, R, A> {
         deadline: Instant,
     ) -> Result<usize, RecvTimeoutError>
         ensures made { 0 < most → ReceivesMany A into.old.items into.new.items result }
-        ensures came { IfOk result (Came most into.old.items into.new.items) }
+        ensures appended { IfOk result (Appends most into.old.items into.new.items) }
         ensures unchanged { OnErr result (into.new.items ≡ into.old.items) }
         ensures none { most ≡ 0 → result ≡ Ok 0 }
         ensures no_memory { result ≡ Err RecvTimeoutError.NoMemory
             → (vec_capacity into.old < vec_len into.old + most) ⊎ FindsNone T A }
     {
-        self.many_by(into, most, Deadline::At(deadline))
+        self.recv_many_until(into, most, Deadline::At(deadline))
     }
 
-    /// Takes messages as `recv_many` does, and waits up to so long from now. The errors are those
-    /// of `recv_many_deadline`. If the deadline overflows, it waits as `recv_many` does.
-    ///
-    /// ```
-    /// let (tx, rx) = flume::on(rt).unbounded()?;
-    /// tx.send(42)?;
-    /// let mut messages = Vec::new(rt.alloc());
-    /// let wait = Duration::from_millis(100);
-    /// assert_eq!(rt; rx.recv_many_timeout(&mut messages, 64, wait), Ok(1));
-    /// ```
+    /// As `recv_many_deadline`, up to so long from now. If the deadline overflows, as `recv_many`.
     pub fn recv_many_timeout(
         &self,
         into: &mut Vec<T, A>,
@@ -140,25 +129,24 @@ impl<T: Drop, R: Waits, A: Allocator + Copy> Receiver<T, R, A> {
         timeout: Duration,
     ) -> Result<usize, RecvTimeoutError>
         ensures made { 0 < most → ReceivesMany A into.old.items into.new.items result }
-        ensures came { IfOk result (Came most into.old.items into.new.items) }
+        ensures appended { IfOk result (Appends most into.old.items into.new.items) }
         ensures unchanged { OnErr result (into.new.items ≡ into.old.items) }
         ensures none { most ≡ 0 → result ≡ Ok 0 }
         ensures no_memory { result ≡ Err RecvTimeoutError.NoMemory
             → (vec_capacity into.old < vec_len into.old + most) ⊎ FindsNone T A }
     {
         let deadline = Deadline::after(self.runtime(), timeout);
-        self.many_by(into, most, deadline)
+        self.recv_many_until(into, most, deadline)
     }
 
-    // A receive of many that waits up to the deadline.
-    fn many_by(
+    fn recv_many_until(
         &self,
         into: &mut Vec<T, A>,
         most: usize,
         deadline: Deadline,
     ) -> Result<usize, RecvTimeoutError>
         ensures made { 0 < most → ReceivesMany A into.old.items into.new.items result }
-        ensures came { IfOk result (Came most into.old.items into.new.items) }
+        ensures appended { IfOk result (Appends most into.old.items into.new.items) }
         ensures unchanged { OnErr result (into.new.items ≡ into.old.items) }
         ensures none { most ≡ 0 → result ≡ Ok 0 }
         ensures no_memory { result ≡ Err RecvTimeoutError.NoMemory
@@ -182,7 +170,6 @@ impl<T: Drop, R: Waits, A: Allocator + Copy> Receiver<T, R, A> {
     }
 }
 
-/// What one receive of many that waits goes through. It has the list into which the messages go.
 #[derive(Drop)]
 struct ManyGate<'a, T, R: Waits, A: Allocator + Copy> {
     shared: &'a Shared<T, R, A>,
@@ -193,11 +180,10 @@ struct ManyGate<'a, T, R: Waits, A: Allocator + Copy> {
 }
 
 impl<T: Drop, R: Waits, A: Allocator + Copy> ManyGate<'_, T, R, A> {
-    // Makes the turn of a call that waits, and if that gives a message takes what else is there.
     // The list keeps the room that `arm` made until a message comes.
     #[cold]
     #[inline(never)]
-    fn and_more<C>(&mut self, turn: C) -> RecvNext<usize>
+    fn receive_and_more<C>(&mut self, turn: C) -> RecvNext<usize>
     where
         C: Turn<T, Signal<A>, A, Answer = RecvNext<T>> + Drop,
         requires room { vec_len self.old.into < vec_capacity self.old.into }
@@ -220,7 +206,7 @@ impl<T: Drop, R: Waits, A: Allocator + Copy> RecvGate<usize> for ManyGate<'_, T,
     ghost use Rattle.flume_calls.specs.ReceiveTurns as receive;
     ghost use Rattle.flume_model.specs.declared.step.Kind.TheVariants.{Block};
     ghost use Rattle.flume_model.specs.declared.step.Step.TheVariants.{Recv};
-    ghost use Rattle.flume.specs.ManySteps.{LacksRoom, MakesMany};
+    ghost use Rattle.flume.specs.ManyReceiveSteps.{LacksRoom, MakesMany};
 
     type Waiter = Arc<Parker, A>;
 
@@ -229,7 +215,7 @@ impl<T: Drop, R: Waits, A: Allocator + Copy> RecvGate<usize> for ManyGate<'_, T,
     ghost firsts = { λ old new next.
         (new.deadline ≡ old.deadline) × (new.most ≡ old.most) × receive.IsFirst next
         × GrowsBy old.most old.into.items new.into.items next
-        × TakesFirst A old.into.items new.into.items next × LacksRoom old.into old.most next };
+        × ReceivesBatch A old.into.items new.into.items next × LacksRoom old.into old.most next };
 
     ghost arms = { λ old new _. (new.deadline ≡ old.deadline) × (new.most ≡ old.most)
         × (new.into.items ≡ old.into.items) };
@@ -270,12 +256,12 @@ impl<T: Drop, R: Waits, A: Allocator + Copy> RecvGate<usize> for ManyGate<'_, T,
 
     fn park(&mut self, signal: Signal<A>) -> RecvNext<usize> {
         let kind = Kind::Block;
-        self.and_more(ParkReceive { kind, signal })
+        self.receive_and_more(ParkReceive { kind, signal })
     }
 
     fn again(&mut self, call: RecvCall, late: bool) -> RecvNext<usize> {
         let signal = None;
-        self.and_more(AgainReceive { call, late, signal })
+        self.receive_and_more(AgainReceive { call, late, signal })
     }
 
     fn wait(&mut self, parker: &Arc<Parker, A>) -> bool {

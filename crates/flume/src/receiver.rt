@@ -8,16 +8,17 @@ ghost use Rattle.flume.specs.CallSteps.{HasReplied};
 ghost use Rattle.flume.specs.CallSteps as answer;
 ghost use Rattle.flume.specs.GateSteps.{Receives};
 ghost use Rattle.flume.specs.Iterators.{after_drain};
-ghost use Rattle.flume.specs.Turning.{HasMade};
-ghost use Rattle.flume.specs.Iterators.{receiving_from};
+ghost use Rattle.flume.specs.ManyReceiveSteps.{FindsNone};
+ghost use Rattle.flume.specs.LockedTurns.{HasMade};
+ghost use Rattle.flume.specs.Iterators.{new_iter};
 
-use crate::answers::{tried_receive, waited_receive};
+use crate::answers::{receive_answer, try_receive_answer};
 use crate::drain::Drain;
 use crate::gate::Gate;
 use crate::iterators::{Iter, TryIter};
 use crate::shared::{Shared, Waits};
-use flume_calls::calls::FirstReceive;
-use flume_calls::gates::recv_over;
+use flume_calls::calls::{FirstReceive, RecvNext};
+use flume_calls::gates::{recv_over, waiting_receive};
 use flume_calls::single::{AskNumber, AskTruth, Single};
 use flume_core::error::{CapacityError, NoMemory, RecvError, RecvTimeoutError, TryRecvError};
 use flume_deadline::Deadline;
@@ -28,9 +29,9 @@ use std::marker::Model;
 use std::sync::Arc;
 use std::time::{Duration, Instant};
 
-/// Receives the messages of a channel. Each message goes to one receiver, even if there are
-/// clones of it. As the last of them goes the channel closes: messages that are queued stay until
-/// the last sender goes too, and senders that are blocked get theirs back.
+/// Receives the messages of a channel. Each message goes to one receiver, even if there are clones
+/// of it. As the last of them goes the channel closes: messages that are queued stay until the last
+/// sender goes too, and senders that are blocked get theirs back.
 pub struct Receiver<T, R: Waits, A: Allocator + Copy = Global> {
     shared: Arc<Shared<T, R, A>, A>,
 }
@@ -42,15 +43,15 @@ impl<T, R: Waits, A: Allocator + Copy> Model for Receiver<T, R, A> {
 }
 
 impl<T: Drop, R: Waits, A: Allocator + Copy> Receiver<T, R, A> {
-    /// The receiver over what the ends share, which counts it already.
-    pub(crate) fn over(shared: Arc<Shared<T, R, A>, A>) -> Self
+    // The receiver is counted already.
+    pub(crate) fn from_shared(shared: Arc<Shared<T, R, A>, A>) -> Self
         ensures number { result ≡ shared.value.id }
     {
         Receiver { shared }
     }
 
-    /// Takes the next message, if one is there. Doesn't wait for a sender. `Empty`: none is
-    /// there. `Disconnected`: none is, and all senders have been dropped. Never `NoMemory`.
+    /// Takes the next message, if one is there. Doesn't wait for a sender. `Empty`: none is there.
+    /// `Disconnected`: none is, and all senders have been dropped. Never `NoMemory`.
     ///
     /// ```
     /// let (tx, rx) = flume::on(rt).unbounded()?;
@@ -61,14 +62,15 @@ impl<T: Drop, R: Waits, A: Allocator + Copy> Receiver<T, R, A> {
     /// assert_eq!(rt; rx.try_recv(), Err(TryRecvError::Disconnected));
     /// ```
     pub fn try_recv(&self) -> Result<T, TryRecvError>
-        ensures made { HasMade {A = A} Step.TryRecv after_try_recv (answer.tried_receive result) }
+        ensures made { HasMade {A = A} Step.TryRecv after_try_recv
+            (answer.try_receive_as_turn result) }
         ensures never_no_memory { result ≢ Err TryRecvError.NoMemory }
     {
-        tried_receive(self.shared.call_once(FirstReceive))
+        try_receive_answer(self.shared.call_once(FirstReceive))
     }
 
     /// Takes the next message, and waits while there is none. `Disconnected`: none is there, and
-    /// all senders have been dropped. `NoMemory`: there was no room for what a call waits on.
+    /// all senders have been dropped. `NoMemory`: there was none for what a call waits on.
     ///
     /// ```
     /// let (tx, rx) = flume::on(rt).unbounded()?;
@@ -78,16 +80,31 @@ impl<T: Drop, R: Waits, A: Allocator + Copy> Receiver<T, R, A> {
     /// assert_eq!(rt; rx.recv(), Err(RecvError::Disconnected));
     /// ```
     pub fn recv(&self) -> Result<T, RecvError>
-        ensures made { Receives A Deadline.Never (answer.untimed_receive result) }
+        ensures made { Receives A Deadline.Never (answer.receive_as_timed result) }
     {
-        let mut gate = Gate::new(&self.shared, Deadline::Never);
-        waited_receive(recv_over(&self.shared.rt, &mut gate))
+        match self.shared.call_once(FirstReceive) {
+            RecvNext::Done(result) => receive_answer(result),
+            RecvNext::NeedSignal => self.recv_from_empty(),
+            RecvNext::Park(_) | RecvNext::Refused(_) => unreachable!(),
+        }
     }
 
-    /// Takes the next message, and waits while there is none, up to the deadline. `Timeout`: it is
-    /// reached, and no message came. If the channel is closed by then the answer is
-    /// `Disconnected`. A clock that can't be read counts as past each deadline. A message that is
-    /// there is taken, even if the deadline was past before the call.
+    // Goes on with a receive that just found no message. In code of its own, so that a receive that
+    // needn't wait is short.
+    #[cold]
+    #[inline(never)]
+    fn recv_from_empty(&self) -> Result<T, RecvError>
+        requires none { FindsNone T A }
+        ensures made { Receives A Deadline.Never (answer.receive_as_timed result) }
+    {
+        let mut gate = Gate::new(&self.shared, Deadline::Never);
+        receive_answer(waiting_receive(&self.shared.rt, &mut gate))
+    }
+
+    /// As `recv`, waiting up to the deadline. `Timeout`: it is reached, and no message came. If the
+    /// channel is closed by then the answer is `Disconnected`. A clock that can't be read counts as
+    /// past each deadline. A message that is there is taken, even if the deadline was past before
+    /// the call.
     ///
     /// ```
     /// let (_tx, rx) = flume::on(rt).unbounded::<u64>()?;
@@ -101,14 +118,7 @@ impl<T: Drop, R: Waits, A: Allocator + Copy> Receiver<T, R, A> {
         recv_over(&self.shared.rt, &mut gate)
     }
 
-    /// Takes the next message, and waits while there is none, up to so long from now. The errors
-    /// are those of `recv_deadline`. If the deadline overflows, it waits as `recv` does.
-    ///
-    /// ```
-    /// let (tx, rx) = flume::on(rt).unbounded()?;
-    /// tx.send(42)?;
-    /// assert_eq!(rt; rx.recv_timeout(Duration::from_millis(100)), Ok(42));
-    /// ```
+    /// As `recv_deadline`, up to so long from now. If the deadline overflows, as `recv`.
     pub fn recv_timeout(&self, timeout: Duration) -> Result<T, RecvTimeoutError>
         ensures made { (deadline : Deadline) × IsAfter timeout deadline
             × Receives A deadline result }
@@ -119,21 +129,10 @@ impl<T: Drop, R: Waits, A: Allocator + Copy> Receiver<T, R, A> {
     }
 
     /// The messages, one after the other. It waits for each, and ends if `recv` is refused.
-    ///
-    /// ```
-    /// let (tx, rx) = flume::on(rt).unbounded()?;
-    /// tx.send(42)?;
-    /// drop(tx);
-    /// let mut last = 0;
-    /// for message in rx.iter() {
-    ///     last = message;
-    /// }
-    /// assert_eq!(rt; last, 42);
-    /// ```
     pub fn iter(&self) -> Iter<'_, T, R, A>
-        ensures new { result ≡ receiving_from self.now }
+        ensures new { result ≡ new_iter self.now }
     {
-        Iter::over(self)
+        Iter::new(self)
     }
 
     /// The messages that are there, one after the other. It doesn't wait for a sender.
@@ -148,9 +147,9 @@ impl<T: Drop, R: Waits, A: Allocator + Copy> Receiver<T, R, A> {
     /// assert_eq!(rt; messages.next(), None);
     /// ```
     pub fn try_iter(&self) -> TryIter<'_, T, R, A>
-        ensures new { result ≡ receiving_from self.now }
+        ensures new { result ≡ new_iter self.now }
     {
-        TryIter::over(self)
+        TryIter::new(self)
     }
 
     /// Takes all messages that are queued, at once and in order. Blocked sends move in behind them,
@@ -172,12 +171,10 @@ impl<T: Drop, R: Waits, A: Allocator + Copy> Receiver<T, R, A> {
         Drain::answer(self.shared.single(Single::Drain))
     }
 
-    /// The runtime value that the ends keep.
     pub(crate) fn runtime(&self) -> &R {
         &self.shared.rt
     }
 
-    /// What it shares with the other ends.
     #[inline(always)]
     pub(crate) fn shared(&self) -> &Shared<T, R, A> {
         &self.shared
@@ -197,36 +194,21 @@ impl<T: Drop, R: Waits, A: Allocator + Copy> Receiver<T, R, A> {
         self.shared.truth(AskTruth::IsEmpty)
     }
 
-    /// Whether the channel is bounded, and as many messages are queued as it holds.
+    /// Whether the channel is bounded, and as many messages are queued as its capacity.
     pub fn is_full(&self) -> bool
         ensures made { HasReplied {T = T} {A = A} Step.IsFull (Reply.Truth result) }
     {
         self.shared.truth(AskTruth::IsFull)
     }
 
-    /// The capacity, or `None` if the channel is unbounded.
+    /// The capacity, or `None` if unbounded.
     pub fn capacity(&self) -> Option<usize>
         ensures made { HasReplied {T = T} {A = A} Step.Capacity (Reply.Capacity result) }
     {
         self.shared.capacity()
     }
 
-    /// Sets how many messages the channel holds from now on. Raised, it lets blocked sends in, as
-    /// far as there is room, and their calls go on. Lowered, it moves nothing: what is queued is
-    /// still received, and sends wait until fewer messages are queued than the channel holds. No
-    /// receiver is woken, and no memory is needed. At 0 a send waits for a receiver.
-    ///
-    /// `Unbounded`: the channel holds any number of messages, and that can't be changed.
-    /// `Disconnected`: all receivers, or all senders, have been dropped. Both leave the channel as
-    /// it was.
-    ///
-    /// ```
-    /// let (tx, rx) = flume::on(rt).bounded(1)?;
-    /// assert_eq!(rt; tx.try_send(1), Ok(()));
-    /// assert_eq!(rt; rx.set_capacity(2), Ok(()));
-    /// assert_eq!(rt; tx.try_send(2), Ok(()));
-    /// assert_eq!(rt; tx.capacity(), Some(2));
-    /// ```
+    /// Sets the capacity, as `Sender::set_capacity` does.
     pub fn set_capacity(&self, capacity: usize) -> Result<(), CapacityError>
         ensures made { HasMade {T = T} {A = A} (Step.SetCapacity capacity)
             after_set_capacity result }

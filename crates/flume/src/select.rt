@@ -3,7 +3,7 @@ ghost use Rattle.std.specs.Prelude.{◌≡◌, ◌≢◌, ◌<◌, ℕ, IfOk, If
 ghost use Rattle.flume_core.specs.declared.error.SelectError.{SelectError};
 ghost use Rattle.flume.specs.declared.select.send.SendState.{SendState};
 ghost use Rattle.flume.specs.declared.select.receive.ReceiveState.{ReceiveState};
-ghost use Rattle.flume.specs.Selecting.{IsValue, first_arm};
+ghost use Rattle.flume.specs.Selections.{IsValue, first_arm};
 ghost use Rattle.flume_deadline.specs.declared.Deadline.TheVariants.{Never};
 
 mod adding;
@@ -54,9 +54,8 @@ use std::time::{Duration, Instant};
 #[derive(Drop)]
 pub struct Selector<'a, V, L = (), A: Allocator + Copy = Global> {
     arms: L,
-    // The number of the arm that each round begins with: 0, unless a generator drew it. So the
-    // arms that were added first are served first, and no answer depends on a generator that nobody
-    // handed in.
+    // The arm that each round begins with: 0, unless a generator drew it. So the arms that were
+    // added first are served first, and no answer depends on a generator that nobody handed in.
     start: usize,
     deadline: Deadline,
     value: PhantomData<&'a V>,
@@ -79,10 +78,9 @@ impl<'a, V, A: Allocator + Copy> Selector<'a, V, (), A> {
 }
 
 impl<'a, V, L: Arms<V, A> + Drop, A: Allocator + Copy> Selector<'a, V, L, A> {
-    /// With one more arm, which sends the message. Its mapper gets `Ok`: the message was taken in;
-    /// or `Disconnected` with the message: all receivers have been dropped. If another arm
-    /// completes first the mapper isn't called, and the message is dropped unless it was taken in
-    /// by then.
+    /// Adds an arm that sends the message. Its mapper gets `Ok`: the message was taken in; or
+    /// `Disconnected` with the message: all receivers have been dropped. If another arm completes
+    /// first the mapper isn't called, and the message is dropped unless it was taken in by then.
     pub fn send<T: Drop, F, R: Waits>(
         self,
         sender: &'a Sender<T, R, A>,
@@ -100,9 +98,9 @@ impl<'a, V, L: Arms<V, A> + Drop, A: Allocator + Copy> Selector<'a, V, L, A> {
         self.with(SendArm::new(sender, message, mapper))
     }
 
-    /// With one more arm, which receives a message. Its mapper gets `Ok` with the message; or
-    /// `Disconnected`: none is there, and all senders have been dropped. If another arm
-    /// completes first the mapper isn't called, and no message was taken.
+    /// Adds an arm that receives a message. Its mapper gets `Ok` with the message; or
+    /// `Disconnected`: none is there, and all senders have been dropped. If another arm completes
+    /// first the mapper isn't called, and no message was taken.
     pub fn recv<T: Drop, F, R: Waits>(
         self,
         receiver: &'a Receiver<T, R, A>,
@@ -119,7 +117,6 @@ impl<'a, V, L: Arms<V, A> + Drop, A: Allocator + Copy> Selector<'a, V, L, A> {
         self.with(RecvArm::new(receiver, mapper))
     }
 
-    // With one more arm.
     fn with<C: Arm<V, A> + Drop>(self, arm: C) -> Selector<'a, V, (L, C), A>
         ensures arms { result.arms ≡ (self.entry.arms, arm) }
         ensures start { result.start ≡ self.entry.start }
@@ -140,7 +137,7 @@ impl<'a, V, L: AtLeastOneArm<V, A> + Drop, A: Allocator + Copy> Selector<'a, V, 
     pub fn with_rng<G: Rng>(self, rng: &mut G) -> Self
         ensures arms { result.arms ≡ self.entry.arms }
         ensures within { result.start < L.count (L.mappers result.arms) }
-        ensures drawn { ⟦<Range<usize> as SampleRange<usize>>⟧.draws
+        ensures random { ⟦<Range<usize> as SampleRange<usize>>⟧.draws
             (record { start = 0; end = L.count (L.mappers self.entry.arms) })
             (G.stream rng.old) result.start (G.stream rng.new) }
     {
@@ -163,8 +160,8 @@ impl<'a, V, L: AtLeastOneArm<V, A> + Drop, A: Allocator + Copy> Selector<'a, V, 
         }
     }
 
-    /// Waits as `wait` does, up to the deadline. `Timeout`: it is reached, and no arm completes. A
-    /// clock that can't be read counts as past each deadline.
+    /// As `wait`, up to the deadline. `Timeout`: it is reached, and no arm completes. A clock that
+    /// can't be read counts as past each deadline.
     pub fn wait_deadline(self, deadline: Instant) -> Result<V, SelectError>
         requires can_map { L.can_map (L.mappers self.arms) }
         ensures value { IfOk result (IsValue L.count L.maps (L.mappers self.entry.arms)) }
@@ -172,8 +169,7 @@ impl<'a, V, L: AtLeastOneArm<V, A> + Drop, A: Allocator + Copy> Selector<'a, V, 
         self.select(Deadline::At(deadline))
     }
 
-    /// Waits as `wait` does, up to so long from now. If the deadline overflows, it waits without a
-    /// deadline.
+    /// As `wait_deadline`, up to so long from now. If the deadline overflows, it waits without one.
     pub fn wait_timeout(self, timeout: Duration) -> Result<V, SelectError>
         requires can_map { L.can_map (L.mappers self.arms) }
         ensures value { IfOk result (IsValue L.count L.maps (L.mappers self.entry.arms)) }
@@ -182,14 +178,14 @@ impl<'a, V, L: AtLeastOneArm<V, A> + Drop, A: Allocator + Copy> Selector<'a, V, 
         self.select(deadline)
     }
 
-    /// Tries each arm once, and doesn't wait: what the mapper of the first arm that can go on makes
-    /// of its result. The arms are tried in the order of `wait`. `None`: none can go on; no mapper
-    /// was called. `NoMemory`: there was none for an arm's message; no mapper was called, and the
-    /// arms behind it weren't tried. Nothing is left in a channel, and nothing is made to wait on.
+    /// Tries each arm once, in the order of `wait`, and doesn't wait: what the mapper of the first
+    /// arm that can go on makes of its result. `None`: none can go on; no mapper was called.
+    /// `NoMemory`: there was none for an arm's message; no mapper was called, and the arms behind
+    /// it weren't tried. Nothing is left in a channel, and nothing is made to wait on.
     ///
-    /// The message of a send arm that isn't taken in is dropped, as it is if `wait` ends by
-    /// another arm: `Sender::try_send` hands it back. A send arm and a receive arm of one channel
-    /// don't meet each other, since neither waits.
+    /// The message of a send arm that isn't taken in is dropped, as it is if `wait` ends by another
+    /// arm: `Sender::try_send` hands it back. A send arm and a receive arm of one channel don't
+    /// meet each other, since neither waits.
     ///
     /// ```
     /// let (jobs, work) = flume::on(rt).unbounded::<u64>()?;
@@ -211,8 +207,8 @@ impl<'a, V, L: AtLeastOneArm<V, A> + Drop, A: Allocator + Copy> Selector<'a, V, 
         }
     }
 
-    // What the mapper of the first arm that completes makes of its result. Each arm is tried before
-    // the parker is made, so that a selection that is ready at once takes no memory.
+    // Each arm is tried before the parker is made, so that a selection that is ready at once takes
+    // no memory.
     fn select(mut self, deadline: Deadline) -> Result<V, SelectError>
         requires can_map { L.can_map (L.mappers self.arms) }
         ensures value { IfOk result (IsValue L.count L.maps (L.mappers self.entry.arms)) }
@@ -267,7 +263,7 @@ impl<'a, V, L: AtLeastOneArm<V, A>, A: Allocator + Copy> SelectGate for Selector
         }
     }
 
-    // One parker for all arms, made before an arm is started: so a selection that is refused it has
+    // One parker for all arms, made before an arm is started: a selection that is refused it has
     // left nothing in a channel.
     fn make_waiter(&mut self) -> Option<Arc<Parker, A>> {
         let parker = Parker::new(self.arms.checks());
@@ -288,7 +284,7 @@ impl<'a, V, L: AtLeastOneArm<V, A>, A: Allocator + Copy> SelectGate for Selector
 }
 
 impl<V, A: Allocator + Copy> Default for Selector<'_, V, (), A> {
-    // It is the one of `new`: arm 0 begins.
+    // As of `new`.
     ghost is_default = { λ selector. selector.start ≡ 0 };
 
     fn default() -> Self {

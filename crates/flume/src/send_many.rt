@@ -1,32 +1,33 @@
 //! Sends of many messages: as many as the channel takes in are sent under one lock.
-ghost use Rattle.std.specs.Prelude.{◌≡◌, ◌≢◌, ◌∷◌, ◌<◌, Vec, vec_items, IfOk, IfErr, Ok, Err};
+ghost use Rattle.std.specs.Prelude.{◌≡◌, ◌≢◌, ◌∷◌, ◌<◌, List, Vec, vec_items, IfOk, IfErr, Ok, Err};
 ghost use Rattle.std.specs.VecDeque.{deque_len};
 ghost use Rattle.flume_deadline.specs.declared.Deadline.{Deadline};
 ghost use Rattle.flume_deadline.specs.declared.Deadline.TheVariants.{Never};
 ghost use Rattle.flume_deadline.specs.Deadlines.{IsAfter};
 ghost use Rattle.flume_calls.specs.ManySends.{IsRest};
+ghost use Rattle.flume_calls.specs.SendTurns.{after_try_send};
 ghost use Rattle.flume.specs.CallSteps as answer;
 ghost use Rattle.flume.specs.ManySendCalls.{IsRestAfterWait};
 ghost use Rattle.flume.specs.ManySendSteps.{SendsBatch, SendsFirst, SendsManyUpTo};
-ghost use Rattle.flume.specs.ManySendSteps.{tried_list, error_list, result_list};
+ghost use Rattle.flume.specs.ManySendSteps.{try_result_list, error_list, result_list};
+ghost use Rattle.flume.specs.LockedTurns.{HasMade};
 
-use crate::answers::{tried_sends, waited_send};
-use crate::gate::Gate;
+use crate::answers::{send_answer, try_send_many_answer};
 use crate::sender::Sender;
 use crate::shared::Waits;
-use flume_calls::calls::SendMany;
-use flume_calls::gates::send_over;
+use flume_calls::calls::{SendMany, SendNext};
 use flume_core::error::{SendError, SendTimeoutError, TrySendError};
 use flume_deadline::Deadline;
+use flume_model::step::Step;
 use std::alloc::Allocator;
 use std::collections::VecDeque;
 use std::time::{Duration, Instant};
 
 impl<T: Drop, R: Waits, A: Allocator + Copy> Sender<T, R, A> {
-    /// Sends messages in order, as many as the channel takes in at once, under one lock. Doesn't
-    /// wait for a receiver. An error has all that weren't taken in, in order, in the list that was
-    /// given: the first of them is the one that was refused. `Full`: no receiver waits, and the
-    /// channel is full. `Disconnected` and `NoMemory` as of `try_send`. None of an empty list.
+    /// Sends messages in order, as many as the channel takes in at once. Doesn't wait for a
+    /// receiver. An error has all that weren't taken in, in order, in the list that was given: the
+    /// first of them is the one that was refused. The errors are those of `try_send`, and none of
+    /// an empty list.
     ///
     /// ```
     /// let (tx, rx) = flume::on(rt).bounded(2)?;
@@ -35,7 +36,7 @@ impl<T: Drop, R: Waits, A: Allocator + Copy> Sender<T, R, A> {
     /// assert_eq!(rt; rx.recv(), Ok(1));
     /// ```
     pub fn try_send_many(&self, messages: Vec<T, A>) -> Result<(), TrySendError<Vec<T, A>>>
-        ensures made { SendsBatch A messages.items (tried_list vec_items result) }
+        ensures made { SendsBatch A messages.items (try_result_list vec_items result) }
         ensures full { (rest : Vec T A) → result ≡ Err (TrySendError.Full rest)
             → IsRest messages.items rest.items }
         ensures disconnected { (rest : Vec T A) → result ≡ Err (TrySendError.Disconnected rest)
@@ -44,14 +45,13 @@ impl<T: Drop, R: Waits, A: Allocator + Copy> Sender<T, R, A> {
             → IsRest messages.items rest.items }
     {
         let messages = VecDeque::from_vec(messages);
-        tried_sends(self.shared().call_all(SendMany { messages }))
+        try_send_many_answer(self.shared().call_all(SendMany { messages }))
     }
 
-    /// Sends messages in order, and waits while the channel is full. As many as the channel takes
-    /// in are sent under one lock. If it is full the next message waits, as in `send`, and then
-    /// the others go on; messages of other senders may come between. An error has all that weren't
-    /// taken in, in order, in the list that was given: one that waited is the first. `Disconnected`
-    /// and `NoMemory` as of `send`. None of an empty list.
+    /// Sends messages in order, and waits while the channel is full: then the next message waits,
+    /// as in `send`, before the others go on. Messages of other senders may come between. An error
+    /// has all that weren't taken in, in order, in the list that was given: one that waited is the
+    /// first. The errors are those of `send`, and none of an empty list.
     ///
     /// ```
     /// let (tx, rx) = flume::on(rt).unbounded()?;
@@ -63,18 +63,17 @@ impl<T: Drop, R: Waits, A: Allocator + Copy> Sender<T, R, A> {
     /// ```
     pub fn send_many(&self, messages: Vec<T, A>) -> Result<(), SendError<Vec<T, A>>>
         ensures made { SendsManyUpTo A Never messages.items
-            (result_list vec_items (answer.untimed_send result)) }
+            (result_list vec_items (answer.send_as_timed result)) }
         ensures disconnected { (rest : Vec T A) → result ≡ Err (SendError.Disconnected rest)
             → IsRestAfterWait messages.items rest.items }
         ensures no_memory { (rest : Vec T A) → result ≡ Err (SendError.NoMemory rest)
             → IsRest messages.items rest.items }
     {
-        waited_send(self.many_by(messages, Deadline::Never))
+        send_answer(self.send_many_until(messages, Deadline::Never))
     }
 
-    /// Sends messages in order, and waits while the channel is full, up to the deadline, which is
-    /// one for all of them. What is sent by then stays sent. The errors are those of
-    /// `send_deadline`, and have all that weren't taken in, as those of `send_many`.
+    /// As `send_many`, waiting up to the deadline, which is one for all messages. What is sent by
+    /// then stays sent. The errors are those of `send_deadline`.
     ///
     /// ```
     /// let (tx, _rx) = flume::on(rt).bounded(1)?;
@@ -95,18 +94,10 @@ impl<T: Drop, R: Waits, A: Allocator + Copy> Sender<T, R, A> {
         ensures no_memory { (rest : Vec T A) → result ≡ Err (SendTimeoutError.NoMemory rest)
             → IsRest messages.items rest.items }
     {
-        self.many_by(messages, Deadline::At(deadline))
+        self.send_many_until(messages, Deadline::At(deadline))
     }
 
-    /// Sends messages in order, and waits while the channel is full, up to so long from now. The
-    /// errors are those of `send_many_deadline`. If the deadline overflows, it waits as `send_many`
-    /// does.
-    ///
-    /// ```
-    /// let (tx, rx) = flume::on(rt).bounded(2)?;
-    /// tx.send_many_timeout(vec![in rt.alloc(); 1, 2]?, Duration::from_millis(350))?;
-    /// assert_eq!(rt; rx.recv(), Ok(1));
-    /// ```
+    /// As `send_many_deadline`, up to so long from now. If the deadline overflows, as `send_many`.
     pub fn send_many_timeout(
         &self,
         messages: Vec<T, A>,
@@ -122,12 +113,10 @@ impl<T: Drop, R: Waits, A: Allocator + Copy> Sender<T, R, A> {
             → IsRest messages.items rest.items }
     {
         let deadline = Deadline::after(&self.shared().rt, timeout);
-        self.many_by(messages, deadline)
+        self.send_many_until(messages, deadline)
     }
 
-    // A send of many that waits up to the deadline: what is left is offered under one lock, and
-    // if the channel is full the first of it waits by itself.
-    fn many_by(
+    fn send_many_until(
         &self,
         messages: Vec<T, A>,
         deadline: Deadline,
@@ -146,7 +135,7 @@ impl<T: Drop, R: Waits, A: Allocator + Copy> Sender<T, R, A> {
         while !left.is_empty() {
             left = match self.shared().call_all(SendMany { messages: left }) {
                 Ok(()) => return Ok(()),
-                Err(TrySendError::Full(full)) => match self.first_by(full, deadline) {
+                Err(TrySendError::Full(full)) => match self.send_first_until(full, deadline) {
                     Ok(behind) => behind,
                     Err(ended) => return Err(ended),
                 },
@@ -161,13 +150,16 @@ impl<T: Drop, R: Waits, A: Allocator + Copy> Sender<T, R, A> {
         Ok(())
     }
 
-    // Sends the first of these messages, which may wait, and answers the others.
-    fn first_by(
+    // Sends the first of these messages, for which the channel was just full, and answers the
+    // others. It isn't offered once more: it begins with the turn that may park it.
+    fn send_first_until(
         &self,
         mut messages: VecDeque<T, A>,
         deadline: Deadline,
     ) -> Result<VecDeque<T, A>, SendTimeoutError<Vec<T, A>>>
         requires some { 0 < deque_len messages }
+        requires full { (first : T) (behind : List T) → messages.items ≡ first ∷ behind
+            → HasMade {A = A} (Step.TrySend first) after_try_send (SendNext.NeedSignal first) }
         ensures taken_in { IfOk result (λ behind.
             SendsFirst A deadline messages.items (Ok behind.items)) }
         ensures comes_back { IfErr result (λ error.
@@ -186,8 +178,7 @@ impl<T: Drop, R: Waits, A: Allocator + Copy> Sender<T, R, A> {
         let Some(first) = messages.pop_front() else {
             unreachable!();
         };
-        let mut gate = Gate::new(self.shared(), deadline);
-        match send_over(&self.shared().rt, &mut gate, first) {
+        match self.send_to_full_until(first, deadline) {
             Ok(()) => Ok(messages),
             Err(SendTimeoutError::Timeout(back)) => {
                 messages.push_front_reserved(back);

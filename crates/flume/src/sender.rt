@@ -7,14 +7,14 @@ ghost use Rattle.flume_deadline.specs.Deadlines.{IsAfter};
 ghost use Rattle.flume.specs.CallSteps.{HasReplied};
 ghost use Rattle.flume.specs.CallSteps as answer;
 ghost use Rattle.flume.specs.GateSteps.{Sends};
-ghost use Rattle.flume.specs.Turning.{HasMade};
+ghost use Rattle.flume.specs.LockedTurns.{HasMade};
 
-use crate::answers::{tried_send, waited_send};
+use crate::answers::{send_answer, try_send_answer};
 use crate::gate::Gate;
 use crate::shared::{Shared, Waits};
 use crate::weak::WeakSender;
-use flume_calls::calls::FirstSend;
-use flume_calls::gates::send_over;
+use flume_calls::calls::{FirstSend, SendNext};
+use flume_calls::gates::{send_over, waiting_send};
 use flume_calls::single::{AskNumber, AskTruth, Single};
 use flume_core::error::{CapacityError, NoMemory, SendError, SendTimeoutError, TrySendError};
 use flume_deadline::Deadline;
@@ -42,15 +42,16 @@ impl<T, R: Waits, A: Allocator + Copy> Model for Sender<T, R, A> {
 }
 
 impl<T: Drop, R: Waits, A: Allocator + Copy> Sender<T, R, A> {
-    /// The sender over what the ends share, which counts it already.
-    pub(crate) fn over(shared: Arc<Shared<T, R, A>, A>) -> Self
+    // The sender is counted already.
+    pub(crate) fn from_shared(shared: Arc<Shared<T, R, A>, A>) -> Self
         ensures number { result ≡ shared.value.id }
     {
         Sender { shared }
     }
 
-    /// Sends a message, or gives it back if the channel is full or closed, or if memory ran
-    /// out. Doesn't wait for a receiver.
+    /// Sends a message. Doesn't wait for a receiver. `Full`: the channel is full, and no receiver
+    /// waits. `Disconnected`: all receivers have been dropped. `NoMemory`: there was no room for
+    /// it. Each gives the message back.
     ///
     /// ```
     /// let (tx, rx) = flume::on(rt).bounded(1)?;
@@ -61,14 +62,14 @@ impl<T: Drop, R: Waits, A: Allocator + Copy> Sender<T, R, A> {
     /// ```
     pub fn try_send(&self, message: T) -> Result<(), TrySendError<T>>
         ensures made { HasMade {A = A} (Step.TrySend message) after_try_send
-            (answer.tried_send result) }
+            (answer.try_send_as_turn result) }
         ensures full { (back : T) → result ≡ Err (TrySendError.Full back) → back ≡ message }
         ensures disconnected { (back : T) → result ≡ Err (TrySendError.Disconnected back)
             → back ≡ message }
         ensures no_memory { (back : T) → result ≡ Err (TrySendError.NoMemory back)
             → back ≡ message }
     {
-        tried_send(self.shared.call_once(FirstSend { message }))
+        try_send_answer(self.shared.call_once(FirstSend { message }))
     }
 
     /// Sends a message, and waits while the channel is full. `Disconnected`: all receivers have
@@ -82,17 +83,20 @@ impl<T: Drop, R: Waits, A: Allocator + Copy> Sender<T, R, A> {
     /// assert_eq!(rt; tx.send(43), Err(SendError::Disconnected(43)));
     /// ```
     pub fn send(&self, message: T) -> Result<(), SendError<T>>
-        ensures made { Sends A Deadline.Never message (answer.untimed_send result) }
+        ensures made { Sends A Deadline.Never message (answer.send_as_timed result) }
         ensures no_memory { (back : T) → result ≡ Err (SendError.NoMemory back) → back ≡ message }
     {
-        let mut gate = Gate::new(&self.shared, Deadline::Never);
-        waited_send(send_over(&self.shared.rt, &mut gate, message))
+        match self.shared.call_once(FirstSend { message }) {
+            SendNext::Done(result) => send_answer(result),
+            SendNext::NeedSignal(message) => self.send_to_full(message),
+            SendNext::Park(_) => unreachable!(),
+        }
     }
 
-    /// Sends a message, and waits while the channel is full, up to the deadline. `Timeout`: it is
-    /// reached, and the message wasn't taken in. If the channel is closed by then the answer is
-    /// `Disconnected`. A clock that can't be read counts as past each deadline. If the channel
-    /// isn't full the message is sent, even if the deadline was past before the call.
+    /// As `send`, waiting up to the deadline. `Timeout`: it is reached, and the message wasn't
+    /// taken in. If the channel is closed by then the answer is `Disconnected`. A clock that can't
+    /// be read counts as past each deadline. If the channel isn't full the message is sent, even if
+    /// the deadline was past before the call.
     ///
     /// ```
     /// let (tx, _rx) = flume::on(rt).bounded(1)?;
@@ -110,14 +114,7 @@ impl<T: Drop, R: Waits, A: Allocator + Copy> Sender<T, R, A> {
         send_over(&self.shared.rt, &mut gate, message)
     }
 
-    /// Sends a message, and waits while the channel is full, up to so long from now. The errors are
-    /// those of `send_deadline`. If the deadline overflows, it waits as `send` does.
-    ///
-    /// ```
-    /// let (tx, rx) = flume::on(rt).bounded(1)?;
-    /// tx.send_timeout(1, Duration::from_millis(350))?;
-    /// assert_eq!(rt; rx.recv(), Ok(1));
-    /// ```
+    /// As `send_deadline`, up to so long from now. If the deadline overflows, as `send`.
     pub fn send_timeout(&self, message: T, timeout: Duration) -> Result<(), SendTimeoutError<T>>
         ensures made { (deadline : Deadline) × IsAfter timeout deadline
             × Sends A deadline message result }
@@ -127,6 +124,36 @@ impl<T: Drop, R: Waits, A: Allocator + Copy> Sender<T, R, A> {
         let deadline = Deadline::after(&self.shared.rt, timeout);
         let mut gate = Gate::new(&self.shared, deadline);
         send_over(&self.shared.rt, &mut gate, message)
+    }
+
+    // Goes on with a send whose offer was just refused since the channel is full. In code of its own,
+    // so that a send that needn't wait is short.
+    #[cold]
+    #[inline(never)]
+    fn send_to_full(&self, message: T) -> Result<(), SendError<T>>
+        requires full { HasMade {A = A} (Step.TrySend message) after_try_send
+            (SendNext.NeedSignal message) }
+        ensures made { Sends A Deadline.Never message (answer.send_as_timed result) }
+        ensures no_memory { (back : T) → result ≡ Err (SendError.NoMemory back) → back ≡ message }
+    {
+        send_answer(self.send_to_full_until(message, Deadline::Never))
+    }
+
+    /// Goes on with a send whose offer was just refused since the channel is full, up to the
+    /// deadline.
+    pub(crate) fn send_to_full_until(
+        &self,
+        message: T,
+        deadline: Deadline,
+    ) -> Result<(), SendTimeoutError<T>>
+        requires full { HasMade {A = A} (Step.TrySend message) after_try_send
+            (SendNext.NeedSignal message) }
+        ensures made { Sends A deadline message result }
+        ensures no_memory { (back : T) → result ≡ Err (SendTimeoutError.NoMemory back)
+            → back ≡ message }
+    {
+        let mut gate = Gate::new(&self.shared, deadline);
+        waiting_send(&self.shared.rt, &mut gate, message)
     }
 
     /// What it shares with the other ends.
@@ -149,28 +176,27 @@ impl<T: Drop, R: Waits, A: Allocator + Copy> Sender<T, R, A> {
         self.shared.truth(AskTruth::IsEmpty)
     }
 
-    /// Whether the channel is bounded, and as many messages are queued as it holds.
+    /// Whether the channel is bounded, and as many messages are queued as its capacity.
     pub fn is_full(&self) -> bool
         ensures made { HasReplied {T = T} {A = A} Step.IsFull (Reply.Truth result) }
     {
         self.shared.truth(AskTruth::IsFull)
     }
 
-    /// The capacity, or `None` if the channel is unbounded.
+    /// The capacity, or `None` if unbounded.
     pub fn capacity(&self) -> Option<usize>
         ensures made { HasReplied {T = T} {A = A} Step.Capacity (Reply.Capacity result) }
     {
         self.shared.capacity()
     }
 
-    /// Sets how many messages the channel holds from now on. Raised, it lets blocked sends in, as
-    /// far as there is room, and their calls go on. Lowered, it moves nothing: what is queued is
-    /// still received, and sends wait until fewer messages are queued than the channel holds. No
-    /// receiver is woken, and no memory is needed. At 0 a send waits for a receiver.
+    /// Sets the capacity. Raised, it lets blocked sends in, as far as there is room, and their
+    /// calls go on. Lowered, it moves nothing: what is queued is still received, and sends wait
+    /// until fewer messages are queued than the capacity. No receiver is woken, and no memory is
+    /// needed. At 0 a send waits for a receiver.
     ///
-    /// `Unbounded`: the channel holds any number of messages, and that can't be changed.
-    /// `Disconnected`: all receivers, or all senders, have been dropped. Both leave the channel as
-    /// it was.
+    /// `Unbounded`: the channel has no capacity, and can't be given one. `Disconnected`: all
+    /// receivers, or all senders, have been dropped. Both leave the channel as it was.
     ///
     /// ```
     /// let (tx, _rx) = flume::on(rt).bounded(1)?;
@@ -220,7 +246,7 @@ impl<T: Drop, R: Waits, A: Allocator + Copy> Sender<T, R, A> {
     pub fn downgrade(&self) -> Result<WeakSender<T, R, A>, NoMemory>
         ensures same { IfOk result (λ weak. weak ≡ self.now) }
     {
-        Ok(WeakSender::over(Arc::try_clone(&self.shared)?))
+        Ok(WeakSender::from_shared(Arc::try_clone(&self.shared)?))
     }
 
     /// Whether both send into channels of the same number.
@@ -238,20 +264,6 @@ impl<T: Drop, R: Waits, A: Allocator + Copy> Sender<T, R, A> {
     /// How many receives wait in the channel now: calls, polled futures and streams, and arms of
     /// selections. One that was woken, or was handed its message, isn't counted, though it hasn't
     /// gone on yet. Takes no memory.
-    ///
-    /// ```
-    /// let (tx, rx) = flume::on(rt).unbounded::<u64>()?;
-    /// let receiver = thread::spawn(&rt, move || rx.recv())?;
-    /// for _ in rt.forever() {
-    ///     if tx.waiting_receivers() == 1 {
-    ///         break;
-    ///     }
-    ///     thread::yield_now();
-    /// }
-    /// assert_eq!(rt; tx.try_send(7), Ok(()));
-    /// assert_eq!(rt; tx.waiting_receivers(), 0);
-    /// assert_eq!(rt; receiver.join(&rt), Ok(7));
-    /// ```
     pub fn waiting_receivers(&self) -> usize {
         self.shared.waiting_len()
     }
@@ -260,8 +272,8 @@ impl<T: Drop, R: Waits, A: Allocator + Copy> Sender<T, R, A> {
 impl<T: Drop, R: Waits, A: Allocator + Copy> Clone for Sender<T, R, A> {
     ghost is_clone = { λ sender copy. copy ≡ sender };
 
-    // Std's signature of `clone` leaves no choice of the error. `NoMemory` converts into it, so `?`
-    // takes both.
+    // Std's signature leaves no choice of the error. `NoMemory` converts into it, so `?` takes
+    // both.
     fn clone(&self) -> Result<Self, AllocError>
         ensures same { IfOk result (λ copy. copy ≡ self.now) }
         ensures made { IfOk result (λ _. HasReplied {T = T} {A = A} Step.CloneSender Reply.Done) }

@@ -13,31 +13,31 @@ use std::sync::{Arc, Condvar, Mutex, Wait};
 use std::thread::yield_now;
 use std::time::{Clock, Instant};
 
-// What a parker's word says: no wake has come that wasn't taken, one has, or its call sleeps.
+// What a parker's word says: there is no wake that wasn't taken, there is one, or its call sleeps.
 const IDLE: u64 = 0;
 
 const FIRED: u64 = 1;
 
 const ASLEEP: u64 = 2;
 
-/// After how many of a parker's last checks other threads run, before it checks again or sleeps.
+// How many of a parker's last checks let other threads run.
 pub(crate) const YIELDS: u32 = 20;
 
 /// What one blocking call waits on, and others wake it by. A wake that comes before the wait isn't
-/// lost: the wait then takes it, and returns at once. Two wakes before a wait count as one.
+/// lost: the wait takes it, and returns at once. Two wakes before a wait count as one.
 #[derive(Drop)]
 pub struct Parker {
     word: AtomicU64,
-    // How often a wait checks for the wake before it sleeps.
     checks: u32,
-    // Held by a call that goes to sleep until it does, so that its wake isn't told before.
+    // Held by a call from its last look at the word until it sleeps, so that it isn't notified
+    // before.
     falling_asleep: Mutex<()>,
     changed: Condvar,
 }
 
 impl Parker {
-    /// A parker that no wake has come to. A wait on it checks so often for its wake before it
-    /// sleeps. Takes no memory.
+    /// A parker without a wake. A wait on it checks so often for one before it sleeps. Takes no
+    /// memory.
     ///
     /// ```
     /// let parker = Parker::new(0);
@@ -62,7 +62,7 @@ impl Parker {
         }
     }
 
-    /// Waits for a wake, and takes it. It checks for it a short while, and then sleeps.
+    /// Waits for a wake, and takes it.
     pub fn wait<R: Wait>(&self, rt: &R) {
         if self.spin() {
             return;
@@ -79,8 +79,7 @@ impl Parker {
         unreachable!()
     }
 
-    /// Waits until it is fired, or up to the deadline. A clock that can't be read counts as past
-    /// it.
+    /// Waits for a wake, or up to the deadline. A clock that can't be read counts as past it.
     ///
     /// ```
     /// parker.wait_until(&rt, Instant::now(&rt)?);    // returns at once
@@ -95,7 +94,7 @@ impl Parker {
                 return;
             }
             let Some(left) = left_until(rt, deadline) else {
-                // Nobody sleeps now. A wake that has just come stays.
+                // A wake that has just come stays.
                 let _ = self.compare_set(ASLEEP, IDLE);
                 return;
             };
@@ -106,8 +105,7 @@ impl Parker {
         unreachable!()
     }
 
-    /// Waits until it is fired, or up to the deadline, if there is one. True, at once, if the
-    /// deadline is reached.
+    // True, at once and without a wait, if the deadline is reached.
     #[inline(always)]
     pub(crate) fn wait_up_to<R: Wait + Clock>(&self, rt: &R, deadline: Deadline) -> bool
         ensures late { result ≡ true → deadline ≢ Deadline.Never }
@@ -123,8 +121,8 @@ impl Parker {
         false
     }
 
-    // Checks for a wake for a short while, and takes it. Between the last checks it lets other
-    // threads run: the one that is to wake it may wait for a processor.
+    // Between the last checks other threads run: the one that is to wake it may wait for a
+    // processor.
     fn spin(&self) -> bool {
         for done in 0..self.checks {
             if self.word.load(Ordering::SeqCst) == FIRED {
@@ -139,17 +137,15 @@ impl Parker {
         false
     }
 
-    // Takes the wake, if one has come.
     fn take(&self) -> bool {
         self.compare_set(FIRED, IDLE)
     }
 
-    // Says that the call sleeps. False if a wake came before.
+    // False if a wake came before.
     fn begin_sleep(&self) -> bool {
         self.compare_set(IDLE, ASLEEP) || self.word.load(Ordering::SeqCst) == ASLEEP
     }
 
-    // Changes the word from one thing to another, if it says the one.
     fn compare_set(&self, from: u64, to: u64) -> bool {
         self.word
             .compare_exchange(from, to, Ordering::SeqCst, Ordering::SeqCst)
@@ -157,8 +153,8 @@ impl Parker {
     }
 }
 
-/// What a future, a sink or a stream is woken by: the waker of the task that polled it last. It
-/// stands with the channel, under its lock, and is empty from a wake on.
+/// What a future, a sink or a stream is woken by: the waker of the task that polled it last. It is
+/// empty from a wake on.
 #[derive(Drop)]
 pub struct TaskSignal {
     // All that touches it does so while the channel is locked, so a `Cell` is enough.
@@ -172,7 +168,6 @@ impl TaskSignal {
         drop(self.take());
     }
 
-    // Takes the waker out.
     pub(crate) fn take(&self) -> Option<Waker> {
         self.waker.take()
     }
@@ -183,12 +178,12 @@ impl TaskSignal {
 #[derive(Drop)]
 pub struct ArmSignal<A: Allocator = Global> {
     parker: Arc<Parker, A>,
-    /// The arm's number, from 0 in the order in which the arms were added.
+    /// From 0, in the order in which the arms were added.
     pub arm: usize,
 }
 
 impl<A: Allocator + Copy> ArmSignal<A> {
-    // The signal of this arm, which shares the parker. `None`: it is shared as often as it can be.
+    // `None`: the parker is shared as often as it can be.
     pub(crate) fn new(parker: &Arc<Parker, A>, arm: usize) -> Option<Self>
         ensures arm { IfSome result (λ signal. signal.arm ≡ arm) }
     {
@@ -207,16 +202,13 @@ impl<A: Allocator> ArmSignal<A> {
 /// What a parked call leaves with the channel, to be woken by.
 #[derive(Drop)]
 pub enum Signal<A: Allocator = Global> {
-    /// A blocking call, by the parker that it waits on.
     Parker(Arc<Parker, A>),
-    /// An arm of a selector, by the parker that the selector waits on.
     Arm(ArmSignal<A>),
-    /// A call that is polled, by the task that polls it.
+    /// A call that is polled.
     Task(TaskSignal),
 }
 
 impl<A: Allocator> Signal<A> {
-    // The signal of a call that is polled, by the waker of its task.
     pub(crate) fn of_task(waker: Waker) -> Self {
         Signal::Task(TaskSignal {
             waker: Cell::new(Some(waker)),

@@ -1,4 +1,4 @@
-//! The calls of one step that nobody waits for, made under the channel's lock.
+//! Calls of one step that nobody waits for.
 ghost use Rattle.flume_core.specs.PossibleReply.{PossibleReply};
 ghost use Rattle.flume_calls.specs.Singles.{step_of, step_for_number, step_for_truth};
 ghost use Rattle.flume.specs.CallSteps.{HasReplied};
@@ -9,16 +9,14 @@ use flume_model::step::{Reply, Step};
 use std::alloc::Allocator;
 
 impl<T: Drop, R: Waits, A: Allocator + Copy> Shared<T, R, A> {
-    /// The reply to a step that is answered by its reply as it is.
     #[inline(always)]
     pub(crate) fn single(&self, step: Single) -> Reply<T, A>
         ensures made { HasReplied (step_of step) result }
-        ensures comes { PossibleReply {T = T} (step_of step) result }
+        ensures possible { PossibleReply {T = T} (step_of step) result }
     {
-        self.call(step)
+        self.call_once(step)
     }
 
-    /// The number that is asked for.
     #[inline(always)]
     pub(crate) fn number(&self, query: AskNumber) -> usize
         ensures made { HasReplied {T = T} {A = A} (step_for_number query) (Reply.Number result) }
@@ -26,7 +24,6 @@ impl<T: Drop, R: Waits, A: Allocator + Copy> Shared<T, R, A> {
         self.call(query)
     }
 
-    /// Whether it is so.
     #[inline(always)]
     pub(crate) fn truth(&self, query: AskTruth) -> bool
         ensures made { HasReplied {T = T} {A = A} (step_for_truth query) (Reply.Truth result) }
@@ -34,7 +31,6 @@ impl<T: Drop, R: Waits, A: Allocator + Copy> Shared<T, R, A> {
         self.call(query)
     }
 
-    /// The capacity, or `None` of an unbounded channel.
     #[inline(always)]
     pub(crate) fn capacity(&self) -> Option<usize>
         ensures made { HasReplied {T = T} {A = A} Step.Capacity (Reply.Capacity result) }

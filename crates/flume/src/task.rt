@@ -1,34 +1,31 @@
 //! The task that polls a call.
 ghost use Rattle.std.specs.Prelude.{◌≡◌};
 ghost use Rattle.futures.specs.Task.{IsArmed, Hears, Keeps};
-ghost use Rattle.flume.specs.Polling.{LeavesWaker};
+ghost use Rattle.flume.specs.LockedPolls.{LeavesWaker};
 
 use crate::signal::Signal;
 use futures::task::{Context, Poll, Source, Waker};
 use std::alloc::Allocator;
 
-/// What a polled call keeps of its task.
 #[derive(Drop)]
 pub(crate) struct Task {
-    // Names what the call waits for: that the channel fires its signal. Each call has a source of
-    // its own, a name of no bytes: a contract sees of an end its number alone, so no clause could
-    // name a source that the channel keeps.
+    // What the call waits for: that the channel fires its signal. Each call has a source of its
+    // own, a name of no bytes: a contract sees of an end its number alone, so no clause could name
+    // a source that the channel keeps.
     source: Source,
 }
 
 impl Task {
-    /// No task yet. Takes no memory.
     pub(crate) fn new() -> Self {
         Task {
             source: Source::new(),
         }
     }
 
-    /// The waker that a poll leaves with the channel, in place of the one that the call left
-    /// before: that of the task that polls. The waker of the same task is taken over, since a waker
-    /// wakes its task as it is dropped. If the executor can't make one, it polls the task again
-    /// without a wake; then the waker is the one that the call left before, another task's, or
-    /// `None` if it had left none.
+    // The waker that a poll leaves with the channel, in place of the one that the call left
+    // before: that of the task that polls. If the executor can't make one, it polls the task again
+    // without a wake; then the waker is the one that the call left before, another task's, or
+    // `None` if it had left none.
     #[inline(never)]
     pub(crate) fn waker<A: Allocator>(
         &self,
@@ -40,9 +37,9 @@ impl Task {
         ensures kept { Keeps cx.old cx.new }
         ensures left { LeavesWaker cx.old cx.new result }
     {
-        // A waker can't be cloned: a fresh one stored over the old one would have a task wake
-        // itself again and again. So the old one is taken out first, `register` leaves it where it
-        // is of the same task, and it goes into the new signal.
+        // A waker can't be cloned, and wakes its task as it is dropped: a fresh one stored over the
+        // old one would have a task wake itself again and again. So the old one is taken out first,
+        // and `register` leaves it where it is of the same task.
         let mut waker = match parked {
             Some(Signal::Task(signal)) => signal.take(),
             _ => None,

@@ -27,15 +27,14 @@ impl<T, R: Waits, A: Allocator + Copy> Model for WeakSender<T, R, A> {
 }
 
 impl<T: Drop, R: Waits, A: Allocator + Copy> WeakSender<T, R, A> {
-    /// The one over what the ends share.
-    pub(crate) fn over(shared: Arc<Shared<T, R, A>, A>) -> Self
+    pub(crate) fn from_shared(shared: Arc<Shared<T, R, A>, A>) -> Self
         ensures number { result ≡ shared.value.id }
     {
         WeakSender { shared }
     }
 
-    /// A sender, while one lives, even if all receivers have been dropped; `None` once the last
-    /// has been dropped. `NoMemory`: there are as many as can be counted.
+    /// A sender, while one lives, even if all receivers have been dropped; `None` once the last has
+    /// been dropped. `NoMemory`: there are as many as can be counted.
     ///
     /// ```
     /// let (tx, rx) = flume::on(rt).unbounded()?;
@@ -52,13 +51,12 @@ impl<T: Drop, R: Waits, A: Allocator + Copy> WeakSender<T, R, A> {
     {
         let shared = Arc::try_clone(&self.shared)?;
         let reply = shared.single(Single::CloneSender);
-        upgraded(reply, shared)
+        upgrade_answer(reply, shared)
     }
 }
 
-// What an upgrade answers, by the channel's reply to one more sender: there is a sender only if
-// the channel counts it.
-fn upgraded<T: Drop, R: Waits, A: Allocator + Copy>(
+// There is a sender only if the channel counts it.
+fn upgrade_answer<T: Drop, R: Waits, A: Allocator + Copy>(
     reply: Reply<T, A>,
     shared: Arc<Shared<T, R, A>, A>,
 ) -> Result<Option<Sender<T, R, A>>, NoMemory>
@@ -67,7 +65,7 @@ fn upgraded<T: Drop, R: Waits, A: Allocator + Copy>(
     ensures refused { reply ≢ Reply.Done → reply ≢ Reply.NoEnd → IsErr result }
 {
     match reply {
-        Reply::Done => Ok(Some(Sender::over(shared))),
+        Reply::Done => Ok(Some(Sender::from_shared(shared))),
         Reply::NoEnd => Ok(None),
         _ => Err(NoMemory),
     }

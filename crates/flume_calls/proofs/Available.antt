@@ -18,7 +18,7 @@ use Rattle.flume_calls.specs.Batches.{StepsBetween, NoSteps, FirstStep}
 use Rattle.flume_calls.specs.ManyReceives.{Takes}
 
 module _ {T S : Type 0} where
-  -- where a message stands there is a front
+  -- if a message is there is a front
   pub front : (s : State T S) → 0 < message_count s → (message : T) × (rest : List T) × ((with_front s).queue ≡ message ∷ rest)
   front s some = go s.queue s.blocked refl refl
     where
@@ -36,7 +36,7 @@ module _ {T S : Type 0} where
           let none_blocked : length s.blocked ≡ 0 = ap length blocked in
           absurd (omega arith)
 
-  -- a blocked message that joins the queue still stands
+  -- a blocked message that joins the queue is still there
   admission_keeps : (s : State T S) → message_count (after_admission s) ≡ message_count s
   admission_keeps s = go s.blocked refl
     where
@@ -72,7 +72,7 @@ module _ {T S : Type 0} where
       let kept : message_count (with_front s) ≡ message_count s = front_keeps s in omega arith
 
 module _ {T A S : Type 0} where
-  -- what a `try_recv` says of itself is what a list of steps says of it: it wants no memory
+  -- what a `try_recv` says of itself is what a list of steps says of it: it needs no memory
   pub received : {old new : State T S} {reply : Reply T A} → Extends old TryRecv reply new → (IsReachable A old → BecomesDue old TryRecv reply new)
       → PossibleReply TryRecv reply → old.space ≤ new.space → (IsRefusal reply → new ≡ old) → IsTransition old TryRecv reply new
   received {old} extends dues comes space unchanged = record {

@@ -16,7 +16,7 @@ use Rattle.flume_state.specs.State.{State}
 use Rattle.flume_calls.specs.Rings.{send_not_due}
 use Rattle.flume_state.specs.Signals.{Names, Send, Receive}
 
--- what counts where a test holds counts no more where another does that it follows from
+-- what counts if a test holds counts no more if another does that it follows from
 weight_le : (a b : Bool) → (a ≡ true → b ≡ true) → cond a 1 0 ≤ cond b 1 0
 weight_le true b follows = rw (follows refl) (omega arith)
 weight_le false b follows = omega arith
@@ -31,16 +31,16 @@ module _ {S : Type 0} where
   abbrev pub DueIn : SendMap S → SendMap S → Type 0
   DueIn n m = (t : ℕ) → is_due_send n t ≡ true → is_due_send m t ≡ true
 
-  -- one that was told isn't due
+  -- one that was named isn't due
   told_not_due : (o : Option (LiveSend S)) → send_due_in (option_map send_not_due o) ≡ false
   told_not_due None = refl
   told_not_due (Some send) = refl
 
-  -- a ticket that was told isn't due in the map
+  -- a ticket that was named isn't due in the map
   named_not_due : (m : SendMap S) (k : ℕ) → is_due_send (noticed_send no_longer_due k m) k ≡ false
   named_not_due m k = ap send_due_in (get-changed_same m k send_not_due) ∙ told_not_due (get m k)
 
-  -- where one was told, no other became due
+  -- if one was named, no other became due
   pub none_became_due : (m : SendMap S) (k : ℕ) → DueIn (noticed_send no_longer_due k m) m
   none_became_due m k t due = go (eqb t k) refl
     where
@@ -51,12 +51,12 @@ module _ {S : Type 0} where
           absurd (let none : ⊥ = cc in none)
       go false e = rw (← get-changed_other m k send_not_due t (eqb-false t k e)) due
 
-  -- where none became due, no more are
+  -- if none became due, no more are
   due_sends_le : (m n : SendMap S) (tickets : List ℕ) → DueIn n m → due_sends n tickets ≤ due_sends m tickets
   due_sends_le m n [] fewer = omega arith
   due_sends_le m n (t ∷ tickets) fewer = omega (arith, weight_le (is_due_send n t) (is_due_send m t) (fewer t), due_sends_le m n tickets fewer)
 
-  -- where none became due and one isn't due any more, fewer are
+  -- if none became due and one isn't due any more, fewer are
   due_sends_less : (m n : SendMap S) (k : ℕ) (tickets : List ℕ) → DueIn n m → is_due_send m k ≡ true → is_due_send n k ≡ false
       → list_any (eq_by_cmp nat_cmp k) tickets ≡ true → due_sends n tickets < due_sends m tickets
   due_sends_less m n k [] fewer was is listed = absurd (let none : ⊥ = cc in none)
@@ -94,7 +94,7 @@ module _ {T S : Type 0} where
   due_entries-append [] others = omega arith
   due_entries-append (e ∷ some) others = omega (arith, due_entries-append some others)
 
-  -- where one is told, one less is due
+  -- if one is named, one less is due
   due_entries_less : (old new : EntryList T S) (t : ℕ) → NamesReceiver old new t → due_entries new < due_entries old
   due_entries_less old new t tells =
       let e = tells.entry in
@@ -102,7 +102,7 @@ module _ {T S : Type 0} where
       let after = due_entries-append tells.before (record e { notice = no_longer_due e.notice } ∷ tells.later) in
       rw (tells.found, tells.told, before, after, tells.was_due) (omega arith)
 
-  -- where one is named, one less is due of all that were due at first
+  -- if one is named, one less is due of all that were due at first
   pub fewer_due : (first old new : State T S) (t : ℕ) → Names old new t → DueIn old.sends first.sends
       → due_sends new.sends (keys first.sends) + due_entries new.entries < due_sends old.sends (keys first.sends) + due_entries old.entries
   fewer_due first old new t (Send due is) before =

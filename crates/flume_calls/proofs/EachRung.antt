@@ -49,13 +49,13 @@ module _ {T S : Type 0} where
         | false ↦ none_due t entries (All-tail (λ e. e.notice.due ≡ false) e entries none)
       ]
 
-  -- an entry is found where another one is told
+  -- an entry is found if another one is named
   found_other : (t : ℕ) (before : EntryList T S) (e : Entry T (Notice S)) (later : EntryList T S) → eqb e.ticket t ≡ false
       → entry_of t (before ++ receiver_not_due e ∷ later) ≡ entry_of t (before ++ e ∷ later)
   found_other t [] e later other = rw other refl
   found_other t (x ∷ before) e later other = rw (found_other t before e later other) refl
 
-  -- one that is due is where another one is named
+  -- one that is due is if another one is named
   still_due : (old new : State T S) (k t : ℕ) → Names old new k → eqb t k ≡ false → Due old t → Due new t
   still_due old new k t (Send due is) other (inl now) =
       let sends : get new.sends t ≡ get old.sends t =
@@ -70,7 +70,7 @@ module _ {T S : Type 0} where
       ∙ ap receiver_due_in (found_other t tells.before tells.entry tells.later other_one)
       ∙ sym (ap (λ es. receiver_due_in (entry_of t es)) tells.found) ∙ now)
 
-  -- nobody is due where nothing is
+  -- nobody is due if nothing is
   not_due : (s : State T S) (t : ℕ) → NoDueSend s.sends → NoDueReceiver s.entries → Due s t → ⊥
   not_due s t sends entries (inl now) = let no = sends t in cc
   not_due s t sends entries (inr now) = let no = none_due t s.entries entries in cc
@@ -133,7 +133,7 @@ module _ {S : Type 0} where
   not_blocked None e blocked = cc
   not_blocked (Some x) e blocked = let accepted : x.accepted ≡ true = cc in let no = rw accepted at blocked in cc
 
-  -- one that was told is accepted as it was
+  -- one that was named is accepted as it was
   accepted_kept : (o : Option (LiveSend S)) → option_map (λ send. send.accepted) (option_map send_not_due o) ≡ option_map (λ send. send.accepted) o
   accepted_kept None = refl
   accepted_kept (Some x) = refl
@@ -144,7 +144,7 @@ module _ {T S : Type 0} where
   marked None m e = absurd (let none : ⊥ = cc in none)
   marked (Some x) m e = let same : x.mark ≡ m = cc in ap is_waiting same
 
-  -- one that was told stands as it did
+  -- one that was named is as it was
   mark_kept : (o : Option (Entry T (Notice S))) → option_map (λ e. e.mark) (option_map receiver_not_due o) ≡ option_map (λ e. e.mark) o
   mark_kept None = refl
   mark_kept (Some x) = refl
@@ -155,7 +155,7 @@ module _ {T S : Type 0} where
       elim (eqb e.ticket t) as (λ b. cond b (Some (receiver_not_due e)) (entry_of t (map receiver_not_due es))
       ≡ option_map receiver_not_due (cond b (Some e) (entry_of t es))) [ true ↦ refl | false ↦ told_entry t es ]
 
-  -- who may go on as all are told may go on before it
+  -- a call that may go on as all are named may go on before it
   before_told : (old between new : State T S) (t : ℕ) → NoneDueAnyMore between new → MayGoOn old new t → MayGoOn old between t
   before_told old between new t told goes = by_case goes
     where
@@ -235,7 +235,7 @@ module _ {T A S : Type 0} where
   polled_steps {old} (NoStep same) = ([], subst (λ s. StepsBetween {A = A} old [] s) (sym same) NoSteps)
   polled_steps (OneStep step reply stepped) = ((step, reply) ∷ [], FirstStep stepped NoSteps)
 
-  -- each call that may go on by these steps is rung for, where a round of rings follows them
+  -- each call that may go on by these steps is rung for, if a round of rings follows them
   pub each_rung : {B : Type 0} (rings : B → ℕ → S → B → Type 0) {old between new : State T S} {bell rung : B} {made : List (Step T × Reply T A)}
       → IsReachable A old → StepsBetween old made between → Rings rings between bell new rung → EachIsRung rings old bell new rung
   each_rung rings {old} {between} {new} led steps rang =

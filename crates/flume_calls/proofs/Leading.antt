@@ -1,4 +1,4 @@
--- What a batch of steps does to the logs that stood for the state before it.
+-- What a batch of steps does to the logs that represented the state before it.
 use Rattle.std.proofs.Common.{List, ◌∷◌}
 use Rattle.flume_model.specs.declared.step.Step.{Step}
 use Rattle.flume_model.specs.declared.step.Reply.{Reply}

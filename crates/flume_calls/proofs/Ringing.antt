@@ -56,7 +56,7 @@ module _ {S : Type 0} where
   told_idle None idle = refl
   told_idle (Some send) idle = ap (λ (b : Bool). Some (record send { notice = record send.notice { due = b } })) idle
 
-  -- all told, with one told before
+  -- all named, with one named before
   told_after : (m : SendMap S) (k t : ℕ) → option_map send_not_due (get (noticed_send no_longer_due k m) t) ≡ option_map send_not_due (get m t)
   told_after m k t = go (eqb t k) refl
     where
@@ -140,20 +140,20 @@ module _ {T S : Type 0} where
   named_rest old named t (Send due is) = rest_from old named (noticed_send no_longer_due t old.sends) old.entries is
   named_rest old named t (Receive tells is) = rest_from old named old.sends named.entries is
 
-  -- naming one leaves all sends, once told, the same
+  -- naming one leaves all sends, once named, the same
   named_sends : (old named : State T S) (t : ℕ) → Names old named t → (k : ℕ)
       → option_map send_not_due (get named.sends k) ≡ option_map send_not_due (get old.sends k)
   named_sends old named t (Send due is) k = ap (λ s. option_map send_not_due (get s.sends k)) is ∙ told_after old.sends t k
   named_sends old named t (Receive tells is) k = ap (λ s. option_map send_not_due (get s.sends k)) is
 
-  -- naming one leaves all entries, once told, the same
+  -- naming one leaves all entries, once named, the same
   named_entries : (old named : State T S) (t : ℕ) → Names old named t → map receiver_not_due named.entries ≡ map receiver_not_due old.entries
   named_entries old named t (Send due is) = ap (λ s. map receiver_not_due s.entries) is
   named_entries old named t (Receive tells is) =
       ap (map receiver_not_due) tells.told ∙ map-append receiver_not_due tells.before _
       ∙ sym (ap (map receiver_not_due) tells.found ∙ map-append receiver_not_due tells.before _)
 
-  -- all told, with one told before
+  -- all named, with one named before
   told_first : (old named new : State T S) (t : ℕ) → Names old named t → NoneDueAnyMore named new → NoneDueAnyMore old new
   told_first old named new t names all =
       let others = named_rest old named t names in
@@ -171,7 +171,7 @@ module _ {T S : Type 0} where
       ap (λ (b : Bool). record e { notice = record e.notice { due = b } }) (idle 0 e (omega arith)) in
       let others = idle_entries entries (λ k d within. idle (suc k) d (omega (arith, within))) in λ i. first i ∷ others i
 
-  -- nothing due: all are told
+  -- nothing due: all are named
   told_over : (s : State T S) → NoDueSend s.sends → NoDueReceiver s.entries → NoneDueAnyMore s s
   told_over s sends entries = record {
     rest = refl;
@@ -185,7 +185,7 @@ module _ {B S : Type 0} (rings : B → ℕ → S → B → Type 0) {T : Type 0} 
   none_left (Over sends entries) = (sends, entries)
   none_left (Rung named signal rung rest) = none_left rest
 
-  -- after a round of rings all are told, and all else is as it was
+  -- after a round of rings all are named, and all else is as it was
   pub all_told : {old new : State T S} {bell end : B} → Rings rings old bell new end → NoneDueAnyMore old new
   all_told (Over sends entries) = told_over _ sends entries
   all_told (Rung named signal rung rest) = told_first _ _ _ _ named (all_told rest)

@@ -147,7 +147,7 @@ module _ {T A : Type 0} where
       let none = issues_other (channel o log) (change log p.0 p.1) t (fits_run o log p run) below in
       rw (none, dead) (not_live (is_over (p ∷ log)) (spends (change log p.0 p.1) t))
 
-  -- who is told to wait waits
+  -- a call that is answered `Waiting` waits
   told_waits : (o : Opening) (log : Log T A) (t : ℕ) → IsRun o ((Poll t, Waiting) ∷ log) → (x : LogEntry T)
       → entry_of t (entries o ((Poll t, Waiting) ∷ log)) ≡ Some x → is_waiting x.mark ≡ true
   told_waits o log t run x found = by_case (is_over {T = T} {A = A} ((Poll t, Waiting) ∷ log)) refl
@@ -193,7 +193,7 @@ module _ {T A S : Type 0} where
       → s.next ≤ after.next
   next_rises o log p s after h more = let was = h.next_is in let now = more.next_is in omega (arith, was, now)
 
-  -- who waits on or again by a step waits after it
+  -- a receiver that waits on or again by a step waits after it
   waits_then : (o : Opening) (log : Log T A) (step : Step T) (reply : Reply T A) (after : State T S) → Represents o ((step, reply) ∷ log) after
       → (t : ℕ) → waits_by step reply t ≡ true → (x : Entry T (Notice S)) → entry_of t after.entries ≡ Some x → is_waiting x.mark ≡ true
   waits_then o log (Poll u) Waiting after h t waits x found =

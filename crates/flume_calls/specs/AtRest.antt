@@ -21,5 +21,5 @@ module _ {T S N B : Type 0} (A : Type 0) (rings : B → ℕ → S → B → Type
     pub between : State T S
     pub turn : does old between answer
     pub rang : Rings rings between bell new rung
-    -- the rings are no steps
+    -- ringing makes no step
     pub stands : SameLogs A between new

@@ -1,4 +1,4 @@
--- Who may go on by what a call does to a channel, and that the call rings for each of them.
+-- Which calls may go on by what a call does to a channel, and that the call rings for each of them.
 use Rattle.std.specs.Prelude.{◌≡◌, ℕ, true, false, Option, Some, List, [], ◌∷◌, Contains}
 use Rattle.std.specs.Option.{option_map}
 use Rattle.flume_model.specs.declared.entry.Mark.{Mark}
@@ -9,11 +9,11 @@ use Rattle.flume_state.specs.State.{State, accepted_at}
 use Rattle.flume_state.specs.Signals.{signal_of}
 
 module _ {T S : Type 0} where
-  -- how the receiver stands that is parked under a ticket, if there is one
+  -- the state of the receiver that is parked under a ticket, if there is one
   abbrev pub mark_at : State T S → ℕ → Option (Mark T)
   mark_at s ticket = option_map (λ e. e.mark) (entry_of ticket s.entries)
 
-  -- between these states a call that was parked under this ticket came to where it may go on
+  -- between these states a call that was parked under this ticket became able to go on
   pub data MayGoOn (old new : State T S) (ticket : ℕ) : Type 0 where
     -- its message was accepted
     IsAccepted : accepted_at old ticket ≡ Some false → accepted_at new ticket ≡ Some true

@@ -15,8 +15,8 @@ use Rattle.flume_calls.specs.declared.calls.receive.RecvNext.TheVariants.{Refuse
 use Rattle.flume_calls.specs.Batches.{StepsBetween}
 use Rattle.flume_calls.specs.ReceiveTurns.{after_try_recv, IsNone}
 
--- how many messages a call took, where it took some: at most so many, and none only for a call
--- that was to take none
+-- how many messages a call took, if it took some: at most this many, and none only for a call that
+-- was to take none
 abbrev pub IsWithin : ℕ → RecvNext ℕ → Type 0
 IsWithin most (Done (Ok count)) = (count ≤ most) × (count ≡ 0 → most ≡ 0)
 IsWithin most _ = Unit {0}
@@ -27,7 +27,7 @@ module _ {T A : Type 0} where
   each_got taken = map (λ message. (TryRecv, Got message)) taken
 
 module _ {T S : Type 0} (A : Type 0) where
-  -- So many messages were taken, each by a `try_recv`, and put behind what was there before, in
+  -- This many messages were taken, each by a `try_recv`, and put behind what was there before, in
   -- order: from the channel and the list before to both after.
   pub record Takes (old : State T S) (before : List T) (count : ℕ) (new : State T S)
       (after : List T) : Type 0 where
@@ -42,7 +42,7 @@ module _ {T : Type 0} where
   given (Done (Ok message)) = message ∷ []
   given _ = []
 
-  -- What is answered where a turn of a receive gave this and so many messages were taken after it:
+  -- What is answered if a turn of a receive gave this and this many messages were taken after it:
   -- how many came, if one did, and else what the turn answered.
   abbrev pub with_more : ℕ → RecvNext T → RecvNext ℕ
   with_more more (Done (Ok message)) = Done (Ok (more + 1))
@@ -51,8 +51,8 @@ module _ {T : Type 0} where
   with_more more (Park ticket) = Park ticket
   with_more more (Refused ticket) = Refused ticket
 
-  -- A turn of a receive gave this, and then these were taken, at most so many: what the list holds
-  -- after it, and the answer. Where the turn gave no message none was taken.
+  -- A turn of a receive gave this, and then these were taken, at most this many: what the list
+  -- holds after it, and the answer. If the turn gave no message none was taken.
   pub record Gives (before : List T) (more : ℕ) (first : RecvNext T) (taken : List T)
       (after : List T) (next : RecvNext ℕ) : Type 0 where
     pub items : after ≡ before ++ (given first ++ taken)
@@ -61,7 +61,7 @@ module _ {T : Type 0} where
     pub at_most : length taken ≤ more
 
 module _ {T A : Type 0} where
-  -- the table of a batch that takes what is there: so many were taken, and put behind
+  -- the table of a batch that takes what is there: this many were taken, and put behind
   pub record MoreTable (before : List T) (made : List (Step T × Reply T A)) (after : List T)
       (count : ℕ) : Type 0 where
     pub taken : List T
@@ -84,14 +84,14 @@ module _ {T A : Type 0} where
         → FirstManyTable before made after next
 
 module _ {T A : Type 0} where
-  -- So many were taken of those that were there: all, at most so many, or as many as the list has
-  -- room for, where there was no memory for more room.
+  -- This many were taken of those that were there: all, at most this many, or as many as the list
+  -- has room for, if there was no memory for more room.
   abbrev pub TakesAll : ℕ → ℕ → ℕ → Vec T A → Type 0
   TakesAll most there count after =
       (count ≡ min most there) ⊎ ((count < min most there) × (vec_len after ≡ vec_capacity after))
 
-  -- The answer of a turn of this kind, and of what was taken after it. Where the turn gave no
-  -- message the list is the very one that was given, its room included.
+  -- The answer of a turn of this kind, and of what was taken after it. If the turn gave no message
+  -- the list is the very one that was given, its room included.
   pub record AnswersMore (answers : RecvNext T → Type 0) (before : Vec T A) (more : ℕ)
       (after : Vec T A) (next : RecvNext ℕ) : Type 0 where
     pub first : RecvNext T
@@ -101,7 +101,7 @@ module _ {T A : Type 0} where
     pub none_given : given first ≡ [] → after ≡ before
 
 module _ {T S A : Type 0} where
-  -- a first receive of at most so many
+  -- a first receive of at most this many
   pub record FirstManyOutcome (into : Vec T A) (most : ℕ) (old new : State T S)
       (next : RecvNext ℕ) : Type 0 where
     pub took : (count : ℕ) → next ≡ Done (Ok count)
@@ -115,7 +115,7 @@ module _ {T S A : Type 0} where
     pub unchanged : IsNone next → new ≡ old
 
 module _ {T S : Type 0} (A : Type 0) where
-  -- A turn that does this, and then, where it gave a message, what else is there, at most so many:
+  -- A turn that does this, and then, if it gave a message, what else is there, at most this many:
   -- each by a `try_recv`, and put behind what was there before.
   pub record AndMore (does : State T S → State T S → RecvNext T → Type 0) (before : Vec T A)
       (more : ℕ) (old new : State T S) (after : Vec T A) (next : RecvNext ℕ) : Type 0 where

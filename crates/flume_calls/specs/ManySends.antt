@@ -58,9 +58,9 @@ module _ {T A : Type 0} where
 
 module _ {T S A : Type 0} where
   -- What the states before and after say of the sends of these messages. The offer that was
-  -- refused, where one was, left the channel as it is after them: there was no room for its
-  -- message, or it was closed, or it had no space for one more without memory. Where there was
-  -- space for all of them before, none is refused for memory.
+  -- refused, if one was, left the channel as it is after them: there was no room for its message,
+  -- or it was closed, or it had no space for one more without memory. If there was space for all of
+  -- them before, none is refused for memory.
   pub record SendManyOutcome (messages : List T) (old new : State T S)
       (answer : Result (Unit {0}) (TrySendError (VecDeque T A))) : Type 0 where
     pub full : (left : VecDeque T A) → answer ≡ Err (Full left) → FindsNoRoom new

@@ -18,7 +18,7 @@ use Rattle.flume_calls.specs.ReceiveOutcomes.{FirstReceiveOutcome, ParkReceiveOu
 use Rattle.flume_calls.specs.ReceiveOutcomes.{AgainReceiveOutcome}
 
 module _ {T : Type 0} where
-  -- what a poll answers that waits on: none where a signal was given to it, to be woken by
+  -- what a poll answers that waits on: none if a signal was given to it, to be woken by
   abbrev pub waiting_answer : Bool → Option (Result T RecvError)
   waiting_answer true = None
   waiting_answer false = Some (Err NoMemory)
@@ -52,7 +52,7 @@ module _ {T S : Type 0} where
         → IsFirst next → IsntRefused next → FirstReceiveOutcome old new next
         → settles_receive false next after answer
         → ReceivePoll A kind call signal old new after answer
-    -- it isn't parked, and parks with the signal where it finds nothing
+    -- it isn't parked, and parks with the signal if it finds nothing
     Parks : (next : RecvNext T) → (given : S) → call ≡ None → signal ≡ Some given
         → Turned {A = A} (Recv kind) after_recv old new next → IsParking next
         → ParkReceiveOutcome kind given old new next

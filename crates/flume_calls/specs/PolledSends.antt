@@ -40,14 +40,14 @@ module _ {T : Type 0} where
   ticket_of Finished = None
 
 module _ {T S : Type 0} where
-  -- where the poll would wait
+  -- when the poll would wait
   abbrev pub send_waits : PolledSend T → State T S → Type 0
   send_waits (Unsent message) s = FindsNoRoom s
   send_waits (Parked ticket) s = IsHeldBack ticket s
   send_waits Finished s = ⊥
 
-  -- One poll of a send: how it stands before, the signal that is given to it, if one is, the states
-  -- before and after, how it stands after, and its answer.
+  -- One poll of a send: its state before, the signal that is given to it, if one is, the states
+  -- before and after, its state after, and its answer.
   pub data SendPoll (A : Type 0) (send : PolledSend T) (signal : Option S) (old new : State T S)
       (after : PolledSend T) (answer : Option (Result (Unit {0}) (SendError T))) : Type 0 where
     -- it has ended: nothing is done
@@ -58,13 +58,13 @@ module _ {T S : Type 0} where
         → Turned {A = A} (TrySend message) after_try_send old new next
         → IsFirst message next → FirstSendOutcome message old new next
         → settles_send next after answer → SendPoll A send signal old new after answer
-    -- it isn't sent, and blocks with the signal where it finds no room
+    -- it isn't sent, and blocks with the signal if it finds no room
     Parks : (message : T) → (next : SendNext T) → (given : S) → send ≡ Unsent message
         → signal ≡ Some given → Turned {A = A} (Send message) after_send old new next
         → IsParking message next → ParkSendOutcome A message given old new next
         → settles_send next after answer → SendPoll A send signal old new after answer
-    -- It is parked, and asks again. Where it is held back and has no signal to wait on with, it
-    -- takes its message back.
+    -- It is parked, and asks again. If it is held back and has no signal to wait on with, it takes
+    -- its message back.
     Asks : (late : Bool) → (ticket : ℕ) → (next : SendNext T) → send ≡ Parked ticket
         → (late ≡ true → (signal ≡ None) × IsHeldBack ticket old)
         → (late ≡ false → signal ≡ None → ¬ (IsHeldBack ticket old))

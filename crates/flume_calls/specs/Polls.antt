@@ -25,5 +25,5 @@ module _ {T S B : Type 0} (A : Type 0) (rings : B → ℕ → S → B → Type 0
     pub polled : polls between
     pub step : AtMostOneStep A old between
     pub rang : Rings rings between bell new rung
-    -- the rings are no steps
+    -- ringing makes no step
     pub stands : SameLogs A between new

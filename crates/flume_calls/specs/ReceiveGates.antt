@@ -7,7 +7,7 @@ use Rattle.flume_calls.specs.declared.calls.receive.RecvNext.TheVariants.{Done, 
 use Rattle.flume_calls.specs.declared.calls.receive.RecvNext.TheVariants.{Refused}
 
 module _ {T : Type 0} where
-  -- where memory ran out the receive withdraws: it ends with the message if one came
+  -- if memory ran out the receive withdraws: it ends with the message if one came
   abbrev pub got_or_no_memory : Result T RecvTimeoutError → Result T RecvTimeoutError
   got_or_no_memory (Ok message) = Ok message
   got_or_no_memory (Err error) = Err NoMemory
@@ -21,8 +21,8 @@ module _ {G T : Type 0} (agains : G → ℕ → Bool → G → RecvNext T → Ty
 module _ {G T : Type 0} (agains : G → ℕ → Bool → G → RecvNext T → Type 0)
     (waits : G → G → Bool → Type 0) where
   -- A parked receive, from its gate and its ticket to its gate at the end and its result. It asks,
-  -- and waits where it is to wait on; only where the waiting says that the deadline is reached, or
-  -- where memory ran out, it asks as at its deadline.
+  -- and waits if it is to wait on; only if the waiting says that the deadline is reached, or if
+  -- memory ran out, it asks as at its deadline.
   pub data ParkedReceive : G → ℕ → G → Result T RecvTimeoutError → Type 0 where
     -- the turn ended the call
     Asked : {old new : G} {ticket : ℕ} {result : Result T RecvTimeoutError}

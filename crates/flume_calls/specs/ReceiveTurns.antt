@@ -60,7 +60,7 @@ module _ {T : Type 0} where
   IsNone (Done (Err error)) = Unit {0}
   IsNone _ = ⊥
 
-  -- the step of a parked receive's turn: where its deadline is reached, it leaves
+  -- the step of a parked receive's turn: if its deadline is reached, it leaves
   abbrev pub step_of_parked_receive : ℕ → Bool → Step T
   step_of_parked_receive ticket false = Poll ticket
   step_of_parked_receive ticket true = Withdraw ticket

@@ -1,4 +1,4 @@
--- Telling all who are due of it: one ring of a bell for each.
+-- Notifying the owners of all tickets that are due: the bell rings once for each.
 use Rattle.std.specs.Prelude.{◌≡◌, ℕ, Some, map}
 use Rattle.std.specs.Option.{option_map}
 use Rattle.std.specs.FinMap.{get}

@@ -12,8 +12,8 @@ abbrev pub next_arm : (count arm : ℕ) → ℕ
 next_arm count arm = if arm + 1 == count then 0 else arm + 1
 
 module _ {G : Type 0} (turns : G → ℕ → G → ArmNext → Type 0) (count start : ℕ) where
-  -- from a gate to the gate after so many turns, with the arm that comes next: one turn of each arm
-  -- in cyclic order, from the start arm on, and each of them waits
+  -- from a gate to the gate after this many turns, with the arm that comes next: one turn of each
+  -- arm in cyclic order, from the start arm on, and each of them waits
   pub data Waiting : G → (made next : ℕ) → G → Type 0 where
     NoTurn : {gate : G} → Waiting gate 0 start gate
     OneMore : {old between new : G} {made arm : ℕ} → Waiting old made arm between
@@ -29,13 +29,13 @@ module _ {G : Type 0} (turns : G → ℕ → G → ArmNext → Type 0) (count st
     Refused : {between : G} {before arm : ℕ} → before < count → Waiting old before arm between
         → turns between arm new ArmNext.NoMemory → IsRound old new (RoundEnd.NoMemory before)
 
--- where an arm completed in the round, this holds of it
+-- if an arm completed in the round, this holds of it
 abbrev pub IfCompleted : (ℕ → Type 0) → RoundEnd → Type 0
 IfCompleted holds (RoundEnd.Completed before arm) = holds arm
 IfCompleted holds _ = Unit {0}
 
 module _ {G : Type 0} (withdraws : G → ℕ → G → Type 0) (count start : ℕ) where
-  -- from a gate to the gate after withdrawals, with the arm that comes next: of so many arms, in
+  -- from a gate to the gate after withdrawals, with the arm that comes next: of this many arms, in
   -- cyclic order from the start arm on, each was withdrawn once, but the one that is spared
   pub data Withdraws (spared : Option ℕ) : G → (passed next : ℕ) → G → Type 0 where
     NoArm : {gate : G} → Withdraws spared gate 0 start gate
@@ -45,9 +45,9 @@ module _ {G : Type 0} (withdraws : G → ℕ → G → Type 0) (count start : �
     Spared : {old new : G} {passed arm : ℕ} → Withdraws spared old passed arm new
         → spared ≡ Some arm → Withdraws spared old (passed + 1) (next_arm count arm) new
 
-  -- How a selection ends after a round, of which so many arms are started: from the gate after the
-  -- round to the gate at the end, and the result. All that were started are withdrawn, but the one
-  -- that completed.
+  -- How a selection ends after a round, of which this many arms are started: from the gate after
+  -- the round to the gate at the end, and the result. All that were started are withdrawn, but the
+  -- one that completed.
   pub data Ends (started : ℕ) : RoundEnd → G → G → Result ℕ SelectError → Type 0 where
     Late : {old new : G} {next : ℕ} → Withdraws None old started next new
         → Ends started RoundEnd.AllWait old new (Err Timeout)
@@ -59,7 +59,7 @@ module _ {G : Type 0} (withdraws : G → ℕ → G → Type 0) (count start : �
 module _ {G : Type 0} (turns : G → ℕ → G → ArmNext → Type 0) (waits : G → G → Bool → Type 0)
     (withdraws : G → ℕ → G → Type 0) (count start : ℕ) where
   -- A selection whose arms are all started, from its gate to the gate at the end and the result. It
-  -- makes a round, and waits where all arms do; at the deadline it makes one more.
+  -- makes a round, and waits if all arms do; at the deadline it makes one more.
   pub data StartedSelection : G → G → Result ℕ SelectError → Type 0 where
     Ended : {old polled new : G} {round : RoundEnd} {result : Result ℕ SelectError}
         → IsRound turns count start old polled round → round ≢ RoundEnd.AllWait

@@ -8,8 +8,8 @@ use Rattle.flume_calls.specs.declared.calls.send.SendNext.TheVariants.{Done, Nee
 module _ {G T : Type 0} (agains : G → ℕ → Bool → G → SendNext T → Type 0)
     (waits : G → G → Bool → Type 0) where
   -- A parked send, from its gate and its ticket to its gate at the end and its result. It asks, and
-  -- waits where it is to wait on; only where the waiting says that the deadline is reached, it asks
-  -- at its deadline.
+  -- waits if it is to wait on; only if the waiting says that the deadline is reached, it asks at
+  -- its deadline.
   pub data ParkedSend : G → ℕ → G → Result (Unit {0}) (SendTimeoutError T) → Type 0 where
     -- the turn ended the call
     Asked : {old new : G} {ticket : ℕ} {result : Result (Unit {0}) (SendTimeoutError T)}

@@ -54,7 +54,7 @@ module _ {T : Type 0} where
   IsBack (Done (Err error)) = Unit {0}
   IsBack _ = ⊥
 
-  -- the step of a parked send's turn: where its deadline is reached, it takes its message back
+  -- the step of a parked send's turn: if its deadline is reached, it takes its message back
   abbrev pub step_of_parked_send : ℕ → Bool → Step T
   step_of_parked_send ticket false = PollSend ticket
   step_of_parked_send ticket true = WithdrawSend ticket

@@ -1,4 +1,4 @@
-//! Telling those who are due.
+//! Notifying the owners of the tickets that are due.
 ghost use Rattle.std.specs.Prelude.{◌≡◌, ◌≢◌, ℕ, Some, None};
 ghost use Rattle.flume_state.specs.Sends.{NoDueSend};
 ghost use Rattle.flume_state.specs.Receivers.{NoDueReceiver};
@@ -9,7 +9,7 @@ ghost use Rattle.flume_calls.specs.Rings.{Rings, NoneDueAnyMore};
 use flume_core::chan::Chan;
 use std::alloc::Allocator;
 
-/// What tells the owner of a signal that its ticket is due.
+/// Notifies the owner of a signal that its ticket is due.
 pub trait Bell<S> {
     // The bell before, the ticket, its signal, and the bell after.
     ghost rings: { Self → ℕ → S → Self → Type 0 };
@@ -20,7 +20,7 @@ pub trait Bell<S> {
 }
 
 /// Rings once for each ticket that is due, with the signal that it left last. Then none is due, and
-/// all else of the channel is as it was. No step of its own, and no memory.
+/// the rest of the channel is as it was. No step; doesn't allocate.
 ///
 /// ```
 /// let mut chan: Chan<u64, u64> = Chan::new(alloc, Some(0));
@@ -47,7 +47,6 @@ pub fn fire_due<T: Drop, S: Drop, A: Allocator + Copy, B: Bell<S>>(
     }
 }
 
-// One ring for a live ticket, with the signal that it left last.
 #[cold]
 #[inline(never)]
 fn ring_for<T: Drop, S: Drop, A: Allocator + Copy, B: Bell<S>>(

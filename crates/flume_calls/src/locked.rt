@@ -1,4 +1,4 @@
-//! What stands behind a channel's lock.
+//! What a channel's lock protects.
 ghost use Rattle.std.specs.Prelude.{◌≡◌, ◌↔◌, IsTrue, IsSome, None, length};
 ghost use Rattle.std.specs.Option.{option_copied, option_and_then};
 ghost use Rattle.flume_model.specs.Log.{opens};
@@ -22,9 +22,8 @@ use flume_core::facts::facts;
 use std::alloc::Allocator;
 use std::marker::Model;
 
-/// A channel that some run led to, and of which no ticket is due: so it stands behind a lock,
-/// between two calls. Each call is one turn, and then one ring of the bell for each ticket that
-/// its step made due.
+/// A channel as its lock protects it between two calls: some run led to it, and no ticket is due.
+/// Each call makes one turn, and then rings the bell once for each ticket that became due.
 ///
 /// ```
 /// let mut locked: Locked<u64, u64, Global> = Locked::new(rt.alloc(), Some(1));
@@ -54,7 +53,7 @@ impl<T, S, A: Allocator> Model for Locked<T, S, A> {
 }
 
 impl<T: Drop, S: Drop, A: Allocator + Copy> Locked<T, S, A> {
-    /// A new channel of this capacity: `None` holds any number of messages. Takes no memory.
+    /// A new channel of this capacity; `None` is unbounded. Doesn't allocate.
     #[inline(always)]
     pub fn new(alloc: A, capacity: Option<usize>) -> Self
         ensures state { result ≡ new_state (opens capacity 1) }
@@ -64,8 +63,8 @@ impl<T: Drop, S: Drop, A: Allocator + Copy> Locked<T, S, A> {
         }
     }
 
-    /// What holds of the channel whenever its lock is free. Once every receiver that was woken has
-    /// looked, nobody waits for what is there already (`rest`). Does nothing.
+    /// What holds of the channel whenever its lock is free. Once every woken receiver has looked,
+    /// nobody waits for what is there already (`rest`). Does nothing.
     pub fn facts(&self)
         ensures led { IsReachable A self.now }
         ensures facts { ChannelFacts self.now }
@@ -76,11 +75,10 @@ impl<T: Drop, S: Drop, A: Allocator + Copy> Locked<T, S, A> {
         facts(&self.chan);
     }
 
-    // What a call passes that doesn't park is `inline(always)`, here and in the turns, so that such
-    // a call is one piece of code. What is done once something is parked or due is out of line.
-    /// Makes the turn, and rings once for each ticket that is due then: so for each call that may
-    /// go on by it (`each_is_rung`), as one whose message was accepted, or a receiver that was
-    /// woken.
+    // What a call that doesn't park runs through is `inline(always)`, here and in the turns; what
+    // is done once something is parked or due is out of line.
+    /// Makes the turn, and rings once for each ticket that is due then: so for each call that can
+    /// go on, since its message was accepted or its receiver was woken (`each_is_rung`).
     #[inline(always)]
     pub fn make<C: Turn<T, S, A>, B: Bell<S>>(&mut self, turn: C, bell: &mut B) -> C::Answer
         ensures call { IsCall A B.rings (C.does turn) self.old bell.old self.new bell.new result }
@@ -92,8 +90,8 @@ impl<T: Drop, S: Drop, A: Allocator + Copy> Locked<T, S, A> {
         answer
     }
 
-    /// Whether no send is blocked and no receiver waits. Then no ticket becomes due by the next
-    /// step. It changes nothing, is no step, and takes no memory.
+    /// Whether no send is blocked and no receiver waits: then the next step makes no ticket due. No
+    /// step.
     ///
     /// ```
     /// let mut locked: Locked<u64, u64, Global> = Locked::new(rt.alloc(), Some(0));
@@ -110,8 +108,8 @@ impl<T: Drop, S: Drop, A: Allocator + Copy> Locked<T, S, A> {
         self.chan.blocked_len() == 0 && self.chan.waiting_len() == 0
     }
 
-    /// Makes a turn of at most one step, of a channel on which no send is blocked and no receiver
-    /// waits. No call may go on by it, so no bell is rung.
+    /// Makes a turn of at most one step, on a channel with no blocked send and no waiting receiver.
+    /// No other call can go on by it, so no bell is rung.
     ///
     /// ```
     /// let mut locked: Locked<u64, u64, Global> = Locked::new(rt.alloc(), None);
@@ -130,7 +128,7 @@ impl<T: Drop, S: Drop, A: Allocator + Copy> Locked<T, S, A> {
         made
     }
 
-    /// Whether a poll of the call would have to wait now. It changes nothing, and is no step.
+    /// Whether a poll of the call would have to wait now. No step.
     #[inline(always)]
     pub fn would_wait<P: Polled<T, S, A>>(&self, polled: &P) -> bool
         ensures waits { IsTrue result ↔ P.waits polled.now self.now }
@@ -138,21 +136,21 @@ impl<T: Drop, S: Drop, A: Allocator + Copy> Locked<T, S, A> {
         polled.would_wait(&self.chan)
     }
 
-    /// How many sends are blocked: `Chan::blocked_len`. It changes nothing, and is no step.
+    /// How many sends are blocked, as `Chan::blocked_len`.
     pub fn blocked_len(&self) -> usize
         ensures blocked { result ≡ length self.now.blocked }
     {
         self.chan.blocked_len()
     }
 
-    /// How many parked receivers wait: `Chan::waiting_len`. It changes nothing, and is no step.
+    /// How many parked receivers wait, as `Chan::waiting_len`.
     pub fn waiting_len(&self) -> usize
         ensures waiting { result ≡ waiting_count self.now.entries }
     {
         self.chan.waiting_len()
     }
 
-    /// The signal that the call left last, if it is parked. It changes nothing, and is no step.
+    /// The signal that the call left last, if it is parked. No step.
     #[inline(always)]
     pub fn parked_signal<P: Polled<T, S, A>>(&self, polled: &P) -> Option<&S>
         ensures signal { option_copied result
@@ -164,8 +162,7 @@ impl<T: Drop, S: Drop, A: Allocator + Copy> Locked<T, S, A> {
         }
     }
 
-    /// Polls the call, and rings once for each ticket that is due then: so for each call that may
-    /// go on by it.
+    /// Polls the call, and rings once for each ticket that is due then.
     #[inline(always)]
     pub fn poll<P: Polled<T, S, A>, B: Bell<S>>(
         &mut self,

@@ -12,14 +12,14 @@ pub use receive::PolledReceive;
 pub use send::PolledSend;
 use std::alloc::Allocator;
 
-/// A call on a channel of messages `T` and signals `S` that is polled until it ends. Who polls it
-/// looks first whether it would wait, and makes a signal only then: so a poll that ends at once
-/// needs neither a signal nor the memory for one.
+/// A call on a channel of messages `T` and signals `S` that is polled until it ends. Its owner asks
+/// first whether it would wait, and makes a signal only then: a poll that ends at once allocates
+/// none.
 pub trait Polled<T, S, A: Allocator> {
     /// What the call ends with.
     type Answer;
 
-    // If a poll would have to wait.
+    // When a poll would have to wait.
     ghost waits: { Self → State T S → Type 0 };
 
     // The call before, the signal that it is given, if any, the channel before and after, the call
@@ -29,20 +29,19 @@ pub trait Polled<T, S, A: Allocator> {
     // The ticket that it is parked under.
     ghost parked: { Self → Option ℕ };
 
-    /// The ticket that the call is parked under. `None`: it isn't parked. No memory.
+    /// The ticket under which the call is parked. `None`: it isn't parked.
     fn ticket(&self) -> Option<u64>
         ensures ticket { result ≡ parked self.now };
 
-    /// Whether a poll would have to wait now. It changes nothing, and is no step.
+    /// Whether a poll would have to wait now. No step.
     fn would_wait(&self, chan: &Chan<T, S, A>) -> bool
         ensures waits { IsTrue result ↔ waits self.now chan.now };
 
-    // The signal is taken from a place, and not handed over by value: an implementation of a
-    // trait's method with an `Option<S>` by value, if `S` is the trait's, is refused by the
-    // checker ("error[unsupported-theorem]: cannot give this method the clauses of its trait yet").
-    /// Polls the call, which takes the signal from where it is given. `None`: it waits, and the
-    /// signal was left in the very step that found nothing. Where it would wait and no signal is
-    /// given, since there was no memory for one, it ends with no memory.
+    // The signal is taken out of a place instead of passed by value, since the checker proves no
+    // clauses of a trait's method that has an `Option` of the trait's parameter by value.
+    /// Polls the call, which may take the signal out of `signal`. `None`: it waits, and the signal
+    /// was left in the step that found nothing. If it would wait and `signal` is `None`, since
+    /// there was no memory for one, it ends with `NoMemory`.
     fn poll(&mut self, chan: &mut Chan<T, S, A>, signal: &mut Option<S>) -> Option<Self::Answer>
         ensures row { polls self.old signal.old chan.old chan.new self.new result }
         ensures step { AtMostOneStep A chan.old chan.new }

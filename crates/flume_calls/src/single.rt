@@ -1,4 +1,4 @@
-//! The turns that are a call of their own: nobody waits for what they do.
+//! The turns that are a whole call: none waits.
 ghost use Rattle.flume_calls.specs.Turns.{Turned};
 ghost use Rattle.flume_calls.specs.Batches.{by_step};
 
@@ -126,7 +126,7 @@ impl<T: Drop, S: Drop, A: Allocator + Copy> Turn<T, S, A> for AskTruth {
     }
 }
 
-/// The query for the capacity: `None` of an unbounded channel.
+/// The query for the capacity; `None` if unbounded.
 #[derive(Clone, Copy, Drop)]
 pub struct AskCapacity;
 

@@ -1,20 +1,16 @@
 //! An end of a channel that is owned or borrowed.
 ghost use Rattle.std.specs.Prelude.{◌≡◌, ◌⊎◌};
-ghost use Rattle.flume.specs.Ends.{end_of};
+ghost use Rattle.flume.specs.OwnedEnds.{end_of};
 
 use std::alloc::AllocError;
 
-/// An end that a future, a sink or a stream owns, or borrows.
 #[derive(Drop)]
 pub(crate) enum OwnedOrRef<'a, E> {
-    /// Its own.
     Owned(E),
-    /// Somebody else's.
     Ref(&'a E),
 }
 
 impl<E> OwnedOrRef<'_, E> {
-    /// The end.
     #[inline(always)]
     pub(crate) fn get(&self) -> &E
         ensures end { result.now ≡ end_of self.now }
@@ -27,9 +23,9 @@ impl<E> OwnedOrRef<'_, E> {
 }
 
 impl<E: Clone> Clone for OwnedOrRef<'_, E> {
-    // One that is owned is cloned; of one that is borrowed it is the same.
-    ghost is_clone = { λ held copy.
-        (end_of copy ≡ end_of held) ⊎ E.is_clone (end_of held) (end_of copy) };
+    // An owned end is cloned, and a borrowed one is the same.
+    ghost is_clone = { λ end copy.
+        (end_of copy ≡ end_of end) ⊎ E.is_clone (end_of end) (end_of copy) };
 
     fn clone(&self) -> Result<Self, AllocError> {
         match self {

@@ -3,8 +3,8 @@ ghost use Rattle.std.specs.Prelude.{◌≡◌, ◌+◌, ◌<◌, ⊤, Result, No
 ghost use Rattle.futures.specs.Task.{Covers, Keeps};
 ghost use Rattle.futures.specs.Poll.{IfReady, OnPending};
 ghost use Rattle.flume.specs.CallSteps.{HasReplied, IsTerminated};
-ghost use Rattle.flume.specs.Ends.{end_of};
-ghost use Rattle.flume.specs.Polling.{answer_of};
+ghost use Rattle.flume.specs.OwnedEnds.{end_of};
+ghost use Rattle.flume.specs.LockedPolls.{answer_of};
 ghost use Rattle.flume.specs.ReceivePolls.{LeavesCall, HasPolledReceive, HasPolledMany};
 
 use crate::polled::owned_or_ref::OwnedOrRef;
@@ -21,11 +21,11 @@ use std::fmt;
 
 /// The next message, as a future: `Receiver::recv_async` and `Receiver::into_recv_async`. Ready
 /// with `Ok`: the message. With `Disconnected`: none is there, and all senders have been dropped.
-/// With `NoMemory`: none is there, and there was no memory to wait. Then it is as it was, parked or
-/// not, and polled again it tries again.
+/// With `NoMemory`: none is there, and there was no memory to wait; it is as it was, parked or not,
+/// and polled again it tries again.
 ///
-/// It can be polled after it was ready, and then asks for one message more. Dropped while it waits
-/// it takes nothing with it: a message that it was woken for is left to another receiver.
+/// Polled after it was ready, it asks for one message more. Dropped while it waits it takes nothing
+/// with it: a message that it was woken for is left to another receiver.
 pub struct RecvFut<'a, T, R: Waits, A: Allocator + Copy = Global> {
     receiver: OwnedOrRef<'a, Receiver<T, R, A>>,
     call: PolledReceive,
@@ -48,12 +48,6 @@ impl<T: Drop, R: Waits, A: Allocator + Copy> Receiver<T, R, A> {
     }
 
     /// The next message as a future that owns the receiver. Takes no memory.
-    ///
-    /// ```
-    /// let (tx, rx) = flume::on(rt).unbounded()?;
-    /// tx.send(42)?;
-    /// assert_eq!(rt; block_on(&rt, rx.into_recv_async())?, Ok(42));
-    /// ```
     pub fn into_recv_async<'a>(self) -> RecvFut<'a, T, R, A>
         ensures channel { end_of result.receiver ≡ self }
         ensures call { result.call ≡ record { kind = Kind.Plain; call = None } }
@@ -63,7 +57,6 @@ impl<T: Drop, R: Waits, A: Allocator + Copy> Receiver<T, R, A> {
 }
 
 impl<'a, T: Drop, R: Waits, A: Allocator + Copy> RecvFut<'a, T, R, A> {
-    /// A receive of this kind, which hasn't been polled. Takes no memory.
     pub(crate) fn new(receiver: OwnedOrRef<'a, Receiver<T, R, A>>, kind: Kind) -> Self
         ensures receiver { result.receiver ≡ receiver.entry }
         ensures call { result.call ≡ record { kind = kind; call = None } }
@@ -75,7 +68,6 @@ impl<'a, T: Drop, R: Waits, A: Allocator + Copy> RecvFut<'a, T, R, A> {
         }
     }
 
-    /// The receiver that it receives from.
     #[inline(always)]
     pub(crate) fn receiver(&self) -> &Receiver<T, R, A>
         ensures receiver { result.now ≡ end_of self.now.receiver }
@@ -83,15 +75,14 @@ impl<'a, T: Drop, R: Waits, A: Allocator + Copy> RecvFut<'a, T, R, A> {
         self.receiver.get()
     }
 
-    /// The receiver that it receives from, as it has it.
-    pub(crate) fn held(&self) -> &OwnedOrRef<'a, Receiver<T, R, A>>
-        ensures held { result.now ≡ self.now.receiver }
+    pub(crate) fn owned_or_ref(&self) -> &OwnedOrRef<'a, Receiver<T, R, A>>
+        ensures end { result.now ≡ self.now.receiver }
     {
         &self.receiver
     }
 
-    /// Polls it, and if it gives a message takes what else is there, at most so many more, into
-    /// a list that has room for one. `None`: it waits.
+    // Polls it, and if it gives a message takes at most `more` others, into a list that has room
+    // for one. `None`: it waits.
     pub(crate) fn poll_many(
         &mut self,
         cx: &mut Context<'_>,
@@ -124,7 +115,7 @@ impl<'a, T: Drop, R: Waits, A: Allocator + Copy> RecvFut<'a, T, R, A> {
         self.receiver().is_empty()
     }
 
-    /// Whether the channel is bounded, and as many messages are queued as it holds.
+    /// Whether the channel is bounded, and as many messages are queued as its capacity.
     pub fn is_full(&self) -> bool
         ensures made { HasReplied {T = T} {A = A} Step.IsFull (Reply.Truth result) }
     {
@@ -138,7 +129,7 @@ impl<'a, T: Drop, R: Waits, A: Allocator + Copy> RecvFut<'a, T, R, A> {
         self.receiver().len()
     }
 
-    /// The capacity, or `None` if the channel is unbounded.
+    /// The capacity, or `None` if unbounded.
     pub fn capacity(&self) -> Option<usize>
         ensures made { HasReplied {T = T} {A = A} Step.Capacity (Reply.Capacity result) }
     {
@@ -157,13 +148,10 @@ impl<'a, T: Drop, R: Waits, A: Allocator + Copy> RecvFut<'a, T, R, A> {
 impl<T: Drop, R: Waits, A: Allocator + Copy> Future for RecvFut<'_, T, R, A> {
     type Output = Result<T, RecvError>;
 
-    // It may be polled in any state, also after it was ready.
     ghost can_poll = { λ _. ⊤ };
 
-    // Which answer comes isn't known here.
     ghost gives = { λ _ _. ⊤ };
 
-    // It waits for what its own signal is fired by: the next message for it, or the closing.
     ghost needs = { λ future source. source ≡ future.task.source.id };
 
     #[inline(always)]

@@ -5,9 +5,9 @@ ghost use Rattle.futures.specs.Poll.{IfReady, OnPending};
 ghost use Rattle.flume_calls.specs.declared.polled.send.PolledSend.TheVariants.{Finished, Unsent};
 ghost use Rattle.flume_calls.specs.declared.polled.send.PolledSend.TheVariants.{Parked};
 ghost use Rattle.flume.specs.CallSteps.{HasReplied};
-ghost use Rattle.flume.specs.Ends.{end_of};
+ghost use Rattle.flume.specs.OwnedEnds.{end_of};
 ghost use Rattle.flume.specs.ManySendCalls.{PollLeaves};
-ghost use Rattle.flume.specs.Polling.{answer_of};
+ghost use Rattle.flume.specs.LockedPolls.{answer_of};
 ghost use Rattle.flume.specs.SendPolls.{HasPolledSend};
 
 use crate::polled::owned_or_ref::OwnedOrRef;
@@ -24,9 +24,10 @@ use std::collections::VecDeque;
 use std::fmt;
 use std::mem::replace;
 
-/// A send, as a future: `Sender::send_async` and `Sender::into_send_async`. Ready with `Ok`: the
-/// message was taken in. With `Disconnected`: all receivers have been dropped, and it wasn't. With
-/// `NoMemory`: there was no room for it, or no memory to wait. Both errors give the message back.
+/// A send, as a future: `Sender::send_async` and `Sender::into_send_async`. Nothing is sent until
+/// it is polled. Ready with `Ok`: the message was taken in. With `Disconnected`: all receivers have
+/// been dropped, and it wasn't. With `NoMemory`: there was no room for it, or no memory to wait.
+/// Both errors give the message back.
 ///
 /// After it was ready it answers `Ok`, and does nothing. Dropped while it waits it takes its
 /// message back, and drops it.
@@ -37,8 +38,7 @@ pub struct SendFut<'a, T, R: Waits, A: Allocator + Copy = Global> {
 }
 
 impl<T: Drop, R: Waits, A: Allocator + Copy> Sender<T, R, A> {
-    /// Sends a message as a future, which borrows the sender. Nothing is sent until it is polled.
-    /// Takes no memory.
+    /// Sends a message as a future, which borrows the sender. Takes no memory.
     ///
     /// ```
     /// let (tx, rx) = flume::on(rt).unbounded()?;
@@ -52,14 +52,7 @@ impl<T: Drop, R: Waits, A: Allocator + Copy> Sender<T, R, A> {
         SendFut::new(OwnedOrRef::Ref(self), PolledSend::Unsent(message))
     }
 
-    /// Sends a message as a future that owns the sender. Nothing is sent until it is polled. Takes
-    /// no memory.
-    ///
-    /// ```
-    /// let (tx, rx) = flume::on(rt).unbounded()?;
-    /// assert_eq!(rt; block_on(&rt, tx.into_send_async(42))?, Ok(()));
-    /// assert_eq!(rt; rx.recv(), Ok(42));
-    /// ```
+    /// Sends a message as a future that owns the sender. Takes no memory.
     pub fn into_send_async<'a>(self, message: T) -> SendFut<'a, T, R, A>
         ensures channel { end_of result.sender ≡ self }
         ensures message { result.send ≡ PolledSend.Unsent message }
@@ -69,7 +62,6 @@ impl<T: Drop, R: Waits, A: Allocator + Copy> Sender<T, R, A> {
 }
 
 impl<'a, T: Drop, R: Waits, A: Allocator + Copy> SendFut<'a, T, R, A> {
-    /// A send that stands so, and hasn't been polled. Takes no memory.
     pub(crate) fn new(sender: OwnedOrRef<'a, Sender<T, R, A>>, send: PolledSend<T>) -> Self
         ensures sender { result.sender ≡ sender.entry }
         ensures send { result.send ≡ send }
@@ -81,7 +73,6 @@ impl<'a, T: Drop, R: Waits, A: Allocator + Copy> SendFut<'a, T, R, A> {
         }
     }
 
-    /// The sender that it sends by.
     #[inline(always)]
     pub(crate) fn sender(&self) -> &Sender<T, R, A>
         ensures sender { result.now ≡ end_of self.now.sender }
@@ -89,15 +80,14 @@ impl<'a, T: Drop, R: Waits, A: Allocator + Copy> SendFut<'a, T, R, A> {
         self.sender.get()
     }
 
-    /// The sender that it sends by, as it has it.
-    pub(crate) fn held(&self) -> &OwnedOrRef<'a, Sender<T, R, A>>
-        ensures held { result.now ≡ self.now.sender }
+    pub(crate) fn owned_or_ref(&self) -> &OwnedOrRef<'a, Sender<T, R, A>>
+        ensures end { result.now ≡ self.now.sender }
     {
         &self.sender
     }
 
-    /// Sends this message next. One that it holds, or that is blocked, is dropped; one that was
-    /// taken in is sent.
+    // Sends this message next. One that it holds, or that is blocked, is dropped; one that was
+    // taken in is sent.
     pub(crate) fn restart(&mut self, message: T)
         ensures send { self.new.send ≡ PolledSend.Unsent message }
         ensures sender { self.new.sender ≡ self.old.sender }
@@ -108,9 +98,9 @@ impl<'a, T: Drop, R: Waits, A: Allocator + Copy> SendFut<'a, T, R, A> {
         self.send = PolledSend::Unsent(message);
     }
 
-    /// Polls it, and once it has ended well sends the messages, as many as the channel takes in. It
-    /// goes on with the first that finds no room. What isn't sent stays in the list. `None`: it
-    /// waits.
+    // Polls it, and once it has ended well sends the messages, as many as the channel takes in. It
+    // goes on with the first that finds no room. What isn't sent stays in the list. `None`: it
+    // waits.
     pub(crate) fn poll_sends(
         &mut self,
         cx: &mut Context<'_>,
@@ -146,7 +136,7 @@ impl<'a, T: Drop, R: Waits, A: Allocator + Copy> SendFut<'a, T, R, A> {
         self.sender().is_empty()
     }
 
-    /// Whether the channel is bounded, and as many messages are queued as it holds.
+    /// Whether the channel is bounded, and as many messages are queued as its capacity.
     pub fn is_full(&self) -> bool
         ensures made { HasReplied {T = T} {A = A} Step.IsFull (Reply.Truth result) }
     {
@@ -160,7 +150,7 @@ impl<'a, T: Drop, R: Waits, A: Allocator + Copy> SendFut<'a, T, R, A> {
         self.sender().len()
     }
 
-    /// The capacity, or `None` if the channel is unbounded.
+    /// The capacity, or `None` if unbounded.
     pub fn capacity(&self) -> Option<usize>
         ensures made { HasReplied {T = T} {A = A} Step.Capacity (Reply.Capacity result) }
     {
@@ -178,14 +168,12 @@ impl<'a, T: Drop, R: Waits, A: Allocator + Copy> SendFut<'a, T, R, A> {
 impl<T: Drop, R: Waits, A: Allocator + Copy> Future for SendFut<'_, T, R, A> {
     type Output = Result<(), SendError<T>>;
 
-    // It may be polled in any state.
     ghost can_poll = { λ _. ⊤ };
 
-    // Once it was ready it gives `Ok`. Before, any answer may come: what comes back after it parked
-    // came through the lock, of which no contract knows. `poll` says more of what never parked.
+    // Before it was ready any answer may come: what comes back after it parked came through the
+    // lock, of which no contract knows. `poll` says more of what never parked.
     ghost gives = { λ future answer. future.send ≡ Finished → answer ≡ Ok tt };
 
-    // It waits for what its own signal is fired by: room for its message, or the closing.
     ghost needs = { λ future source. source ≡ future.task.source.id };
 
     #[inline(always)]

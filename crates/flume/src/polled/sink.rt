@@ -5,14 +5,14 @@ ghost use Rattle.futures.specs.Poll.{IfReady, OnPending};
 ghost use Rattle.futures.specs.Sent.{UnlessFailed};
 ghost use Rattle.flume_calls.specs.declared.polled.send.PolledSend.TheVariants.{Finished, Parked};
 ghost use Rattle.flume.specs.CallSteps.{HasReplied};
-ghost use Rattle.flume.specs.Ends.{end_of};
+ghost use Rattle.flume.specs.OwnedEnds.{end_of};
 ghost use Rattle.flume.specs.ManySendCalls.{IsEndOf, PollLeaves};
-ghost use Rattle.flume.specs.Polling.{answer_of};
+ghost use Rattle.flume.specs.LockedPolls.{answer_of};
 ghost use Rattle.flume.specs.SendPolls.{IsPollOfSend};
 
+use crate::polled::many::is_sent;
 use crate::polled::owned_or_ref::OwnedOrRef;
 use crate::polled::send::SendFut;
-use crate::polled::sends::is_sent;
 use crate::sender::Sender;
 use crate::shared::Waits;
 use flume_calls::polled::PolledSend;
@@ -48,12 +48,6 @@ impl<T: Drop, R: Waits, A: Allocator + Copy> Sender<T, R, A> {
     }
 
     /// The sender as a sink that owns it. Takes no memory.
-    ///
-    /// ```
-    /// let (tx, rx) = flume::on(rt).unbounded()?;
-    /// let _sink = block_on(&rt, tx.into_sink().send(42))?;
-    /// assert_eq!(rt; rx.recv(), Ok(42));
-    /// ```
     pub fn into_sink<'a>(self) -> SendSink<'a, T, R, A>
         ensures channel { end_of result.kept.sender ≡ self }
         ensures nothing_kept { result.kept.send ≡ PolledSend.Finished }
@@ -63,7 +57,6 @@ impl<T: Drop, R: Waits, A: Allocator + Copy> Sender<T, R, A> {
 }
 
 impl<'a, T: Drop, R: Waits, A: Allocator + Copy> SendSink<'a, T, R, A> {
-    /// A sink that sends by this sender, and keeps no message. Takes no memory.
     pub(crate) fn new(sender: OwnedOrRef<'a, Sender<T, R, A>>) -> Self
         ensures sender { result.kept.sender ≡ sender.entry }
         ensures finished { result.kept.send ≡ Finished }
@@ -73,11 +66,11 @@ impl<'a, T: Drop, R: Waits, A: Allocator + Copy> SendSink<'a, T, R, A> {
         }
     }
 
-    /// Polls for these messages to be sent, in order, from the front of the list on. As many as the
-    /// channel takes in are sent under one lock. If it is full the sink keeps the next one, and
-    /// that one blocks as one of `start_send` does; the poll is pending, and those behind it stay
-    /// in the list. A message that the sink keeps goes first. Ready with `Ok`: all are sent; the
-    /// list is empty, and without its room.
+    /// Polls for these messages to be sent, in order, from the front of the list on, behind one
+    /// that the sink keeps. As many as the channel takes in are sent under one lock. If it is full
+    /// the sink keeps the next one, which blocks as one of `start_send` does; the poll is pending,
+    /// and those behind it stay in the list. Ready with `Ok`: all are sent; the list is empty, and
+    /// without its room.
     ///
     /// The errors are those of `SendFut`. An error has the first message that wasn't sent: the one
     /// that the sink kept, or one of the list. Those behind it stay in the list, and the sink keeps
@@ -144,7 +137,7 @@ impl<'a, T: Drop, R: Waits, A: Allocator + Copy> SendSink<'a, T, R, A> {
         self.kept.is_empty()
     }
 
-    /// Whether the channel is bounded, and as many messages are queued as it holds.
+    /// Whether the channel is bounded, and as many messages are queued as its capacity.
     pub fn is_full(&self) -> bool
         ensures made { HasReplied {T = T} {A = A} Step.IsFull (Reply.Truth result) }
     {
@@ -158,7 +151,7 @@ impl<'a, T: Drop, R: Waits, A: Allocator + Copy> SendSink<'a, T, R, A> {
         self.kept.len()
     }
 
-    /// The capacity, or `None` if the channel is unbounded.
+    /// The capacity, or `None` if unbounded.
     pub fn capacity(&self) -> Option<usize>
         ensures made { HasReplied {T = T} {A = A} Step.Capacity (Reply.Capacity result) }
     {
@@ -176,13 +169,11 @@ impl<'a, T: Drop, R: Waits, A: Allocator + Copy> SendSink<'a, T, R, A> {
 impl<T: Drop, R: Waits, A: Allocator + Copy> Sink<T> for SendSink<'_, T, R, A> {
     type Error = SendError<T>;
 
-    // Nothing is kept: all that it was given was sent, or came back, or was dropped.
+    // All that it was given was sent, or came back, or was dropped.
     ghost is_flushed = { λ sink. sink.kept.send ≡ Finished };
 
-    // A close does no more than a flush.
     ghost is_closed = { λ sink. sink.kept.send ≡ Finished };
 
-    // It waits for what its own signal is fired by: room for its message, or the closing.
     ghost needs = { λ sink source. source ≡ sink.kept.task.source.id };
 
     fn poll_ready(&mut self, cx: &mut Context<'_>) -> Poll<Result<(), SendError<T>>>
@@ -246,7 +237,7 @@ impl<T: Drop, R: Waits, A: Allocator + Copy> Clone for SendSink<'_, T, R, A> {
         × (copy.kept.send ≡ Finished) };
 
     fn clone(&self) -> Result<Self, AllocError> {
-        Ok(SendSink::new(self.kept.held().clone()?))
+        Ok(SendSink::new(self.kept.owned_or_ref().clone()?))
     }
 }
 

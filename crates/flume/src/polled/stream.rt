@@ -7,9 +7,9 @@ ghost use Rattle.futures.specs.Poll.{IfReady, OnPending};
 ghost use Rattle.futures.specs.Runs.{After, Within};
 ghost use Rattle.flume_model.specs.declared.step.Kind.TheVariants.{Stream};
 ghost use Rattle.flume.specs.CallSteps.{HasReplied, IsTerminated};
-ghost use Rattle.flume.specs.Ends.{end_of};
-ghost use Rattle.flume.specs.ManyCalls.{Came};
-ghost use Rattle.flume.specs.Polling.{answer_of};
+ghost use Rattle.flume.specs.OwnedEnds.{end_of};
+ghost use Rattle.flume.specs.ManyReceiveCalls.{Appends};
+ghost use Rattle.flume.specs.LockedPolls.{answer_of};
 ghost use Rattle.flume.specs.ReceivePolls.{answer_of_item, LeavesCall};
 ghost use Rattle.flume.specs.ReceivePolls.{HasPolledReceive, HasPolledMany};
 
@@ -26,8 +26,8 @@ use std::fmt;
 use std::mem::replace;
 
 /// The messages of a receiver, one after the other, as a stream: `Receiver::stream` and
-/// `Receiver::into_stream`. `None`: none is there and all senders have been dropped, or, if
-/// `fault` says so, there was no memory to wait. After a `None` there may be more.
+/// `Receiver::into_stream`. `None`: none is there and all senders have been dropped, or, if `fault`
+/// says so, there was no memory to wait. After a `None` there may be more.
 #[derive(Drop)]
 pub struct RecvStream<'a, T, R: Waits, A: Allocator + Copy = Global> {
     next: RecvFut<'a, T, R, A>,
@@ -53,14 +53,6 @@ impl<T: Drop, R: Waits, A: Allocator + Copy> Receiver<T, R, A> {
     }
 
     /// The messages as a stream that owns the receiver. Takes no memory.
-    ///
-    /// ```
-    /// let (tx, rx) = flume::on(rt).unbounded()?;
-    /// tx.send(42)?;
-    /// drop(tx);
-    /// let messages = block_on(&rt, rx.into_stream().collect(rt.alloc()))??;
-    /// assert_eq!(rt; messages.first().copied(), Some(42));
-    /// ```
     pub fn into_stream<'a>(self) -> RecvStream<'a, T, R, A>
         ensures channel { end_of result.next.receiver ≡ self }
         ensures call { result.next.call ≡ record { kind = Kind.Stream; call = None } }
@@ -71,7 +63,6 @@ impl<T: Drop, R: Waits, A: Allocator + Copy> Receiver<T, R, A> {
 }
 
 impl<'a, T: Drop, R: Waits, A: Allocator + Copy> RecvStream<'a, T, R, A> {
-    /// A stream of this receiver's messages, which hasn't been polled. Takes no memory.
     pub(crate) fn new(receiver: OwnedOrRef<'a, Receiver<T, R, A>>) -> Self
         ensures receiver { result.next.receiver ≡ receiver.entry }
         ensures call { result.next.call ≡ record { kind = Kind.Stream; call = None } }
@@ -91,8 +82,7 @@ impl<'a, T: Drop, R: Waits, A: Allocator + Copy> RecvStream<'a, T, R, A> {
         self.fault
     }
 
-    /// The same as a `Result`, for a program that goes on by `?`: an error exactly if `fault` is
-    /// true.
+    /// An error if `fault` is true, for a program that goes on by `?`.
     pub fn ended(&self) -> Result<(), NoMemory>
         ensures no_memory { IsErr result ↔ self.now.fault ≡ true }
     {
@@ -104,9 +94,9 @@ impl<'a, T: Drop, R: Waits, A: Allocator + Copy> RecvStream<'a, T, R, A> {
     /// may be. With a `most` of 0 it is ready with 0, and looks for none.
     ///
     /// `Disconnected`: none is there, and all senders have been dropped. `NoMemory`: there was no
-    /// room for one message in `into`, or no memory to wait. Neither takes a message, and both
-    /// leave `into` as it was. If there is no memory for more room it takes as many as there is
-    /// room for, one at least. `fault` is true after it exactly if it answered `NoMemory`.
+    /// room for one message in `into`, or no memory to wait. Both leave `into` as it was, and take
+    /// no message. If there is no memory for more room it takes as many as there is room for, one
+    /// at least.
     ///
     /// ```
     /// let (tx, rx) = flume::on(rt).unbounded()?;
@@ -125,8 +115,8 @@ impl<'a, T: Drop, R: Waits, A: Allocator + Copy> RecvStream<'a, T, R, A> {
         into: &mut Vec<T, A>,
         most: usize,
     ) -> Poll<Result<usize, RecvError>>
-        ensures came { IfReady result (λ answer.
-            IfOk answer (Came most into.old.items into.new.items)) }
+        ensures appended { IfReady result (λ answer.
+            IfOk answer (Appends most into.old.items into.new.items)) }
         ensures unchanged { IfReady result (λ answer.
             OnErr answer (into.new.items ≡ into.old.items)) }
         ensures waits { OnPending result (into.new.items ≡ into.old.items) }
@@ -162,7 +152,6 @@ impl<'a, T: Drop, R: Waits, A: Allocator + Copy> RecvStream<'a, T, R, A> {
         Poll::Ready(answer)
     }
 
-    // The item that a receive's answer is, with a note of why there is none.
     #[inline(always)]
     fn item(&mut self, answer: Result<T, RecvError>) -> Option<T>
         ensures answer { answer_of_item (Poll.Ready result) self.new.fault ≡ Some answer }
@@ -193,7 +182,7 @@ impl<'a, T: Drop, R: Waits, A: Allocator + Copy> RecvStream<'a, T, R, A> {
         self.next.is_empty()
     }
 
-    /// Whether the channel is bounded, and as many messages are queued as it holds.
+    /// Whether the channel is bounded, and as many messages are queued as its capacity.
     pub fn is_full(&self) -> bool
         ensures made { HasReplied {T = T} {A = A} Step.IsFull (Reply.Truth result) }
     {
@@ -207,7 +196,7 @@ impl<'a, T: Drop, R: Waits, A: Allocator + Copy> RecvStream<'a, T, R, A> {
         self.next.len()
     }
 
-    /// The capacity, or `None` if the channel is unbounded.
+    /// The capacity, or `None` if unbounded.
     pub fn capacity(&self) -> Option<usize>
         ensures made { HasReplied {T = T} {A = A} Step.Capacity (Reply.Capacity result) }
     {
@@ -233,13 +222,10 @@ impl<'a, T: Drop, R: Waits, A: Allocator + Copy> RecvStream<'a, T, R, A> {
 impl<T: Drop, R: Waits, A: Allocator + Copy> Stream for RecvStream<'_, T, R, A> {
     type Item = T;
 
-    // It may be polled in any state, also after it ended.
     ghost can_poll = { λ _. ⊤ };
 
-    // Which messages come isn't known here.
     ghost yields = { λ _ _ _. ⊤ };
 
-    // It waits for what its own signal is fired by: the next message for it, or the closing.
     ghost needs = { λ stream source. source ≡ stream.next.task.source.id };
 
     #[inline(always)]
@@ -271,13 +257,12 @@ impl<T: Drop, R: Waits, A: Allocator + Copy> Stream for RecvStream<'_, T, R, A> 
 }
 
 impl<T: Drop, R: Waits, A: Allocator + Copy> Clone for RecvStream<'_, T, R, A> {
-    // A clone hasn't been polled.
     ghost is_clone = { λ stream copy.
         (end_of copy.next.receiver ≡ end_of stream.next.receiver)
         × (copy.next.call ≡ record { kind = Stream; call = None }) × (copy.fault ≡ false) };
 
     fn clone(&self) -> Result<Self, AllocError> {
-        Ok(RecvStream::new(self.next.held().clone()?))
+        Ok(RecvStream::new(self.next.owned_or_ref().clone()?))
     }
 }
 

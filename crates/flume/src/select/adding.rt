@@ -37,10 +37,10 @@ pub type WithSends<'a, V, L, T, F, R: Waits, A: Allocator + Copy> = Selector<
 >;
 
 impl<'a, V, L: Arms<V, A> + Drop, A: Allocator + Copy> Selector<'a, V, L, A> {
-    /// With one more arm for each receiver of the list, in its order, which receives a message: as
-    /// many arms as there are receivers, of which an empty list adds none. They share the mapper,
-    /// which gets the receiver's place in the list, from 0 on, and what the mapper of `recv` gets.
-    /// The channels have one type of messages and, with those of the arms before, one of runtimes.
+    /// Adds an arm for each receiver of the list, in its order, which receives a message. They
+    /// share the mapper, which gets the receiver's place in the list, from 0 on, and what the
+    /// mapper of `recv` gets. The channels have one type of messages and, with those of the arms
+    /// before, one of runtimes.
     ///
     /// `NoArm`: the list is empty, and no arm was added before. `NoMemory`: there was none for the
     /// list of arms. The selector is dropped then, and no arm was started.
@@ -81,15 +81,13 @@ impl<'a, V, L: Arms<V, A> + Drop, A: Allocator + Copy> Selector<'a, V, L, A> {
         Ok(self.with_each(arms, mapper, count, (rt, alloc)))
     }
 
-    /// With one more arm for each pair of the list, in its order, which sends the pair's message by
-    /// the pair's sender: as many arms as there are pairs, of which an empty list adds none. They
-    /// share the mapper, which gets the pair's place in the list, from 0 on, and what the mapper of
-    /// `send` gets. At most one of the arms completes, and of the messages of the others the same
-    /// holds as of the one of `send`. The channels have one type of messages and, with those of the
+    /// Adds an arm for each pair of the list, in its order, which sends the pair's message by the
+    /// pair's sender. They share the mapper, which gets the pair's place in the list, from 0 on,
+    /// and what the mapper of `send` gets. At most one of the arms completes; the messages of the
+    /// others go as that of `send`. The channels have one type of messages and, with those of the
     /// arms before, one of runtimes.
     ///
-    /// `NoArm`: the list is empty, and no arm was added before. `NoMemory`: there was none for the
-    /// list of arms. The selector and the messages are dropped then, and no arm was started.
+    /// `NoArm` and `NoMemory` as of `recv_each`; the messages are dropped too.
     ///
     /// ```
     /// let (one, _first) = flume::on(rt).bounded::<u64>(0)?;
@@ -129,13 +127,12 @@ impl<'a, V, L: Arms<V, A> + Drop, A: Allocator + Copy> Selector<'a, V, L, A> {
         Ok(self.with_each(arms, mapper, count, (rt, alloc)))
     }
 
-    // With the arms of a list; so many are there then.
     fn with_each<C: Drop, F: Drop, R: Waits>(
         self,
         arms: Vec<C, A>,
         mapper: F,
         count: NonZeroUsize,
-        home: (R, A),
+        channel: (R, A),
     ) -> Selector<'a, V, Each<L, C, F, R, A>, A>
         ensures before { result.arms.before ≡ self.entry.arms }
         ensures arms { result.arms.arms ≡ arms }
@@ -143,7 +140,7 @@ impl<'a, V, L: Arms<V, A> + Drop, A: Allocator + Copy> Selector<'a, V, L, A> {
         ensures count { result.arms.count ≡ count }
         ensures start { result.start ≡ self.entry.start }
     {
-        let (rt, alloc) = home;
+        let (rt, alloc) = channel;
         Selector {
             arms: Each {
                 before: self.arms,
@@ -161,7 +158,6 @@ impl<'a, V, L: Arms<V, A> + Drop, A: Allocator + Copy> Selector<'a, V, L, A> {
     }
 }
 
-// An arm for each receiver, none of which is started.
 fn receive_arms<'a, T: Drop, R: Waits, A: Allocator + Copy>(
     receivers: &'a [Receiver<T, R, A>],
     alloc: A,
@@ -178,7 +174,6 @@ fn receive_arms<'a, T: Drop, R: Waits, A: Allocator + Copy>(
     Ok(arms)
 }
 
-// An arm for each pair, none of which is started.
 fn send_arms<'a, T: Drop, R: Waits, A: Allocator + Copy>(
     sends: Vec<(&'a Sender<T, R, A>, T), A>,
     alloc: A,

@@ -10,12 +10,11 @@ use std::cmp::max;
 use std::sync::Arc;
 
 /// What a selection does to one of its arms, `SendArm` or `RecvArm`: its turns, and its withdrawal.
-/// Its channel takes memory from an `A`.
 pub trait ArmTurns<A: Allocator + Copy> {
-    /// The runtime of its channel.
+    /// Of its channel.
     type Runtime: Waits;
 
-    /// The mapper that it has, of its result alone; `()`, if it is one of a list.
+    /// Of its result alone; `()`, if the arm is one of a list.
     type Mapper;
 
     ghost mapper: { Self → Self.Mapper };
@@ -38,9 +37,9 @@ pub trait ArmTurns<A: Allocator + Copy> {
     /// How often a call on its channel checks for its wake before it sleeps.
     fn checks(&self) -> u32;
 
-    /// Its turn, which is one step of its channel: it is started, or polled if it was started
-    /// before. If it parks it leaves a copy of the parker, with its number. With no parker an
-    /// arm that isn't started is only tried: it stays so if it would have to wait.
+    /// One step of its channel: it is started, or polled if it was started before. If it parks it
+    /// leaves a copy of the parker, with its number. With no parker an arm that isn't started is
+    /// only tried: it stays so if it would have to wait.
     fn turn(&mut self, number: usize, parker: Option<&Arc<Parker, A>>) -> ArmNext
         ensures does { turns (is_some parker.entry) self.old result self.new }
         ensures completed { result ≡ ArmNext.Completed → has_completed self.new }
@@ -56,13 +55,12 @@ pub trait ArmTurns<A: Allocator + Copy> {
 
 /// One thing that a selector waits for, with the mapper of its result to a value.
 pub trait Arm<V, A: Allocator + Copy>: ArmTurns<A> {
-    // The mapper may be called on each result of the arm.
     ghost can_map: { Self.Mapper → Type 0 };
 
-    // The value is what the mapper answers to a result of the arm.
+    // To a result of the arm.
     ghost maps: { Self.Mapper → V → Type 0 };
 
-    // The value is what the mapper answers to the result that the arm holds.
+    // To the result that the arm holds.
     ghost answers: { Self → V → Type 0 };
 
     /// What its mapper answers to its result. `None`: it hasn't completed, and the mapper wasn't
@@ -76,17 +74,15 @@ pub trait Arm<V, A: Allocator + Copy>: ArmTurns<A> {
 
 /// An arm out of a list. Its mapper is one for all of the list, and gets the arm's place there too.
 pub trait ListedArm<V, F, A: Allocator + Copy>: ArmTurns<A> {
-    // The mapper may be called on each place and each result of an arm.
     ghost can_map: { F → Type 0 };
 
-    // The value is what the mapper answers at this place to a result of the arm.
+    // At this place, to a result of the arm.
     ghost maps: { F → ℕ → V → Type 0 };
 
-    // The value is what the mapper answers at this place to the result that the arm holds.
+    // At this place, to the result that the arm holds.
     ghost answers: { Self → F → ℕ → V → Type 0 };
 
-    /// What the mapper answers to its place and its result. `None`: it hasn't completed, and the
-    /// mapper wasn't called.
+    /// As `Arm::value`, with the arm's place.
     fn listed_value(self, place: usize, mapper: F) -> Option<V>
         requires can_map { can_map mapper }
         ensures completed { Self.has_completed self ↔ IsSome result }
@@ -102,23 +98,18 @@ pub trait Arms<V, A: Allocator + Copy> {
 
     ghost mappers: { Self → Self.Mappers };
 
-    // How many arms there are, by what their mappers say.
     ghost count: { Self.Mappers → ℕ };
 
-    // Each mapper may be called on each result of its arm.
     ghost can_map: { Self.Mappers → Type 0 };
 
-    // The value is what the mapper of the arm with this number answers to a result of the arm.
+    // What the mapper of the arm with this number answers to a result of the arm.
     ghost maps: { Self.Mappers → ℕ → V → Type 0 };
 
-    // The arm with this number has completed, and holds its result.
     ghost has_completed: { Self → ℕ → Type 0 };
 
-    // Whether the arm with this number may park, the arms before a turn of it, what that leads to,
-    // and the arms after.
+    // By the number of the arm, the rest as of one arm.
     ghost turns: { Bool → Self → ℕ → ArmNext → Self → Type 0 };
 
-    // The arms before the withdrawal of the arm with this number, and after.
     ghost withdraws: { Self → ℕ → Self → Type 0 };
 
     /// How many there are.
@@ -150,15 +141,14 @@ pub trait Arms<V, A: Allocator + Copy> {
 }
 
 /// A list of arms that can be waited for, since there is one. All their channels have one type of
-/// allocator, since the parker comes from one of them and a copy of it stands in each.
+/// allocator: the parker comes from one of them, and a copy of it stands in each.
 pub trait AtLeastOneArm<V, A: Allocator + Copy>: Arms<V, A> {
-    /// The runtime of the last arm's channel.
+    /// Of the last arm's channel.
     type Runtime: Waits;
 
-    /// The runtime of the last arm's channel.
+    /// Of the last arm's channel.
     fn runtime(&self) -> Self::Runtime;
 
-    /// Where the last arm's channel takes memory from.
     fn alloc(&self) -> A;
 
     /// How many arms there are.
@@ -215,7 +205,7 @@ impl<V, A: Allocator + Copy> Arms<V, A> for () {
 }
 
 impl<V, A: Allocator + Copy, L: Arms<V, A> + Drop, C: Arm<V, A> + Drop> Arms<V, A> for (L, C) {
-    ghost use Rattle.flume.specs.Selecting.{count_one_more, ByNumber};
+    ghost use Rattle.flume.specs.Selections.{count_one_more, ByNumber};
 
     type Mappers = (L::Mappers, C::Mapper);
 
@@ -235,11 +225,13 @@ impl<V, A: Allocator + Copy, L: Arms<V, A> + Drop, C: Arm<V, A> + Drop> Arms<V, 
     // The other arms are as they were.
     ghost turns = { λ parks old arm next new.
         ByNumber (L.count (L.mappers old.0))
-        (λ n. L.turns parks old.0 n next new.0 × (new.1 ≡ old.1)) (C.turns parks old.1 next new.1 × (new.0 ≡ old.0)) arm };
+        (λ n. L.turns parks old.0 n next new.0 × (new.1 ≡ old.1))
+        (C.turns parks old.1 next new.1 × (new.0 ≡ old.0)) arm };
 
     ghost withdraws = { λ old arm new.
         ByNumber (L.count (L.mappers old.0))
-        (λ n. L.withdraws old.0 n new.0 × (new.1 ≡ old.1)) (C.withdraws old.1 new.1 × (new.0 ≡ old.0)) arm };
+        (λ n. L.withdraws old.0 n new.0 × (new.1 ≡ old.1))
+        (C.withdraws old.1 new.1 × (new.0 ≡ old.0)) arm };
 
     fn count(&self) -> usize {
         self.0.count().saturating_add(1)

@@ -2,7 +2,7 @@
 ghost use Rattle.std.specs.Prelude.{◌≡◌, ◌<◌};
 ghost use Rattle.std.specs.NonZero.{non_zero_usize_get};
 ghost use Rattle.flume_calls.specs.declared.gates.select.ArmNext.TheVariants.{NoMemory};
-ghost use Rattle.flume.specs.ArmLists.{ByPlace, StandsAt, ChangesAt};
+ghost use Rattle.flume.specs.ArmLists.{ByPlace, HoldsAt, ChangesAt};
 
 use crate::select::arms::{Arms, ArmsOn, AtLeastOneArm, ListedArm};
 use crate::shared::Waits;
@@ -18,12 +18,11 @@ use std::sync::Arc;
 #[derive(Drop)]
 pub struct Each<L, C, F, R: Waits, A: Allocator + Copy = Global> {
     pub(crate) before: L,
-    // In the order of the list.
     pub(crate) arms: Vec<C, A>,
     pub(crate) mapper: F,
-    // How many arms there are, with those before.
+    // With those before.
     pub(crate) count: NonZeroUsize,
-    // The runtime of one arm's channel, and where that takes memory from.
+    // Of one arm's channel, as `alloc`.
     pub(crate) rt: R,
     pub(crate) alloc: A,
 }
@@ -47,7 +46,7 @@ where
 
     ghost has_completed = { λ list.
         ByPlace (L.count (L.mappers list.before)) (L.has_completed list.before)
-        (StandsAt C.has_completed list.arms.items) };
+        (HoldsAt C.has_completed list.arms.items) };
 
     ghost turns = { λ parks old arm next new.
         ByPlace (L.count (L.mappers old.before))

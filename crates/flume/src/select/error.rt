@@ -20,7 +20,6 @@ pub enum EachError {
 }
 
 impl EachError {
-    // What `{}` writes of it.
     fn text(&self) -> &'static str
         ensures text { result.now ≡ each_text self.now }
     {

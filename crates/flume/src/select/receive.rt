@@ -2,11 +2,11 @@
 ghost use Rattle.std.specs.Prelude.{◌≡◌, IsSome};
 ghost use Rattle.flume_calls.specs.declared.gates.select.ArmNext.{ArmNext};
 ghost use Rattle.flume.specs.declared.select.receive.ReceiveState.{ReceiveState};
-ghost use Rattle.flume.specs.ArmTurns.{EndsReceive, receive_result};
-ghost use Rattle.flume.specs.ArmTurns.{IsArmReceive, TakesReceive};
-ghost use Rattle.flume.specs.ArmSteps.{ReceiveTurn, ReceiveEnd, StartsReceive, PollsReceive};
-ghost use Rattle.flume.specs.ArmSteps.{TriesReceive, Leaves};
-ghost use Rattle.flume.specs.Selecting.{CanMap, Maps, MapsResult, CanMapEach, MapsEach};
+ghost use Rattle.flume.specs.ArmStates.{CompletesReceive, receive_result};
+ghost use Rattle.flume.specs.ArmStates.{IsArmReceive, IsAfterReceive};
+ghost use Rattle.flume.specs.ArmTurns.{ReceiveTurn, WithdrawsReceive, StartsReceive, PollsReceive};
+ghost use Rattle.flume.specs.ArmTurns.{TriesReceive, HasWithdrawnReceive};
+ghost use Rattle.flume.specs.Selections.{CanMap, Maps, MapsResult, CanMapEach, MapsEach};
 
 use crate::receiver::Receiver;
 use crate::select::arms::{Arm, ArmTurns, ListedArm};
@@ -21,17 +21,14 @@ use std::alloc::{Allocator, Global};
 use std::mem::replace;
 use std::sync::Arc;
 
-// How far a receive arm is.
 #[derive(Drop)]
 enum ReceiveState<T> {
-    // Not started.
     Unstarted,
-    // Parked.
     Parked(RecvCall),
-    // Completed, with the message; `None`: none is there, and the channel is closed.
+    // With the message; `None`: none is there, and the channel is closed.
     Completed(Option<T>),
     // Withdrawn, or refused because memory ran out.
-    Over,
+    Finished,
 }
 
 /// A receive, and what is to be made of its result: `Selector::recv`.
@@ -43,7 +40,6 @@ pub struct RecvArm<'a, T, F, R: Waits, A: Allocator + Copy = Global> {
 }
 
 impl<'a, T: Drop, F: Drop, R: Waits, A: Allocator + Copy> RecvArm<'a, T, F, R, A> {
-    /// An arm that isn't started. Takes no memory.
     pub(crate) fn new(receiver: &'a Receiver<T, R, A>, mapper: F) -> Self
         ensures channel { result.receiver.now ≡ receiver.now }
         ensures unstarted { result.state ≡ ReceiveState.Unstarted }
@@ -56,47 +52,44 @@ impl<'a, T: Drop, F: Drop, R: Waits, A: Allocator + Copy> RecvArm<'a, T, F, R, A
         }
     }
 
-    // Starts the arm. If it parks it leaves a copy of the parker, with its number.
     fn start(&mut self, number: usize, parker: &Arc<Parker, A>) -> ArmNext
         ensures does { StartsReceive A result self.new.state }
         ensures mapper { self.new.mapper ≡ self.old.mapper }
     {
         let Some(signal) = ArmSignal::new(parker, number) else {
-            self.state = ReceiveState::Over;
+            self.state = ReceiveState::Finished;
             return ArmNext::NoMemory;
         };
         let (kind, signal) = (Kind::Arm, Signal::Arm(signal));
         let shared = self.receiver.shared();
-        let (state, answer) = after(shared.call_cold(ParkReceive { kind, signal }));
+        let (state, answer) = next_state(shared.call_cold(ParkReceive { kind, signal }));
         self.state = state;
         answer
     }
 
-    // Tries the arm, which isn't started, and doesn't park it.
     fn attempt(&mut self) -> ArmNext
         ensures does { TriesReceive A result self.new.state }
         ensures mapper { self.new.mapper ≡ self.old.mapper }
     {
-        let (state, answer) = after(self.receiver.shared().call_cold(FirstReceive));
+        let (state, answer) = next_state(self.receiver.shared().call_cold(FirstReceive));
         self.state = state;
         answer
     }
 
-    // Polls the arm, which is parked.
     fn poll(&mut self, call: RecvCall) -> ArmNext
         ensures does { PollsReceive A call result self.new.state }
         ensures mapper { self.new.mapper ≡ self.old.mapper }
     {
         let (late, signal) = (false, None);
         let shared = self.receiver.shared();
-        let (state, answer) = after(shared.call_cold(AgainReceive { call, late, signal }));
+        let (state, answer) = next_state(shared.call_cold(AgainReceive { call, late, signal }));
         self.state = state;
         answer
     }
 
-    // Takes the arm, which is parked, out of its channel. A message that it gets so is dropped.
+    // A message that it gets so is dropped.
     fn leave(&self, call: RecvCall)
-        ensures leaves { Leaves T A call }
+        ensures withdrawn { HasWithdrawnReceive T A call }
     {
         let (late, signal) = (true, None);
         let shared = self.receiver.shared();
@@ -107,10 +100,9 @@ impl<'a, T: Drop, F: Drop, R: Waits, A: Allocator + Copy> RecvArm<'a, T, F, R, A
     }
 }
 
-// If a turn takes the arm.
-fn after<T: Drop>(next: RecvNext<T>) -> (ReceiveState<T>, ArmNext)
+fn next_state<T: Drop>(next: RecvNext<T>) -> (ReceiveState<T>, ArmNext)
     requires turn { IsArmReceive next }
-    ensures does { TakesReceive next result.1 result.0 }
+    ensures does { IsAfterReceive next result.1 result.0 }
 {
     match next {
         RecvNext::Park(call) => (ReceiveState::Parked(call), ArmNext::Waits),
@@ -119,7 +111,7 @@ fn after<T: Drop>(next: RecvNext<T>) -> (ReceiveState<T>, ArmNext)
             (ReceiveState::Completed(Some(message)), ArmNext::Completed)
         }
         RecvNext::Done(Err(Disconnected)) => (ReceiveState::Completed(None), ArmNext::Completed),
-        RecvNext::Done(Err(NoMemory)) => (ReceiveState::Over, ArmNext::NoMemory),
+        RecvNext::Done(Err(NoMemory)) => (ReceiveState::Finished, ArmNext::NoMemory),
         RecvNext::Done(Err(Timeout)) | RecvNext::Refused(_) => unreachable!(),
     }
 }
@@ -136,7 +128,8 @@ impl<'a, T: Drop, F: Drop, R: Waits, A: Allocator + Copy> ArmTurns<A> for RecvAr
     ghost turns = { λ parks old next new.
         ReceiveTurn A parks old.state next new.state × (new.mapper ≡ old.mapper) };
 
-    ghost withdraws = { λ old new. ReceiveEnd A old.state new.state × (new.mapper ≡ old.mapper) };
+    ghost withdraws = { λ old new.
+        WithdrawsReceive A old.state new.state × (new.mapper ≡ old.mapper) };
 
     fn runtime(&self) -> R {
         self.receiver.shared().rt
@@ -151,7 +144,7 @@ impl<'a, T: Drop, F: Drop, R: Waits, A: Allocator + Copy> ArmTurns<A> for RecvAr
     }
 
     fn turn(&mut self, number: usize, parker: Option<&Arc<Parker, A>>) -> ArmNext {
-        match replace(&mut self.state, ReceiveState::Over) {
+        match replace(&mut self.state, ReceiveState::Finished) {
             ReceiveState::Unstarted => match parker {
                 Some(parker) => self.start(number, parker),
                 None => self.attempt(),
@@ -161,12 +154,12 @@ impl<'a, T: Drop, F: Drop, R: Waits, A: Allocator + Copy> ArmTurns<A> for RecvAr
                 self.state = ReceiveState::Completed(message);
                 ArmNext::Completed
             }
-            ReceiveState::Over => ArmNext::NoMemory,
+            ReceiveState::Finished => ArmNext::NoMemory,
         }
     }
 
     fn withdraw(&mut self) {
-        match replace(&mut self.state, ReceiveState::Over) {
+        match replace(&mut self.state, ReceiveState::Finished) {
             ReceiveState::Parked(call) => self.leave(call),
             other => self.state = other,
         }
@@ -177,9 +170,9 @@ impl<'a, V, T: Drop, F, R: Waits, A: Allocator + Copy> Arm<V, A> for RecvArm<'a,
 where
     F: FnOnce(Result<T, RecvError>) -> V + Drop,
 {
-    ghost can_map = { CanMap F.pre EndsReceive };
+    ghost can_map = { CanMap F.pre CompletesReceive };
 
-    ghost maps = { Maps F.post EndsReceive };
+    ghost maps = { Maps F.post CompletesReceive };
 
     ghost answers = { λ arm. MapsResult F.post arm.mapper (receive_result arm.state) };
 
@@ -197,9 +190,9 @@ impl<V, T: Drop, F, R: Waits, A: Allocator + Copy> ListedArm<V, F, A> for RecvAr
 where
     F: FnOnce(usize, Result<T, RecvError>) -> V + Drop,
 {
-    ghost can_map = { CanMapEach F.pre EndsReceive };
+    ghost can_map = { CanMapEach F.pre CompletesReceive };
 
-    ghost maps = { MapsEach F.post EndsReceive };
+    ghost maps = { MapsEach F.post CompletesReceive };
 
     ghost answers = { λ arm mapper place. MapsResult (λ f. F.post f place) mapper
         (receive_result arm.state) };

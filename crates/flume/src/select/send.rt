@@ -2,11 +2,11 @@
 ghost use Rattle.std.specs.Prelude.{◌≡◌, IsSome};
 ghost use Rattle.flume_calls.specs.declared.gates.select.ArmNext.{ArmNext};
 ghost use Rattle.flume.specs.declared.select.send.SendState.{SendState};
-ghost use Rattle.flume.specs.ArmTurns.{EndsSend, send_result};
-ghost use Rattle.flume.specs.ArmTurns.{IsArmSend, TakesSend};
-ghost use Rattle.flume.specs.ArmSteps.{SendTurn, SendEnd, StartsSend, PollsSend, TakesBack};
-ghost use Rattle.flume.specs.ArmSteps.{TriesSend};
-ghost use Rattle.flume.specs.Selecting.{CanMap, Maps, MapsResult, CanMapEach, MapsEach};
+ghost use Rattle.flume.specs.ArmStates.{CompletesSend, send_result};
+ghost use Rattle.flume.specs.ArmStates.{IsArmSend, IsAfterSend};
+ghost use Rattle.flume.specs.ArmTurns.{SendTurn, WithdrawsSend, StartsSend, PollsSend};
+ghost use Rattle.flume.specs.ArmTurns.{TriesSend, HasWithdrawnSend};
+ghost use Rattle.flume.specs.Selections.{CanMap, Maps, MapsResult, CanMapEach, MapsEach};
 
 use crate::select::arms::{Arm, ArmTurns, ListedArm};
 use crate::sender::Sender;
@@ -20,17 +20,14 @@ use std::alloc::{Allocator, Global};
 use std::mem::replace;
 use std::sync::Arc;
 
-// How far a send arm is.
 #[derive(Drop)]
 enum SendState<T> {
-    // Not started, with its message.
     Unstarted(T),
-    // Parked.
     Parked(SendCall),
-    // Completed: the message was taken in, or comes back since the channel is closed.
+    // The message was taken in, or comes back since the channel is closed.
     Completed(Result<(), T>),
     // Withdrawn, or refused because memory ran out.
-    Over,
+    Finished,
 }
 
 /// A send of one message, and what is to be made of its result: `Selector::send`.
@@ -42,7 +39,6 @@ pub struct SendArm<'a, T, F, R: Waits, A: Allocator + Copy = Global> {
 }
 
 impl<'a, T: Drop, F: Drop, R: Waits, A: Allocator + Copy> SendArm<'a, T, F, R, A> {
-    /// An arm that isn't started. Takes no memory.
     pub(crate) fn new(sender: &'a Sender<T, R, A>, message: T, mapper: F) -> Self
         ensures channel { result.sender.now ≡ sender.now }
         ensures unstarted { result.state ≡ SendState.Unstarted message }
@@ -55,47 +51,43 @@ impl<'a, T: Drop, F: Drop, R: Waits, A: Allocator + Copy> SendArm<'a, T, F, R, A
         }
     }
 
-    // Starts the arm. If it parks it leaves a copy of the parker, with its number.
     fn start(&mut self, message: T, number: usize, parker: &Arc<Parker, A>) -> ArmNext
         ensures does { StartsSend A message result self.new.state }
         ensures mapper { self.new.mapper ≡ self.old.mapper }
     {
         let Some(signal) = ArmSignal::new(parker, number) else {
-            self.state = SendState::Over;
+            self.state = SendState::Finished;
             return ArmNext::NoMemory;
         };
         let signal = Signal::Arm(signal);
         let shared = self.sender.shared();
-        let (state, answer) = after(shared.call_cold(ParkSend { message, signal }));
+        let (state, answer) = next_state(shared.call_cold(ParkSend { message, signal }));
         self.state = state;
         answer
     }
 
-    // Tries the arm, which isn't started, and doesn't park it.
     fn attempt(&mut self, message: T) -> ArmNext
         ensures does { TriesSend A message result self.new.state }
         ensures mapper { self.new.mapper ≡ self.old.mapper }
     {
-        let (state, answer) = after(self.sender.shared().call_cold(FirstSend { message }));
+        let (state, answer) = next_state(self.sender.shared().call_cold(FirstSend { message }));
         self.state = state;
         answer
     }
 
-    // Polls the arm, which is parked.
     fn poll(&mut self, call: SendCall) -> ArmNext
         ensures does { PollsSend A call result self.new.state }
         ensures mapper { self.new.mapper ≡ self.old.mapper }
     {
         let (late, signal) = (false, None);
         let shared = self.sender.shared();
-        let (state, answer) = after(shared.call_cold(AgainSend { call, late, signal }));
+        let (state, answer) = next_state(shared.call_cold(AgainSend { call, late, signal }));
         self.state = state;
         answer
     }
 
-    // Takes the message of the arm, which is parked, out of its channel, and drops it.
     fn take_back(&self, call: SendCall)
-        ensures takes_back { TakesBack T A call }
+        ensures withdrawn { HasWithdrawnSend T A call }
     {
         let (late, signal) = (true, None);
         let shared = self.sender.shared();
@@ -106,10 +98,9 @@ impl<'a, T: Drop, F: Drop, R: Waits, A: Allocator + Copy> SendArm<'a, T, F, R, A
     }
 }
 
-// If a turn takes the arm.
-fn after<T: Drop>(next: SendNext<T>) -> (SendState<T>, ArmNext)
+fn next_state<T: Drop>(next: SendNext<T>) -> (SendState<T>, ArmNext)
     requires turn { IsArmSend next }
-    ensures does { TakesSend next result.1 result.0 }
+    ensures does { IsAfterSend next result.1 result.0 }
 {
     match next {
         SendNext::Park(call) => (SendState::Parked(call), ArmNext::Waits),
@@ -118,7 +109,7 @@ fn after<T: Drop>(next: SendNext<T>) -> (SendState<T>, ArmNext)
         SendNext::Done(Err(Disconnected(back))) => {
             (SendState::Completed(Err(back)), ArmNext::Completed)
         }
-        SendNext::Done(Err(NoMemory(_))) => (SendState::Over, ArmNext::NoMemory),
+        SendNext::Done(Err(NoMemory(_))) => (SendState::Finished, ArmNext::NoMemory),
         SendNext::Done(Err(Timeout(_))) => unreachable!(),
     }
 }
@@ -135,7 +126,8 @@ impl<'a, T: Drop, F: Drop, R: Waits, A: Allocator + Copy> ArmTurns<A> for SendAr
     ghost turns = { λ parks old next new.
         SendTurn A parks old.state next new.state × (new.mapper ≡ old.mapper) };
 
-    ghost withdraws = { λ old new. SendEnd A old.state new.state × (new.mapper ≡ old.mapper) };
+    ghost withdraws = { λ old new.
+        WithdrawsSend A old.state new.state × (new.mapper ≡ old.mapper) };
 
     fn runtime(&self) -> R {
         self.sender.shared().rt
@@ -150,7 +142,7 @@ impl<'a, T: Drop, F: Drop, R: Waits, A: Allocator + Copy> ArmTurns<A> for SendAr
     }
 
     fn turn(&mut self, number: usize, parker: Option<&Arc<Parker, A>>) -> ArmNext {
-        match replace(&mut self.state, SendState::Over) {
+        match replace(&mut self.state, SendState::Finished) {
             SendState::Unstarted(message) => match parker {
                 Some(parker) => self.start(message, number, parker),
                 None => self.attempt(message),
@@ -160,12 +152,12 @@ impl<'a, T: Drop, F: Drop, R: Waits, A: Allocator + Copy> ArmTurns<A> for SendAr
                 self.state = SendState::Completed(result);
                 ArmNext::Completed
             }
-            SendState::Over => ArmNext::NoMemory,
+            SendState::Finished => ArmNext::NoMemory,
         }
     }
 
     fn withdraw(&mut self) {
-        match replace(&mut self.state, SendState::Over) {
+        match replace(&mut self.state, SendState::Finished) {
             SendState::Parked(call) => self.take_back(call),
             other => self.state = other,
         }
@@ -176,9 +168,9 @@ impl<'a, V, T: Drop, F, R: Waits, A: Allocator + Copy> Arm<V, A> for SendArm<'a,
 where
     F: FnOnce(Result<(), SendError<T>>) -> V + Drop,
 {
-    ghost can_map = { CanMap F.pre EndsSend };
+    ghost can_map = { CanMap F.pre CompletesSend };
 
-    ghost maps = { Maps F.post EndsSend };
+    ghost maps = { Maps F.post CompletesSend };
 
     ghost answers = { λ arm. MapsResult F.post arm.mapper (send_result arm.state) };
 
@@ -196,9 +188,9 @@ impl<V, T: Drop, F, R: Waits, A: Allocator + Copy> ListedArm<V, F, A> for SendAr
 where
     F: FnOnce(usize, Result<(), SendError<T>>) -> V + Drop,
 {
-    ghost can_map = { CanMapEach F.pre EndsSend };
+    ghost can_map = { CanMapEach F.pre CompletesSend };
 
-    ghost maps = { MapsEach F.post EndsSend };
+    ghost maps = { MapsEach F.post CompletesSend };
 
     ghost answers = { λ arm mapper place. MapsResult (λ f. F.post f place) mapper
         (send_result arm.state) };

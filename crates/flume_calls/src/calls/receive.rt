@@ -15,8 +15,8 @@ use flume_model::step::{Kind, Reply, Step};
 use std::alloc::Allocator;
 use std::marker::Model;
 
-/// A receive that is parked, under its ticket. Each turn of it is one step of the channel, and says
-/// what comes next; who makes the turns waits between them.
+/// A parked receive, under its ticket. Each turn is one step of the channel, and says what comes
+/// next; the caller waits between turns.
 #[derive(Drop)]
 pub struct RecvCall {
     ticket: u64,
@@ -39,13 +39,13 @@ pub enum RecvNext<T> {
     NeedSignal,
     /// The call is parked.
     Park(RecvCall),
-    /// Memory was wanted, and there was none; the call is parked as before. No turn of a `Chan`
-    /// answers so: it is for a gate over another channel, of which the abstract channel allows it.
+    /// Out of memory; the call is parked as before. No turn of a `Chan` answers this: it is for a
+    /// gate over another channel, as the abstract channel allows it.
     Refused(RecvCall),
 }
 
 impl RecvCall {
-    /// The ticket that it is parked under. No memory.
+    /// The ticket under which it is parked.
     #[inline(always)]
     pub fn ticket(&self) -> u64
         ensures ticket { result ≡ self.now }
@@ -53,10 +53,10 @@ impl RecvCall {
         self.ticket
     }
 
-    /// The first turn: asks for the message at the front, and doesn't park. `Done(Ok)`: the
-    /// message. `NeedSignal`: there is none, and the channel is open. `Done(Err(Disconnected))`:
-    /// there is none, and the channel is closed. The last two leave the channel as it was. Never
-    /// `NoMemory`: no memory is needed. The step is `Chan::try_recv`.
+    /// The first turn, `Chan::try_recv`: asks for the message at the front, and doesn't park.
+    /// `Done(Ok)`: the message. `NeedSignal`: there is none, and the channel is open.
+    /// `Done(Err(Disconnected))`: there is none, and the channel is closed. The last two leave the
+    /// channel as it was. Doesn't allocate.
     ///
     /// ```
     /// let mut chan: Chan<u64, u32> = Chan::new(alloc, None);
@@ -74,12 +74,11 @@ impl RecvCall {
         FirstReceive.apply(chan)
     }
 
-    /// The turn that may park: asks for the message at the front, with a kind and a signal for the
-    /// case that there is none. `Done(Ok)`: the message. `Park`: a receiver of this kind waits
+    /// The turn that may park, `Chan::recv`: asks for the message at the front, with a kind and a
+    /// signal in case there is none. `Done(Ok)`: the message. `Park`: a receiver of this kind waits
     /// behind all others, under the call's ticket and with the signal. `Done(Err(Disconnected))`:
     /// no message is left, and the channel is closed. `Done(Err(NoMemory))`: there was no room to
-    /// park, or every ticket was issued. Both errors leave the channel as it was. Never
-    /// `NeedSignal`. The step is `Chan::recv`.
+    /// park, or every ticket was issued. Both errors leave the channel as it was.
     ///
     /// ```
     /// let mut chan: Chan<u64, u32> = Chan::new(alloc, None);
@@ -97,14 +96,13 @@ impl RecvCall {
         ParkReceive { kind, signal }.apply(chan)
     }
 
-    /// A later turn; `late` says that the deadline is reached. `Done(Ok)`: the message that filled
-    /// it, or else the front: before the deadline if it doesn't block or was woken, at the
-    /// deadline if it blocks. `Park`: it waits on, and isn't late; a signal given here replaces
-    /// the one that the call left. `Done(Err(Disconnected))`: no message for it, and the channel is
-    /// closed, or the ticket is spent. `Done(Err(Timeout))`: late, no message for it, and the
-    /// channel is open. A wake that it had is passed on by either error if late. After all but
-    /// `Park` the ticket is spent. Never `Refused` and never `NoMemory`: no memory is needed. The
-    /// step is `Chan::poll`, or if late `Chan::withdraw`.
+    /// A later turn: `Chan::poll`, or `Chan::withdraw` if `late` says that the deadline is reached.
+    /// `Done(Ok)`: the message that filled it, or else the front: before the deadline if it doesn't
+    /// block or was woken, at the deadline if it blocks. `Park`: not late, and it waits on; a
+    /// signal given here replaces the one that the call left. `Done(Err(Disconnected))`: no message
+    /// for it, and the channel is closed, or the ticket is spent. `Done(Err(Timeout))`: late, no
+    /// message for it, and the channel is open. Either error, if late, passes on a wake that it
+    /// had. All but `Park` spend the ticket. Doesn't allocate.
     ///
     /// ```
     /// let mut chan: Chan<u64, u32> = Chan::new(alloc, None);
@@ -212,9 +210,9 @@ impl<T: Drop, S: Drop, A: Allocator + Copy> Turn<T, S, A> for AgainReceive<S> {
 
     ghost answers = { λ turn next. IsAgain turn.call turn.late next × IsntRefused next };
 
-    // A ticket that the channel doesn't know ends the receive as a closed channel does. A call
-    // keeps its ticket until it is spent, so this happens only to a call that is asked of another
-    // channel than the one in which it parked.
+    // A call keeps its ticket until it is spent, so an unknown ticket comes only of a call that is
+    // asked of another channel than the one in which it parked. It ends the receive as a closed
+    // channel does.
     fn apply(self, chan: &mut Chan<T, S, A>) -> RecvNext<T> {
         let AgainReceive { call, late, signal } = self;
         if late {

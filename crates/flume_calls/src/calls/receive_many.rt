@@ -144,7 +144,6 @@ where
     }
 }
 
-// The message that a turn of a receive gave. `Err`: what the turn says if it gave none.
 fn message_of<T: Drop>(turn: RecvNext<T>) -> Result<T, RecvNext<usize>>
     ensures message { IfOk result (λ message. turn ≡ RecvNext.Done (Ok message)) }
     ensures none { IfErr result (λ next. (given turn ≡ []) × (next ≡ with_more 0 turn)) }
@@ -158,8 +157,7 @@ fn message_of<T: Drop>(turn: RecvNext<T>) -> Result<T, RecvNext<usize>>
     }
 }
 
-// Takes what is there, at most so many: all of it if there is room in the list or memory for
-// more, and else as many as there is room for.
+// Takes what is there, at most `more`: as many as there is room for, if the list can't grow.
 fn take_more<T: Drop, S: Drop, A: Allocator + Copy>(
     chan: &mut Chan<T, S, A>,
     into: &mut Vec<T, A>,
@@ -180,7 +178,6 @@ fn take_more<T: Drop, S: Drop, A: Allocator + Copy>(
     count
 }
 
-// Takes so many messages, which are there, into a list that has room for them.
 fn take_each<T: Drop, S: Drop, A: Allocator + Copy>(
     chan: &mut Chan<T, S, A>,
     into: &mut Vec<T, A>,

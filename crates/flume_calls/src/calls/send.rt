@@ -15,8 +15,8 @@ use flume_model::step::{Reply, Step};
 use std::alloc::Allocator;
 use std::marker::Model;
 
-/// A send that is parked, under its ticket. Each turn of it is one step of the channel, and says
-/// what comes next; who makes the turns waits between them.
+/// A parked send, under its ticket. Each turn is one step of the channel, and says what comes next;
+/// the caller waits between turns.
 #[derive(Drop)]
 pub struct SendCall {
     ticket: u64,
@@ -42,7 +42,7 @@ pub enum SendNext<T> {
 }
 
 impl SendCall {
-    /// The ticket that it is parked under. No memory.
+    /// The ticket under which it is parked.
     #[inline(always)]
     pub fn ticket(&self) -> u64
         ensures ticket { result ≡ self.now }
@@ -50,11 +50,10 @@ impl SendCall {
         self.ticket
     }
 
-    /// The first turn: offers the message, and doesn't park. `Done(Ok)`: it was taken in.
-    /// `NeedSignal`: the channel is full; the message comes back, for `park`.
+    /// The first turn, `Chan::try_send`: offers the message, and doesn't park. `Done(Ok)`: it was
+    /// taken in. `NeedSignal`: the channel is full; the message comes back, for `park`.
     /// `Done(Err(Disconnected))`: the channel is closed. `Done(Err(NoMemory))`: the queue couldn't
-    /// grow. The last three hand the message back and leave the channel as it was. The step is
-    /// `Chan::try_send`.
+    /// grow. The last three hand the message back and leave the channel as it was.
     ///
     /// ```
     /// let mut chan: Chan<u64, u32> = Chan::new(alloc, Some(1));
@@ -74,11 +73,11 @@ impl SendCall {
         FirstSend { message }.apply(chan)
     }
 
-    /// The turn that may park: offers the message, with a signal for the case that it blocks.
+    /// The turn that may park, `Chan::send`: offers the message, with a signal in case it blocks.
     /// `Done(Ok)`: it was taken in. `Park`: it is blocked, under the call's ticket and with the
     /// signal. `Done(Err(Disconnected))`: the channel is closed. `Done(Err(NoMemory))`: there was
     /// no room, or every ticket was issued. Both errors hand the message back and leave the channel
-    /// as it was. Never `NeedSignal`. The step is `Chan::send`.
+    /// as it was.
     ///
     /// ```
     /// let mut chan: Chan<u64, u32> = Chan::new(alloc, Some(0));
@@ -96,13 +95,12 @@ impl SendCall {
         ParkSend { message, signal }.apply(chan)
     }
 
-    /// A later turn; `late` says that the deadline is reached. `Done(Ok)`: the message was taken
-    /// in, whatever `late` says, or the ticket is spent. `Park`: still blocked, and not late; a
-    /// signal given here replaces the one that the call left. `Done(Err(Disconnected))`: still
-    /// blocked, and the channel is closed. `Done(Err(Timeout))`: still blocked in an open channel,
-    /// and late. Both errors hand back the message that was blocked, and the ticket is spent. Never
-    /// `NoMemory`: no memory is needed. The step is `Chan::poll_send`, or if late
-    /// `Chan::withdraw_send`.
+    /// A later turn: `Chan::poll_send`, or `Chan::withdraw_send` if `late` says that the deadline
+    /// is reached. `Done(Ok)`: the message was taken in, whatever `late` says, or the ticket is
+    /// spent. `Park`: still blocked, and not late; a signal given here replaces the one that the
+    /// call left. `Done(Err(Disconnected))`: still blocked, and the channel is closed.
+    /// `Done(Err(Timeout))`: still blocked in an open channel, and late. Both errors hand back the
+    /// message that was blocked, and spend the ticket. Doesn't allocate.
     ///
     /// ```
     /// let mut chan: Chan<u64, u32> = Chan::new(alloc, Some(0));
@@ -125,8 +123,8 @@ impl SendCall {
         AgainSend { call, late, signal }.apply(chan)
     }
 
-    /// Whether it is blocked, in an open channel: `again`, not late, answers `Park` then. It
-    /// changes nothing, is no step, and takes no memory.
+    /// Whether it is blocked, in an open channel: `again`, not late, answers `Park` then. No step;
+    /// doesn't allocate.
     #[inline(always)]
     pub fn would_wait<T: Drop, S: Drop, A: Allocator + Copy>(&self, chan: &Chan<T, S, A>) -> bool
         ensures waits { IsTrue result ↔ IsHeldBack self.now chan.now }
@@ -224,9 +222,9 @@ impl<T: Drop, S: Drop, A: Allocator + Copy> Turn<T, S, A> for AgainSend<S> {
 
     ghost answers = { λ turn. IsAgain turn.call turn.late };
 
-    // A ticket that the channel doesn't know ends the send with `Ok`: each error of a send hands
-    // its message back, and here there is none. A call keeps its ticket until it is spent, so this
-    // happens only to a call that is asked of another channel than the one in which it parked.
+    // A call keeps its ticket until it is spent, so an unknown ticket comes only of a call that is
+    // asked of another channel than the one in which it parked. It ends the send with `Ok`: each
+    // error of a send hands its message back, and here there is none.
     fn apply(self, chan: &mut Chan<T, S, A>) -> SendNext<T> {
         let AgainSend { call, late, signal } = self;
         if late {

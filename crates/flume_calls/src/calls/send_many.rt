@@ -10,12 +10,11 @@ use flume_model::step::Reply;
 use std::alloc::Allocator;
 use std::collections::VecDeque;
 
-/// The first turns of the sends of these messages, in order, up to the first that isn't taken in.
-/// Each step is `Chan::try_send`. `Ok`: all were taken in. `Full`, `Disconnected`, `NoMemory`: the
-/// last step was answered so, and left the channel as it was. The error has the messages that
-/// weren't taken in, in their order, the refused one first. `NoMemory` comes only if the channel
-/// had no room for one more; if it had room for all of them it never comes. Of an empty list it
-/// makes no step. No memory but the channel's.
+/// Offers these messages in order by `Chan::try_send`, up to the first that isn't taken in. `Ok`:
+/// all were taken in. `Full`, `Disconnected`, `NoMemory`: the last step had this reply, and left
+/// the channel as it was; the error has the messages that weren't taken in, in order, the refused
+/// one first. `NoMemory` comes only if the channel had no room for one more. An empty list makes no
+/// step. Allocates only in the channel.
 ///
 /// ```
 /// let messages = VecDeque::from_vec(vec![in alloc; 1, 2, 3]?);
@@ -61,7 +60,6 @@ impl<T: Drop, S: Drop, A: Allocator + Copy> Turn<T, S, A> for SendMany<T, A> {
     }
 }
 
-// The list with this message at its front again, from which it was taken.
 fn put_back<T, A: Allocator>(mut rest: VecDeque<T, A>, message: T) -> VecDeque<T, A>
     requires room { deque_len rest < deque_capacity rest }
     ensures items { result.items ≡ message ∷ rest.items }

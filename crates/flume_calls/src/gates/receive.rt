@@ -9,14 +9,14 @@ use crate::calls::{RecvCall, RecvNext};
 use flume_core::error::RecvTimeoutError::{self, NoMemory};
 use std::sync::Wait;
 
-/// What a blocking receive of messages `T` goes through. Each turn says by its relation what it
-/// does to the gate, from the gate before to the gate after, and what it answers. What `arm` makes
-/// the gate keep, `is_armed`, the turns of a call that waits can rely on.
+/// The way of a blocking receive of messages `T` to its channel. Each turn has a relation, which
+/// says what it does from the gate before to the gate after, and what it answers. The turns of a
+/// call that waits can rely on `is_armed`, which holds from `arm` on.
 pub trait RecvGate<T> {
     /// What the call waits on.
     type Waiter: Drop;
 
-    /// What the call leaves as it parks, to be told by.
+    /// The signal that the call leaves as it parks.
     type Signal: Drop;
 
     // The gate before, the gate after, and the answer.
@@ -37,14 +37,14 @@ pub trait RecvGate<T> {
     // What holds of the gate from `arm` on until the call has ended.
     ghost is_armed: { Self → Type 0 };
 
-    /// The first turn, which doesn't park. `Done(Err(NoMemory))`: the channel wanted memory to give
-    /// out a message that is there, and there was none.
+    /// The first turn, which doesn't park. `Done(Err(NoMemory))`: there is a message, but the
+    /// channel was out of memory to hand it out.
     fn first(&mut self) -> RecvNext<T>
         ensures does { firsts self.old self.new result }
         ensures answers { IsFirst result };
 
-    /// Makes what the call waits on, and the signal that it leaves as it parks. `None`: there was
-    /// no memory for them.
+    /// Makes what the call waits on, and the signal that it leaves. `None`: there was no memory for
+    /// them.
     fn arm(&mut self) -> Option<(Self::Waiter, Self::Signal)>
         ensures does { arms self.old self.new (is_some result) }
         ensures armed { IfSome result (λ _. is_armed self.new) };
@@ -71,11 +71,10 @@ pub trait RecvGate<T> {
         ensures armed { is_armed self.old → is_armed self.new };
 }
 
-/// A receive that waits. It parks if its first turn doesn't end it, and then asks and waits in
-/// turn until it ends. It ends as its last turn says, with no memory too; if there was no memory
-/// for what it parks on it ends with no memory. If a turn of the parked call needs memory and
-/// there is none, the call withdraws, and ends with the message if one came, and else with no
-/// memory; through a gate if none does, it ends so only before it is parked.
+/// A receive that waits. It parks if its first turn doesn't end it, and then asks and waits until
+/// it ends as its last turn says. `NoMemory`: the first turn said so, or there was no memory for
+/// what the call parks on. If a turn of the parked call is out of memory, the call withdraws, and
+/// ends with the message if one came, and else with `NoMemory`.
 ///
 /// ```
 /// // The gate is of an empty channel, and it has a deadline.
@@ -101,9 +100,18 @@ pub fn recv_over<T: Drop, G: RecvGate<T>, R: Wait>(
     }
 }
 
-// A receive whose first turn didn't end it.
+/// A receive whose first turn found no message, from then on.
+///
+/// ```
+/// // The gate is of a channel that was empty when it was asked, and it has a deadline.
+/// let ended = waiting_receive(rt, &mut gate);
+/// // a message 7 comes before the deadline:    Ok(7)
+/// // it is reached before one does:            Err(Timeout)
+/// // the last sender leaves before either:     Err(Disconnected)
+/// // no memory for what the call parks on:     Err(NoMemory)
+/// ```
 #[inline(always)]
-fn waiting_receive<T: Drop, G: RecvGate<T>, R: Wait>(
+pub fn waiting_receive<T: Drop, G: RecvGate<T>, R: Wait>(
     rt: &R,
     gate: &mut G,
 ) -> Result<T, RecvTimeoutError>
@@ -123,7 +131,6 @@ fn waiting_receive<T: Drop, G: RecvGate<T>, R: Wait>(
     }
 }
 
-// A parked receive, to its end.
 #[inline(always)]
 fn parked_receive<T: Drop, G: RecvGate<T>, R: Wait>(
     rt: &R,
@@ -152,7 +159,6 @@ fn parked_receive<T: Drop, G: RecvGate<T>, R: Wait>(
     unreachable!()
 }
 
-// A parked receive that was refused because memory ran out withdraws.
 #[inline(always)]
 fn withdrawn<T: Drop, G: RecvGate<T>>(gate: &mut G, call: RecvCall) -> Result<T, RecvTimeoutError>
     requires armed { G.is_armed gate.old }

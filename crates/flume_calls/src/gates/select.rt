@@ -16,19 +16,19 @@ use std::sync::Wait;
 pub enum ArmNext {
     /// The arm has completed.
     Completed,
-    /// The arm has to wait: it is parked, or wasn't started if it may not park.
+    /// The arm has to wait: it is parked, or, if it may not park, wasn't started.
     Waits,
-    /// Memory was wanted, and there was none.
+    /// Out of memory.
     NoMemory,
 }
 
-/// What a selection goes through: its arms, by their numbers from 0 on, and what it waits on. Each
-/// call says by its relation what it does to the gate, from the gate before to the gate after.
+/// The way of a selection to its channels: its arms, numbered from 0, and what it waits on. Each
+/// call has a relation, which says what it does from the gate before to the gate after.
 pub trait SelectGate {
     /// What the selection waits on.
     type Waiter: Drop;
 
-    /// What nothing that a selection does changes.
+    /// What stays the same throughout a selection.
     type Kept;
 
     ghost kept: { Self → Self.Kept };
@@ -68,8 +68,8 @@ pub trait SelectGate {
         ensures does { makes self.old self.new (is_some result) }
         ensures kept { kept self.new ≡ kept self.old };
 
-    /// The arm's turn: its start if it isn't started yet, and else a poll. With nothing to wait
-    /// on it may not park: it is only tried, and stays as it was if it would have to wait.
+    /// The arm's turn: it is started, or polled if it was started before. Without a waiter it may
+    /// not park: it is only tried, and stays as it was if it would have to wait.
     fn turn(&mut self, arm: usize, waiter: Option<&Self::Waiter>) -> ArmNext
         requires within { arm < count (kept self.old) }
         ensures does { turns (is_some waiter.entry) self.old arm self.new result }
@@ -89,22 +89,21 @@ pub trait SelectGate {
         ensures kept { kept self.new ≡ kept self.old };
 }
 
-// How a round ends.
 #[derive(Clone, Copy, Drop)]
 enum RoundEnd {
     // Each arm had its turn, and waits.
     AllWait,
-    // After so many arms, which wait, this one completed.
+    // After this many arms, which wait, this one completed.
     Completed { before: usize, arm: usize },
-    // After so many arms, which wait, memory ran out in one.
+    // After this many arms, which wait, memory ran out in one.
     NoMemory { before: usize },
 }
 
-/// The first arm that completes, by its number. The arms are started in cyclic order, from the
-/// start arm on. If none completes they are all polled in that order, and polled again after
-/// each wait; at the deadline they are polled once more. Then each arm that was started is
-/// withdrawn, but the one that completed. `Timeout`: the deadline is reached, and no arm completed.
-/// `NoMemory`: memory ran out in an arm, or before any was started for what the selection waits on.
+/// The number of the first arm that completes. The arms are started in cyclic order from the start
+/// arm on. If none completes, all are polled in that order after each wait, and once more at the
+/// deadline. In the end every started arm is withdrawn, except the one that completed. `Timeout`:
+/// the deadline is reached, and no arm completed. `NoMemory`: out of memory in an arm, or, before
+/// any was started, for what the selection waits on.
 ///
 /// ```
 /// // The gate is of two arms, of which arm 0 starts.
@@ -137,9 +136,9 @@ pub fn select_over<R: Wait, G: SelectGate>(rt: &R, gate: &mut G) -> Result<usize
     }
 }
 
-/// The first arm that needn't wait, by its number: each is tried once, in cyclic order from the
+/// The number of the first arm that needn't wait: each is tried once, in cyclic order from the
 /// start arm on. None is parked, and nothing is made to wait on. `None`: each would have to wait.
-/// `NoMemory`: memory ran out in an arm, and those after it weren't tried.
+/// `NoMemory`: out of memory in an arm, and those after it weren't tried.
 ///
 /// ```
 /// // The gate is of two arms, of which arm 0 starts.
@@ -163,7 +162,6 @@ pub fn try_select_over<G: SelectGate>(gate: &mut G) -> Result<Option<usize>, NoM
     }
 }
 
-// A selection whose arms are all started, to its end.
 fn started_selection<R: Wait, G: SelectGate>(
     rt: &R,
     gate: &mut G,
@@ -217,9 +215,8 @@ fn ended<G: SelectGate>(gate: &mut G, round: RoundEnd) -> Result<usize, SelectEr
     }
 }
 
-// One turn of each arm, in cyclic order from the start arm on, up to the first that doesn't wait.
-// After a wake all arms have their turn again, whichever was woken: by then another receiver may
-// have taken the message, and a further arm may be ready too. So which arm completes depends on the
+// After a wake every arm has its turn again, whichever was woken: another receiver may have taken
+// the message by then, and a further arm may be ready too. So which arm completes depends on the
 // channels and the start arm alone.
 fn round<G: SelectGate>(gate: &mut G, waiter: Option<&G::Waiter>) -> RoundEnd
     ensures round { IsRound (G.turns (is_some waiter.entry)) (G.count (G.kept gate.old))
@@ -240,7 +237,7 @@ fn round<G: SelectGate>(gate: &mut G, waiter: Option<&G::Waiter>) -> RoundEnd
     RoundEnd::AllWait
 }
 
-// Withdraws so many arms, in cyclic order from the start arm on, but the one spared.
+// Withdraws this many arms, in cyclic order from the start arm on, except the one spared.
 fn withdraw<G: SelectGate>(gate: &mut G, started: usize, spared: Option<usize>)
     ensures withdrawn { (next : ℕ) × Withdraws G.withdraws (G.count (G.kept gate.old))
         (G.start (G.kept gate.old)) spared gate.old started next gate.new }
@@ -258,14 +255,12 @@ fn withdraw<G: SelectGate>(gate: &mut G, started: usize, spared: Option<usize>)
     }
 }
 
-// Whether this arm is the one spared.
 fn is_spared(spared: Option<usize>, arm: usize) -> bool
     ensures spared { IsTrue result ↔ (spared ≡ Some arm) }
 {
     spared == Some(arm)
 }
 
-// The arm after this one, in cyclic order.
 fn next_arm(count: usize, arm: usize) -> usize
     requires within { arm < count }
     ensures next { result ≡ next_arm count arm }

@@ -9,13 +9,13 @@ use flume_core::error::SendTimeoutError;
 use flume_core::error::SendTimeoutError::NoMemory;
 use std::sync::Wait;
 
-/// What a blocking send of messages `T` goes through. Each turn says by its relation what it does
-/// to the gate, from the gate before to the gate after, and what it answers.
+/// The way of a blocking send of messages `T` to its channel. Each turn has a relation, which says
+/// what it does from the gate before to the gate after, and what it answers.
 pub trait SendGate<T> {
     /// What the call waits on.
     type Waiter: Drop;
 
-    /// What the call leaves as it parks, to be told by.
+    /// The signal that the call leaves as it parks.
     type Signal: Drop;
 
     // The gate before, the message, the gate after, and the answer.
@@ -38,8 +38,8 @@ pub trait SendGate<T> {
         ensures does { firsts self.old message self.new result }
         ensures answers { IsFirst message result };
 
-    /// Makes what the call waits on, and the signal that it leaves as it parks. `None`: there was
-    /// no memory for them.
+    /// Makes what the call waits on, and the signal that it leaves. `None`: there was no memory for
+    /// them.
     fn arm(&mut self) -> Option<(Self::Waiter, Self::Signal)>
         ensures does { arms self.old self.new (is_some result) };
 
@@ -58,9 +58,9 @@ pub trait SendGate<T> {
         ensures does { waits self.old self.new result };
 }
 
-/// A send that waits. It parks if its first turn doesn't end it, and then asks and waits in turn
-/// until it ends. It ends as its last turn says; if there was no memory for what it parks on it
-/// ends with no memory, and the message comes back.
+/// A send that waits. It parks if its first turn doesn't end it, and then asks and waits until it
+/// ends as its last turn says. If there is no memory for what it parks on, it ends with `NoMemory`,
+/// and the message comes back.
 ///
 /// ```
 /// // The gate is of a full channel, and it has a deadline.
@@ -87,9 +87,17 @@ pub fn send_over<T, G: SendGate<T>, R: Wait>(
     }
 }
 
-// A send whose first turn didn't end it.
+/// A send whose first turn found the channel full, from then on.
+///
+/// ```
+/// // The gate is of a channel that was full when the message was offered, and it has a deadline.
+/// let ended = waiting_send(rt, &mut gate, 7);
+/// // a message is taken out before the deadline:  Ok(())
+/// // it is reached before one is:                 Err(Timeout(7))
+/// // no memory for what the call parks on:        Err(NoMemory(7))
+/// ```
 #[inline(always)]
-fn waiting_send<T, G: SendGate<T>, R: Wait>(
+pub fn waiting_send<T, G: SendGate<T>, R: Wait>(
     rt: &R,
     gate: &mut G,
     message: T,
@@ -109,7 +117,6 @@ fn waiting_send<T, G: SendGate<T>, R: Wait>(
     }
 }
 
-// A parked send, to its end.
 #[inline(always)]
 fn parked_send<T, G: SendGate<T>, R: Wait>(
     rt: &R,

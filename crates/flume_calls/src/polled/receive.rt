@@ -21,7 +21,7 @@ pub struct PolledReceive {
 }
 
 impl PolledReceive {
-    /// A receive that isn't parked, and parks as this kind of receiver. Takes no memory.
+    /// A receive that isn't parked, and parks as this kind of receiver. Doesn't allocate.
     ///
     /// ```
     /// let mut chan: Chan<u64, u32> = Chan::new(alloc, None);
@@ -60,7 +60,6 @@ impl PolledReceive {
         })
     }
 
-    // What a poll answers to what its turn led to.
     #[inline(always)]
     fn settle<T>(&mut self, next: RecvNext<T>, signalled: bool) -> Option<Result<T, RecvError>>
         requires in_time { next ≢ RecvNext.Done (Err RecvTimeoutError.Timeout) }
@@ -86,8 +85,8 @@ impl PolledReceive {
 }
 
 impl PolledReceive {
-    // A poll of a receive that isn't parked. This function and the next have the clauses of the
-    // trait's `poll` again: `poll` calls one of the two, and knows of it only what it ensures.
+    // `poll` calls one of these two functions, and knows of it only what it ensures: so both have
+    // the clauses of the trait's `poll`.
     #[inline(always)]
     fn begin<T: Drop, S: Drop, A: Allocator + Copy>(
         &mut self,
@@ -106,8 +105,7 @@ impl PolledReceive {
         self.settle(RecvCall::park(self.kind, signal, chan), true)
     }
 
-    // A poll of a receive that is parked. If it would wait and there is no signal for that,
-    // nothing is done.
+    // If it would wait and there is no signal for that, nothing is done.
     #[inline(always)]
     fn ask<T: Drop, S: Drop, A: Allocator + Copy>(
         &mut self,

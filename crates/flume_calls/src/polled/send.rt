@@ -22,8 +22,8 @@ pub enum PolledSend<T> {
 }
 
 impl<T: Drop> PolledSend<T> {
-    /// Ends the send: one that isn't sent drops its message; of one that is parked, the turn that
-    /// takes its message back, which its owner is to make. `None`: nothing is owed.
+    /// Ends the send. An unsent one drops its message; for a parked one, this is the turn that
+    /// takes its message back, which its owner is to make. `None`: there is nothing to do.
     ///
     /// ```
     /// let mut chan: Chan<u64, u32> = Chan::new(alloc, Some(0));
@@ -50,7 +50,6 @@ impl<T: Drop> PolledSend<T> {
         }
     }
 
-    // What a poll answers to what its turn led to.
     #[inline(always)]
     fn settle(&mut self, next: SendNext<T>) -> Option<Result<(), SendError<T>>>
         ensures settles { settles_send next self.new result }
@@ -80,7 +79,6 @@ impl<T: Drop> PolledSend<T> {
 }
 
 impl<T: Drop> PolledSend<T> {
-    // A poll of a send whose message isn't offered yet.
     #[inline(always)]
     fn offer<S: Drop, A: Allocator + Copy>(
         &mut self,
@@ -99,8 +97,7 @@ impl<T: Drop> PolledSend<T> {
         self.settle(SendCall::park(message, signal, chan))
     }
 
-    // A poll of a send that is parked. If it would wait and there is no signal for that, it
-    // takes its message back.
+    // If it would wait and there is no signal for that, it takes its message back.
     #[inline(always)]
     fn ask<S: Drop, A: Allocator + Copy>(
         &mut self,

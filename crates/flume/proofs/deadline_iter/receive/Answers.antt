@@ -1,6 +1,6 @@
 -- A receive without a deadline is never late, and a receive answered all that isn't late.
 use Rattle.std.proofs.Common.{◌∙◌}
-use Rattle.flume.proofs.InTime.{receive_in_time}
+use Rattle.flume.proofs.InTimeLemmas.{receive_in_time}
 use Rattle.flume.proofs.deadline_iter.receive.Goals as goal
 
 pub returns-clause-late : goal.returns-clause-late

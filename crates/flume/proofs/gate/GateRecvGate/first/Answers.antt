@@ -1,6 +1,6 @@
 -- The step was made.
 use Rattle.std.proofs.Common.{refl}
-use Rattle.flume.proofs.Made.{one_step, step_made}
+use Rattle.flume.proofs.StepLemmas.{one_step, step_made}
 use Rattle.flume.proofs.gate.GateRecvGate.first.Goals as goal
 
 pub call_once-requires : goal.call_once-requires

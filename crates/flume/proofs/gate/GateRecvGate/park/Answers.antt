@@ -1,6 +1,6 @@
 -- The step was made.
 use Rattle.std.proofs.Common.{refl}
-use Rattle.flume.proofs.Made.{step_made}
+use Rattle.flume.proofs.StepLemmas.{step_made}
 use Rattle.flume.proofs.gate.GateRecvGate.park.Goals as goal
 
 pub returns-clause-does : goal.returns-clause-does

@@ -1,12 +1,14 @@
+-- A receive ends with its first turn, or goes on from the channel that it found empty.
 use Rattle.std.proofs.Common.{subst}
-use Rattle.flume.specs.GateSteps.{Receives}
-use Rattle.flume.proofs.InTime.{receive_in_time}
+use Rattle.flume_calls.specs.declared.calls.receive.RecvNext.TheVariants.{Done}
+use Rattle.flume_calls.specs.ReceiveTurns.{IsFirst}
+use Rattle.flume.proofs.StepLemmas.{one_step}
 use Rattle.flume.proofs.receiver.Receiver.recv.Goals as goal
 
-pub waited_receive-requires : goal.waited_receive-requires
-waited_receive-requires g c = record { in_time = receive_in_time c.recv_over.ensures.run c.new-gate.ensures.deadline }
+pub call_once-requires : goal.call_once-requires
+call_once-requires g c = record { one_step = λ old new answer does. one_step does.0 }
 
-pub returns : goal.returns
-returns g c =
-    let run = rw c.new-gate.ensures.deadline at c.recv_over.ensures.run in
-    record { made = subst (λ ended. Receives _ _ ended) c.waited_receive.ensures.ended (_, run) }
+pub receive_answer-requires : goal.receive_answer-requires
+receive_answer-requires g c = record {
+  in_time = λ late. subst (λ r. IsFirst (Done r)) late c.in-Done.ensures.answers.0;
+}

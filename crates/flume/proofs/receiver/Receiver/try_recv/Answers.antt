@@ -2,9 +2,9 @@
 use Rattle.std.proofs.Common.{◌∙◌, ap, subst}
 use Rattle.flume_model.specs.declared.step.Step.TheVariants.{TryRecv}
 use Rattle.flume_calls.specs.ReceiveTurns.{IsntRefused, after_try_recv}
-use Rattle.flume.specs.CallSteps.{tried_receive}
-use Rattle.flume.specs.Turning.{HasMade}
-use Rattle.flume.proofs.Made.{one_step, step_made}
+use Rattle.flume.specs.CallSteps.{try_receive_as_turn}
+use Rattle.flume.specs.LockedTurns.{HasMade}
+use Rattle.flume.proofs.StepLemmas.{one_step, step_made}
 use Rattle.flume.proofs.receiver.Receiver.try_recv.Goals as goal
 
 pub call_once-requires : goal.call_once-requires
@@ -12,8 +12,8 @@ call_once-requires g c = record { one_step = λ old new answer does. one_step do
 
 pub returns-clause-made : goal.returns-clause-made
 returns-clause-made g c =
-    subst (λ turn. HasMade TryRecv after_try_recv turn) c.tried_receive.ensures.turn (step_made c.call_once.ensures.made)
+    subst (λ turn. HasMade TryRecv after_try_recv turn) c.try_receive_answer.ensures.turn (step_made c.call_once.ensures.made)
 
 pub returns-clause-never_no_memory : goal.returns-clause-never_no_memory
 returns-clause-never_no_memory g c said =
-    subst (λ turn. IsntRefused turn) (c.tried_receive.ensures.turn ∙ ap tried_receive said) c.call_once.ensures.answers.1
+    subst (λ turn. IsntRefused turn) (c.try_receive_answer.ensures.turn ∙ ap try_receive_as_turn said) c.call_once.ensures.answers.1

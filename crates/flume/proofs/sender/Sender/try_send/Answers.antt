@@ -2,9 +2,9 @@
 use Rattle.std.proofs.Common.{◌∙◌, ap, subst}
 use Rattle.flume_model.specs.declared.step.Step.TheVariants.{TrySend}
 use Rattle.flume_calls.specs.SendTurns.{IsFirst, after_try_send}
-use Rattle.flume.specs.CallSteps.{tried_send}
-use Rattle.flume.specs.Turning.{HasMade}
-use Rattle.flume.proofs.Made.{one_step, step_made}
+use Rattle.flume.specs.CallSteps.{try_send_as_turn}
+use Rattle.flume.specs.LockedTurns.{HasMade}
+use Rattle.flume.proofs.StepLemmas.{one_step, step_made}
 use Rattle.flume.proofs.sender.Sender.try_send.Goals as goal
 
 pub call_once-requires : goal.call_once-requires
@@ -12,16 +12,16 @@ call_once-requires g c = record { one_step = λ old new answer does. one_step do
 
 pub returns-clause-made : goal.returns-clause-made
 returns-clause-made g c =
-    subst (λ turn. HasMade (TrySend c.args.message) after_try_send turn) c.tried_send.ensures.turn (step_made c.call_once.ensures.made)
+    subst (λ turn. HasMade (TrySend c.args.message) after_try_send turn) c.try_send_answer.ensures.turn (step_made c.call_once.ensures.made)
 
 pub returns-clause-full : goal.returns-clause-full
 returns-clause-full g c = λ back said.
-    subst (λ turn. IsFirst c.args.message turn) (c.tried_send.ensures.turn ∙ ap tried_send said) c.call_once.ensures.answers
+    subst (λ turn. IsFirst c.args.message turn) (c.try_send_answer.ensures.turn ∙ ap try_send_as_turn said) c.call_once.ensures.answers
 
 pub returns-clause-disconnected : goal.returns-clause-disconnected
 returns-clause-disconnected g c = λ back said.
-    subst (λ turn. IsFirst c.args.message turn) (c.tried_send.ensures.turn ∙ ap tried_send said) c.call_once.ensures.answers
+    subst (λ turn. IsFirst c.args.message turn) (c.try_send_answer.ensures.turn ∙ ap try_send_as_turn said) c.call_once.ensures.answers
 
 pub returns-clause-no_memory : goal.returns-clause-no_memory
 returns-clause-no_memory g c = λ back said.
-    subst (λ turn. IsFirst c.args.message turn) (c.tried_send.ensures.turn ∙ ap tried_send said) c.call_once.ensures.answers
+    subst (λ turn. IsFirst c.args.message turn) (c.try_send_answer.ensures.turn ∙ ap try_send_as_turn said) c.call_once.ensures.answers

@@ -1,5 +1,5 @@
 -- The step was made.
-use Rattle.flume.proofs.Made.{step_replied}
+use Rattle.flume.proofs.StepLemmas.{step_replied}
 use Rattle.flume.proofs.shared.Shared.truth.Goals as goal
 
 pub returns : goal.returns

@@ -3,7 +3,7 @@ use Rattle.flume_state.specs.State.{message_count}
 use Rattle.flume_calls.specs.ManyReceives.{Takes}
 use Rattle.flume_calls.proofs.calls.receive_many.take_each.Given as goal
 
--- so many were taken so far, and the list has as many more
+-- this many were taken so far, and the list has as many more
 abbrev pub invariant-loop-taken : goal.invariant-loop-taken
 invariant-loop-taken g l = record {
   took : Takes g.row.A.Denot l.fn.chan l.fn.into.items l._taken l.chan l.into.items;

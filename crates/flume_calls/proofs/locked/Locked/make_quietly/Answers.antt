@@ -1,4 +1,4 @@
--- Nobody is to be told after the turn.
+-- No ticket is due after the turn.
 use Rattle.flume_calls.proofs.Quiet.{stays_at_rest}
 use Rattle.flume_calls.proofs.locked.Locked.make_quietly.Goals as goal
 

@@ -1,6 +1,6 @@
 -- What one more poll leaves, and that the last of the list are left.
 use Rattle.std.proofs.Common.{◌≡◌, Some, Ok, ◌∙◌, rules}
-use Rattle.flume.proofs.ManySendCalls.{poll_end, past_send, went_on, next_leaves}
+use Rattle.flume.proofs.ManySendLemmas.{poll_end, finished_poll_leaves, sent_poll_leaves, next_leaves}
 use Rattle.flume.proofs.polled.sink.SendSink.poll_send_many.Goals as goal
 
 pub returns-in-Some-clause-left : goal.returns-in-Some-clause-left
@@ -18,9 +18,9 @@ loop-answer-preserved g c =
     let next = c.poll_sends-answer-in-loop-answer.new.messages.items in
     let result = c.poll_sends-answer-in-loop-answer.result in
     let over = c.loop-answer.invariant.finished (Ok tt) ok in
-    let leaves = past_send c.loop-answer.self.kept.send now next result over c.poll_sends-answer-in-loop-answer.ensures.leaves in
+    let leaves = finished_poll_leaves c.loop-answer.self.kept.send now next result over c.poll_sends-answer-in-loop-answer.ensures.leaves in
     record {
-      leaves = went_on kept all next result (next_leaves all now next result (poll_end _ _ _ _ c.loop-answer.invariant.leaves) leaves);
+      leaves = sent_poll_leaves kept all next result (next_leaves all now next result (poll_end _ _ _ _ c.loop-answer.invariant.leaves) leaves);
       finished = c.poll_sends-answer-in-loop-answer.ensures.finished;
       parked = c.poll_sends-answer-in-loop-answer.ensures.parked;
       sender = c.poll_sends-answer-in-loop-answer.ensures.sender ∙ c.loop-answer.invariant.sender;

@@ -1,6 +1,6 @@
 -- The step was made.
-use Rattle.flume.proofs.Made.{step_made}
+use Rattle.flume.proofs.StepLemmas.{step_made}
 use Rattle.flume.proofs.select.receive.RecvArm.leave.Goals as goal
 
 pub returns : goal.returns
-returns g c = record { leaves = (_, step_made c.call_cold.ensures.made) }
+returns g c = record { withdrawn = (_, step_made c.call_cold.ensures.made) }

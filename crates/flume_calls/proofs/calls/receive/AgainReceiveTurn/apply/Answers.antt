@@ -1,4 +1,4 @@
--- A parked receive gets what filled it, or the front where it may.
+-- A parked receive gets what filled it, or the front if it may.
 use Rattle.std.proofs.Common.{rules}
 use Rattle.flume_calls.proofs.Got.{same_got}
 use Rattle.flume_calls.proofs.calls.receive.AgainReceiveTurn.apply.Goals as goal

@@ -1,4 +1,4 @@
--- A receive that may park gets the front, or parks where there is none.
+-- A receive that may park gets the front, or parks if there is none.
 use Rattle.std.proofs.Common.{◌≡◌, refl, subst, rules}
 use Rattle.flume_state.specs.Effects.{Begins}
 use Rattle.flume_calls.proofs.Got.{same_got}

@@ -17,7 +17,8 @@ unblocked false accepted o dead is blocked = cc
 unblocked true accepted o dead is blocked = cc
 
 module _ {T A S : Type 0} where
-  -- what a step of a parked send says of itself is what a list of steps says of it: it wants no memory
+  -- what a step of a parked send says of itself is what a list of steps says of it: it needs no
+  -- memory
   asked : {old new : State T S} {ticket : ℕ} {reply : Reply T A} → Extends old (PollSend ticket) reply new
       → (IsReachable A old → BecomesDue old (PollSend ticket) reply new) → PossibleReply (PollSend ticket) reply → old.space ≤ new.space
       → (IsRefusal reply → new ≡ old) → IsTransition old (PollSend ticket) reply new

@@ -5,8 +5,8 @@ use Rattle.flume_calls.specs.Batches.{IsBatch}
 use Rattle.flume_calls.specs.ManySends.{SendsMany, IsRest}
 use Rattle.flume_calls.proofs.calls.send_many.SendManyTurn.apply.Given as goal
 
--- every batch from here is the end of a batch of the call, and what it leaves is what the call leaves; where there was
--- space for all there is space for the others
+-- every batch from here is the end of a batch of the call, and what it leaves is what the call
+-- leaves; if there was space for all there is space for the others
 abbrev pub invariant-loop-message : goal.invariant-loop-message
 invariant-loop-message g l = record {
   from_here : (new : _) (answer : _) → IsBatch {A = g.row.A.Denot} (SendsMany l.messages.items) l.chan new answer

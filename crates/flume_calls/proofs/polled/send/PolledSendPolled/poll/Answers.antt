@@ -1,4 +1,4 @@
--- Each poll is that of how the send stands.
+-- Each poll is that of the send's state.
 use Rattle.std.proofs.Common.{◌≡◌, rules}
 use Rattle.flume_calls.specs.declared.polled.send.PolledSend.TheVariants.{Unsent, Parked}
 use Rattle.flume_calls.proofs.polled.send.PolledSendPolled.poll.Goals as goal

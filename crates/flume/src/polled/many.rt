@@ -1,29 +1,63 @@
-//! A poll that sends a list of messages.
-ghost use Rattle.std.specs.Prelude.{◌≡◌, ◌↔◌, ◌∷◌, ◌<◌, ℕ, IsTrue, Some, None, Result, Ok};
+//! Polls that send or receive a list of messages.
+ghost use Rattle.std.specs.Prelude.{◌≡◌, ◌↔◌, ◌∷◌, ◌+◌, ◌<◌, ℕ, IsTrue, Some, None, Result, Ok};
+ghost use Rattle.std.specs.Prelude.{vec_len, vec_capacity};
 ghost use Rattle.std.specs.VecDeque.{deque_len};
 ghost use Rattle.futures.specs.Task.{Covers, Keeps};
 ghost use Rattle.flume_core.specs.declared.error.SendError.{SendError};
 ghost use Rattle.flume_calls.specs.declared.polled.send.PolledSend.TheVariants.{Finished, Parked};
 ghost use Rattle.flume.specs.ManySendCalls.{LeavesList, PollLeaves};
+ghost use Rattle.flume.specs.ReceivePolls.{HasPolledMany};
 
 use crate::shared::{Shared, SignalBell, Waits};
 use crate::signal::Signal;
 use crate::task::Task;
-use flume_calls::calls::SendMany;
+use flume_calls::calls::{MoreReceives, SendMany};
 use flume_calls::locked::Locked;
-use flume_calls::polled::PolledSend;
-use flume_core::error::{SendError, TrySendError};
+use flume_calls::polled::{PolledReceive, PolledSend};
+use flume_core::error::{RecvError, SendError, TrySendError};
 use futures::task::Context;
 use std::alloc::Allocator;
 use std::collections::VecDeque;
 
-/// What is left of the list that a poll sends, and what the poll answers. `None`: it waits.
-pub(crate) type Sends<T, A> = (VecDeque<T, A>, Option<Result<(), SendError<T>>>);
+// What is left of the list, and what the poll answers. `None`: it waits.
+pub(crate) type SendListPoll<T, A> = (VecDeque<T, A>, Option<Result<(), SendError<T>>>);
 
 impl<T: Drop, R: Waits, A: Allocator + Copy> Shared<T, R, A> {
-    /// Polls the send as `poll` does. Once it has ended well the messages are sent, in order, as
-    /// many as the channel takes in, under the same lock. The first that finds no room is the
-    /// send's then, and is polled.
+    // Polls the receive as `poll` does. If that gives a message it takes at most `more` others
+    // under the same lock. All go into the list, which has room for one; if there is no memory for
+    // more room it takes as many as there is room for.
+    #[inline(never)]
+    pub(crate) fn poll_many(
+        &self,
+        call: &mut PolledReceive,
+        task: &Task,
+        cx: &mut Context<'_>,
+        mut into: Vec<T, A>,
+        more: usize,
+    ) -> (Vec<T, A>, Option<Result<usize, RecvError>>)
+        requires room { vec_len into < vec_capacity into }
+        ensures polled { HasPolledMany A (more + 1) into.items call.old result.0.items call.new
+            result.1 }
+        ensures registered { result.1 ≡ None → Covers cx.new (λ s. s ≡ task.now.source.id) }
+        ensures kept { Keeps cx.old cx.new }
+    {
+        let mut guard = self.lock();
+        let locked = &mut *guard;
+        match self.poll_locked(locked, call, task, cx) {
+            Some(Ok(message)) => {
+                into.push_reserved(message);
+                let turn = MoreReceives { into, most: more };
+                let (into, taken) = locked.make(turn, &mut SignalBell { rt: self.rt });
+                (into, Some(Ok(taken + 1)))
+            }
+            Some(Err(error)) => (into, Some(Err(error))),
+            None => (into, None),
+        }
+    }
+
+    // Polls the send as `poll` does. Once it has ended well the messages are sent, in order, as
+    // many as the channel takes in, under the same lock. The first that finds no room is the
+    // send's then, and is polled.
     #[inline(never)]
     pub(crate) fn poll_sends(
         &self,
@@ -31,7 +65,7 @@ impl<T: Drop, R: Waits, A: Allocator + Copy> Shared<T, R, A> {
         task: &Task,
         cx: &mut Context<'_>,
         messages: VecDeque<T, A>,
-    ) -> Sends<T, A>
+    ) -> SendListPoll<T, A>
         ensures leaves { PollLeaves call.old messages.items result.0.items result.1 }
         ensures finished { (answer : Result (Unit {0}) (SendError T)) → result.1 ≡ Some answer
             → call.new ≡ Finished }
@@ -48,7 +82,7 @@ impl<T: Drop, R: Waits, A: Allocator + Copy> Shared<T, R, A> {
         self.poll_list(locked, call, task, cx, messages)
     }
 
-    // Sends the messages into a channel whose lock was taken, by a send that has ended.
+    // Of a channel whose lock was taken, by a send that has ended.
     fn poll_list(
         &self,
         locked: &mut Locked<T, Signal<A>, A>,
@@ -56,8 +90,8 @@ impl<T: Drop, R: Waits, A: Allocator + Copy> Shared<T, R, A> {
         task: &Task,
         cx: &mut Context<'_>,
         messages: VecDeque<T, A>,
-    ) -> Sends<T, A>
-        requires over { call.old ≡ Finished }
+    ) -> SendListPoll<T, A>
+        requires ended { call.old ≡ Finished }
         ensures leaves { LeavesList messages.items result.0.items result.1 }
         ensures finished { (answer : Result (Unit {0}) (SendError T)) → result.1 ≡ Some answer
             → call.new ≡ Finished }
@@ -68,24 +102,23 @@ impl<T: Drop, R: Waits, A: Allocator + Copy> Shared<T, R, A> {
         match locked.make(SendMany { messages }, &mut SignalBell { rt: self.rt }) {
             Ok(()) => (VecDeque::new(self.alloc), Some(Ok(()))),
             Err(TrySendError::Full(rest)) => {
-                let (first, behind) = parted(rest);
+                let (first, behind) = split_first(rest);
                 *call = PolledSend::Unsent(first);
                 (behind, self.poll_locked(locked, call, task, cx))
             }
             Err(TrySendError::Disconnected(rest)) => {
-                let (first, behind) = parted(rest);
+                let (first, behind) = split_first(rest);
                 (behind, Some(Err(SendError::Disconnected(first))))
             }
             Err(TrySendError::NoMemory(rest)) => {
-                let (first, behind) = parted(rest);
+                let (first, behind) = split_first(rest);
                 (behind, Some(Err(SendError::NoMemory(first))))
             }
         }
     }
 }
 
-// The first of these messages, and the others.
-fn parted<T, A: Allocator>(mut messages: VecDeque<T, A>) -> (T, VecDeque<T, A>)
+fn split_first<T, A: Allocator>(mut messages: VecDeque<T, A>) -> (T, VecDeque<T, A>)
     requires some { 0 < deque_len messages }
     ensures items { messages.items ≡ result.0 ∷ result.1.items }
 {
@@ -95,7 +128,6 @@ fn parted<T, A: Allocator>(mut messages: VecDeque<T, A>) -> (T, VecDeque<T, A>)
     (first, messages)
 }
 
-/// Whether a poll answers that all is sent.
 pub(crate) fn is_sent<T>(answer: &Option<Result<(), SendError<T>>>) -> bool
     ensures sent { IsTrue result ↔ (answer.now ≡ Some (Ok tt)) }
 {

@@ -1,4 +1,4 @@
--- What a contract sees of a future, a sink or a stream over a channel's lock.
+-- What a contract sees of a poll under a channel's lock.
 use Rattle.std.specs.Prelude.{◌≡◌, ◌⊎◌, true, Option, Some, None, IsSomeAnd}
 use Rattle.futures.specs.declared.task.context.Context.{Context}
 use Rattle.futures.specs.declared.task.Poll.{Poll}
@@ -8,24 +8,24 @@ use Rattle.futures.specs.Task.{Wakes}
 use Rattle.flume_state.specs.State.{State}
 use Rattle.flume_core.specs.Represents.{IsReachable}
 
--- from the context before to the context after: the slot has a waker of the task that polls, or the
--- executor couldn't make one, and polls the task again without it
+-- from one context to the next: the slot has a waker of the task that polls, or the executor
+-- couldn't make one, and polls the task again without it
 abbrev pub LeavesWaker : Context → Context → Option Waker → Type 0
 LeavesWaker old new slot =
     (new.lacks_waker ≡ true) ⊎ IsSomeAnd slot (λ waker. Wakes waker old)
 
--- what a poll that is ready answers; none of one that is pending
+-- what a poll answers if it is ready
 abbrev pub answer_of : {N : Type 0} → Poll N → Option N
 answer_of (Ready answer) = Some answer
 answer_of Pending = None
 
 module _ {T S C N : Type 0} (A : Type 0)
     (polls : C → Option S → State T S → State T S → C → Option N → Type 0) where
-  -- one poll of the call was made, of whatever channel stood behind the lock, to which a run led,
-  -- and with whatever signal was made for it: from the call before to the call after and its answer
+  -- one poll of the call was made, of some channel that a run led to, and with some signal: from
+  -- the call before to the call after and its answer
   pub record HasPolled (old new : C) (answer : Option N) : Type 0 where
     pub signal : Option S
     pub before : State T S
     pub after : State T S
-    pub led : IsReachable A before
+    pub reachable : IsReachable A before
     pub polled : polls old signal before after new answer

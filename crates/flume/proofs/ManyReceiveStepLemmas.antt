@@ -15,23 +15,23 @@ use Rattle.flume_calls.specs.Turns.{Turned}
 use Rattle.flume_calls.specs.Batches.{StepsBetween, NoSteps, FirstStep, IsBatch, goes_on}
 use Rattle.flume_calls.specs.ReceiveTurns as turn
 use Rattle.flume_calls.specs.ManyReceives.{with_more, FirstManyTable, Some, None, NoRoom, FirstManyOutcome}
-use Rattle.flume.specs.Turning.{HasDone}
-use Rattle.flume.specs.ManyCalls.{AnswersMany}
-use Rattle.flume.specs.ManySteps.{LacksRoom, TakesFirst, MakesMany, FindsNone, ReceivesMany}
-use Rattle.flume.proofs.Made.{step_made}
+use Rattle.flume.specs.LockedTurns.{HasDone}
+use Rattle.flume.specs.ManyReceiveCalls.{AnswersMany}
+use Rattle.flume.specs.ManyReceiveSteps.{LacksRoom, ReceivesBatch, MakesMany, FindsNone, ReceivesMany}
+use Rattle.flume.proofs.StepLemmas.{step_made}
 
 module _ {T S A : Type 0} where
   -- the steps of a batch are steps that a run goes on with
   pub steps_run : (opening : Opening) (log : Log T A) {old new : State T S} {made : List (Step T × Reply T A)} → Represents opening log old
       → StepsBetween old made new → IsRun opening (goes_on log made)
-  steps_run opening log stands NoSteps = stands.run
-  steps_run opening log stands (FirstStep {step = step} {reply = reply} stepped later) =
-      steps_run opening ((step, reply) ∷ log) (stepped.extends opening log stands) later
+  steps_run opening log represents NoSteps = represents.run
+  steps_run opening log represents (FirstStep {step = step} {reply = reply} stepped later) =
+      steps_run opening ((step, reply) ∷ log) (stepped.extends opening log represents) later
 
   -- the steps of a first turn
   pub first_made : {before : List T} {outcome : State T S → State T S → ManyNext T A → Type 0} {answer : ManyNext T A}
-      → HasDone A (λ old new told. IsBatch {A = A} (λ made is. FirstManyTable before made is.into.items is.next) old new told × outcome old new told) answer
-      → TakesFirst A before answer.into.items answer.next
+      → HasDone A (λ old new answer. IsBatch {A = A} (λ made is. FirstManyTable before made is.into.items is.next) old new answer × outcome old new answer) answer
+      → ReceivesBatch A before answer.into.items answer.next
   first_made done =
       let batch = done.turn.0 in
       record {
@@ -55,7 +55,7 @@ module _ {T S A : Type 0} where
 
   -- one step was made, and its answer is with how many came
   pub made_many : {step : Step T} {table : Reply T A → RecvNext T → Type 0} {outcome : State T S → State T S → RecvNext T → Type 0}
-      {next : RecvNext ℕ} → AnswersMany (HasDone A (λ old new told. Turned {A = A} step table old new told × outcome old new told)) next
+      {next : RecvNext ℕ} → AnswersMany (HasDone A (λ old new answer. Turned {A = A} step table old new answer × outcome old new answer)) next
       → MakesMany A step table next
   made_many is = record { first = is.first; more = is.more; answered = step_made is.answered; next_is = is.next_is }
 
@@ -70,12 +70,12 @@ module _ {T : Type 0} where
 
 module _ {T A : Type 0} where
   -- the steps of a first turn, from a list that is equal and to an answer that is
-  pub takes_from : {a b after : List T} {next last : RecvNext ℕ} → a ≡ b → next ≡ last → TakesFirst A a after next → TakesFirst A b after last
+  pub takes_from : {a b after : List T} {next last : RecvNext ℕ} → a ≡ b → next ≡ last → ReceivesBatch A a after next → ReceivesBatch A b after last
   takes_from {b = b} {after = after} {next = next} e f is =
-      subst (λ n. TakesFirst A b after n) f (subst (λ l. TakesFirst A l after next) e is)
+      subst (λ n. ReceivesBatch A b after n) f (subst (λ l. ReceivesBatch A l after next) e is)
 
   -- the one step of a first turn that found none
-  pub first_none : {before after : List T} → TakesFirst A before after NeedSignal → FindsNone T A
+  pub first_none : {before after : List T} → ReceivesBatch A before after NeedSignal → FindsNone T A
   first_none {before} {after} is = go is.made NeedSignal is.answered refl is.run
     where
       go : (made : List (Step T × Reply T A)) (next : RecvNext ℕ) → FirstManyTable before made after next → next ≡ NeedSignal

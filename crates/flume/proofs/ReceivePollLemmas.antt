@@ -10,7 +10,7 @@ use Rattle.flume_calls.specs.declared.calls.receive.RecvNext.TheVariants.{Done, 
 use Rattle.flume_calls.specs.declared.polled.receive.PolledReceive.{PolledReceive}
 use Rattle.flume_calls.specs.ReceiveTurns.{IsFirst, IsParking, IsLater, IsntRefused}
 use Rattle.flume_calls.specs.PolledReceives.{waiting_answer, settles_receive, ReceivePoll, Tries, Parks, Unsignalled, Asks}
-use Rattle.flume.specs.ManyCalls.{Came}
+use Rattle.flume.specs.ManyReceiveCalls.{Appends}
 use Rattle.flume.specs.ReceivePolls.{LeavesCall, HasPolledReceive, WithMore, HasPolledMany}
 
 -- no ticket is none
@@ -26,45 +26,45 @@ module _ {T : Type 0} where
   Leaves call after (Some (Err NoMemory)) = after ≡ call
 
   -- of an answer that is equal
-  of : (call after : Option ℕ) {answer : Option (Result T RecvError)} (said : Option (Result T RecvError)) → answer ≡ said
+  with_answer : (call after : Option ℕ) {answer : Option (Result T RecvError)} (said : Option (Result T RecvError)) → answer ≡ said
       → Leaves call after said → Leaves call after answer
-  of call after said is leaves = subst (λ a. Leaves call after a) (sym is) leaves
+  with_answer call after said is leaves = subst (λ a. Leaves call after a) (sym is) leaves
 
   -- a receive that wasn't parked, and had no signal
   first_leaves : (next : RecvNext T) (after : Option ℕ) (answer : Option (Result T RecvError)) → IsFirst next → IsntRefused next
       → settles_receive false next after answer → Leaves None after answer
-  first_leaves (Done (Ok m)) after answer first served is = of None after (Some (Ok m)) is.1 is.0
-  first_leaves (Done (Err timed.Disconnected)) after answer first served is = of None after (Some (Err Disconnected)) is.1 is.0
-  first_leaves (Done (Err timed.NoMemory)) after answer first served is = of None after (Some (Err NoMemory)) is.1 is.0
+  first_leaves (Done (Ok m)) after answer first served is = with_answer None after (Some (Ok m)) is.1 is.0
+  first_leaves (Done (Err timed.Disconnected)) after answer first served is = with_answer None after (Some (Err Disconnected)) is.1 is.0
+  first_leaves (Done (Err timed.NoMemory)) after answer first served is = with_answer None after (Some (Err NoMemory)) is.1 is.0
   first_leaves (Done (Err timed.Timeout)) after answer first served is = absurd is
-  first_leaves NeedSignal after answer first served is = of None after (Some (Err NoMemory)) is.1 is.0
+  first_leaves NeedSignal after answer first served is = with_answer None after (Some (Err NoMemory)) is.1 is.0
   first_leaves (Park t) after answer first served is = absurd first
   first_leaves (Refused t) after answer first served is = absurd first
 
   -- a receive that wasn't parked, and had a signal
   parking_leaves : (next : RecvNext T) (after : Option ℕ) (answer : Option (Result T RecvError)) → IsParking next
       → settles_receive true next after answer → Leaves None after answer
-  parking_leaves (Done (Ok m)) after answer parking is = of None after (Some (Ok m)) is.1 is.0
-  parking_leaves (Done (Err timed.Disconnected)) after answer parking is = of None after (Some (Err Disconnected)) is.1 is.0
-  parking_leaves (Done (Err timed.NoMemory)) after answer parking is = of None after (Some (Err NoMemory)) is.1 is.0
+  parking_leaves (Done (Ok m)) after answer parking is = with_answer None after (Some (Ok m)) is.1 is.0
+  parking_leaves (Done (Err timed.Disconnected)) after answer parking is = with_answer None after (Some (Err Disconnected)) is.1 is.0
+  parking_leaves (Done (Err timed.NoMemory)) after answer parking is = with_answer None after (Some (Err NoMemory)) is.1 is.0
   parking_leaves (Done (Err timed.Timeout)) after answer parking is = absurd is
   parking_leaves NeedSignal after answer parking is = absurd parking
   parking_leaves (Park t) after answer parking is =
-      of None after None is.1 (subst (λ a. IsSome a × (IsSome {T = ℕ} None → a ≡ None)) (sym is.0) (refl, λ was. no_ticket (Some t) was))
+      with_answer None after None is.1 (subst (λ a. IsSome a × (IsSome {T = ℕ} None → a ≡ None)) (sym is.0) (refl, λ was. no_ticket (Some t) was))
   parking_leaves (Refused t) after answer parking is = absurd parking
 
   -- a parked receive that waits on
   waiting_leaves : (t same : ℕ) (signalled : Bool) (after : Option ℕ) (answer : Option (Result T RecvError)) → same ≡ t → after ≡ Some same
       → answer ≡ waiting_answer signalled → Leaves (Some t) after answer
   waiting_leaves t same true after answer is parked said =
-      of (Some t) after None said (subst (λ a. IsSome a × (IsSome (Some t) → a ≡ Some t)) (sym parked) (refl, λ was. ap Some is))
-  waiting_leaves t same false after answer is parked said = of (Some t) after (Some (Err NoMemory)) said (parked ∙ ap Some is)
+      with_answer (Some t) after None said (subst (λ a. IsSome a × (IsSome (Some t) → a ≡ Some t)) (sym parked) (refl, λ was. ap Some is))
+  waiting_leaves t same false after answer is parked said = with_answer (Some t) after (Some (Err NoMemory)) said (parked ∙ ap Some is)
 
   -- a parked receive
   later_leaves : (t : ℕ) (signalled : Bool) (next : RecvNext T) (after : Option ℕ) (answer : Option (Result T RecvError)) → IsLater t next
       → IsntRefused next → settles_receive signalled next after answer → Leaves (Some t) after answer
-  later_leaves t signalled (Done (Ok m)) after answer later served is = of (Some t) after (Some (Ok m)) is.1 is.0
-  later_leaves t signalled (Done (Err timed.Disconnected)) after answer later served is = of (Some t) after (Some (Err Disconnected)) is.1 is.0
+  later_leaves t signalled (Done (Ok m)) after answer later served is = with_answer (Some t) after (Some (Ok m)) is.1 is.0
+  later_leaves t signalled (Done (Err timed.Disconnected)) after answer later served is = with_answer (Some t) after (Some (Err Disconnected)) is.1 is.0
   later_leaves t signalled (Done (Err timed.NoMemory)) after answer later served is = absurd later
   later_leaves t signalled (Done (Err timed.Timeout)) after answer later served is = absurd is
   later_leaves t signalled NeedSignal after answer later served is = absurd later
@@ -78,7 +78,7 @@ module _ {T S A : Type 0} {kind : Kind} {call after : Option ℕ} {signal : Opti
       subst (λ c. Leaves c after answer) (sym unparked) (first_leaves next after answer first served settles)
   poll_leaves (Parks next given unparked some turn parking outcome settles) =
       subst (λ c. Leaves c after answer) (sym unparked) (parking_leaves next after answer parking settles)
-  poll_leaves (Unsignalled ticket parked none nothing same kept said) = of call after (Some (Err NoMemory)) said kept
+  poll_leaves (Unsignalled ticket parked none nothing same kept said) = with_answer call after (Some (Err NoMemory)) said kept
   poll_leaves (Asks next ticket parked signalled turn later served outcome settles) =
       subst (λ c. Leaves c after answer) (sym parked) (later_leaves ticket _ next after answer later served settles)
 
@@ -101,7 +101,7 @@ module _ {T A : Type 0} {old new : PolledReceive} where
 module _ {T : Type 0} (most : ℕ) (before after : List T) where
   -- what came by a poll of many, by what its receive answered
   more_came : {answer : Option (Result ℕ RecvError)} (first : Option (Result T RecvError)) (result : Result ℕ RecvError) → answer ≡ Some result
-      → WithMore most before first after answer → IfOk result (Came most before after)
+      → WithMore most before first after answer → IfOk result (Appends most before after)
   more_came (Some (Ok message)) (Ok count) said is =
       let same : length is.0 + 1 ≡ count = cc in
       let number : length (message ∷ is.0) ≡ count = omega arith in
@@ -112,7 +112,7 @@ module _ {T : Type 0} (most : ℕ) (before after : List T) where
 
   -- what came by a poll of many
   pub many_came : {A : Type 0} {n : ℕ} {start : List T} {old new : PolledReceive} {answer : Option (Result ℕ RecvError)} (result : Result ℕ RecvError)
-      → n ≡ most → start ≡ before → answer ≡ Some result → HasPolledMany A n start old after new answer → IfOk result (Came most before after)
+      → n ≡ most → start ≡ before → answer ≡ Some result → HasPolledMany A n start old after new answer → IfOk result (Appends most before after)
   many_came {n = n} {answer = answer} result number items said is =
       let by_items : WithMore n before is.first after answer = subst (λ l. WithMore n l is.first after answer) items is.more in
       more_came is.first result said (subst (λ m. WithMore m before is.first after answer) number by_items)

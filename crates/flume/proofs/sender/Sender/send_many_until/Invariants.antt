@@ -2,7 +2,7 @@ use Rattle.std.proofs.Common.{Result, List, length}
 use Rattle.flume_core.specs.declared.error.SendTimeoutError.{SendTimeoutError}
 use Rattle.flume.specs.ManySendCalls.{IsEndOf}
 use Rattle.flume.specs.ManySendSteps.{SendsManyUpTo}
-use Rattle.flume.proofs.sender.Sender.many_by.Given as goal
+use Rattle.flume.proofs.sender.Sender.send_many_until.Given as goal
 
 -- what is left are the last of the messages, and a send of those goes on with what was made
 abbrev pub invariant-loop-deadline : goal.invariant-loop-deadline

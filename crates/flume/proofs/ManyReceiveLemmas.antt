@@ -17,14 +17,14 @@ use Rattle.flume_model.specs.declared.step.Kind.TheVariants.{Block}
 use Rattle.flume_calls.specs.ReceiveTurns as turn
 use Rattle.flume_calls.specs.ReceiveGates as gate
 use Rattle.flume_calls.specs.ManyReceives.{Gives, given, with_more, IsWithin, FirstManyTable, Some, None, NoRoom}
-use Rattle.flume.specs.CallSteps.{tried_receive, untimed_receive}
-use Rattle.flume.specs.ManyCalls.{Came, GrowsBy, AnswersMany, IsntDone}
-use Rattle.flume.specs.ManySteps.{LacksRoom, TakesFirst, MakesMany, FindsNone, ReceivesMany}
-use Rattle.flume.specs.ManySteps as steps
-use Rattle.flume.proofs.ManySteps.{first_none}
+use Rattle.flume.specs.CallSteps.{try_receive_as_turn, receive_as_timed}
+use Rattle.flume.specs.ManyReceiveCalls.{Appends, GrowsBy, AnswersMany, IsntDone}
+use Rattle.flume.specs.ManyReceiveSteps.{LacksRoom, ReceivesBatch, MakesMany, FindsNone, ReceivesMany}
+use Rattle.flume.specs.ManyReceiveSteps as steps
+use Rattle.flume.proofs.ManyReceiveStepLemmas.{first_none}
 
 -- what a receive with no deadline answers to an end with this
-pub waited_none : {N : Type 0} (n : N) (ended : Result N RecvTimeoutError) (result : Result N RecvError) → ended ≡ untimed_receive result
+pub waited_none : {N : Type 0} (n : N) (ended : Result N RecvTimeoutError) (result : Result N RecvError) → ended ≡ receive_as_timed result
     → ended ≡ Ok n → result ≡ Ok n
 waited_none n ended (Ok m) is same = cc
 waited_none n ended (Err recv.Disconnected) is same = absurd (let none : ⊥ = cc in none)
@@ -32,9 +32,9 @@ waited_none n ended (Err recv.NoMemory) is same = absurd (let none : ⊥ = cc in
 
 module _ {T : Type 0} where
   -- a turn and what was taken behind it leave this of the list
-  pub grown : (most more : ℕ) (before after taken : List T) (first : RecvNext T) (next : RecvNext ℕ) → more + 1 ≡ most
+  pub turn_grows : (most more : ℕ) (before after taken : List T) (first : RecvNext T) (next : RecvNext ℕ) → more + 1 ≡ most
       → Gives before more first taken after next → GrowsBy most before after next
-  grown most more before after taken first next is gives = subst (λ n. GrowsBy most before after n) (sym gives.next_is) (go first gives)
+  turn_grows most more before after taken first next is gives = subst (λ n. GrowsBy most before after n) (sym gives.next_is) (go first gives)
     where
       same : (first : RecvNext T) → given first ≡ [] → Gives before more first taken after next → after ≡ before
       same first none gives = gives.items ∙ ap (λ l. before ++ (l ++ taken)) none ∙ ap (λ l. before ++ l) (gives.only_behind_one none) ∙ append-nil before
@@ -82,14 +82,14 @@ module _ {T : Type 0} where
 
   -- what a receive of many with no deadline says of the list
   pub waited_came : (most : ℕ) (before after : List T) (ended : Result ℕ RecvTimeoutError) (result : Result ℕ RecvError)
-      → IfOk ended (λ count. Came most before after count) → ended ≡ untimed_receive result
-      → IfOk result (λ count. Came most before after count)
-  waited_came most before after ended (Ok count) came is = subst (λ e. IfOk e (λ count. Came most before after count)) is came
+      → IfOk ended (λ count. Appends most before after count) → ended ≡ receive_as_timed result
+      → IfOk result (λ count. Appends most before after count)
+  waited_came most before after ended (Ok count) came is = subst (λ e. IfOk e (λ count. Appends most before after count)) is came
   waited_came most before after ended (Err e) came is = tt
 
   -- what a tried receive of many says of the list
   pub tried_came : (most : ℕ) (before after : List T) (next : RecvNext ℕ) (result : Result ℕ TryRecvError) → GrowsBy most before after next
-      → next ≡ tried_receive result → IfOk result (λ count. Came most before after count)
+      → next ≡ try_receive_as_turn result → IfOk result (λ count. Appends most before after count)
   tried_came most before after next (Ok count) grows is = subst (λ n. GrowsBy most before after n) is grows
   tried_came most before after next (Err e) grows is = tt
 
@@ -142,7 +142,7 @@ module _ {T : Type 0} where
 
   -- what an answer says of the list
   pub came_of : (most : ℕ) (before after : List T) (result : Result ℕ RecvTimeoutError) → GrowsBy most before after (Done result)
-      → IfOk result (λ count. Came most before after count)
+      → IfOk result (λ count. Appends most before after count)
   came_of most before after (Ok count) grows = grows
   came_of most before after (Err e) grows = tt
 
@@ -160,11 +160,11 @@ module _ {G T A : Type 0} (deadline : G → Deadline) (most : G → ℕ) (into :
   -- what the first turn of a receive of many does to its gate
   abbrev Firsts : G → G → RecvNext ℕ → Type 0
   Firsts old new next = (deadline new ≡ deadline old) × (most new ≡ most old) × turn.IsFirst next × GrowsBy (most old) (items old) (items new) next
-      × TakesFirst A (items old) (items new) next × LacksRoom (into old) (most old) next
+      × ReceivesBatch A (items old) (items new) next × LacksRoom (into old) (most old) next
 
   -- what making its parker does to it
-  abbrev Arms : G → G → Bool → Type 0
-  Arms old new made = (deadline new ≡ deadline old) × (most new ≡ most old) × (items new ≡ items old)
+  abbrev MakesWaiter : G → G → Bool → Type 0
+  MakesWaiter old new made = (deadline new ≡ deadline old) × (most new ≡ most old) × (items new ≡ items old)
 
   -- what the turn that may park does to it
   abbrev Parks : G → G → RecvNext ℕ → Type 0
@@ -182,24 +182,24 @@ module _ {G T A : Type 0} (deadline : G → Deadline) (most : G → ℕ) (into :
   Waits old new late = (deadline new ≡ deadline old) × (most new ≡ most old) × (items new ≡ items old) × (late ≡ true → deadline old ≢ Never)
 
   -- from a gate with the same list and number
-  from : (m n : ℕ) (a b after : List T) (next : RecvNext ℕ) → m ≡ n → a ≡ b → GrowsBy m a after next → GrowsBy n b after next
-  from m n a b after next e f grows = subst (λ n. GrowsBy n b after next) e (subst (λ b. GrowsBy m b after next) f grows)
+  from_equal : (m n : ℕ) (a b after : List T) (next : RecvNext ℕ) → m ≡ n → a ≡ b → GrowsBy m a after next → GrowsBy n b after next
+  from_equal m n a b after next e f grows = subst (λ n. GrowsBy n b after next) e (subst (λ b. GrowsBy m b after next) f grows)
 
   -- what the parked call leaves of the list
-  parked : {old new : G} {ticket : ℕ} {result : Result ℕ RecvTimeoutError} → gate.ParkedReceive Agains Waits old ticket new result
+  parked_grows : {old new : G} {ticket : ℕ} {result : Result ℕ RecvTimeoutError} → gate.ParkedReceive Agains Waits old ticket new result
       → GrowsBy (most old) (items old) (items new) (Done result)
-  parked (gate.Asked a) = a.4
-  parked (gate.Withdrawn a b e) = absurd a.3
-  parked {old} {new} {ticket} {result} (gate.Late a w b) = from _ (most old) _ (items old) (items new) (Done result) (w.1 ∙ a.1) (w.2 ∙ a.4) b.4
-  parked {old} {new} {ticket} {result} (gate.Waited a w rest) = from _ (most old) _ (items old) (items new) (Done result) (w.1 ∙ a.1) (w.2 ∙ a.4) (parked rest)
+  parked_grows (gate.Asked a) = a.4
+  parked_grows (gate.Withdrawn a b e) = absurd a.3
+  parked_grows {old} {new} {ticket} {result} (gate.Late a w b) = from_equal _ (most old) _ (items old) (items new) (Done result) (w.1 ∙ a.1) (w.2 ∙ a.4) b.4
+  parked_grows {old} {new} {ticket} {result} (gate.Waited a w rest) = from_equal _ (most old) _ (items old) (items new) (Done result) (w.1 ∙ a.1) (w.2 ∙ a.4) (parked_grows rest)
 
   -- what the whole call leaves of the list
-  pub whole : {old new : G} {result : Result ℕ RecvTimeoutError} → gate.WholeReceive Firsts Arms Parks Agains Waits old new result
+  pub whole_grows : {old new : G} {result : Result ℕ RecvTimeoutError} → gate.WholeReceive Firsts MakesWaiter Parks Agains Waits old new result
       → GrowsBy (most old) (items old) (items new) (Done result)
-  whole (gate.AtFirst f) = f.3
-  whole {old} {new} (gate.Unarmed f a e) = subst (λ r. GrowsBy (most old) (items old) (items new) (Done r)) (sym e) (a.2 ∙ f.3)
-  whole {old} {new} {result} (gate.AtPark f a p) = from _ (most old) _ (items old) (items new) (Done result) (a.1 ∙ f.1) (a.2 ∙ f.3) p.3
-  whole {old} {new} {result} (gate.Parked f a p rest) = from _ (most old) _ (items old) (items new) (Done result) (p.1 ∙ a.1 ∙ f.1) (p.3 ∙ a.2 ∙ f.3) (parked rest)
+  whole_grows (gate.AtFirst f) = f.3
+  whole_grows {old} {new} (gate.Unarmed f a e) = subst (λ r. GrowsBy (most old) (items old) (items new) (Done r)) (sym e) (a.2 ∙ f.3)
+  whole_grows {old} {new} {result} (gate.AtPark f a p) = from_equal _ (most old) _ (items old) (items new) (Done result) (a.1 ∙ f.1) (a.2 ∙ f.3) p.3
+  whole_grows {old} {new} {result} (gate.Parked f a p rest) = from_equal _ (most old) _ (items old) (items new) (Done result) (p.1 ∙ a.1 ∙ f.1) (p.3 ∙ a.2 ∙ f.3) (parked_grows rest)
 
   -- the parked call isn't late where it has no deadline
   parked_in_time : {old new : G} {ticket : ℕ} {result : Result ℕ RecvTimeoutError} → gate.ParkedReceive Agains Waits old ticket new result
@@ -210,7 +210,7 @@ module _ {G T A : Type 0} (deadline : G → Deadline) (most : G → ℕ) (into :
   parked_in_time (gate.Waited a w rest) never late = parked_in_time rest (w.0 ∙ a.0 ∙ never) late
 
   -- the whole call isn't late where it has no deadline
-  pub whole_in_time : {old new : G} {result : Result ℕ RecvTimeoutError} → gate.WholeReceive Firsts Arms Parks Agains Waits old new result
+  pub whole_in_time : {old new : G} {result : Result ℕ RecvTimeoutError} → gate.WholeReceive Firsts MakesWaiter Parks Agains Waits old new result
       → deadline old ≡ Never → result ≢ Err Timeout
   whole_in_time (gate.AtFirst f) never late = subst (λ r. turn.IsFirst (Done r)) late f.2
   whole_in_time (gate.Unarmed f a e) never late = absurd (let none : ⊥ = cc in none)
@@ -227,7 +227,7 @@ module _ {G T A : Type 0} (deadline : G → Deadline) (most : G → ℕ) (into :
   parked_made (gate.Waited a w rest) = parked_made rest
 
   -- how the whole call ended
-  pub whole_made : {old new : G} {result : Result ℕ RecvTimeoutError} → gate.WholeReceive Firsts Arms Parks Agains Waits old new result
+  pub whole_made : {old new : G} {result : Result ℕ RecvTimeoutError} → gate.WholeReceive Firsts MakesWaiter Parks Agains Waits old new result
       → ReceivesMany A (items old) (items new) result
   whole_made (gate.AtFirst f) = steps.AtFirst f.4
   whole_made (gate.Unarmed f a e) = steps.Unarmed (first_none f.4) e
@@ -235,7 +235,7 @@ module _ {G T A : Type 0} (deadline : G → Deadline) (most : G → ℕ) (into :
   whole_made (gate.Parked f a p rest) = let last = parked_made rest in steps.AtAgain (first_none f.4) last.0 last.1 last.2
 
   -- where the whole call found no memory, it lacked room, or none was there
-  pub whole_room : {old new : G} {result : Result ℕ RecvTimeoutError} → gate.WholeReceive Firsts Arms Parks Agains Waits old new result
+  pub whole_room : {old new : G} {result : Result ℕ RecvTimeoutError} → gate.WholeReceive Firsts MakesWaiter Parks Agains Waits old new result
       → result ≡ Err NoMemory
       → (vec_capacity (into old) < vec_len (into old) + most old) ⊎ FindsNone T A
   whole_room {old} (gate.AtFirst f) said = inl (subst (λ r. LacksRoom (into old) (most old) (Done r)) said f.5)

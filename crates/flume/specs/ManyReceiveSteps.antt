@@ -1,5 +1,5 @@
--- Receives of many messages: the steps of their turns, of some channel, and what a turn that finds
--- no memory says of the list.
+-- Receives of many messages: the steps of their turns, of some channel, and the room of the list if
+-- a turn finds no memory.
 use Rattle.std.specs.Prelude.{◌≡◌, ℕ, ◌+◌, ◌<◌, Bool, List, Result, Err, Vec, vec_len}
 use Rattle.std.specs.Prelude.{vec_capacity}
 use Rattle.flume_model.specs.declared.step.Kind.TheVariants.{Block}
@@ -16,11 +16,11 @@ use Rattle.flume_calls.specs.Batches.{goes_on}
 use Rattle.flume_calls.specs.ReceiveTurns.{after_try_recv, after_recv, after_parked_receive}
 use Rattle.flume_calls.specs.ReceiveTurns.{step_of_parked_receive}
 use Rattle.flume_calls.specs.ManyReceives.{FirstManyTable}
-use Rattle.flume.specs.Turning.{HasMade}
-use Rattle.flume.specs.ManyCalls.{AnswersMany}
+use Rattle.flume.specs.LockedTurns.{HasMade}
+use Rattle.flume.specs.ManyReceiveCalls.{AnswersMany}
 
 module _ {T A N : Type 0} where
-  -- some channel's run goes on with these steps and replies, to which the answer is the table's
+  -- some channel's run goes on with these steps and replies, and the answer is the table's to them
   pub record HasMadeAll (table : List (Step T × Reply T A) → N → Type 0) (answer : N)
       : Type 0 where
     pub opening : Opening
@@ -30,7 +30,7 @@ module _ {T A N : Type 0} where
     pub answered : table made answer
 
 module _ {T A : Type 0} where
-  -- the list had less room than was asked for, where there was no memory for more
+  -- if there was no memory for more, the list had less room than was asked for
   abbrev pub LacksRoom : Vec T A → ℕ → RecvNext ℕ → Type 0
   LacksRoom into most (Done (Err NoMemory)) = vec_capacity into < vec_len into + most
   LacksRoom into most _ = Unit {0}
@@ -41,8 +41,8 @@ FindsNone T A = HasMade {T = T} {A = A} TryRecv after_try_recv NeedSignal
 
 module _ {T : Type 0} (A : Type 0) where
   -- a first receive of many, from what the list holds to what it holds after it
-  abbrev pub TakesFirst : List T → List T → RecvNext ℕ → Type 0
-  TakesFirst before after =
+  abbrev pub ReceivesBatch : List T → List T → RecvNext ℕ → Type 0
+  ReceivesBatch before after =
       HasMadeAll {A = A} (λ made next. FirstManyTable before made after next)
 
   -- one step was made, and its answer is with how many came
@@ -53,7 +53,7 @@ module _ {T : Type 0} (A : Type 0) where
   pub data ReceivesMany (before after : List T) (result : Result ℕ RecvTimeoutError)
       : Type 0 where
     -- the first turn
-    AtFirst : TakesFirst before after (Done result) → ReceivesMany before after result
+    AtFirst : ReceivesBatch before after (Done result) → ReceivesMany before after result
     -- none was there, and what it waits on couldn't be made
     Unarmed : FindsNone T A → result ≡ Err NoMemory → ReceivesMany before after result
     -- none was there, and then the turn that may park it

@@ -6,7 +6,7 @@ module _ {F I : Type 0} where
   abbrev pub CanMap : (F → I → Type 0) → (I → Type 0) → F → Type 0
   CanMap pre form mapper = (input : I) → form input → pre mapper input
 
-  -- the mapper may be called on each place in a list and each input of this form
+  -- the same at each place in a list
   abbrev pub CanMapEach : (F → ℕ → I → Type 0) → (I → Type 0) → F → Type 0
   CanMapEach pre form mapper = (place : ℕ) (input : I) → place < 18446744073709551616
       → form input → pre mapper place input
@@ -16,7 +16,7 @@ module _ {F I V : Type 0} where
   abbrev pub Maps : (F → I → V → Type 0) → (I → Type 0) → F → V → Type 0
   Maps post form mapper value = (input : I) × form input × post mapper input value
 
-  -- the value is what the mapper answers at this place on an input of this form
+  -- the same at this place in a list
   abbrev pub MapsEach : (F → ℕ → I → V → Type 0) → (I → Type 0) → F → ℕ → V → Type 0
   MapsEach post form mapper place value = (input : I) × form input × post mapper place input value
 
@@ -25,19 +25,18 @@ module _ {F I V : Type 0} where
   MapsResult post mapper (Some result) value = post mapper result value
   MapsResult post mapper None value = ⊥
 
--- how many arms there are with one more; more than can be counted aren't
+-- how many arms there are with one more, as far as they can be counted
 abbrev pub count_one_more : ℕ → ℕ
 count_one_more count = min (count + 1) 18446744073709551615
 
--- of the arms before, of which there are so many, and one more: of the arm with this number the
--- first holds where it is one before, and the second where it is the last
+-- of the arm with this number: if so many arms are before it, the second holds, and else the first
 pub record ByNumber (count : ℕ) (before : ℕ → Type 0) (last : Type 0) (arm : ℕ) : Type 0 where
   pub is_before : arm ≢ count → before arm
   pub is_last : arm ≡ count → last
 
 -- the arm that a round begins with: the one that was drawn, if one was, and else arm 0
-abbrev pub first_arm : (count drawn : ℕ) → ℕ
-first_arm count drawn = if nat_lt drawn count then drawn else 0
+abbrev pub first_arm : (count start : ℕ) → ℕ
+first_arm count start = if nat_lt start count then start else 0
 
 module _ {M V : Type 0} where
   -- the value is what the mapper of one of so many arms answers to a result of its arm

@@ -1,4 +1,4 @@
--- What a contract sees of a turn that is made behind a channel's lock.
+-- What a contract sees of a turn that is made under a channel's lock.
 use Rattle.std.specs.Prelude.{◌∷◌}
 use Rattle.flume_model.specs.declared.step.Step.{Step}
 use Rattle.flume_model.specs.declared.step.Reply.{Reply}
@@ -18,7 +18,7 @@ module _ {T A N : Type 0} where
     pub answered : table reply answer
 
 module _ {T S N : Type 0} (A : Type 0) where
-  -- Some channel, to which a run led, did this, with this answer: from the state before to the state
+  -- Some channel that a run led to did this, with this answer: from the state before to the state
   -- after. Which channel stood behind the lock no clause can say; that it was the caller's own is
   -- what tests show.
   pub record HasDone (does : State T S → State T S → N → Type 0) (answer : N) : Type 0 where

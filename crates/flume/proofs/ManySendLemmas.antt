@@ -7,12 +7,12 @@ use Rattle.flume_calls.specs.ManySends.{IsRest}
 use Rattle.flume_calls.specs.declared.polled.send.PolledSend.{PolledSend}
 use Rattle.flume_calls.specs.declared.polled.send.PolledSend.TheVariants.{Unsent, Parked, Finished}
 use Rattle.flume.specs.ManySendCalls.{IsRestAfterWait, IsEndOf, LeavesList, PollLeaves}
-use Rattle.flume.proofs.SendPolls.{Answer, back_of}
+use Rattle.flume.proofs.SendPollLemmas.{Answer, back_of}
 
 module _ {T : Type 0} where
   -- the last ones of the last ones are the last ones of all
-  joined : (all sent now : List T) (last : IsEndOf all now) (more : List T) → now ≡ sent ++ more → all ≡ (last.0 ++ sent) ++ more
-  joined all sent now last more is = last.1 ∙ ap (λ list. last.0 ++ list) is ∙ sym (append_assoc last.0 sent more)
+  append_sent : (all sent now : List T) (last : IsEndOf all now) (more : List T) → now ≡ sent ++ more → all ≡ (last.0 ++ sent) ++ more
+  append_sent all sent now last more is = last.1 ∙ ap (λ list. last.0 ++ list) is ∙ sym (append_assoc last.0 sent more)
 
   -- what is left of the last ones is left of all
   pub rest_of_all : (all now left : List T) → IsEndOf all now → IsRest now left → IsRest all left
@@ -21,7 +21,7 @@ module _ {T : Type 0} where
     first = rest.first;
     behind = rest.behind;
     left_is = rest.left_is;
-    messages_are = joined all rest.sent now last left rest.messages_are;
+    messages_are = append_sent all rest.sent now last left rest.messages_are;
   }
 
   -- what was sent before the last ones
@@ -30,7 +30,7 @@ module _ {T : Type 0} where
 
   -- behind the first of the last ones
   pub behind_first : (all now behind : List T) (first : T) → IsEndOf all now → now ≡ first ∷ behind → IsEndOf all behind
-  behind_first all now behind first last is = (last.0 ++ first ∷ [], joined all (first ∷ []) now last behind is)
+  behind_first all now behind first last is = (last.0 ++ first ∷ [], append_sent all (first ∷ []) now last behind is)
 
   -- what is left where no message waited
   pub without_wait : (all left : List T) → IsRest all left → IsRestAfterWait all left
@@ -51,13 +51,13 @@ module _ {T : Type 0} where
     back = rest.back;
     behind = rest.behind;
     left_is = rest.left_is;
-    messages_are = joined all rest.sent now last (rest.first ∷ rest.behind) rest.messages_are;
+    messages_are = append_sent all rest.sent now last (rest.first ∷ rest.behind) rest.messages_are;
   }
 
   -- what a poll of the first of some messages leaves: where an error comes back, it has that message
-  pub first_polled : (messages rest behind : List T) (first : T) (answer : Option (Result (Unit {0}) (SendError T))) → IsRest messages rest
+  pub first_poll_leaves : (messages rest behind : List T) (first : T) (answer : Option (Result (Unit {0}) (SendError T))) → IsRest messages rest
       → rest ≡ first ∷ behind → ((error : SendError T) → answer ≡ Some (Err error) → back_of error ≡ first) → LeavesList messages behind answer
-  first_polled messages rest behind first answer left is came = go answer came
+  first_poll_leaves messages rest behind first answer left is came = go answer came
     where
       last : IsEndOf messages (first ∷ behind)
       last = (left.sent, left.messages_are ∙ ap (λ list. left.sent ++ list) is)
@@ -71,7 +71,7 @@ module _ {T : Type 0} where
 
   -- the last of the last are the last of all
   last_of_last : (all now left : List T) → IsEndOf all now → IsEndOf now left → IsEndOf all left
-  last_of_last all now left last more = (last.0 ++ more.0, joined all more.0 now last left more.1)
+  last_of_last all now left last more = (last.0 ++ more.0, append_sent all more.0 now last left more.1)
 
   -- of a list that a poll was sending the last are left
   pub list_end : (messages left : List T) (answer : Answer T) → LeavesList messages left answer → IsEndOf messages left
@@ -113,27 +113,27 @@ module _ {T : Type 0} where
   poll_end Finished messages left answer leaves = list_end messages left answer leaves
 
   -- where the send had ended, the poll sent of the list
-  pub past_send : (send : PolledSend T) (messages left : List T) (answer : Answer T) → send ≡ Finished → PollLeaves send messages left answer
+  pub finished_poll_leaves : (send : PolledSend T) (messages left : List T) (answer : Answer T) → send ≡ Finished → PollLeaves send messages left answer
       → LeavesList messages left answer
-  past_send send messages left answer over leaves = subst (λ send. PollLeaves send messages left answer) over leaves
+  finished_poll_leaves send messages left answer over leaves = subst (λ send. PollLeaves send messages left answer) over leaves
 
   -- where the send ended well, the poll went on to the list
-  pub went_on : (send : PolledSend T) (messages left : List T) (answer : Answer T) → LeavesList messages left answer
+  pub sent_poll_leaves : (send : PolledSend T) (messages left : List T) (answer : Answer T) → LeavesList messages left answer
       → PollLeaves send messages left answer
-  went_on (Unsent kept) messages left answer leaves = next_leaves (kept ∷ messages) messages left answer (kept ∷ [], refl) leaves
-  went_on (Parked ticket) messages left answer leaves = inr leaves
-  went_on Finished messages left answer leaves = leaves
+  sent_poll_leaves (Unsent kept) messages left answer leaves = next_leaves (kept ∷ messages) messages left answer (kept ∷ [], refl) leaves
+  sent_poll_leaves (Parked ticket) messages left answer leaves = inr leaves
+  sent_poll_leaves Finished messages left answer leaves = leaves
 
   -- where the send waits or fails, the list is as it was
-  pub stopped : (send : PolledSend T) (messages : List T) (answer : Answer T) → answer ≢ Some (Ok tt)
+  pub unsent_poll_leaves : (send : PolledSend T) (messages : List T) (answer : Answer T) → answer ≢ Some (Ok tt)
       → (send ≡ Finished → answer ≡ Some (Ok tt))
       → ((message : T) → send ≡ Unsent message → (error : SendError T) → answer ≡ Some (Err error) → back_of error ≡ message)
       → PollLeaves send messages messages answer
-  stopped (Unsent kept) messages None unfit over came = (kept, ([], refl))
-  stopped (Unsent kept) messages (Some (Ok sent)) unfit over came = absurd (unfit refl)
-  stopped (Unsent kept) messages (Some (Err (Disconnected back))) unfit over came =
+  unsent_poll_leaves (Unsent kept) messages None unfit over came = (kept, ([], refl))
+  unsent_poll_leaves (Unsent kept) messages (Some (Ok sent)) unfit over came = absurd (unfit refl)
+  unsent_poll_leaves (Unsent kept) messages (Some (Err (Disconnected back))) unfit over came =
       ([], ap (λ m. m ∷ messages) (sym (came kept refl (Disconnected back) refl)))
-  stopped (Unsent kept) messages (Some (Err (NoMemory back))) unfit over came =
+  unsent_poll_leaves (Unsent kept) messages (Some (Err (NoMemory back))) unfit over came =
       ([], ap (λ m. m ∷ messages) (sym (came kept refl (NoMemory back) refl)))
-  stopped (Parked ticket) messages answer unfit over came = inl (refl, unfit)
-  stopped Finished messages answer unfit over came = absurd (unfit (over refl))
+  unsent_poll_leaves (Parked ticket) messages answer unfit over came = inl (refl, unfit)
+  unsent_poll_leaves Finished messages answer unfit over came = absurd (unfit (over refl))

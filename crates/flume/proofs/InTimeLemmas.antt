@@ -14,7 +14,7 @@ use Rattle.flume_calls.specs.SendTurns as send_turn
 use Rattle.flume_calls.specs.SendGates as send
 use Rattle.flume_calls.specs.ReceiveTurns as receive_turn
 use Rattle.flume_calls.specs.ReceiveGates as receive
-use Rattle.flume.specs.GateSteps.{Arms, WaitsUpTo, SendFirst, SendPark, SendAgain, ReceiveFirst, ReceivePark, ReceiveAgain}
+use Rattle.flume.specs.GateSteps.{MakesWaiter, WaitsUpTo, SendFirst, SendPark, SendAgain, ReceiveFirst, ReceivePark, ReceiveAgain}
 
 module _ {T A : Type 0} where
   -- a parked send with no deadline is never too late
@@ -26,7 +26,7 @@ module _ {T A : Type 0} where
 
   -- a whole send with no deadline is never too late
   pub send_in_time : {old new : Deadline} {message : T} {result : Result (Unit {0}) (SendTimeoutError T)}
-      → send.WholeSend (SendFirst A) Arms (SendPark A) (SendAgain A) WaitsUpTo old message new result → old ≡ Never
+      → send.WholeSend (SendFirst A) MakesWaiter (SendPark A) (SendAgain A) WaitsUpTo old message new result → old ≡ Never
       → (back : T) → result ≢ Err (SendTimeout back)
   send_in_time {message = message} (send.AtFirst f) never back late = subst (λ r. send_turn.IsFirst message (SendDone r)) late f.answers
   send_in_time (send.Unarmed f a e) never back late = absurd (let none : ⊥ = cc in none)
@@ -43,7 +43,7 @@ module _ {T A : Type 0} where
 
   -- a whole receive with no deadline is never too late
   pub receive_in_time : {old new : Deadline} {result : Result T RecvTimeoutError}
-      → receive.WholeReceive (ReceiveFirst A) Arms (ReceivePark A) (ReceiveAgain A) WaitsUpTo old new result → old ≡ Never → result ≢ Err RecvTimeout
+      → receive.WholeReceive (ReceiveFirst A) MakesWaiter (ReceivePark A) (ReceiveAgain A) WaitsUpTo old new result → old ≡ Never → result ≢ Err RecvTimeout
   receive_in_time (receive.AtFirst f) never late = subst (λ r. receive_turn.IsFirst (RecvDone r)) late f.answers
   receive_in_time (receive.Unarmed f a e) never late = absurd (let none : ⊥ = cc in none)
   receive_in_time (receive.AtPark f a p) never late = subst (λ r. receive_turn.IsParking (RecvDone r)) late p.answers

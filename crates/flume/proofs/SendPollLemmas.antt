@@ -28,30 +28,30 @@ module _ {T : Type 0} where
   back_of (NoMemory back) = back
 
   -- a send whose poll is ready is finished
-  settled : (next : SendNext T) (after : PolledSend T) (answer : Answer T) → settles_send next after answer
+  ready_finishes : (next : SendNext T) (after : PolledSend T) (answer : Answer T) → settles_send next after answer
       → (result : Result (Unit {0}) (SendError T)) → answer ≡ Some result → after ≡ Finished
-  settled (Done (Ok sent)) after answer is result ready = is.0
-  settled (Done (Err (timed.Disconnected back))) after answer is result ready = is.0
-  settled (Done (Err (timed.NoMemory back))) after answer is result ready = is.0
-  settled (Done (Err (timed.Timeout back))) after answer is result ready = is.0
-  settled (NeedSignal back) after answer is result ready = is.0
-  settled (Park ticket) after answer is result ready =
+  ready_finishes (Done (Ok sent)) after answer is result ready = is.0
+  ready_finishes (Done (Err (timed.Disconnected back))) after answer is result ready = is.0
+  ready_finishes (Done (Err (timed.NoMemory back))) after answer is result ready = is.0
+  ready_finishes (Done (Err (timed.Timeout back))) after answer is result ready = is.0
+  ready_finishes (NeedSignal back) after answer is result ready = is.0
+  ready_finishes (Park ticket) after answer is result ready =
       let waits : answer ≡ None = is.1 in absurd (let none : ⊥ = cc in none)
 
   -- a send whose poll is pending is parked, by its turn
-  waiting : (next : SendNext T) (after : PolledSend T) (answer : Answer T) → settles_send next after answer → answer ≡ None
+  pending_parks : (next : SendNext T) (after : PolledSend T) (answer : Answer T) → settles_send next after answer → answer ≡ None
       → (ticket : ℕ) × (next ≡ Park ticket) × (after ≡ Parked ticket)
-  waiting (Done (Ok sent)) after answer is none =
+  pending_parks (Done (Ok sent)) after answer is none =
       let ready : answer ≡ Some (Ok tt) = is.1 in absurd (let no : ⊥ = cc in no)
-  waiting (Done (Err (timed.Disconnected back))) after answer is none =
+  pending_parks (Done (Err (timed.Disconnected back))) after answer is none =
       let ready : answer ≡ Some (Err (Disconnected back)) = is.1 in absurd (let no : ⊥ = cc in no)
-  waiting (Done (Err (timed.NoMemory back))) after answer is none =
+  pending_parks (Done (Err (timed.NoMemory back))) after answer is none =
       let ready : answer ≡ Some (Err (NoMemory back)) = is.1 in absurd (let no : ⊥ = cc in no)
-  waiting (Done (Err (timed.Timeout back))) after answer is none =
+  pending_parks (Done (Err (timed.Timeout back))) after answer is none =
       let ready : answer ≡ Some (Err (NoMemory back)) = is.1 in absurd (let no : ⊥ = cc in no)
-  waiting (NeedSignal back) after answer is none =
+  pending_parks (NeedSignal back) after answer is none =
       let ready : answer ≡ Some (Err (NoMemory back)) = is.1 in absurd (let no : ⊥ = cc in no)
-  waiting (Park ticket) after answer is none = (ticket, refl, is.0)
+  pending_parks (Park ticket) after answer is none = (ticket, refl, is.0)
 
   -- what comes back by a first turn
   first_back : (message : T) (next : SendNext T) → IsFirst message next → (after : PolledSend T) (answer : Answer T)
@@ -81,50 +81,50 @@ module _ {T : Type 0} where
 
 module _ {T S A : Type 0} {send after : PolledSend T} {signal : Option S} {old new : State T S} {answer : Answer T} where
   -- a send whose poll is ready is finished
-  pub ended : SendPoll A send signal old new after answer → (result : Result (Unit {0}) (SendError T)) → answer ≡ Some result
+  pub poll_finishes : SendPoll A send signal old new after answer → (result : Result (Unit {0}) (SendError T)) → answer ≡ Some result
       → after ≡ Finished
-  ended (Over is same finished ok) result ready = finished
-  ended (Tries message next is none turned first outcome settles) result ready = settled next after answer settles result ready
-  ended (Parks message next given is some turned parking outcome settles) result ready =
-      settled next after answer settles result ready
-  ended (Asks late ticket next is held signalled turned again outcome settles) result ready =
-      settled next after answer settles result ready
+  poll_finishes (Over is same finished ok) result ready = finished
+  poll_finishes (Tries message next is none turned first outcome settles) result ready = ready_finishes next after answer settles result ready
+  poll_finishes (Parks message next given is some turned parking outcome settles) result ready =
+      ready_finishes next after answer settles result ready
+  poll_finishes (Asks late ticket next is held signalled turned again outcome settles) result ready =
+      ready_finishes next after answer settles result ready
 
   -- a send whose poll is pending is parked
   pub is_parked : SendPoll A send signal old new after answer → answer ≡ None → (ticket : ℕ) × (after ≡ Parked ticket)
   is_parked (Over is same finished ok) none = absurd (let no : ⊥ = cc in no)
   is_parked (Tries message next is given turned first outcome settles) none =
-      let parked = waiting next after answer settles none in (parked.0, parked.2)
+      let parked = pending_parks next after answer settles none in (parked.0, parked.2)
   is_parked (Parks message next given is some turned parking outcome settles) none =
-      let parked = waiting next after answer settles none in (parked.0, parked.2)
+      let parked = pending_parks next after answer settles none in (parked.0, parked.2)
   is_parked (Asks late ticket next is held signalled turned again outcome settles) none =
-      let parked = waiting next after answer settles none in (parked.0, parked.2)
+      let parked = pending_parks next after answer settles none in (parked.0, parked.2)
 
   -- one that was parked waits on under its ticket
-  pub stays : SendPoll A send signal old new after answer → (ticket : ℕ) → send ≡ Parked ticket → answer ≡ None → after ≡ Parked ticket
-  stays (Over is same finished ok) ticket parked none = absurd (let no : ⊥ = cc in no)
-  stays (Tries message next is given turned first outcome settles) ticket parked none = absurd (let no : ⊥ = cc in no)
-  stays (Parks message next given is some turned parking outcome settles) ticket parked none = absurd (let no : ⊥ = cc in no)
-  stays (Asks late t next is held signalled turned again outcome settles) ticket parked none =
-      let now = waiting next after answer settles none in
+  pub keeps_ticket : SendPoll A send signal old new after answer → (ticket : ℕ) → send ≡ Parked ticket → answer ≡ None → after ≡ Parked ticket
+  keeps_ticket (Over is same finished ok) ticket parked none = absurd (let no : ⊥ = cc in no)
+  keeps_ticket (Tries message next is given turned first outcome settles) ticket parked none = absurd (let no : ⊥ = cc in no)
+  keeps_ticket (Parks message next given is some turned parking outcome settles) ticket parked none = absurd (let no : ⊥ = cc in no)
+  keeps_ticket (Asks late t next is held signalled turned again outcome settles) ticket parked none =
+      let now = pending_parks next after answer settles none in
       let same : t ≡ ticket = cc in
       let kept = same_ticket T t late now.0 (subst (λ next. IsAgain t late next) now.1 again) in
       now.2 ∙ ap Parked (kept ∙ same)
 
   -- a send that has ended answers that it is sent
-  pub is_over : SendPoll A send signal old new after answer → send ≡ Finished → answer ≡ Some (Ok tt)
-  is_over (Over is same finished ok) over = ok
-  is_over (Tries message next is none turned first outcome settles) over = absurd (let none : ⊥ = cc in none)
-  is_over (Parks message next given is some turned parking outcome settles) over = absurd (let none : ⊥ = cc in none)
-  is_over (Asks late ticket next is held signalled turned again outcome settles) over = absurd (let none : ⊥ = cc in none)
+  pub finished_is_ok : SendPoll A send signal old new after answer → send ≡ Finished → answer ≡ Some (Ok tt)
+  finished_is_ok (Over is same finished ok) over = ok
+  finished_is_ok (Tries message next is none turned first outcome settles) over = absurd (let none : ⊥ = cc in none)
+  finished_is_ok (Parks message next given is some turned parking outcome settles) over = absurd (let none : ⊥ = cc in none)
+  finished_is_ok (Asks late ticket next is held signalled turned again outcome settles) over = absurd (let none : ⊥ = cc in none)
 
   -- what comes back of one that wasn't sent is its message
-  pub comes_back : SendPoll A send signal old new after answer → (message : T) → send ≡ Unsent message
+  pub error_holds_message : SendPoll A send signal old new after answer → (message : T) → send ≡ Unsent message
       → (error : SendError T) → answer ≡ Some (Err error) → back_of error ≡ message
-  comes_back (Over is same finished ok) message unsent error ready = absurd (let none : ⊥ = cc in none)
-  comes_back (Tries m next is none turned first outcome settles) message unsent error ready =
+  error_holds_message (Over is same finished ok) message unsent error ready = absurd (let none : ⊥ = cc in none)
+  error_holds_message (Tries m next is none turned first outcome settles) message unsent error ready =
       let same : m ≡ message = cc in first_back m next first after answer settles error ready ∙ same
-  comes_back (Parks m next given is some turned parking outcome settles) message unsent error ready =
+  error_holds_message (Parks m next given is some turned parking outcome settles) message unsent error ready =
       let same : m ≡ message = cc in parking_back m next parking after answer settles error ready ∙ same
-  comes_back (Asks late ticket next is held signalled turned again outcome settles) message unsent error ready =
+  error_holds_message (Asks late ticket next is held signalled turned again outcome settles) message unsent error ready =
       absurd (let none : ⊥ = cc in none)

@@ -1,19 +1,19 @@
 -- What the call leaves of the list, by its run.
 use Rattle.std.proofs.Common.{ap, refl}
 use Rattle.flume_calls.specs.declared.calls.receive.RecvNext.TheVariants.{Done}
-use Rattle.flume.proofs.ManyReceives.{whole, whole_in_time, whole_made, whole_room, came_of, same_of, from_list}
-use Rattle.flume.proofs.ManySteps.{many_from, lacks_from}
-use Rattle.flume.proofs.receiver.Receiver.many_by.Goals as goal
+use Rattle.flume.proofs.ManyReceiveLemmas.{whole_grows, whole_in_time, whole_made, whole_room, came_of, same_of, from_list}
+use Rattle.flume.proofs.ManyReceiveStepLemmas.{many_from, lacks_from}
+use Rattle.flume.proofs.receiver.Receiver.recv_many_until.Goals as goal
 
-pub returns-clause-came : goal.returns-clause-came
-returns-clause-came g c =
-    let grows = whole (λ gate. gate.deadline) (λ gate. gate.most) (λ gate. gate.into) c.recv_over-answer.ensures.run in
+pub returns-clause-appended : goal.returns-clause-appended
+returns-clause-appended g c =
+    let grows = whole_grows (λ gate. gate.deadline) (λ gate. gate.most) (λ gate. gate.into) c.recv_over-answer.ensures.run in
     came_of c.args.most c.args.into.now.items _ c.recv_over-answer.result
     (from_list c.args.most _ _ _ (Done c.recv_over-answer.result) (ap (λ list. list.items) c.replace-list.ensures.value) grows)
 
 pub returns-clause-unchanged : goal.returns-clause-unchanged
 returns-clause-unchanged g c =
-    let grows = whole (λ gate. gate.deadline) (λ gate. gate.most) (λ gate. gate.into) c.recv_over-answer.ensures.run in
+    let grows = whole_grows (λ gate. gate.deadline) (λ gate. gate.most) (λ gate. gate.into) c.recv_over-answer.ensures.run in
     same_of c.args.most c.args.into.now.items _ c.recv_over-answer.result
     (from_list c.args.most _ _ _ (Done c.recv_over-answer.result) (ap (λ list. list.items) c.replace-list.ensures.value) grows)
 

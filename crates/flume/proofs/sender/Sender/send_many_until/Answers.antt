@@ -4,9 +4,14 @@ use Rattle.std.proofs.lemmas.List.{nil_from_length}
 use Rattle.flume_core.specs.declared.error.TrySendError.TheVariants as try_send
 use Rattle.flume_core.specs.declared.error.SendTimeoutError.TheVariants.{Timeout, Disconnected, NoMemory}
 use Rattle.flume.specs.ManySendSteps.{SendsManyUpTo, NoneLeft, AllTakenIn, IsClosed, IsRefused, FirstComesBack, GoesOn}
-use Rattle.flume.proofs.ManySendSteps.{batch_made}
-use Rattle.flume.proofs.ManySendCalls.{rest_of_all, last_of_rest, behind_first, without_wait, waited_of_all}
-use Rattle.flume.proofs.sender.Sender.many_by.Goals as goal
+use Rattle.flume.proofs.ManySendStepLemmas.{batch_made, batch_full}
+use Rattle.flume.proofs.ManySendLemmas.{rest_of_all, last_of_rest, behind_first, without_wait, waited_of_all}
+use Rattle.flume.proofs.sender.Sender.send_many_until.Goals as goal
+
+pub send_first_until-requires-clause-full : goal.send_first_until-requires-clause-full
+send_first_until-requires-clause-full g c =
+    let done = rw c.in-Err-Full.field-0-is at c.in-Err-Full.ensures.made in
+    batch_full done
 
 pub returns-in-Err-clause-timeout : goal.returns-in-Err-clause-timeout
 returns-in-Err-clause-timeout g c = λ rest said.
@@ -44,12 +49,12 @@ pub loop-deadline-preserved : goal.loop-deadline-preserved
 loop-deadline-preserved g c =
     let is = rw c.in-Err-Full.field-0-is at c.in-Err-Full.ensures.answers in
     let last = last_of_rest _ _ (rest_of_all _ _ _ c.loop-deadline.invariant.last is) in
-    let others = c.in-Ok-first_by.ensures.others in
+    let others = c.in-Ok-send_first_until.ensures.others in
     let done = rw c.in-Err-Full.field-0-is at c.in-Err-Full.ensures.made in
     record {
       last = behind_first _ _ _ others.0 last others.1;
       goes_on = λ result rest.
-          c.loop-deadline.invariant.goes_on result (GoesOn (batch_made done refl refl) c.in-Ok-first_by.ensures.taken_in rest);
+          c.loop-deadline.invariant.goes_on result (GoesOn (batch_made done refl refl) c.in-Ok-send_first_until.ensures.taken_in rest);
     }
 
 pub returns-in-Ok-clause-made : goal.returns-in-Ok-clause-made

@@ -1,8 +1,8 @@
 -- What the turn leaves of the list, and how it answers.
 use Rattle.std.proofs.Common.{◌<◌, length, sym, ap, ◌∙◌, subst, arith, vec_len, vec_capacity}
-use Rattle.flume.specs.ManyCalls.{IsntDone}
-use Rattle.flume.proofs.ManyReceives.{grown, from_list, none_given}
-use Rattle.flume.proofs.receive_many.ManyGate.and_more.Goals as goal
+use Rattle.flume.specs.ManyReceiveCalls.{IsntDone}
+use Rattle.flume.proofs.ManyReceiveLemmas.{turn_grows, from_list, none_given}
+use Rattle.flume.proofs.receive_many.ManyGate.receive_and_more.Goals as goal
 
 pub returns-clause-answers : goal.returns-clause-answers
 returns-clause-answers g c =
@@ -15,7 +15,7 @@ returns-clause-grows g c =
     let most = c.args.self.now.most in
     let next = c.call_all-into.result.next in
     from_list most _ _ _ next (ap (λ list. list.items) c.replace-into.ensures.value)
-    (grown most _ _ _ came.taken came.first next (omega arith) came.gives)
+    (turn_grows most _ _ _ came.taken came.first next (omega arith) came.gives)
 
 pub returns-clause-room : goal.returns-clause-room
 returns-clause-room g c waits =

@@ -6,21 +6,21 @@ use Rattle.flume_calls.specs.ManyReceives.{with_more}
 
 module _ {T : Type 0} where
   -- So many messages came, at most this many, and stand behind what the list held before. None came
-  -- only where none was to come.
-  pub record Came (most : ℕ) (before after : List T) (count : ℕ) : Type 0 where
+  -- only if none was to come.
+  pub record Appends (most : ℕ) (before after : List T) (count : ℕ) : Type 0 where
     pub messages : List T
     pub items : after ≡ before ++ messages
     pub number : length messages ≡ count
     pub at_most : count ≤ most
     pub some : count ≡ 0 → most ≡ 0
 
-  -- what a turn leaves of the list, by its answer: only where it ended with messages they are there
+  -- what a turn leaves of the list, by its answer: messages came only if it ended with them
   abbrev pub GrowsBy : ℕ → List T → List T → RecvNext ℕ → Type 0
-  GrowsBy most before after (Done (Ok count)) = Came most before after count
+  GrowsBy most before after (Done (Ok count)) = Appends most before after count
   GrowsBy most before after _ = after ≡ before
 
-  -- what a turn of a call that waits answers: as a turn of this kind, with how many came where it
-  -- got a message
+  -- what a turn of a call that waits answers: as a turn of this kind, and if it got a message with
+  -- how many came
   pub record AnswersMany (answers : RecvNext T → Type 0) (next : RecvNext ℕ) : Type 0 where
     pub first : RecvNext T
     pub more : ℕ
