@@ -1,12 +1,12 @@
 """The pages of this repository, and what the tools that compare them read in one: its code, its titles, its links."""
 
 import functools
-import pathlib
 import re
 import subprocess
 import textwrap
 
-ROOT = pathlib.Path(__file__).resolve().parent.parent
+from workspace import ROOT
+
 FENCED = re.compile(r"^```[^\n]*\n(.*?)^```$\n?", re.M | re.S)
 INDENTED = re.compile(r"(?<=\n\n)((?: {4}.*\n(?:\n(?= {4}))*)+)")
 

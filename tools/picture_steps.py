@@ -31,8 +31,8 @@ def listed(numbers):
 def round_words(moment):
     """What a wake round, or the closing, does at a step."""
     said = [f"wakes {listed(moment.woken)}"] if moment.woken else []
-    if moment.change.filled is not None:
-        said.append(f"fills {moment.change.filled}")
+    if moment.filled is not None:
+        said.append(f"fills {moment.filled}")
     return ("closing " if said and moment.closes else "") + ", ".join(said)
 
 
@@ -103,7 +103,7 @@ class Layout:
         inside += [label_width(mark_words(entry)) for entry in after.entries
                    if moment.before.entry(entry.ticket) != entry]
         inside += [TICK + label_width(short(words(moment))) for _, words in self.rows]
-        texts = [code_width(short(words)) for words in (moment.step.text, moment.reply.text)]
+        texts = [code_width(short(words)) for words in (moment.step, moment.reply)]
         return max([LEAST] + [GUTTER + width + 12 for width in inside] + [16 + width for width in texts])
 
     def set_heights(self):
@@ -164,8 +164,8 @@ def capacities(at):
 def words_of_steps(at):
     """The steps, the replies, and the rows of words."""
     for x, moment in zip(at.lefts, at.made):
-        yield cut_text(x + 8, at.steps, moment.step.text, "code")
-        yield cut_text(x + 8, at.replies, moment.reply.text, "code")
+        yield cut_text(x + 8, at.steps, moment.step, "code")
+        yield cut_text(x + 8, at.replies, moment.reply, "code")
         for place, (_, words) in enumerate(at.rows):
             y = at.words + place * WORDS + 12
             if words(moment):
@@ -199,9 +199,9 @@ def coming_in(at, left, moment):
         end = left + GUTTER - 1
         path = f'<path class="path" d="M{x} {top} V{y - 6} Q{x} {y} {x + 6} {y} H{end - 7}"/>'
         return coloured(offer.number, [path, right(end, y)])
-    if moment.after.is_over or moment.change.filled is None:
+    if moment.after.is_over or moment.filled is None:
         return ""
-    y = at.lane(moment.change.filled) - 10
+    y = at.lane(moment.filled) - 10
     return coloured(offer.number, [f'<path class="path" d="M{x} {top} V{y - 7}"/>', down(x, y)])
 
 
@@ -235,7 +235,7 @@ def lost(at, number, offer):
 def paths(at):
     """The paths of all messages, step by step, up to where they leave the line."""
     for number, moment in enumerate(at.made):
-        filled = moment.change.filled
+        filled = moment.filled
         bottom = at.replies - 14 if filled is None else at.lane(filled) - 10
         for place, offer in enumerate(moment.handed):
             if offer is not moment.offer:
@@ -253,7 +253,7 @@ def paths(at):
 
 def held_by(made):
     """The offer that each filled receiver was given, by its ticket."""
-    return {moment.change.filled: moment.handed[0] for moment in made if moment.change.filled is not None}
+    return {moment.filled: moment.handed[0] for moment in made if moment.filled is not None}
 
 
 def stretches(at, ticket):
@@ -277,7 +277,7 @@ def lane(at, entry, held):
         x = at.lefts[first] + CHANGES
         end = at.lefts[past] + CHANGES if past < len(at.made) else at.end - 6
         leaves = past < len(at.made) and at.made[past].after.entry(entry.ticket) is None
-        collects = leaves and at.made[past].change.name == "collects"
+        collects = leaves and stood.mark == "filled" and not at.made[past].after.is_over
         end += GOES - CHANGES + 6 if collects else 0
         bar = f'<rect class="{stood.mark}" x="{x}" y="{y - 9}" width="{end - x}" height="18" rx="3"/>'
         bar += text(at.lefts[first] + GUTTER, y + 4, mark_words(stood), "words")
@@ -294,7 +294,7 @@ def rounds(at):
     """A mark where a wake round, or the closing, meets a receiver, with a line from the row of words."""
     names = [name for name, _ in at.rows]
     for left, moment in zip(at.lefts, at.made):
-        met = moment.woken + ([] if moment.change.filled is None else [moment.change.filled])
+        met = moment.woken + ([] if moment.filled is None else [moment.filled])
         if met and not moment.after.is_over:
             top = at.words + names.index("wake rounds") * WORDS + 12
             x, bottom = left + CHANGES, max(map(at.lane, met))

@@ -20,6 +20,11 @@ def libraries():
     return uses_by((ROOT / "crates.txt").read_text())
 
 
+def edits(crate):
+    """The wrong bodies of a crate, each a file."""
+    return sorted((ROOT / "crates" / crate / "must-fail").glob("*.edit"))
+
+
 def with_below(crate, uses):
     """A crate behind those of this repository that it stands on, the lowest first."""
     found = []

@@ -1,28 +1,62 @@
 //! Reads a script from standard input and prints what the channel answers.
 #![tactic(auto)]
 
-ghost use Rattle.std.specs.Prelude.{◌≡◌, ℕ, List, Some};
+ghost use Rattle.std.specs.Prelude.{◌≡◌, ℕ, List, Some, false};
 ghost use Rattle.flume_script.specs.Serving.{Serves};
 ghost use Rattle.flume_script.specs.Program.{Prints};
 
+mod states;
+mod texts;
+
 use flume_core::error::NoMemory;
+use flume_script::faults::explain_script;
 use flume_script::serving::{FAULT, Unread, read_all, write_answer};
 use flume_script::{Script, run_script};
 use std::alloc::Allocator;
-use std::io;
 use std::io::{Read, Write};
 use std::process::ExitCode;
+use std::{env, io};
+use texts::run_with_states;
 
 fn main(rt: HostRuntime) -> ExitCode {
-    ExitCode::from(serve(rt.alloc(), &mut rt.reader(), &mut io::writer(&rt)))
+    match asks_for_states(&rt) {
+        Ok(shows) => {
+            let (mut output, mut messages) = (io::writer(&rt), rt.stderr());
+            serve(
+                rt.alloc(),
+                shows,
+                &mut rt.reader(),
+                &mut output,
+                &mut messages,
+            )
+            .into()
+        }
+        Err(_) => FAULT.into(),
+    }
 }
 
-/// Reads the input to its end, runs the script that it is, and writes what that prints. The status:
-/// 0, each line is right; 2, a line is wrong; 3, out of memory; 4, a fault of reading or writing,
-/// and then nothing more is written.
-fn serve<A: Allocator + Copy, R: Read, W: Write>(alloc: A, input: &mut R, output: &mut W) -> u8
+/// Whether `--states` is among the program's arguments.
+fn asks_for_states(rt: &HostRuntime) -> io::Result<bool> {
+    Ok(
+        env::args(rt)?
+            .skip(1)
+            .any(|word| word.as_str() == "--states"),
+    )
+}
+
+/// Reads the input to its end, runs the script that it is, and writes what that prints, with the
+/// states of the channel if it is to show them. The status: 0, each line is right; 2, a line is
+/// wrong, and a message says why; 3, out of memory; 4, a fault of reading or writing, and then
+/// nothing more is written.
+fn serve<A: Allocator + Copy, R: Read, W: Write, M: Write>(
+    alloc: A,
+    shows: bool,
+    input: &mut R,
+    output: &mut W,
+    messages: &mut M,
+) -> u8
     ensures served { (bytes before : List ℕ) → R.remaining input.old ≡ Some bytes
-        → W.contents output.old ≡ Some before
+        → W.contents output.old ≡ Some before → shows ≡ false
         → Serves (Prints A bytes) before (W.contents output.new) result }
 {
     let bytes = match read_all(alloc, input) {
@@ -30,9 +64,35 @@ fn serve<A: Allocator + Copy, R: Read, W: Write>(alloc: A, input: &mut R, output
         Err(Unread::NoMemory) => return write_answer(output, Err::<Script<A>, _>(NoMemory)),
         Err(Unread::Fault) => return FAULT,
     };
+    if shows {
+        let answer = run_with_states(alloc, &bytes);
+        if let Ok(script) = &answer {
+            say_why(alloc, &bytes, script, messages);
+        }
+        return write_answer(output, answer);
+    }
     // Each case by itself: the prover then knows which of the two is written.
     match run_script(alloc, &bytes) {
-        Ok(script) => write_answer(output, Ok(script)),
+        Ok(script) => {
+            say_why(alloc, &bytes, &script, messages);
+            write_answer(output, Ok(script))
+        }
         Err(NoMemory) => write_answer(output, Err::<Script<A>, _>(NoMemory)),
+    }
+}
+
+// Says what is wrong with the first wrong line, if one is. If that can't be said, the text that is
+// printed still has its number.
+fn say_why<A: Allocator + Copy, M: Write>(
+    alloc: A,
+    input: &[u8],
+    told: &Script<A>,
+    messages: &mut M,
+) {
+    if told.status != 2 {
+        return;
+    }
+    if let Ok(why) = explain_script(alloc, input) {
+        let _ = messages.write_all(why.as_bytes());
     }
 }

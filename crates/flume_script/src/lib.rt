@@ -1,8 +1,8 @@
 //! Scripts: the steps of a channel as text. `run_script` reads them, makes them on a new channel,
 //! and answers a text with a line for each reply; `./play` of the repository prints it.
 //!
-//! `reading` parses the lines, `writing` has the texts of the replies. The contract of `run_script`
-//! says which text it answers to which input.
+//! `reading` parses the lines, `faults` says what is wrong with one, and `writing` has the texts of
+//! the replies. The contract of `run_script` says which text it answers to which input.
 #![tactic(auto)]
 
 ghost use Rattle.flume_script.specs.Program.{Answers, Prints};
@@ -10,6 +10,7 @@ ghost use Rattle.flume_script.specs.Script.{IsScript, wrong_text};
 ghost use Rattle.std.specs.Prelude.{IfOk, ◌≡◌, ℕ, List};
 ghost use Rattle.std.specs.Str.Lines.{lines};
 
+pub mod faults;
 pub mod reading;
 pub mod serving;
 pub mod writing;

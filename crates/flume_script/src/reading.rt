@@ -75,8 +75,14 @@ pub fn next_line(rest: &[u8]) -> Option<(&[u8], &[u8])>
     }
 }
 
+/// The number of 64 bits that these digits are, with zeros before it or not.
+///
+/// ```
+/// number(b"007");                    // Some(7)
+/// number(b"");                       // None
+/// ```
 #[tactic(auto, using(crate::proofs::ScriptNumbers::numeral_is_text))]
-fn number(digits: &[u8]) -> Option<u64>
+pub fn number(digits: &[u8]) -> Option<u64>
     ensures value { SomeIff result
         (IsNumeral 10 digits.now × (digits_value 10 digits.now < 2 ^ 64))
         (digits_value 10 digits.now) }
@@ -103,7 +109,7 @@ fn is(line: &[u8], word: &[u8]) -> bool
 }
 
 // The step of a word that takes no number.
-fn plain_step(word: &[u8]) -> Option<Step<u64>>
+pub(crate) fn plain_step(word: &[u8]) -> Option<Step<u64>>
     requires no_space { All (λ x. (x == 32) ≡ false) word.now }
     ensures value { MatchOption result (IsNoStep word.now) (IsStepLine word.now) }
 {
@@ -126,7 +132,7 @@ fn plain_step(word: &[u8]) -> Option<Step<u64>>
 }
 
 // The step of a word and its number.
-fn call_step(word: &[u8], number: u64) -> Option<Step<u64>>
+pub(crate) fn call_step(word: &[u8], number: u64) -> Option<Step<u64>>
     requires no_space { All (λ x. (x == 32) ≡ false) word.now }
     ensures value { (digits : List ℕ) → IsNumeral 10 digits → digits_value 10 digits ≡ number →
         MatchOption result (IsNoStep (word.now ++ 32 ∷ digits))
