@@ -56,7 +56,7 @@ fn visit<R: Runtime + Print>(rt: &R, account: &Account<R>) -> io::Result<()> {
     println!(rt; "50 out: {}", account.pay_out(50)?)
 }
 
-/// Saves in two threads. The last sender of requests goes as this returns, so the owner ends.
+/// Saves in two threads. The last sender of requests is dropped as this returns, so the owner ends.
 fn save_twice<R: Runtime>(account: Account<R>) -> io::Result<()> {
     let rt = account.rt;
     let requests = account.requests.clone()?;
@@ -90,7 +90,8 @@ fn answer<R: Waits>(balance: u64, request: Request<R>) -> u64 {
     match request {
         Request::PayIn { amount, reply } => {
             let balance = balance.saturating_add(amount);
-            // Whoever asked may be gone. The account stays what it is, so the error is let go.
+            // The caller may have dropped its receiver. The account stays as it is, so the error is
+            // ignored.
             let _ = reply.send(balance);
             balance
         }

@@ -17,7 +17,7 @@ use std::marker::Brand;
 use std::process::Abort;
 use std::sync::ledger::{Blank, Ledger};
 
-// Behind a bar stands what a step answers that the channel refuses.
+// Behind a bar is the answer of a step that the channel refuses.
 const SCRIPTS: &str = "
 = one seat receives what the other sends
 unbounded
@@ -63,7 +63,6 @@ struct Script<'s>(&'s str);
 // Which growths of a step are refused: from the first to the last, counted from 1.
 type Window = (u64, u64);
 
-// No growth.
 const NONE: Window = (1, 0);
 
 // Whether a step was refused as a whole, and whether a growth of it was refused.
@@ -73,7 +72,7 @@ type Audited<'h, L> = Book<u64, L, Ones, Heap<'h>>;
 
 type Seats<'h, L> = Vec<Seat<u64, L, Ones, Heap<'h>>, Heap<'h>>;
 
-// Reads a line: the step, what it answers, and what where the channel refuses it.
+// Reads a line: the step, what it answers, and what if the channel refuses it.
 fn line_of<'s>(rt: &impl Abort, line: &'s str) -> (Step<u64>, &'s str, &'s str) {
     let (step, answers) = line.split_once(" -> ").expect(rt, "there is an arrow");
     let (answer, refusal) = answers.split_once(" | ").unwrap_or((answers, "none"));
@@ -81,7 +80,6 @@ fn line_of<'s>(rt: &impl Abort, line: &'s str) -> (Step<u64>, &'s str, &'s str) 
     (step, answer, refusal)
 }
 
-// Whether this text is that of the reply.
 fn says<'h>(rt: &impl Abort, heap: Heap<'h>, reply: &Reply<u64, Heap<'h>>, wanted: &str) -> bool {
     let mut text = String::new(heap);
     had(rt, write_reply(&mut text, reply));
@@ -115,8 +113,8 @@ fn made<'h, L: Ledger>(
     (is_whole, is_refused)
 }
 
-// Makes the steps of a script on a new book. Of the last one these growths are refused, and where
-// one was, it is made once more with memory. The book agrees with its receipts.
+// Makes the steps of a script on a new book. Of the last one these growths are refused, and if one
+// was, it is made once more with memory. The book agrees with its receipts.
 fn played<L: Ledger, R: Abort>(
     rt: &R,
     heap: Heap<'_>,
@@ -148,7 +146,7 @@ fn played<L: Ledger, R: Abort>(
 }
 
 // Plays a script once for each growth of its last step. It is refused as a whole, and by the
-// channel where the script says so.
+// channel if the script says so.
 fn each_growth<R: Abort>(rt: &R, alloc: Global, block: &str, is_one: bool) {
     let (heap, script) = (Counting::new(alloc), Script(block));
     let (mut whole, mut by_channel) = (0u64, false);

@@ -31,7 +31,6 @@ const ROWS: &str = "
 3: 0=a 2=c 7=c -> 1
 ";
 
-// The step and the reply that a letter stands for.
 fn entry(letter: &str) -> (Step<u64>, Reply<u64>) {
     let sent = Reply::Sent { filled: None };
     match letter {
@@ -43,7 +42,6 @@ fn entry(letter: &str) -> (Step<u64>, Reply<u64>) {
     }
 }
 
-// A list of these receipts.
 fn listed(rt: &impl Abort, alloc: Global, told: &str) -> Vec<Receipt<u64>> {
     let mut list = Vec::new(alloc);
     for receipt in told.split_whitespace() {
@@ -75,7 +73,6 @@ fn is_so(rt: &impl Abort, alloc: Global, row: &str) -> bool {
     differs(&history, &lists) == wanted.parse().ok()
 }
 
-// The lists of a row.
 fn lists_of(rt: &impl Abort, alloc: Global, told: &str) -> Vec<Vec<Receipt<u64>>> {
     let mut lists = Vec::new(alloc);
     for list in told.split(",") {

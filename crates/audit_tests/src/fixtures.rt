@@ -8,17 +8,17 @@ use std::process::Abort;
 /// The allocator of a book, lent.
 pub(crate) type Heap<'h> = &'h Counting<Global>;
 
-/// The answer is the wanted one.
+/// The answer is the expected one.
 pub(crate) fn is<T: Debug + PartialEq + Drop>(rt: &impl Abort, answer: T, wanted: T) {
     assert_eq!(rt; answer, wanted);
 }
 
-/// What a call answers that fails by memory alone.
+/// The result of a call that fails for memory alone.
 pub(crate) fn had<T, E: Debug + Drop>(rt: &impl Abort, answer: Result<T, E>) -> T {
     answer.expect(rt, "there is memory")
 }
 
-/// It is so; what fails where it isn't.
+/// It holds; if not, this name fails the test.
 pub(crate) fn holds(rt: &impl Abort, (title, fault): (&str, &str), is_so: bool) {
     assert!(rt; is_so, "{title}: {fault}");
 }

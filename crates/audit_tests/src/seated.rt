@@ -1,4 +1,4 @@
-//! Books in one thread: a missing seat is told, and no book is made where one of its growths is
+//! Books in one thread: a missing seat is found, and no book is made if one of its growths is
 //! refused. An audit opens and closes a book, and takes no other memory.
 ghost use Rattle.std.specs.Prelude.{◌≡◌};
 
@@ -15,7 +15,7 @@ use std::sync::ledger::{Blank, Ledger};
 // More growths than a new book has.
 const GROWTHS: u64 = 9;
 
-// What closing a new book of two seats answers where so many of them are handed in. `None`: no book
+// What closing a new book of two seats answers if this many of them are handed in. `None`: no book
 // is made.
 fn closed<L: Ledger>(heap: Heap<'_>, blank: Blank, handed: usize) -> Option<Closed>
     requires name { blank.name ≡ L.name }

@@ -22,13 +22,12 @@ use std::thread::Threads;
 // The capacities of the channels on which two threads draw.
 const CAPACITIES: &[Option<usize>] = &[Some(0), Some(1), Some(3), None];
 
-// The seeds from which the steps are drawn.
 const SEEDS: &[u64] = &[20_261_129, 20_261_131, 20_261_133, 20_261_135];
 
 // How many drawn steps each of two threads makes.
 const DRAWN: usize = 400;
 
-// Steps ask for one of so many tickets.
+// Steps ask for one of this many tickets.
 const NEAR: u64 = 8;
 
 // More tickets than two threads are issued.
@@ -145,7 +144,7 @@ where
     })
 }
 
-// The step of this number after the threads, where the last ticket is this. All that waits leaves;
+// The step of this number after the threads, if the last ticket is this. All that waits leaves;
 // then a woken receiver passes its wake on, and a blocked message comes back from a closed channel.
 fn last_step_of(number: usize, last: u64) -> Step<u64> {
     if number < TICKETS {
@@ -189,7 +188,7 @@ fn ask_at_last<L: Ledger, R: Wait + Copy>(
     true
 }
 
-// The history of the book has so many entries, and is a run. With none the channel is empty.
+// The history of the book has this many entries, and is a run. With none the channel is empty.
 fn is_right<L: Ledger>(rt: &impl Abort, alloc: Global, book: &Book<u64, L>, entries: usize) {
     let is_whole = book.history().len() == entries;
     holds(rt, ("an audit", "steps are missing"), is_whole);
@@ -200,8 +199,8 @@ fn is_right<L: Ledger>(rt: &impl Abort, alloc: Global, book: &Book<u64, L>, entr
     holds(rt, ("an audit", "it isn't empty"), is_empty || entries > 0);
 }
 
-// So many threads carry the plan out on a new channel. The audit settles, each step is
-// written, and the history is a run. Its replies are added to the text.
+// This many threads carry the plan out on a new channel. The audit settles, each step is written,
+// and the history is a run. Its replies are added to the text.
 fn are_audited<L, R>(rt: R, blank: Blank, threads: usize, plan: Plan, text: &mut String)
 where
     L: Ledger + Send + Sync,
@@ -233,7 +232,6 @@ where
     }
 }
 
-// How many lines of the text begin so.
 fn count(text: &str, start: &str) -> u64 {
     let mut count = 0u64;
     for line in text.lines() {

@@ -1,9 +1,8 @@
-//! Collects messages into batches: by draining the channel until a batch has five messages or its
+//! Collects messages into batches: it drains the channel until a batch has five messages or its
 //! time is over, whichever comes first.
 //!
 //! What is printed doesn't depend on how long anything takes. A batch is begun only once all that
-//! is to go into it was sent, so its time may be over or not; and where nothing was sent, the time
-//! passes, however long it is.
+//! goes into it was sent, so its time may be over or not; and if nothing was sent, the time passes.
 #![tactic(auto)]
 
 use flume::error::NoMemory;
@@ -24,7 +23,7 @@ enum End {
     Full,
     /// Its time was over.
     Late,
-    /// Nobody was left to send one.
+    /// The channel is closed.
     Closed,
 }
 
@@ -38,7 +37,7 @@ struct Batch {
 fn main(rt: HostRuntime) -> io::Result<()> {
     // Of capacity 10: the first ten messages find room, so they are all sent before one is read.
     let (tx, messages) = flume::on(rt).bounded(10)?;
-    // Of capacity 1: who says a word here doesn't wait until it is heard.
+    // Of capacity 1: the sender of a word doesn't wait until it is received.
     let (sent, was_sent) = flume::on(rt).bounded(1)?;
     let (acknowledge, acknowledged) = flume::on(rt).bounded(1)?;
     let sender = thread::spawn(&rt, move || send_all(tx, &sent, &acknowledged))?;
@@ -52,8 +51,8 @@ fn main(rt: HostRuntime) -> io::Result<()> {
     sender.join(&rt)
 }
 
-/// Sends ten messages, and after a word from the other side three more. Says each time that it has
-/// done so, the second time after it closed the channel by letting its only sender go.
+/// Sends ten messages, and after a word from the other side three more. It sends a word each time,
+/// the second time after it closed the channel by dropping its only sender.
 fn send_all<R: Waits>(
     tx: Sender<u64, R>,
     sent: &Sender<(), R>,
@@ -103,7 +102,7 @@ fn collect<R: Runtime>(rt: &R, from: &Receiver<u64, R>) -> io::Result<Batch> {
     Ok(Batch { messages, end })
 }
 
-/// Moves all that is queued into the list, taken from the channel in one step. Where there is no
+/// Moves all that is queued into the list, taken from the channel in one step. If there is no
 /// memory for it, what was taken is lost with the program.
 fn drain<R: Waits>(from: &Receiver<u64, R>, messages: &mut Vec<u64>) -> io::Result<()> {
     for message in from.drain()? {

@@ -2,7 +2,7 @@
 //! doubles the squares, and the main thread reads the answers.
 //!
 //! The tasks receive by a stream and answer through a sink, the thread sends and the main thread
-//! receives by calls that block. The first task is a type with a `poll`, which tells why its stream
+//! receives by blocking calls. The first task is a type with a `poll`, which says why its stream
 //! ended. The second is a chain from the stream to the sink. Each channel has one sender and one
 //! receiver, so what is printed comes in the order in which it was sent.
 #![tactic(auto)]
@@ -18,7 +18,7 @@ use std::{io, thread};
 fn main(rt: HostRuntime) -> io::Result<()> {
     // Of capacity 2: the thread may be ahead of the task by two numbers, and then waits for it.
     let (give, numbers) = flume::on(rt).bounded(2)?;
-    // Of capacity 1: a task may be ahead of who receives from it by one answer, and then waits.
+    // Of capacity 1: a task may be one answer ahead of its receiver, and then waits.
     let (square, squares) = flume::on(rt).bounded(1)?;
     let (answer, answers) = flume::on(rt).bounded(1)?;
     let feeder = thread::spawn(&rt, move || feed(&give))?;
@@ -29,14 +29,15 @@ fn main(rt: HostRuntime) -> io::Result<()> {
         println!(rt; "{answer}")?;
     }
     answers.ended()?;
-    // If a task failed, its error says why. That of those before it would only say that nobody
+    // If a task failed, its error says why; that of the tasks before it would only say that no one
     // received.
     second.join(&rt)?;
     first.join(&rt)?;
     feeder.join(&rt)
 }
 
-/// Sends the numbers from 1 to 10. Then the only sender goes, and the stream of the task ends.
+/// Sends the numbers from 1 to 10. Then the only sender is dropped, and the stream of the task
+/// ends.
 fn feed<R: Waits>(numbers: &Sender<u64, R>) -> io::Result<()> {
     for number in 1..=10 {
         numbers.send(number)?;
@@ -45,7 +46,7 @@ fn feed<R: Waits>(numbers: &Sender<u64, R>) -> io::Result<()> {
 }
 
 /// Runs the task on this thread until it is done. The stream and the sink own their ends, so both
-/// channels close as the task goes.
+/// channels close as the task is dropped.
 fn run<R>(rt: &R, numbers: Receiver<u64, R>, answers: Sender<u64, R>) -> io::Result<()>
 where
     R: Runtime + RandomSource,
@@ -57,7 +58,7 @@ where
 }
 
 /// Runs a chain on this thread: each number is doubled, and sent on. It ends without an error also
-/// where the stream ended because memory ran out.
+/// if the stream ended because memory ran out.
 fn double<R>(rt: &R, numbers: Receiver<u64, R>, answers: Sender<u64, R>) -> io::Result<()>
 where
     R: Runtime + RandomSource,
@@ -97,7 +98,7 @@ impl<R: Waits> Future for Squares<'_, R> {
 }
 
 impl<R: Waits> Squares<'_, R> {
-    /// Why the stream ended: all senders are gone, or there was no memory to wait.
+    /// Why the stream ended: all senders have been dropped, or there was no memory to wait.
     fn ended(&self) -> io::Result<()> {
         Ok(self.numbers.ended()?)
     }

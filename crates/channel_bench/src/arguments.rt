@@ -48,7 +48,6 @@ enum At {
     AboveZero,
 }
 
-// The shapes, by their words.
 const SHAPES: &[(&str, Shape, At)] = &[
     ("seq", Shape::Seq, At::Unbounded),
     ("spsc", Shape::Spsc, At::Any),
@@ -129,7 +128,6 @@ impl Arguments {
     }
 }
 
-// The capacity that this word says.
 fn capacity_of(word: &str) -> Option<Option<usize>> {
     match word {
         "unbounded" => Some(None),

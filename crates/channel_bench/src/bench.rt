@@ -67,7 +67,7 @@ pub fn time<R: Runtime + RandomSource>(
     }
 }
 
-/// Sets the start to now. Where the clock can't be read it stays.
+/// Sets the start to now. If the clock can't be read it stays.
 pub fn begin_anew<R: Clock>(rt: &R, start: &mut Instant) {
     if let Ok(now) = Instant::now(rt) {
         *start = now;
@@ -89,7 +89,7 @@ fn sum_sent(shape: Shape, messages: usize) -> usize {
 }
 
 impl<R: Runtime + RandomSource> Bench<R> {
-    // The sum of what is received. Sets the start anew where something is made ready first.
+    // The sum of what is received. Sets the start anew if something is made ready first.
     fn run(&self, shape: Shape, task: &MockTask, start: &mut Instant) -> Result<usize, Fault> {
         match shape {
             Shape::Spsc => self.in_threads(Crew::of(1)),

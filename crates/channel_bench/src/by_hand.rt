@@ -33,7 +33,7 @@ impl<R: Waits> Bench<R> {
         }
     }
 
-    // The polls of a shape for which so many receives wait already. These polls aren't timed.
+    // The polls of a shape for which this many receives wait already. These polls aren't timed.
     fn over_parked(
         &self,
         shape: Shape,
@@ -53,7 +53,7 @@ impl<R: Waits> Bench<R> {
         sum
     }
 
-    // So many receives, each of which was polled once and waits; fewer where there is no memory.
+    // This many receives, each of which was polled once and waits; fewer if there is no memory.
     fn park_each<'a>(
         &self,
         standing: usize,
@@ -105,8 +105,8 @@ fn park_sends<R: Waits>(ends: &Ends<R>, messages: usize, cx: &mut Context<'_>) -
     sum
 }
 
-/// For each message the receive that waits longest takes it; where they are renewed another begins
-/// to wait, so that as many wait all along.
+/// For each message the receive that waits longest takes it; if they are renewed another begins to
+/// wait, so that as many wait all along.
 fn fill_each<'a, R: Waits>(
     ends: &'a Ends<R>,
     receives: &mut Vec<RecvFut<'a, usize, R>>,
@@ -127,8 +127,8 @@ fn fill_each<'a, R: Waits>(
     sum
 }
 
-/// What the receive takes, which waits, after this message was sent; 0 where it takes none. Where it
-/// is renewed another begins to wait in its place.
+/// What the receive takes, which waits, after this message was sent; 0 if it takes none. If it is
+/// renewed another begins to wait in its place.
 #[inline(always)]
 fn fill<'a, R: Waits>(
     ends: &'a Ends<R>,

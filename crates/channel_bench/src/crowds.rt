@@ -1,4 +1,4 @@
-//! The shapes of a bare channel on which a crowd stands: so many parked receivers, or so many
+//! The shapes of a bare channel on which a crowd stands: this many parked receivers, or this many
 //! blocked sends, whose tickets follow one another from 1. Each operation leaves as many as there
 //! were.
 use crate::arguments::Shape;
@@ -10,7 +10,7 @@ use std::mem::forget;
 use std::time::Instant;
 
 impl<R: Waits> Bench<R> {
-    /// So many operations of one kind on a channel of capacity 0.
+    /// This many operations of one kind on a channel of capacity 0.
     pub fn crowd(&self, shape: Shape, start: &mut Instant) -> usize {
         let mut chan = Chan::new(self.alloc, Some(0));
         let sum = self.operate_on(&mut chan, shape, start);
@@ -27,14 +27,14 @@ impl<R: Waits> Bench<R> {
     }
 }
 
-/// So many come, one after the other.
+/// This many come, one after the other.
 fn gather(chan: &mut Chan<usize, ()>, shape: Shape, standing: usize) {
     for number in 0..standing {
         let _ = joins(chan, shape, number);
     }
 }
 
-/// The sum of the numbers of so many operations, of each that was answered as it is to be.
+/// The sum of the numbers of this many operations, of each that was answered as it is to be.
 fn operate(chan: &mut Chan<usize, ()>, shape: Shape, standing: usize, operations: usize) -> usize {
     let mut sum = 0usize;
     for number in 0..operations {
@@ -68,7 +68,7 @@ fn is_done(chan: &mut Chan<usize, ()>, shape: Shape, standing: usize, number: us
     }
 }
 
-/// The ticket of the one in the middle of so many. As those in the middle leave and others come,
+/// The ticket of the one in the middle of this many. As those in the middle leave and others come,
 /// the front half stays, and behind it they leave in the order in which they came.
 fn middle(standing: usize) -> u64 {
     (standing / 2).wrapping_add(1) as u64

@@ -15,7 +15,7 @@ pub struct Calls {
     sends: bool,
     // After one that sends comes one that receives, and the other way round.
     alternates: bool,
-    // The number that is sent is by so many greater than the last one that was sent or received.
+    // The number that is sent is by this many greater than the last one that was sent or received.
     adds: usize,
 }
 
@@ -47,7 +47,6 @@ pub const RECEIVES_FIRST: Calls = Calls {
     adds: 0,
 };
 
-// The call that is made now.
 #[derive(Drop)]
 enum Call<'a, R: Waits> {
     Sends(SendFut<'a, usize, R>),
@@ -65,7 +64,7 @@ impl<'a, R: Waits> Call<'a, R> {
         }
     }
 
-    // This message, where it was sent, or the one that was received. `None`: the channel is
+    // This message, if it was sent, or the one that was received. `None`: the channel is
     // disconnected, or there is no memory.
     #[inline(always)]
     fn poll(&mut self, message: usize, cx: &mut Context<'_>) -> Poll<Option<usize>>
@@ -82,7 +81,7 @@ impl<'a, R: Waits> Call<'a, R> {
     }
 }
 
-/// So many calls of a channel, one after the other. It gives the sum of what was received.
+/// This many calls of a channel, one after the other. It gives the sum of what was received.
 #[derive(Drop)]
 pub struct Loop<'a, R: Waits> {
     ends: &'a Ends<R>,

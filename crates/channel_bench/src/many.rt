@@ -3,7 +3,7 @@ use crate::bench::Ends;
 use flume::{Receiver, Sender, Waits};
 use std::alloc::{AllocError, Global};
 
-// How many messages a block has, where so many are left.
+// How many messages a block has, if this many are left.
 const BLOCK: usize = 64;
 
 /// Sends 0, 1, 2 and so on, a block at a time.
@@ -28,7 +28,7 @@ fn block_of(alloc: Global, first: usize, behind: usize) -> Result<Vec<usize>, Al
     Ok(block)
 }
 
-/// The sum of so many messages, or of those that come, a block at a time.
+/// The sum of this many messages, or of those that come, a block at a time.
 pub fn receive_blocks<R: Waits>(alloc: Global, rx: &Receiver<usize, R>, messages: usize) -> usize {
     let mut block = Vec::new(alloc);
     let (mut sum, mut left) = (0usize, messages);
@@ -46,7 +46,6 @@ pub fn receive_blocks<R: Waits>(alloc: Global, rx: &Receiver<usize, R>, messages
     sum
 }
 
-// The sum of these.
 fn sum_of(messages: &[usize]) -> usize {
     let mut sum = 0usize;
     for message in messages {

@@ -12,7 +12,7 @@ pub fn send_each<R: Waits>(tx: &Sender<usize, R>, messages: usize) {
     }
 }
 
-/// The sum of so many messages, or of those that come.
+/// The sum of this many messages, or of those that come.
 pub fn receive_each<R: Waits>(rx: &Receiver<usize, R>, messages: usize) -> usize {
     let mut sum = 0usize;
     for _ in 0..messages {
@@ -39,7 +39,7 @@ pub fn inout<R: Waits>(ends: &Ends<R>, messages: usize) -> usize {
     sum
 }
 
-/// The message that was sent and then received; 0 where none was.
+/// The message that was sent and then received; 0 if none was.
 #[inline(always)]
 fn pass<R: Waits>(ends: &Ends<R>, message: usize) -> usize {
     match ends.tx.send(message) {
@@ -72,8 +72,8 @@ impl<R: Waits> Bench<R> {
     }
 }
 
-/// A loop as a user writes it, with `?` and an error of the user's: so many messages sent and
-/// received in turn, and then so many sent and taken. The sum of all.
+/// A loop as a user writes it, with `?` and an error of the user's: this many messages sent and
+/// received in turn, and then this many sent and taken. The sum of all.
 pub fn plain<R: Waits>(ends: &Ends<R>, messages: usize) -> Result<usize, Fault> {
     let one_by_one = in_turn(ends, messages)?;
     Ok(one_by_one.wrapping_add(at_once(ends, messages)?))

@@ -41,7 +41,7 @@ impl<R: Runtime + RandomSource> Bench<R> {
     }
 }
 
-/// The sum of so many messages, each sent, and one received before the next.
+/// The sum of this many messages, each sent, and one received before the next.
 pub fn to_and_fro<R: Runtime + RandomSource>(
     rt: &R,
     ends: &Ends<R>,

@@ -8,7 +8,6 @@ use flume::{Receiver, Runtime, Selector, Waits};
 use std::alloc::Global;
 use std::random::RandomSource;
 
-// How many channels there are.
 const FOUR: usize = 4;
 
 impl<R: Runtime + RandomSource> Bench<R> {
@@ -32,7 +31,7 @@ impl<R: Waits> Bench<R> {
         select_in_turn(&self.open_four(), self.messages)
     }
 
-    // Four channels; fewer where there is no memory for them.
+    // Four channels; fewer if there is no memory for them.
     fn open_four(&self) -> Vec<Ends<R>> {
         let mut channels = Vec::new(self.alloc);
         for _ in 0..FOUR {
@@ -47,7 +46,7 @@ impl<R: Waits> Bench<R> {
     }
 }
 
-/// The sum of so many messages, each of which goes through one of the channels in turn.
+/// The sum of this many messages, each of which goes through one of the channels in turn.
 fn select_in_turn<R: Waits>(channels: &[Ends<R>], messages: usize) -> usize {
     let mut sum = 0usize;
     for message in 0..messages {
@@ -60,7 +59,7 @@ fn select_in_turn<R: Waits>(channels: &[Ends<R>], messages: usize) -> usize {
     sum
 }
 
-/// The sum of what so many selections receive.
+/// The sum of what this many selections receive.
 fn select_each<R: Waits>(channels: &[Ends<R>], messages: usize) -> usize {
     let mut sum = 0usize;
     for _ in 0..messages {
@@ -69,7 +68,7 @@ fn select_each<R: Waits>(channels: &[Ends<R>], messages: usize) -> usize {
     sum
 }
 
-/// What one selection over the four channels receives, 0 where that is nothing.
+/// What one selection over the four channels receives, 0 if that is nothing.
 fn select<R: Waits>(channels: &[Ends<R>]) -> usize {
     match channels {
         [one, two, three, four] => {
@@ -83,7 +82,7 @@ fn select<R: Waits>(channels: &[Ends<R>]) -> usize {
 /// Receivers that a selector gets more, an arm each. It is proved once for each list of arms, in
 /// whose last one only that it is an arm is known: the whole type takes the prover far longer.
 trait MoreArms<'a> {
-    /// What the selection receives then, 0 where that is nothing.
+    /// What the selection receives then, 0 if that is nothing.
     fn select<L: Arms<usize, Global> + Drop, C: Arm<usize, Global> + Drop>(
         self,
         selector: Selector<'a, usize, (L, C)>,
@@ -92,7 +91,6 @@ trait MoreArms<'a> {
         requires last { C.can_map (C.mapper selector.arms.1) };
 }
 
-// None.
 impl<'a> MoreArms<'a> for () {
     fn select<L: Arms<usize, Global> + Drop, C: Arm<usize, Global> + Drop>(
         self,
@@ -102,7 +100,6 @@ impl<'a> MoreArms<'a> for () {
     }
 }
 
-// One, and those after it.
 impl<'a, R: Waits, M: MoreArms<'a>> MoreArms<'a> for (&'a Receiver<usize, R>, M) {
     fn select<L: Arms<usize, Global> + Drop, C: Arm<usize, Global> + Drop>(
         self,
@@ -113,7 +110,7 @@ impl<'a, R: Waits, M: MoreArms<'a>> MoreArms<'a> for (&'a Receiver<usize, R>, M)
     }
 }
 
-/// The message, 0 where there is none.
+/// The message, 0 if there is none.
 fn message_or_none(answer: Result<usize, RecvError>) -> usize {
     answer.unwrap_or(0)
 }

@@ -26,7 +26,7 @@ pub enum Work<R: Waits> {
 }
 
 impl<R: Runtime + RandomSource> Work<R> {
-    // The sum of so many messages that were received: 0 where they were sent.
+    // The sum of this many messages that were received: 0 if they were sent.
     fn pass_each(&self, rt: &R, messages: usize) -> usize {
         match self {
             Work::Sends(tx) => {
@@ -47,7 +47,7 @@ impl<R: Runtime + RandomSource> Work<R> {
 /// How many threads send and receive, and how.
 #[derive(Clone, Copy)]
 pub struct Crew {
-    /// So many threads send.
+    /// This many threads send.
     pub senders: usize,
     /// As many others receive; else this thread does.
     pub several: bool,
@@ -56,7 +56,7 @@ pub struct Crew {
 }
 
 impl Crew {
-    /// So many threads send, and this one receives, a message a call.
+    /// This many threads send, and this one receives, a message a call.
     pub fn of(senders: usize) -> Crew {
         Crew {
             senders,
@@ -67,7 +67,7 @@ impl Crew {
 }
 
 impl<R: Runtime + RandomSource> Bench<R> {
-    /// What this thread receives from others; where several receive, what they do.
+    /// What this thread receives from others; if several receive, what they do.
     pub fn in_threads(&self, crew: Crew) -> Result<usize, Fault> {
         let each = self.messages / crew.senders.max(1);
         let ends = self.open()?;
@@ -84,7 +84,7 @@ impl<R: Runtime + RandomSource> Bench<R> {
         Ok(sum.wrapping_add(self.joined(threads)))
     }
 
-    /// Starts the threads that send so many messages each; where several receive, as many more.
+    /// Starts the threads that send this many messages each; if several receive, as many more.
     pub fn start_each(
         &self,
         threads: &mut Vec<JoinHandle<usize>>,
@@ -101,7 +101,7 @@ impl<R: Runtime + RandomSource> Bench<R> {
         Ok(())
     }
 
-    // Starts a thread that sends, or receives, so many messages; many a call, or one.
+    // Starts a thread that sends, or receives, this many messages; many a call, or one.
     fn start_clone(
         &self,
         threads: &mut Vec<JoinHandle<usize>>,
@@ -125,7 +125,7 @@ impl<R: Runtime + RandomSource> Bench<R> {
         self.start(threads, work, each)
     }
 
-    /// Starts a thread that does this with so many messages.
+    /// Starts a thread that does this with this many messages.
     pub fn start(
         &self,
         threads: &mut Vec<JoinHandle<usize>>,

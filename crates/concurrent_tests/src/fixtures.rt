@@ -15,7 +15,6 @@ fn parts_of(text: &str) -> (&str, Option<u64>) {
     (word, rest.parse().ok())
 }
 
-// The numbers behind a word.
 fn numbers_of(rt: &impl Abort, alloc: Global, text: &str) -> Vec<u64> {
     let mut numbers = Vec::new(alloc);
     for number in text.split_whitespace().skip(1) {
@@ -24,7 +23,6 @@ fn numbers_of(rt: &impl Abort, alloc: Global, text: &str) -> Vec<u64> {
     numbers
 }
 
-// The call that a text stands for, of those that are written here.
 fn call_of(rt: &impl Abort, text: &str) -> Call<u64> {
     match parts_of(text) {
         ("send", Some(message)) => Call::Send(message),
@@ -43,7 +41,6 @@ fn call_of(rt: &impl Abort, text: &str) -> Call<u64> {
     }
 }
 
-// The answer that a text stands for, of those that are written here.
 fn answer_of(rt: &impl Abort, alloc: Global, text: &str) -> Answer<u64> {
     match parts_of(text) {
         ("sent", None) => Answer::Sent,
@@ -61,7 +58,6 @@ fn answer_of(rt: &impl Abort, alloc: Global, text: &str) -> Answer<u64> {
     }
 }
 
-// The reply that a text stands for, of those that are written here.
 fn reply_of(rt: &impl Abort, alloc: Global, text: &str) -> Reply<u64> {
     let filled = text
         .strip_prefix("sent filled ")
@@ -93,7 +89,6 @@ fn reply_of(rt: &impl Abort, alloc: Global, text: &str) -> Reply<u64> {
     }
 }
 
-// The number of a thread whose name is a letter.
 fn thread_of(name: &str) -> usize {
     name.as_bytes().first().copied().unwrap_or(0) as usize
 }
@@ -149,7 +144,7 @@ pub(crate) fn each_is_judged(rt: &impl Abort, alloc: Global, texts: &str) {
     }
 }
 
-// What a call answers that fails by memory alone.
+// The result of a call that fails for memory alone.
 fn had<T, E: Debug + Drop>(rt: &impl Abort, answer: Result<T, E>) -> T {
     answer.expect(rt, "there is memory")
 }

@@ -1,5 +1,5 @@
 //! Explanations, each worked by hand from the tables of `specs/` and of `docs/MODEL.md`. Behind a
-//! `! ` stands the first item that may not come; without one the text is an explanation.
+//! `! ` is the first item that may not come; without one the text is an explanation.
 use crate::fixtures::each_is_judged;
 
 const ORDERS: &str = "

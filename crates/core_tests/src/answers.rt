@@ -1,19 +1,19 @@
-//! Answers, compared in one place. Want of memory fails a test here: a `?` in a test costs the
-//! prover a second, and an abort none.
+//! Answers, compared in one place. Running out of memory fails a test here: a `?` in a test costs
+//! the prover a second, and an abort none.
 use std::fmt::Debug;
 use std::process::Abort;
 
-/// The answer is the wanted one.
+/// The answer is the expected one.
 pub(crate) fn is<T: Debug + PartialEq + Drop>(rt: &impl Abort, answer: T, wanted: T) {
     assert_eq!(rt; answer, wanted);
 }
 
-/// What a call answers that fails by memory alone.
+/// The result of a call that fails for memory alone.
 pub(crate) fn had<T, E: Debug + Drop>(rt: &impl Abort, answer: Result<T, E>) -> T {
     answer.expect(rt, "there is memory")
 }
 
-/// The answer is the wanted one, in the row of this title.
+/// The answer is the expected one, in the row of this title.
 pub(crate) fn is_so<T: Debug + PartialEq + Drop>(
     rt: &impl Abort,
     title: &str,

@@ -11,7 +11,6 @@ use std::fmt::Debug;
 use std::io;
 use std::process::Abort;
 
-// The list has this debug text.
 fn shows<E: Debug>(rt: &impl Abort, alloc: Global, errors: &[E], wanted: &str) {
     let shown = had(rt, format!(in alloc; "{errors:?}"));
     is(rt, shown.as_str(), wanted);

@@ -7,7 +7,7 @@ struct Offer {
     message: u64,
     ticket: Option<u64>,
     returned: bool,
-    // Whether its sender was told what became of it, and asks no more.
+    // Whether its sender learned what became of it, and asks no more.
     is_spent: bool,
     // Whether its sender was named as due; and whether that was since the channel was closed, so
     // that it is named once more if it is accepted.
@@ -22,7 +22,7 @@ struct HandOut {
     filled: Option<u64>,
 }
 
-// How the ticket of a receiver stands.
+// The state of a receiver's ticket.
 #[derive(Clone, Copy, PartialEq, Drop)]
 enum Stands {
     Parked,
@@ -38,7 +38,7 @@ struct Ticket {
     is_named: bool,
 }
 
-/// What the replies of one script told, and how many of them can't be.
+/// What the replies of one script say, and how many of them can't be.
 #[derive(Drop)]
 pub struct Told {
     offers: Vec<Offer>,
@@ -54,7 +54,7 @@ pub struct Told {
 }
 
 impl Told {
-    /// Of a new channel nothing is told.
+    /// Of a new channel nothing is known.
     pub fn nothing(alloc: Global) -> Told {
         Told {
             offers: Vec::new(alloc),
@@ -68,7 +68,7 @@ impl Told {
         }
     }
 
-    /// Keeps what the reply to this step tells.
+    /// Keeps what the reply to this step says.
     pub fn add(&mut self, step: &Step<u64>, reply: &Reply<u64>) -> Result<(), AllocError> {
         match step {
             Step::TrySend(message) | Step::Send(message) => self.offered(*message, reply)?,
@@ -85,7 +85,6 @@ impl Told {
         self.faults = self.faults.saturating_add(1);
     }
 
-    // A message was offered.
     fn offered(&mut self, message: u64, reply: &Reply<u64>) -> Result<(), AllocError> {
         let (ticket, filled) = match reply {
             Reply::Sent { filled } => (None, *filled),
@@ -206,7 +205,7 @@ impl Told {
         Ok(())
     }
 
-    // The ticket stands so from now on. One that waits again can be named again. How it stood
+    // The ticket has this state from now on. One that waits again can be named again. Its state
     // before, if it was issued to a receiver.
     fn replace(&mut self, number: u64, stands: Stands) -> Stands {
         let mut before = Stands::Spent;
@@ -289,7 +288,7 @@ impl Told {
         Ok(())
     }
 
-    // Ends come and go, and are counted. With both gone no ticket is left.
+    // Ends come and go, and are counted. Once both have been dropped no ticket is left.
     fn counted(&mut self, step: &Step<u64>, reply: &Reply<u64>) {
         match (step, reply) {
             (Step::CloneSender, Reply::Done) => self.senders = self.senders.saturating_add(1),

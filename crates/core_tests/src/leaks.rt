@@ -50,7 +50,6 @@ impl Counts {
         }
     }
 
-    // How many weren't dropped.
     fn left(&self) -> u64 {
         let made = self.made.load(Ordering::SeqCst);
         made.wrapping_sub(self.dropped.load(Ordering::SeqCst))
@@ -68,9 +67,9 @@ struct Stage<'a> {
     chan: Chan<Counted<'a>, Counted<'a>>,
     messages: &'a Counts,
     signals: &'a Counts,
-    // Who asks leaves a new signal.
+    // A call that asks leaves a new signal.
     renews: bool,
-    // Who is due is named after each step.
+    // Which tickets are due is named after each step.
     names: bool,
     issued: u64,
 }

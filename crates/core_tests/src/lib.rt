@@ -1,5 +1,5 @@
-//! Tests of what stands below the ends and no text can say: drawn scripts, lists of steps at other
-//! messages than numbers, and the errors. What one thread does to a bare channel is told by the
+//! Tests of what is below the ends and can't be said by a script: drawn scripts, lists of steps at
+//! other messages than numbers, and the errors. What one thread does to a bare channel is in the
 //! scripts of `core_scripts`.
 #![tactic(auto)]
 

@@ -10,7 +10,6 @@ use std::alloc::Global;
 use std::fmt::Debug;
 use std::process::Abort;
 
-// A message that can't be copied.
 #[derive(Debug, Drop)]
 struct Parcel(u64);
 

@@ -9,8 +9,8 @@ use flume_model::step::Step;
 use std::alloc::Global;
 use std::process::Abort;
 
-// A script is so many lists of so many steps, on one channel. The tickets in a list are drawn among
-// those that were issued before it, and a few that weren't.
+// A script is this many lists of this many steps, on one channel. The tickets in a list are drawn
+// among those that were issued before it, and a few that weren't.
 const SCRIPTS: u64 = 2_000;
 
 const LISTS: u64 = 10;
@@ -20,7 +20,7 @@ const STEPS: u64 = 3;
 // More than a script offers.
 const TAKES: u64 = 40;
 
-// Runs one list of steps, and keeps what its replies tell.
+// Runs one list of steps, and keeps what its replies say.
 fn run_list<R: Abort>(
     rt: &R,
     alloc: Global,
@@ -50,7 +50,7 @@ fn run_end<R: Abort>(rt: &R, alloc: Global, chan: &mut Chan<u64, ()>, told: &mut
     run_list(rt, alloc, chan, &steps, told);
 }
 
-// One script, and what its replies told.
+// One script, and what its replies say.
 fn run_one<R: Abort>(rt: &R, alloc: Global, draws: &mut Draws, chan: &mut Chan<u64, ()>) -> Told {
     let mut told = Told::nothing(alloc);
     for _ in 0..LISTS {

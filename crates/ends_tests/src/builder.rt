@@ -6,7 +6,6 @@ use flume::{Builder, Waits};
 use std::alloc::Allocator;
 use std::process::Abort;
 
-// The capacities; `None` is unbounded.
 const CAPACITIES: &[Option<usize>] = &[None, Some(0), Some(2)];
 
 #[test]
@@ -22,8 +21,8 @@ fn a_builder_opens_channels_of_each_capacity(rt: HostRuntime) {
     }
 }
 
-// A channel of this builder has its memory from the allocator, and gives it back. Where the
-// allocator refuses, none is opened, and no block is left.
+// A channel of this builder has its memory from the allocator, and gives it back. If the allocator
+// refuses, none is opened, and no block is left.
 fn has_its_memory<R: Waits, A: Allocator + Copy, B: Allocator>(
     rt: &impl Abort,
     builder: Builder<R, A>,

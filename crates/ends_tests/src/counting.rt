@@ -1,10 +1,10 @@
-//! An allocator that counts the blocks that are out, and refuses requests where it is told to.
+//! An allocator that counts the blocks that are out, and refuses requests when asked to.
 use std::alloc::{AllocError, Allocator};
 use std::sync::atomic::{AtomicU64, Ordering};
 
 // How many blocks are out; how many were asked for, and how many of these were refused, since the
 // range was set; the range of those that are refused, counted from 1; and one in how many is
-// refused beside them, where that isn't 0.
+// refused in addition, if that isn't 0.
 struct Blocks {
     live: AtomicU64,
     asked: AtomicU64,
@@ -71,7 +71,7 @@ impl<B: Allocator> Counting<B> {
         self.blocks.last.store(last, Ordering::SeqCst);
     }
 
-    /// From now on it refuses one request in so many, drawn by the request's number.
+    /// From now on it refuses one request in this many, drawn by the request's number.
     pub fn refuse_one_in(&self, requests: u64) {
         self.blocks.one_in.store(requests, Ordering::SeqCst);
     }
@@ -96,7 +96,6 @@ impl<B: Allocator> Drop for Counting<B> {
     }
 }
 
-// Whether the request of this number is drawn to be refused.
 fn is_drawn(blocks: &Blocks, number: u64) -> bool {
     let drawn = number
         .wrapping_mul(6_364_136_223_846_793_005)
@@ -120,7 +119,6 @@ fn refused(blocks: &Blocks) -> bool {
     false
 }
 
-// One less is.
 fn count_down(blocks: &Blocks) {
     blocks.live.fetch_sub(1, Ordering::SeqCst);
 }

@@ -6,12 +6,12 @@ use std::fmt::Debug;
 use std::process::Abort;
 use std::time::{Clock, Instant};
 
-/// The answer is the wanted one.
+/// The answer is the expected one.
 pub(crate) fn is<T: Debug + PartialEq + Drop>(rt: &impl Abort, answer: T, wanted: T) {
     assert_eq!(rt; answer, wanted);
 }
 
-/// What a call answers that fails by memory alone.
+/// The result of a call that fails for memory alone.
 pub(crate) fn had<T, E: Debug + Drop>(rt: &impl Abort, answer: Result<T, E>) -> T {
     answer.expect(rt, "there is memory")
 }

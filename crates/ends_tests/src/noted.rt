@@ -1,4 +1,4 @@
-//! A clock that notes how often it is read, and stands still where it is told to. A call up to a
+//! A clock that notes how often it is read, and stands still if it is told to. A call up to a
 //! deadline reads its clock once it has parked, and before it sleeps: so a test knows when it
 //! waits.
 use flume::Waits;

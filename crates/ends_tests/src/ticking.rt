@@ -24,7 +24,7 @@ impl<R> Clock for Unreadable<R> {
 }
 
 /// A runtime whose clock counts its readings: the first is 0, and each is later than the one before
-/// by so many microseconds.
+/// by this many microseconds.
 #[derive(Clone, Copy)]
 pub struct Ticking<'a, R> {
     pub rt: R,

@@ -58,7 +58,6 @@ fn watch_over<R: Waits>(rt: &R, watched: &Watched, began: Instant) -> bool {
     unreachable!()
 }
 
-// Watches over a test.
 #[derive(Drop)]
 struct WatchOver<R: Waits, W: Work> {
     rt: R,
@@ -83,8 +82,8 @@ impl<R: Waits, W: Work<Answer = ()> + Drop> Work for WatchOver<R, W> {
     }
 }
 
-/// Begins to watch over a test. Where for 50 seconds it neither says that something moved nor that
-/// it is over, the watching thread does `stuck`, which is to fail the test: no library may end a
+/// Begins to watch over a test. If for 50 seconds it neither says that something moved nor that it
+/// is over, the watching thread does `stuck`, which is to fail the test: no library may end a
 /// process, so each crate of tests brings its own.
 pub fn begin_watch<R, W>(rt: R, alloc: Global, stuck: W) -> Result<Watch, Fail>
 where

@@ -1,7 +1,7 @@
 //! A bus of events: each subscriber has a bounded channel of its own, and none of them is waited
 //! for.
 //!
-//! One thread publishes and reads, so what is printed hangs on no schedule.
+//! One thread publishes and reads, so what is printed depends on no schedule.
 #![tactic(auto)]
 
 use flume::error::NoMemory;
@@ -13,7 +13,7 @@ use std::io;
 enum Notice {
     /// The event with this number.
     Event(u64),
-    /// So many events came while the channel was full.
+    /// This many events came while the channel was full.
     Missed(u64),
 }
 
@@ -21,13 +21,14 @@ enum Notice {
 #[derive(Drop)]
 struct Subscriber<R: Waits> {
     notices: Sender<Notice, R>,
-    // How many events it missed and wasn't told of.
+    // How many events it missed and no notice has counted yet.
     missed: u64,
     gone: bool,
 }
 
 impl<R: Waits> Subscriber<R> {
-    /// Tells it of an event, after those that it missed. What finds no room counts as missed.
+    /// Sends it an event, after a count of those that it missed. An event that finds no room counts
+    /// as missed.
     fn tell(&mut self, event: u64) -> Result<(), NoMemory> {
         if self.missed > 0 && self.offer(Notice::Missed(self.missed))? {
             self.missed = 0;
@@ -38,8 +39,8 @@ impl<R: Waits> Subscriber<R> {
         Ok(())
     }
 
-    /// Whether the notice was taken in. `try_send` doesn't wait: a full channel is the subscriber's
-    /// own affair, and no other one has to suffer from it.
+    /// Whether the notice was taken in. `try_send` doesn't wait: a full channel delays no other
+    /// subscriber.
     fn offer(&mut self, notice: Notice) -> Result<bool, NoMemory> {
         match self.notices.try_send(notice) {
             Ok(()) => Ok(true),
@@ -73,7 +74,7 @@ impl<R: Runtime> Bus<R> {
         Ok(received)
     }
 
-    /// Tells each subscriber of the event, and takes those that are gone off the list.
+    /// Sends each subscriber the event, and removes those that have been dropped from the list.
     fn publish(&mut self, event: u64) -> io::Result<()> {
         for subscriber in &mut self.subscribers {
             subscriber.tell(event)?;
@@ -97,13 +98,14 @@ fn main(rt: HostRuntime) -> io::Result<()> {
     read(&rt, "slow", &slow)?;
     bus.publish(6)?;
     read(&rt, "slow", &slow)?;
-    // The only receiver of this channel goes, so it closes. The bus sees that as it publishes.
+    // The only receiver of this channel is dropped, so it closes. The bus sees that when it
+    // publishes.
     drop(quick);
     bus.publish(7)?;
     println!(rt; "subscribers: {}", bus.subscribers.len())?;
     let late = bus.subscribe(1)?;
     bus.publish(8)?;
-    // With the bus the last sender of each channel goes. What is queued is still read.
+    // With the bus the last sender of each channel is dropped. What is queued is still read.
     drop(bus);
     read(&rt, "slow", &slow)?;
     read(&rt, "late", &late)

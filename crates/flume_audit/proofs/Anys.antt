@@ -47,7 +47,7 @@ module _ {X : Type 0} where
     is,
   )
 
-  -- where each element has a property that rules out another, none has the other
+  -- if each element has a property that rules out another, none has the other
   pub any_none : (Is Also : X → Type 0) (list : List X) → ((x : X) → Is x → Also x → ⊥)
       → All Is list → Any Also list → ⊥
   any_none Is Also list not all any =

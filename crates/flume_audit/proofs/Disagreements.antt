@@ -14,7 +14,7 @@ use Rattle.flume_audit.specs.Misplaced.{IsLeast, Misplaced}
 use Rattle.flume_audit.proofs.Anys.{any_as}
 use Rattle.flume_audit.proofs.Neighbours.{there_if_not_above}
 
--- where a misplaced number is past the end, so is a receipt, and the end is misplaced
+-- if a misplaced number is past the end, so is a receipt, and the end is misplaced
 end_if_past : {T A : Type 0} (end number : ℕ) (list : List (Receipt T A)) → end ≤ number
     → Misplaced end number list → Misplaced end end list
 end_if_past end number list le (inl not_above) =
@@ -60,7 +60,7 @@ module _ {T A : Type 0} (history : History T A) (lists : List (List (Receipt T A
   AgreeBelow number = (lower : ℕ) → lower < number → AgreeAt equal history lists lower
 
   module _ (end : Option ℕ) (is : IsEnd history lists end) where
-    -- where they agree at a number below the least misplaced, they don't disagree there
+    -- if they agree at a number below the least misplaced, they don't disagree there
     agree_below : (number : ℕ) → number < unwrap_or end (length history)
         → AgreeAt equal history lists number → DisagreeAt equal history lists number → ⊥
     agree_below number below agree (inl not) = not agree
@@ -70,7 +70,7 @@ module _ {T A : Type 0} (history : History T A) (lists : List (List (Receipt T A
         let within = bound_within history lists end is in
         let same : number ≡ length history = past.0 in omega (arith, within)
 
-    -- at a number below it whose entry is not told once they disagree, and not before
+    -- at a number below it whose entry hasn't exactly one receipt they disagree, and not before
     pub untold : (number : ℕ) (entry : Step T × Reply T A)
         → number < unwrap_or end (length history) → slice_get history number ≡ Some entry
         → false ≡ is_told_once equal entry (told_at number lists) → AgreeBelow number
@@ -88,7 +88,7 @@ module _ {T A : Type 0} (history : History T A) (lists : List (List (Receipt T A
   misplaced_disagrees number (place, list, within, at, inr past) =
       inr (inr (past.0, (place, list, within, at, past.1)))
 
-  -- where they agree throughout and nothing is misplaced, they disagree nowhere
+  -- if they agree throughout and nothing is misplaced, they disagree nowhere
   agree_throughout : IsEnd history lists None → AgreeBelow (length history) → (number : ℕ)
       → DisagreeAt equal history lists number → ⊥
   agree_throughout none agree number (inl not) = elim (cases_lt number (length history)) [
@@ -102,7 +102,7 @@ module _ {T A : Type 0} (history : History T A) (lists : List (List (Receipt T A
       none number (any_as (Any (λ receipt. length history ≤ receipt.number))
       (Misplaced (length history) number) lists (λ list any. inr (past.0, any)) past.1)
 
-  -- where they agree below the least misplaced number, they disagree there, and not before
+  -- if they agree below the least misplaced number, they disagree there, and not before
   pub end_some : (end : Option ℕ) → IsEnd history lists end
       → AgreeBelow (unwrap_or end (length history))
       → IfSome end (LeastDisagreement equal history lists)
@@ -112,14 +112,14 @@ module _ {T A : Type 0} (history : History T A) (lists : List (List (Receipt T A
     λ lower lt. agree_below (Some number) is lower lt (agree lower lt),
   )
 
-  -- where they agree throughout and no number is misplaced, they disagree nowhere
+  -- if they agree throughout and no number is misplaced, they disagree nowhere
   pub end_none : (end : Option ℕ) → IsEnd history lists end
       → AgreeBelow (unwrap_or end (length history))
       → IfNone end ((number : ℕ) → DisagreeAt equal history lists number → ⊥)
   end_none None none agree = agree_throughout none agree
   end_none (Some number) is agree = tt
 
-  -- where the entry at a number is told once, they agree there
+  -- if the entry at a number has one receipt, they agree there
   pub agree_here : (number : ℕ) (entry : Step T × Reply T A) → entry ≡ get_or history number entry
       → true ≡ is_told_once equal entry (told_at number lists)
       → AgreeAt equal history lists number

@@ -39,7 +39,7 @@ least_with_second (x ∷ y ∷ ys) later before receipt two first second least l
     (λ number. NotAbove number (y ∷ ys)) (Some y.number) later
     ((refl, le_first), λ number here. le_of_eq here.0) (rw take_rest at least))
 
--- Where the second is above the first, it is that of the rest.
+-- If the second is above the first, it is that of the rest.
 pub least_of_rest : {T A : Type 0} (list : List (Receipt T A)) (later : Option ℕ)
     (before receipt : Receipt T A) → 2 ≤ length list → before ≡ get_or list 0 before
     → receipt ≡ get_or list 1 receipt → IsLeast (λ number. NotAbove number (from_second list)) later

@@ -76,8 +76,8 @@ module _ {T A : Type 0} (number : ℕ) where
       lower_come_first (y ∷ ys) (rises_later x y ys rises) i j other (omega arith) (omega arith)
       lower
 
-  -- where the receipts before a place have lower numbers and those from it on do not, no receipt
-  -- but the one at that place has the number
+  -- if the receipts before a place have lower numbers and those from it on do not, no receipt but
+  -- the one at that place has the number
   one_at_place : (list : List (Receipt T A)) (place : ℕ) → RisesPast list
       → ((k : ℕ) (other : Receipt T A) → k < place → (get_or list k other).number < number)
       → ((k : ℕ) (other : Receipt T A) → place ≤ k → k < length list

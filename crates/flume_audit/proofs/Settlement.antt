@@ -1,4 +1,4 @@
--- A history is settled exactly where it and the receipts disagree nowhere.
+-- A history is settled exactly if it and the receipts disagree nowhere.
 use Rattle.std.proofs.Common.{◌≡◌, ℕ, zero, suc, ◌<◌, ◌≤◌, ◌↔◌, inl, inr, Bool}
 use Rattle.std.proofs.Common.{List, [], ◌∷◌, length, get_or, Any, All, AllPairs}
 use Rattle.std.proofs.Common.{refl, sym, ◌∙◌, arith}
@@ -15,7 +15,7 @@ module _ {T A : Type 0} where
   abbrev pub Rising : List (Receipt T A) → Type 0
   Rising = AllPairs (λ receipt later. receipt.number < later.number)
 
-  -- where the numbers rise, each receipt is above the one before it
+  -- if the numbers rise, each receipt is above the one before it
   rising_above : (number : ℕ) (list : List (Receipt T A)) → Rising list → NotAbove number list → ⊥
   rising_above number [] rising not_above = not_above
   rising_above number (x ∷ []) rising not_above = not_above
@@ -27,7 +27,7 @@ module _ {T A : Type 0} where
   rising_above number (x ∷ y ∷ ys) rising (inr later) = rising_above number (y ∷ ys)
       (λ i j other lt within. rising (suc i) (suc j) other (omega arith) (omega arith)) later
 
-  -- where each receipt is above the one before it, it is above the first
+  -- if each receipt is above the one before it, it is above the first
   above_first : (x : Receipt T A) (xs : List (Receipt T A)) (place : ℕ) (other : Receipt T A)
       → ((number : ℕ) → NotAbove number (x ∷ xs) → ⊥) → place < length xs
       → x.number < (get_or xs place other).number
@@ -42,7 +42,7 @@ module _ {T A : Type 0} where
     | inr le ↦ absurd (none y.number (inl (refl, le)))
   ]
 
-  -- the numbers rise where each receipt is above the one before it
+  -- the numbers rise if each receipt is above the one before it
   above_rising : (list : List (Receipt T A)) → ((number : ℕ) → NotAbove number list → ⊥)
       → Rising list
   above_rising [] none i j other lt within = absurd (omega arith)
@@ -90,7 +90,7 @@ module _ {T A : Type 0} (equal : Step T × Reply T A → Step T × Reply T A →
         ];
   }
 
-  -- a history is settled exactly where they disagree at no number
+  -- a history is settled exactly if they disagree at no number
   pub settled_where_none : IsSettled equal history lists
       ↔ ((number : ℕ) → DisagreeAt equal history lists number → ⊥)
   settled_where_none = (settled_agrees, agreeing_settles)

@@ -35,7 +35,7 @@ module _ {T A : Type 0} where
       → Represents opening ((Drain, Drained list) ∷ log) new → list.items ≡ old.queue
   drained_is_queue opening log old new list before after = after.run.0 ∙ queue_at_log before
 
-  -- room for what is queued, where the step is a drain, is enough for a copy of its reply
+  -- room for what is queued, if the step is a drain, is enough for a copy of its reply
   pub room_serves : (opening : Opening) (log : Log T A) (old new : State T (Unit {0}))
       → (step : Step T) (reply : Reply T A) (drained room : ℕ)
       → Represents opening log old → Extends old step reply new → PossibleReply step reply
@@ -50,7 +50,7 @@ module _ {T A : Type 0} where
       omega arith
   room_serves opening log old new step _ drained room before extends comes by within = tt
 
-  -- what stands for the log of a history with an entry more
+  -- what represents the log of a history with an entry more
   pub written : (opening : Opening) (old new : History T A) (entry : Step T × Reply T A)
       → (s : State T (Unit {0})) → new ≡ old ++ entry ∷ []
       → Represents opening (entry ∷ reverse old) s → Represents opening (reverse new) s

@@ -39,7 +39,7 @@ module _ {X : Type 0} where
   another_found None one rest some = cc
   another_found (Some other) one rest some = refl
 
--- after so many lists, the only receipt with the number is that of those found and of the others
+-- after this many lists, the only receipt with the number is that of those found and of the others
 module _ {T A H : Type 0} (receipts : H → List (Receipt T A)) (number : ℕ) (seats : List H)
     (place : ℕ) (seat : H) (within : place < length seats) (at : seat ≡ get_or seats place seat)
     (found : Option (Receipt T A)) (known : only (told_at number (map receipts seats))

@@ -3,12 +3,12 @@ use Rattle.std.specs.Prelude.{◌≡◌, ℕ, ◌≤◌, ◌⊎◌, Option, None
 use Rattle.flume_audit.specs.declared.receipt.Receipt.{Receipt}
 use Rattle.flume_audit.specs.Settled.{NotAbove}
 
--- the least number with a property, or none where there is no such number
+-- the least number with a property, or none if there is no such number
 abbrev pub IsLeast : (ℕ → Type 0) → Option ℕ → Type 0
 IsLeast Is (Some least) = Is least × ((number : ℕ) → Is number → least ≤ number)
 IsLeast Is None = (number : ℕ) → Is number → ⊥
 
--- the lesser of two numbers, where there are two
+-- the lesser of two numbers, if there are two
 abbrev pub lesser : Option ℕ → Option ℕ → Option ℕ
 lesser (Some first) (Some second) = Some (min first second)
 lesser (Some first) None = Some first

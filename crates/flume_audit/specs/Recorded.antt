@@ -36,15 +36,15 @@ module _ {T A : Type 0} where
       Represents {A = A} (opens book.opening 1) (reverse book.history) book.channel
 
   -- one core step of the channel, with its reply: what `run` says of each of its steps holds of it,
-  -- and who is due after it was due before, or became due by it
+  -- and every ticket that is due after it was due before, or became due by it
   pub record IsCoreStep (old : State T (Unit {0})) (step : Step T) (reply : Reply T A)
       (new : State T (Unit {0})) : Type 0 where
     pub stepped : IsTransition old step reply new
     pub dues : BecomesDue old step reply new
 
-  -- a step through a book by a seat: the channel makes it, and it stands with the channel's reply
-  -- at the end of the history, and with its number there in the seat; the seat's copy of the reply
-  -- and the answer are that reply
+  -- a step through a book by a seat: the channel makes it, and it is with the channel's reply at
+  -- the end of the history, and with its number there in the seat; the seat's copy of the reply and
+  -- the answer are that reply
   pub record IsRecorded (old : Recorded T A) (seat : List (Receipt T A)) (step : Step T)
       (answer : Reply T A) (new : Recorded T A) (after : List (Receipt T A)) : Type 0 where
     pub reply : Reply T A

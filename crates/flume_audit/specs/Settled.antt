@@ -8,7 +8,7 @@ use Rattle.flume_audit.specs.declared.receipt.Receipt.{Receipt}
 use Rattle.flume_audit.specs.Recorded.{History}
 
 module _ {T A : Type 0} where
-  -- the step and the reply that a receipt tells of
+  -- the step and the reply of a receipt
   abbrev pub entry_of : Receipt T A → Step T × Reply T A
   entry_of receipt = (receipt.step, receipt.reply)
 
@@ -28,15 +28,16 @@ module _ {T A : Type 0} where
     is_told_once entry (receipt ∷ []) = equal (entry_of receipt) entry
     is_told_once entry _ = false
 
-    -- history and receipts agree at a number below the history's length where there is one receipt
+    -- history and receipts agree at a number below the history's length if there is one receipt
     -- with this number, and it equals the entry
     abbrev pub AgreeAt : History T A → List (List (Receipt T A)) → ℕ → Type 0
     AgreeAt history lists number =
         (entry : Step T × Reply T A) → slice_get history number ≡ Some entry
         → is_told_once entry (told_at number lists) ≡ true
 
-    -- They disagree at a number where they don't agree so, where a receipt with this number isn't
-    -- above the one before it in its list, and, for receipts past the end, at the history's length.
+    -- They disagree at a number if they don't agree as above, if a receipt with this number isn't
+    -- above the one before it in its list, and, if a receipt is past the end, at the history's
+    -- length.
     abbrev pub DisagreeAt : History T A → List (List (Receipt T A)) → ℕ → Type 0
     DisagreeAt history lists number =
         (AgreeAt history lists number → ⊥)

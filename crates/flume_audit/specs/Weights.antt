@@ -7,7 +7,7 @@ use Rattle.flume_model.specs.Replies.{SameReply}
 use Rattle.flume_audit.specs.declared.receipt.Receipt.{Receipt}
 
 module _ {T A : Type 0} where
-  -- a drained list has at most so many messages
+  -- a drained list has at most this many messages
   abbrev pub DrainedWithin : ℕ → Reply T A → Type 0
   DrainedWithin most (Drained list) = length list.items ≤ most
   DrainedWithin most reply = Unit {0}

@@ -16,11 +16,11 @@ use std::alloc::{Allocator, Global};
 use std::sync::ledger::{Blank, Ledger};
 use std::sync::{Mutex, MutexGuard, Wait};
 
-/// A book behind a lock: threads that share it make their steps, each with a seat of its own. What
-/// happened under the lock is told by `close`: the history that it gives back is a run of the
+/// A book behind a lock: threads that share it make their steps, each with a seat of its own.
+/// `close` says what happened under the lock: the history that it gives back is a run of the
 /// channel, and it weighs what the receipts of all seats weigh, by any weight. So each step with
-/// its reply stands in the history as often as in the receipts, where drained lists count as the
-/// same by their messages.
+/// its reply is in the history as often as in the receipts, if drained lists are compared by their
+/// messages.
 #[derive(Drop)]
 pub struct Audit<T, L: Ledger, R, W: Weigh<T, A> = Ones, A: Allocator = Global> {
     rt: R,
@@ -28,8 +28,9 @@ pub struct Audit<T, L: Ledger, R, W: Weigh<T, A> = Ones, A: Allocator = Global> 
 }
 
 impl<T: Copy, L: Ledger, R: Drop, W: Weigh<T, A>, A: Allocator + Copy> Audit<T, L, R, W, A> {
-    /// An audit of a new channel of this capacity, and so many seats, at least one. `blank` is a
-    /// new ledger of one part a seat. `NoMemory`: there was no room for the seats.
+    /// An audit of a new channel of this capacity (`None`: unbounded), with this many seats, at
+    /// least one. `blank` is a new ledger with one part for each seat. `NoMemory`: there was no
+    /// room for the seats.
     ///
     /// ```
     /// let (audit, mut seats) = Audit::<u64, L, _>::new(rt, alloc, blank, None, 1)?;
@@ -63,9 +64,7 @@ impl<T: Copy, L: Ledger, R: Drop, W: Weigh<T, A>, A: Allocator + Copy> Audit<T, 
     }
 
     /// Ends the audit, and compares the history with the receipts of these seats, as `Book::close`
-    /// does. Whatever is answered, the book comes back as it stood: its history is a run from a new
-    /// channel to the one that it has, and where all seats were handed in, it weighs what their
-    /// receipts weigh. Takes no memory and no lock.
+    /// does. Takes no lock; doesn't allocate.
     ///
     /// ```
     /// let (closed, book) = audit.close(seats);         // Settled, where all seats are there
@@ -98,8 +97,8 @@ impl<T: Copy, L: Ledger, R: Drop, W: Weigh<T, A>, A: Allocator + Copy> Audit<T, 
 }
 
 impl<T: Copy, L: Ledger, R: Wait, W: Weigh<T, A>, A: Allocator + Copy> Audit<T, L, R, W, A> {
-    /// Makes the step under the lock, as `Book::step` does: the seat gains a receipt of it, with
-    /// the reply that is answered. `NoMemory`: nothing was done.
+    /// Makes the step under the lock, as `Book::step` does. The answer is the reply. `NoMemory`:
+    /// nothing was done.
     ///
     /// ```
     /// let _ = audit.step(seat, Step::TrySend(5));      // Ok(Sent { filled: None })
@@ -112,7 +111,7 @@ impl<T: Copy, L: Ledger, R: Wait, W: Weigh<T, A>, A: Allocator + Copy> Audit<T, 
         self.lock().step(seat, step)
     }
 
-    // The book, locked. Where nobody has the lock it is taken without a call.
+    // Locks the book without a call if no other thread has the lock.
     #[inline(always)]
     fn lock(&self) -> MutexGuard<'_, Book<T, L, W, A>> {
         match self.book.try_lock() {
@@ -121,7 +120,6 @@ impl<T: Copy, L: Ledger, R: Wait, W: Weigh<T, A>, A: Allocator + Copy> Audit<T, 
         }
     }
 
-    // The book, locked, where another thread has the lock.
     #[inline(never)]
     fn wait_for_lock(&self) -> MutexGuard<'_, Book<T, L, W, A>> {
         self.book.lock(&self.rt)

@@ -24,8 +24,8 @@ use std::marker::{Model, PhantomData};
 use std::sync::ledger;
 use std::sync::ledger::{Blank, Ledger};
 
-/// A channel and each step that was made on it since it was opened, with its reply. Steps are made
-/// by seats; each of them keeps a receipt.
+/// A channel with its history: each step that was made since it was opened, with its reply. Steps
+/// are made by seats, each of which keeps a receipt.
 #[derive(Drop)]
 pub struct Book<T, L: Ledger, W: Weigh<T, A> = Ones, A: Allocator = Global> {
     chan: Chan<T, (), A>,
@@ -64,8 +64,9 @@ impl<T, L: Ledger, W: Weigh<T, A>, A: Allocator> Model for Book<T, L, W, A> {
 }
 
 impl<T: Copy, L: Ledger, W: Weigh<T, A>, A: Allocator + Copy> Book<T, L, W, A> {
-    /// A new channel of this capacity, with no history, and so many seats, at least one. `blank` is
-    /// a new ledger of one part a seat. `NoMemory`: there was no room for the seats.
+    /// A new channel of this capacity (`None`: unbounded) with no history, and this many seats, at
+    /// least one. `blank` is a new ledger with one part for each seat. `NoMemory`: there was no
+    /// room for the seats.
     ///
     /// ```
     /// let (mut book, mut seats) = Book::<u64, L>::new(alloc, blank, Some(1), 2)?;
@@ -146,8 +147,8 @@ impl<T: Copy, L: Ledger, W: Weigh<T, A>, A: Allocator + Copy> Book<T, L, W, A> {
 
     /// Compares the history with the receipts of these seats. `MissingSeat`: they aren't all.
     /// `Differs`: the least number at which they disagree, as `differs` has it. `Settled`: they
-    /// agree throughout. Whatever is answered, the book stays as it is; where all seats were handed
-    /// in, the history weighs what their receipts weigh. Takes no memory.
+    /// agree throughout. The book stays as it is; if all seats were handed in, the history weighs
+    /// what their receipts weigh. Doesn't allocate.
     ///
     /// ```
     /// book.close(seats);                               // Settled, where all seats are there
@@ -180,15 +181,15 @@ impl<T: Copy, L: Ledger, W: Weigh<T, A>, A: Allocator + Copy> Book<T, L, W, A> {
         closed
     }
 
-    /// The capacity with which the channel was opened, or none of an unbounded one.
+    /// The capacity with which the channel was opened, or `None` if unbounded.
     pub fn opening(&self) -> Option<usize>
         ensures opening { result ≡ self.now.opening }
     {
         self.opening
     }
 
-    /// The steps that were made, with their replies, in their order. They are a run of the channel:
-    /// each reply is the abstract channel's, and no message was lost or given out twice.
+    /// The steps that were made, with their replies, in order: a run of the channel, so each reply
+    /// is the abstract channel's, and no message was lost or given out twice.
     pub fn history(&self) -> &[(Step<T>, Reply<T, A>)]
         ensures history { result.now ≡ self.now.history }
         ensures conserved { Conserved (opens self.now.opening 1) (reverse self.now.history) }
@@ -197,7 +198,7 @@ impl<T: Copy, L: Ledger, W: Weigh<T, A>, A: Allocator + Copy> Book<T, L, W, A> {
         &self.history
     }
 
-    /// The channel as the history left it: a new one, after the history's steps.
+    /// The channel after the history's steps.
     pub fn channel(&self) -> &Chan<T, (), A>
         ensures channel { result.now ≡ self.now.channel }
         ensures stands { IsChannelOfHistory self.now }

@@ -12,10 +12,10 @@ use flume_model::step::{Reply, Step};
 use std::alloc::Allocator;
 use std::convert::AsSlice;
 
-/// The least number at which a history and the receipts of these lists disagree; `None` where they
-/// agree throughout. They agree at a number where exactly one receipt has it and equals the entry
+/// The least number at which a history and the receipts of these lists disagree; `None` if they
+/// agree throughout. They agree at a number if exactly one receipt has it and equals the entry
 /// there. A receipt whose number isn't above the one before it in its list disagrees at its number;
-/// one past the end disagrees at the history's length. Takes no memory.
+/// one past the end disagrees at the history's length. Doesn't allocate.
 ///
 /// ```
 /// let history: [(Step<u64>, Reply<u64>); 1] = [(Step::TrySend(1), Reply::Full(1))];
@@ -42,8 +42,6 @@ pub fn differs<T: Eq, A: Allocator, H: AsSlice<Receipt<T, A>>>(
     end
 }
 
-// The least number of a receipt that isn't above the one before it in its list, or the length
-// where a receipt is past the end and no such number is less.
 fn first_misplaced<T, A: Allocator, H: AsSlice<Receipt<T, A>>>(
     length: usize,
     seats: &[H],
@@ -58,7 +56,6 @@ fn first_misplaced<T, A: Allocator, H: AsSlice<Receipt<T, A>>>(
     least
 }
 
-// The least number that is misplaced in one list.
 fn misplaced_in<T, A: Allocator>(length: usize, list: &[Receipt<T, A>]) -> Option<usize>
     ensures least { IsLeast (λ number. Misplaced length number list.now) result }
 {
@@ -70,14 +67,12 @@ fn misplaced_in<T, A: Allocator>(length: usize, list: &[Receipt<T, A>]) -> Optio
     lesser(first_not_above(list), past)
 }
 
-// Whether a receipt of the list is past the end.
 fn is_past<T, A: Allocator>(length: usize, list: &[Receipt<T, A>]) -> bool
     ensures past { IsTrue result ↔ Any (λ receipt. length ≤ receipt.number) list.now }
 {
     list.iter().any(|receipt| receipt.number >= length)
 }
 
-// The least number of a receipt that isn't above the one before it in the list.
 fn first_not_above<T, A: Allocator>(list: &[Receipt<T, A>]) -> Option<usize>
     ensures least { IsLeast (λ number. NotAbove number list.now) result }
 {
@@ -92,7 +87,6 @@ fn first_not_above<T, A: Allocator>(list: &[Receipt<T, A>]) -> Option<usize>
     least
 }
 
-// The lesser of two numbers, where there are two.
 fn lesser(first: Option<usize>, second: Option<usize>) -> Option<usize>
     ensures lesser { result ≡ lesser first second }
 {
@@ -103,7 +97,7 @@ fn lesser(first: Option<usize>, second: Option<usize>) -> Option<usize>
     }
 }
 
-// Whether there is one receipt with this number, over all lists, and it tells of this entry.
+// Whether exactly one receipt of all lists has this number, and it is of this entry.
 fn is_told_at<T: Eq, A: Allocator, H: AsSlice<Receipt<T, A>>>(
     entry: &(Step<T>, Reply<T, A>),
     number: usize,
@@ -120,7 +114,7 @@ fn is_told_at<T: Eq, A: Allocator, H: AsSlice<Receipt<T, A>>>(
     }
 }
 
-// The one receipt with this number, over all lists; `None` where there is none, or another.
+// The one receipt with this number, over all lists; `None` if there is none, or another.
 fn only_receipt_at<T, A: Allocator, H: AsSlice<Receipt<T, A>>>(
     number: usize,
     seats: &[H],
@@ -142,7 +136,6 @@ fn only_receipt_at<T, A: Allocator, H: AsSlice<Receipt<T, A>>>(
     only
 }
 
-// The one receipt of the list with this number; `None` where there is none.
 fn receipt_at<T, A: Allocator>(number: usize, list: &[Receipt<T, A>]) -> Option<&Receipt<T, A>>
     requires before { (misplaced : ℕ) → NotAbove misplaced list.now → number < misplaced }
     ensures told { MatchOption result
@@ -155,8 +148,8 @@ fn receipt_at<T, A: Allocator>(number: usize, list: &[Receipt<T, A>]) -> Option<
     }
 }
 
-// How many receipts of the list come before those with this number or a higher one. The search
-// halves the list, though the list needn't rise: it rises below the least number that isn't above
+// How many receipts of the list come before those with this number or a higher one. The binary
+// search is right although the list needn't rise: it rises below the least number that isn't above
 // the one before it, and no number from there on is asked for.
 fn place_of<T, A: Allocator>(number: usize, list: &[Receipt<T, A>]) -> usize
     requires before { (misplaced : ℕ) → NotAbove misplaced list.now → number < misplaced }
@@ -166,7 +159,6 @@ fn place_of<T, A: Allocator>(number: usize, list: &[Receipt<T, A>]) -> usize
     list.partition_point(|receipt| receipt.number < number)
 }
 
-// Whether a receipt tells of this entry.
 fn tells<T: Eq, A: Allocator>(receipt: &Receipt<T, A>, entry: &(Step<T>, Reply<T, A>)) -> bool
     ensures same { result ≡ ⟦<(Step<T>, Reply<T, A>) as PartialEq>⟧.eq (entry_of receipt.now)
         entry.now }

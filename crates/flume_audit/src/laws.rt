@@ -7,7 +7,7 @@ ghost use Rattle.flume_audit.specs.Settled.{DisagreeAt, IsSettled};
 use flume_model::step::{Reply, Step};
 use std::alloc::Allocator;
 
-/// A history is settled exactly where it and the receipts disagree at no number.
+/// A history is settled exactly if it and the receipts disagree at no number.
 pub fn settled_where_nothing_differs<T: Eq, A: Allocator>()
     ensures law { (history : History T A) (lists : List (List (Receipt T A)))
         → IsSettled ⟦<(Step<T>, Reply<T, A>) as PartialEq>⟧.eq history lists

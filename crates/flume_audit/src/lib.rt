@@ -1,4 +1,5 @@
-//! A channel that records its history, and compares it in the end with what each user was told.
+//! A channel that records its history, and compares it in the end with the replies that each user
+//! got.
 //!
 //! A lock hides from contracts what happened under it. An `audit::Audit` is a channel behind a lock
 //! that writes down each step with its reply. Each user has a *seat*, makes its steps with it, and

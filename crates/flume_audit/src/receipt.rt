@@ -1,9 +1,8 @@
-//! What a user of an audited channel was told.
+//! The receipt of a step on an audited channel.
 use flume_model::step::{Reply, Step};
 use std::alloc::{Allocator, Global};
 
-/// That a step was made, and was answered so. `number` says how many were made on the channel
-/// before it.
+/// A step that was made, with its reply, and how many were made on the channel before it.
 #[derive(Clone, Drop)]
 #[derive_where(Debug, PartialEq, Eq; T)]
 pub struct Receipt<T, A: Allocator = Global> {

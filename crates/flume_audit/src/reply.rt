@@ -7,7 +7,7 @@ use flume_core::chan::Chan;
 use flume_model::step::{Reply, Step};
 use std::alloc::Allocator;
 
-// A copy of the reply, whose drained list, where it has one, is made in `room`. Takes no memory.
+// A copy of the reply, whose drained list, if it has one, is made in `room`.
 #[inline(always)]
 pub(crate) fn copied<T: Copy, A: Allocator>(reply: &Reply<T, A>, room: Vec<T, A>) -> Reply<T, A>
     requires empty { room.items ≡ [] }
@@ -41,7 +41,6 @@ pub(crate) fn copied<T: Copy, A: Allocator>(reply: &Reply<T, A>, room: Vec<T, A>
     }
 }
 
-// The messages again, in `room`.
 #[inline(never)]
 fn copied_list<T: Copy, A: Allocator>(list: &Vec<T, A>, mut room: Vec<T, A>) -> Vec<T, A>
     requires empty { room.items ≡ [] }
@@ -52,7 +51,6 @@ fn copied_list<T: Copy, A: Allocator>(list: &Vec<T, A>, mut room: Vec<T, A>) -> 
     room
 }
 
-// How many messages the step drains, where it is a drain.
 #[inline(always)]
 pub(crate) fn drained_by<T: Copy, A: Allocator + Copy>(
     chan: &Chan<T, (), A>,

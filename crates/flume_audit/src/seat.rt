@@ -10,9 +10,9 @@ use std::convert::AsSlice;
 use std::marker::{Model, PhantomData};
 use std::sync::ledger::{Ledger, Share};
 
-/// A user's place at an audit, with a receipt for each step that was made with it. It is of the
-/// audit whose ledger `L` is: no other takes it. It can't be copied, and has one part of the
-/// ledger: so as many seats as the ledger has parts are all of them.
+/// A user's place at an audit, with a receipt for each step that was made with it. Only the audit
+/// whose ledger is `L` accepts it. It can't be copied, and holds one part of the ledger: so as many
+/// seats as the ledger has parts are all of them.
 #[derive(Drop)]
 pub struct Seat<T, L: Ledger, W: Weigh<T, A> = Ones, A: Allocator = Global> {
     pub(crate) receipts: Vec<Receipt<T, A>, A>,
@@ -35,7 +35,6 @@ impl<T, L: Ledger, W: Weigh<T, A>, A: Allocator> Model for Seat<T, L, W, A> {
 }
 
 impl<T, L: Ledger, W: Weigh<T, A>, A: Allocator> Seat<T, L, W, A> {
-    // A seat with no receipt.
     pub(crate) fn new(alloc: A, share: Share<L>) -> Self
         requires part { share.parts ≡ 1 }
         requires amount { share.amount ≡ 0 }
@@ -55,7 +54,6 @@ impl<T, L: Ledger, W: Weigh<T, A>, A: Allocator> Seat<T, L, W, A> {
         &self.receipts
     }
 
-    // The seat's part of the ledger. The receipts are dropped.
     pub(crate) fn into_share(self) -> Share<L>
     where
         T: Drop,
@@ -71,7 +69,6 @@ impl<T, L: Ledger, W: Weigh<T, A>, A: Allocator> Seat<T, L, W, A> {
     }
 }
 
-// As a list of receipts, for `differs`.
 impl<T, L: Ledger, W: Weigh<T, A>, A: Allocator> AsSlice<Receipt<T, A>> for Seat<T, L, W, A> {
     ghost items = { λ seat. seat };
 

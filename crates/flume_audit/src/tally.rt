@@ -10,11 +10,10 @@ use std::alloc::Allocator;
 use std::sync::ledger::{Book, Ledger, Share};
 
 // Adds the weight of the step with its reply to the ledger's total and to the share's amount. Does
-// nothing. The ledger's own call adds a number that the program has, and a weight is a definition
-// alone, so the proof is written by hand in the terms in which that call is proved: it opens both
-// tokens, sets the book's row and the share's row in one opening of the ledger's invariant, and
-// closes both. Std's lemmas on a row that grows can't be named from a crate that uses std, so this
-// crate has its own.
+// nothing at run time. The ledger's own call adds a number that the program has, but a weight is a
+// definition alone: so the proof opens both tokens itself, sets the book's row and the share's row
+// in one opening of the ledger's invariant, and closes both. Std's lemmas on a row that grows can't
+// be named from a crate that uses std, so this crate has its own.
 pub(crate) fn add_weight<T, A: Allocator, L: Ledger, W: Weigh<T, A>>(
     book: &mut Book<L>,
     share: &mut Share<L>,
@@ -27,7 +26,6 @@ pub(crate) fn add_weight<T, A: Allocator, L: Ledger, W: Weigh<T, A>>(
     ensures parts { share.new.parts ≡ share.old.parts }
 {}
 
-// So many seats, each with one part of the ledger and no receipt.
 pub(crate) fn seat_all<T: Drop, L: Ledger, W: Weigh<T, A>, A: Allocator + Copy>(
     alloc: A,
     mut whole: Share<L>,

@@ -8,7 +8,7 @@ use Rattle.flume_chain.proofs.Rings.{times-append, once_same, once_back}
 use Rattle.flume_chain.proofs.Tables.{item, found_some, without_none, without_at}
 
 module _ {E : Type 0} where
-  -- where no element is found, the first has another place, and none is found behind it
+  -- if no element is found, the first has another place, and none is found behind it
   none_first : (x : Placed E) (xs : List (Placed E)) (k : ℕ) → found (x ∷ xs) k ≡ None → ((k == x.place) ≡ false) × (found xs k ≡ None)
   none_first x xs k h = elim (cases_Bool (k == x.place)) [
     | inl t ↦ (
@@ -18,7 +18,7 @@ module _ {E : Type 0} where
     | inr t ↦ (t, sym (ap (λ b. if b then Some x.element else found xs k) t) ∙ h)
   ]
 
-  -- where no element is found, none has the place
+  -- if no element is found, none has the place
   pub none_placed : (xs : List (Placed E)) (k : ℕ) → found xs k ≡ None → times k (places xs) ≡ 0
   none_placed [] k h = refl
   none_placed (x ∷ xs) k h =
@@ -55,7 +55,7 @@ module _ {E : Type 0} where
     | inr e ↦ ap (λ b. length (if b then x ∷ y ∷ ys else y ∷ put_before ys k x)) e ∙ ap suc (length-put_before ys k x)
   ]
 
-  -- without the place of an element there is one element less, where no place names two
+  -- without the place of an element there is one element less, if no place names two
   pub length-without : (xs : List (Placed E)) (k : ℕ) (e : E) → times k (places xs) ≤ 1 → found xs k ≡ Some e → length xs ≡ suc (length (without xs k))
   length-without xs k e most h =
       let r = found_some xs k e h in
@@ -74,7 +74,7 @@ module _ {E : Type 0} where
   edited-append f (x ∷ xs) ys k =
       ap (λ (l : List (Placed E)). (if k == x.place then record x { element = f x.element } else x) ∷ l) (edited-append f xs ys k)
 
-  -- to change an element where none stands changes nothing
+  -- to change an element where there is none changes nothing
   pub edited_missing : (f : E → E) (xs : List (Placed E)) (k : ℕ) → found xs k ≡ None → edited f k xs ≡ xs
   edited_missing f [] k h = refl
   edited_missing f (x ∷ xs) k h =
@@ -82,11 +82,11 @@ module _ {E : Type 0} where
       ap₂ (λ (y : Placed E) (l : List (Placed E)). y ∷ l) (ap (λ b. if b then record x { element = f x.element } else x) none.0)
       (edited_missing f xs k none.1)
 
-  -- where no element is found, to move it back changes nothing
+  -- if no element is found, to move it back changes nothing
   pub moved_back_missing : (xs : List (Placed E)) (k : ℕ) → found xs k ≡ None → moved_back xs k ≡ xs
   moved_back_missing xs k h =
       ap₂ (λ (l : List (Placed E)) (o : Option E). l ++ listed k o []) (without_missing xs k h) h ∙ append-nil xs
 
-  -- where an element is found, moved back it stands behind all others
+  -- if an element is found, moved back it is behind all others
   pub moved_back_some : (xs : List (Placed E)) (k : ℕ) (e : E) → found xs k ≡ Some e → moved_back xs k ≡ without xs k ++ item k e ∷ []
   moved_back_some xs k e h = ap (λ (o : Option E). without xs k ++ listed k o []) h

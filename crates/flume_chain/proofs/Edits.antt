@@ -27,7 +27,7 @@ module _ {L E Z : Type 0} where
       let same = ap (λ l. times j (places l)) (kept_items s n v k is) in
       omega arith
 
-  -- once all elements were dropped, there is room for as many more as stood
+  -- once all elements were dropped, there is room for as many more as there were
   pub cleared_room : (old new : Links L E Z) (n : ℕ) (v : Chained (Labelled L E)) (k : IsChain old n) → vec_capacity new.nodes ≡ vec_capacity old.nodes
       → chain_of old n ≡ v → room_of new 0 ≡ v.room + length v.items
   cleared_room old new n v k same is =

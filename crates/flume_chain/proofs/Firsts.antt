@@ -20,7 +20,7 @@ module _ {L E Z : Type 0} where
     pub stands : element_at s s.first ≡ Some element
     pub before : previous_at s s.first ≡ end
 
-  -- where a place is the first, an element stands there
+  -- if a place is the first, there is an element there
   pub begun : (s : Links L E Z) (items : List (Placed (Labelled L E))) (frees : List ℕ) → Holds (table_of s) items frees → s.first ≢ end → Begun s items
   begun s [] frees h ne =
       let f : s.first ∷ [] ≡ end ∷ [] = h.forward in
@@ -39,7 +39,7 @@ module _ {L E Z : Type 0} where
         before = ap (previous_at s) name ∙ ahead;
       }
 
-  -- where no place is the first, no element stands
+  -- if no place is the first, there is no element
   pub none_begun : (s : Links L E Z) (items : List (Placed (Labelled L E))) (frees : List ℕ) → Holds (table_of s) items frees → s.first ≡ end → items ≡ []
   none_begun s [] frees h is = refl
   none_begun s (x ∷ xs) frees h is =
@@ -50,7 +50,7 @@ module _ {L E Z : Type 0} where
       let there = ap (λ k. once k end) (sym is ∙ name) in
       absurd (omega arith)
 
-  -- the first element stands ahead of those behind it
+  -- the first element is ahead of those behind it
   pub begun_split : (s : Links L E Z) (items : List (Placed (Labelled L E))) (b : Begun s items) → Split items s.first b.element
   begun_split s items b = record { before = []; after = b.rest; is = b.is }
 

@@ -14,31 +14,31 @@ use Rattle.flume_chain.proofs.Tables.{walk_in, item, walk_is, Split, found_some,
 use Rattle.flume_chain.proofs.Steps.{linked_table, emptied, bypassed, none_free, ring_below, takes}
 
 module _ {X : Type 0} where
-  -- what stands at a place already may be written there
+  -- what is at a place already may be written there
   pub with_self : (f : ℕ → X) (a : ℕ) (v : X) (k : ℕ) → f a ≡ v → with f a v k ≡ f k
   with_self f a v k h = elim (cases_Bool (k == a)) [
     | inl e ↦ ap (λ t. if t then v else f k) e ∙ sym h ∙ ap f (sym (eqb-true k a e))
     | inr e ↦ ap (λ t. if t then v else f k) e
   ]
 
--- what is there, where something is
+-- what is there, if something is
 pub record Standing {X : Type 0} (o : Option X) : Type 0 where
   pub element : X
   pub is : Some element ≡ o
 
 module _ {X Y : Type 0} where
-  -- where a part is read of it, it is there
+  -- if a part is read of it, it is there
   pub standing : (f : X → Y) (y : Y) (o : Option X) → Some y ≡ option_map f o → Standing o
   standing f y None h = absurd (let no : ⊥ = cc in no)
   standing f y (Some x) h = record { element = x; is = refl }
 
-  -- where no part is read, nothing is there
+  -- if no part is read, nothing is there
   pub missing : (f : X → Y) (o : Option X) → None ≡ option_map f o → None ≡ o
   missing f None h = refl
   missing f (Some x) h = absurd (let no : ⊥ = cc in no)
 
 module _ {E : Type 0} where
-  -- the places beside that of an element are the end or below the size
+  -- the places next to that of an element are the end or below the size
   pub record Neighbours (t : Table E) (c : ℕ) : Type 0 where
     pub next : t.next c ≢ end → t.next c < t.size
     pub previous : t.previous c ≢ end → t.previous c < t.size
@@ -96,7 +96,7 @@ module _ {E : Type 0} where
       }
 
 module _ {L E Z : Type 0} where
-  -- where there was none, to take an element changes nothing
+  -- if there was none, to take an element changes nothing
   pub none_taken : (old new : Links L E Z) (c : ℕ)
       → Linked old new (next_at old) (previous_at old) (with (element_at old) c None) old.free → None ≡ element_at old c → Same old new
   none_taken old new c h none = record {
@@ -138,7 +138,7 @@ module _ {L E Z : Type 0} where
   pub kept_items : (s : Links L E Z) (n : ℕ) (v : Chained (Labelled L E)) (k : IsChain s n) → chain_of s n ≡ v → k.items ≡ v.items
   kept_items s n v k is = sym (walked s n k.items k.frees k.holds k.count) ∙ ap (λ (x : Chained (Labelled L E)). x.items) is
 
-  -- how many more elements may stand where no place is free
+  -- how many more elements fit if no place is free
   pub full_room : (s : Links L E Z) (items : List (Placed (Labelled L E))) (frees : List ℕ) → s.free ≡ end → Holds (table_of s) items frees
       → vec_len s.nodes ≡ length items
   full_room s items frees e h = let n = none_free (table_of s) items frees h e in let w = h.total in omega arith
@@ -211,7 +211,7 @@ module _ {L E Z : Type 0} where
     count = refl;
   }
 
-  -- the places beside that of an element, once it was taken out of its node
+  -- the places next to that of an element, once it was taken out of its node
   pub beside_taken : (old mid : Links L E Z) (items : List (Placed (Labelled L E))) (frees : List ℕ) (c : ℕ) (e : (Labelled L E)) (r : Split items c e)
       → Holds (table_of old) items frees
       → Linked old mid (next_at old) (previous_at old) (with (element_at old) c None) old.free → Neighbours (table_of mid) c
@@ -220,7 +220,7 @@ module _ {L E Z : Type 0} where
       let again : Neighbours (emptied (table_of old) c) c = record { next = n.next; previous = n.previous } in
       subst (λ t. Neighbours t c) (sym (linked_table old mid _ _ _ _ emptied_is)) again
 
-  -- where an element stands, its place is below the size
+  -- if there is an element, its place is below the size
   pub place_below : (s : Links L E Z) (items : List (Placed (Labelled L E))) (frees : List ℕ) (c : ℕ) (e : (Labelled L E)) (r : Split items c e)
       → Holds (table_of s) items frees → c < vec_len s.nodes
   place_below s items frees c e r h = elim (cases_lt c (vec_len s.nodes)) [
@@ -236,13 +236,13 @@ module _ {L E Z : Type 0} where
         )
   ]
 
--- links of n elements, where that at a place was taken out of its node
+-- links of n elements, if that at a place was taken out of its node
 module _ {L E Z : Type 0} (old mid : Links L E Z) (n c : ℕ) (e : Labelled L E) (k : IsChain old n) (is : Some e ≡ element_at old c)
     (emptied_is : Linked old mid (next_at old) (previous_at old) (with (element_at old) c None) old.free) where
   split : Split k.items c e
   split = found_split old k.items k.frees c e k.holds is
 
-  -- the places beside it
+  -- the places next to it
   pub beside_emptied : Neighbours (table_of mid) c
   beside_emptied = beside_taken old mid k.items k.frees c e split k.holds emptied_is
 
@@ -269,7 +269,7 @@ module _ {L E Z : Type 0} (old mid : Links L E Z) (n c : ℕ) (e : Labelled L E)
         walked new (n - 1) (split.before ++ split.after) (c ∷ k.frees) left_holds one_fewer
         ∙ sym (taken_items old k.items k.frees c e split k.holds) ∙ ap (λ l. without l c) (kept_items old n v k view)
 
-    -- and as many may stand
+    -- and as many fit
     pub left_room : (v : Chained (Labelled L E)) → chain_of old n ≡ v
         → room_of new (n - 1) + length (walk_in (table_of new) new.first (n - 1)) ≡ v.room + length v.items
     left_room v view =

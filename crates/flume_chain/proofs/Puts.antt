@@ -51,7 +51,7 @@ module _ {L E Z : Type 0} where
 -- links of elements xs and ys, with one put between them
 module _ {L E Z : Type 0} (old new : Links L E Z) (xs ys : List (Placed (Labelled L E))) (frees : List ℕ) (place c : ℕ) (e : (Labelled L E)) (later : List ℕ)
     (h : Holds (table_of old) (xs ++ ys) frees) (before : places ys ++ end ∷ [] ≡ c ∷ later) (p : PutBefore old new place c e) where
-  -- where a node was free they hold it there
+  -- if a node was free they hold it there
   put_reused : old.free ≢ end → Holding new xs ys place e
   put_reused ne =
       let u = p.reused ne in
@@ -88,7 +88,7 @@ module _ {L E Z : Type 0} (old new : Links L E Z) (xs ys : List (Placed (Labelle
       let counts = ap (times (vec_len old.nodes)) before in
       omega arith
 
-  -- where none was free they hold it in one more
+  -- if none was free they hold it in one more
   put_made : old.free ≡ end → Holding new xs ys place e
   put_made none =
       let m = p.made none in
@@ -137,7 +137,7 @@ module _ {L E Z : Type 0} where
       put_holds old new r.before (item c x ∷ r.after) frees place c e (places r.after ++ end ∷ [])
       (subst (λ (l : List (Placed (Labelled L E))). Holds (table_of old) l frees) r.is h) refl p
 
-  -- with one more element there is room for one less, where there was room
+  -- with one more element there is room for one less, if there was room
   pub put_room : (old new : Links L E Z) (items : List (Placed (Labelled L E))) (frees : List ℕ) (n place : ℕ) (f g : ℕ → ℕ) (v : ℕ → Option (Labelled L E))
       → Holds (table_of old) items frees → n ≡ length items → Put old new place f g v → 0 < room_of old n
       → room_of new (n + 1) + 1 ≡ room_of old n
@@ -151,7 +151,7 @@ module _ {L E Z : Type 0} where
     | inr ne ↦ (let u = p.reused ne in let same = u.capacity in omega arith)
   ]
 
-  -- where there is room, no element is refused
+  -- if there is room, no element is refused
   pub not_full : (s : Links L E Z) (items : List (Placed (Labelled L E))) (frees : List ℕ) (n : ℕ) (P : Type 0)
       → Holds (table_of s) items frees → n ≡ length items → Full s → 0 < room_of s n → P
   not_full s items frees n P h count f some =

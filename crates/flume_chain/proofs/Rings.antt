@@ -93,7 +93,7 @@ pub begins : (xs : List ℕ) (y : ℕ) → Begins xs y
 begins [] y = record { head = y; rest = []; is = refl; long = refl }
 begins (x ∷ xs) y = record { head = x; rest = xs ++ y ∷ []; is = refl; long = simp length-append (omega arith) }
 
--- f leads round the ring of these places, g round it the other way, and none stands in it twice
+-- f leads round the ring of these places, g round it the other way, and none is in it twice
 pub record Ring (f g : ℕ → ℕ) (xs : List ℕ) : Type 0 where
   pub forward : map f (end ∷ xs) ≡ xs ++ end ∷ []
   pub backward : map g (xs ++ end ∷ []) ≡ end ∷ xs

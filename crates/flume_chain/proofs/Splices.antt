@@ -5,7 +5,7 @@ use Rattle.flume_chain.specs.Links.{end, with}
 use Rattle.flume_chain.specs.Chained.{once, times}
 use Rattle.flume_chain.proofs.Rings.{Ring, parts, ends, begins, times-append, once_same, once_back, once_more, with_same, with_other, map_with}
 
--- where a ring is cut between the places xs and ys: the last ahead of the cut, and the head behind it
+-- if a ring is cut between the places xs and ys: the last ahead of the cut, and the head behind it
 pub record Between (f g : ℕ → ℕ) (xs ys : List ℕ) : Type 0 where
   pub front : List ℕ
   pub last : ℕ
@@ -128,7 +128,7 @@ inserted f g xs ys c old r fresh =
           omega arith;
     }
 
--- where a place c stands in a ring: the last ahead of it, and the head behind it
+-- if a place c is in a ring: the last ahead of it, and the head behind it
 pub record Around (f g : ℕ → ℕ) (xs : List ℕ) (c : ℕ) (ys : List ℕ) : Type 0 where
   pub front : List ℕ
   pub last : ℕ
@@ -147,7 +147,7 @@ pub record Around (f g : ℕ → ℕ) (xs : List ℕ) (c : ℕ) (ys : List ℕ) 
   pub apart : (k : ℕ) → times k front + once last k + once c k + times k ys ≤ 1
   pub apart_back : (k : ℕ) → times k xs + once c k + once head k + times k rest ≤ 1
 
--- each place of a ring stands so
+-- each place of a ring is so
 pub around : (f g : ℕ → ℕ) (xs : List ℕ) (c : ℕ) (ys : List ℕ) → Ring f g (xs ++ c ∷ ys) → Around f g xs c ys
 around f g xs c ys ring =
     let r = between f g xs (c ∷ ys) ring in

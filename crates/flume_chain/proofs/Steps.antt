@@ -58,7 +58,7 @@ module _ {E : Type 0} where
     free = c;
   }
 
-  -- which places are free where the first free one is no end
+  -- which places are free if the first free one is no end
   pub record First (t : Table E) (frees : List ℕ) : Type 0 where
     pub rest : List ℕ
     pub is : frees ≡ t.free ∷ rest
@@ -72,7 +72,7 @@ module _ {E : Type 0} where
       let same : t.free ≡ c = cc in
       record { rest = rest; is = ap (λ (k : ℕ). k ∷ rest) (sym same) }
 
-  -- no place is free where the first free one is the end
+  -- no place is free if the first free one is the end
   pub none_free : (t : Table E) (items : List (Placed E)) (frees : List ℕ) → Holds t items frees → t.free ≡ end → length frees ≡ 0
   none_free t items [] h e = refl
   none_free t items (c ∷ rest) h e =

@@ -21,7 +21,7 @@ module _ {X : Type 0} where
     | inr e ↦ ap (λ t. if t then v else with f b w k) e ∙ ap (λ x. if k == b then w else x) (sym (ap (λ t. if t then v else f k) e))
   ]
 
-  -- what is written where it stood already changes nothing
+  -- what is written where it was already changes nothing
   pub with_again : (f : ℕ → X) (a : ℕ) (v w : X) (k : ℕ) → f a ≡ v → with (with f a w) a v k ≡ f k
   with_again f a v w k h = elim (cases_Bool (k == a)) [
     | inl e ↦ ap (λ t. if t then v else with f a w k) e ∙ sym h ∙ ap f (sym (eqb-true k a e))
@@ -33,13 +33,13 @@ module _ {E : Type 0} where
   abbrev pub item : ℕ → E → Placed E
   item k e = record { place = k; element = e }
 
-  -- at a place where none stands none is found
+  -- at a place where there is none none is found
   pub found_none : (xs : List (Placed E)) (k : ℕ) → times k (places xs) ≡ 0 → found xs k ≡ None
   found_none [] k h = refl
   found_none (x ∷ xs) k h =
       with_other (found xs) x.place (Some x.element) k (once_back x.place k (omega arith)) ∙ found_none xs k (omega arith)
 
-  -- what is found once one more element stands among others
+  -- what is found once one more element is among others
   pub found_put : (xs ys : List (Placed E)) (c : ℕ) (e : E) (k : ℕ) → times c (places xs) ≡ 0
       → found (xs ++ item c e ∷ ys) k ≡ with (found (xs ++ ys)) c (Some e) k
   found_put [] ys c e k h = refl
@@ -53,7 +53,7 @@ module _ {E : Type 0} where
     pub after : List (Placed E)
     pub is : xs ≡ before ++ item c e ∷ after
 
-  -- where an element is found, it stands
+  -- if an element is found, it is there
   pub found_some : (xs : List (Placed E)) (c : ℕ) (e : E) → found xs c ≡ Some e → Split xs c e
   found_some [] c e h = absurd cc
   found_some (x ∷ xs) c e h = elim (cases_Bool (c == x.place)) [
@@ -69,7 +69,7 @@ module _ {E : Type 0} where
         )
   ]
 
-  -- a list without a place where none stands is itself
+  -- a list without a place where there is none is itself
   pub without_none : (xs : List (Placed E)) (c : ℕ) → times c (places xs) ≡ 0 → without xs c ≡ xs
   without_none [] c h = refl
   without_none (x ∷ xs) c h =
@@ -85,7 +85,7 @@ module _ {E : Type 0} where
       ap (λ b. if b then without (xs ++ item c e ∷ ys) c else x ∷ without (xs ++ item c e ∷ ys) c) (once_none x.place c (omega arith))
       ∙ ap (λ (l : List (Placed E)). x ∷ l) (without_at xs ys c e (omega arith) g)
 
-  -- with one more before an element, it stands between those ahead of that and that
+  -- with one more before an element, it is between those ahead of that and that
   pub put_before_at : (xs ys : List (Placed E)) (c : ℕ) (e : E) (y : Placed E) → times c (places xs) ≡ 0
       → put_before (xs ++ item c e ∷ ys) c y ≡ xs ++ y ∷ item c e ∷ ys
   put_before_at [] ys c e y h =
@@ -95,7 +95,7 @@ module _ {E : Type 0} where
       (once_none c x.place (once_back x.place c (omega arith)))
       ∙ ap (λ (l : List (Placed E)). x ∷ l) (put_before_at xs ys c e y (omega arith))
 
-  -- where no element is found, one more before the place stands behind all others
+  -- if no element is found, one more before the place is behind all others
   pub put_before_none : (xs : List (Placed E)) (c : ℕ) (y : Placed E) → found xs c ≡ None → put_before xs c y ≡ xs ++ y ∷ []
   put_before_none [] c y h = refl
   put_before_none (x ∷ xs) c y h = elim (cases_Bool (c == x.place)) [
@@ -107,7 +107,7 @@ module _ {E : Type 0} where
         ∙ ap (λ (l : List (Placed E)). x ∷ l) (put_before_none xs c y (sym (ap (λ b. if b then Some x.element else found xs c) t) ∙ h))
   ]
 
-  -- each element is found at its place, where no place is another's
+  -- each element is found at its place, if no place is another's
   pub found_each : (xs : List (Placed E)) → ((k : ℕ) → times k (places xs) ≤ 1)
       → map (found xs) (places xs) ≡ map (λ (x : Placed E). Some x.element) xs
   found_each [] h = refl
@@ -135,7 +135,7 @@ module _ {E : Type 0} where
       ∙ ap (λ o. listed x.place o (walk_in t (t.next x.place) (length xs))) value
       ∙ ap (λ (l : List (Placed E)). x ∷ l) (walk_from t xs x.place tails values)
 
-  -- the elements and the places of a table stand in a ring
+  -- the elements and the places of a table are in a ring
   pub ring_of : (t : Table E) (items : List (Placed E)) (frees : List ℕ) → Holds t items frees → Ring t.next t.previous (places items)
   ring_of t items frees h = record {
     forward = h.forward;
@@ -155,7 +155,7 @@ module _ {E : Type 0} where
       walk_from t items end h.forward
       (map_same t.element (found items) h.elements (places items) ∙ found_each items (λ k. let a = r.apart k in omega arith))
 
-  -- where no element is found, none is behind it
+  -- if no element is found, none is behind it
   pub after_none : (xs : List (Placed E)) (c : ℕ) → found xs c ≡ None → place_after xs c ≡ None
   after_none [] c h = refl
   after_none (x ∷ xs) c h = elim (cases_Bool (c == x.place)) [

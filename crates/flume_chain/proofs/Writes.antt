@@ -25,7 +25,7 @@ module _ {E : Type 0} (f : E → E) where
         ∙ ap (λ (l : List ℕ). x.place ∷ l) (places-edited xs k)
   ]
 
-  -- as many elements stand
+  -- there are as many elements
   pub length-edited : (xs : List (Placed E)) (k : ℕ) → length (edited f k xs) ≡ length xs
   length-edited [] k = refl
   length-edited (x ∷ xs) k = let n = length-edited xs k in omega arith
@@ -99,7 +99,7 @@ module _ {E : Type 0} (f : E → E) where
       }
 
 module _ {L E : Type 0} (v : E) where
-  -- with another value a node has the same places beside it, and the element with this value
+  -- with another value a node has the same places next to it, and the element with this value
   next_left : (x : Node L E) → next_of (with_value_of x v) ≡ next_of x
   next_left (Free p n) = refl
   next_left (Stands p n l w) = refl
@@ -113,7 +113,7 @@ module _ {L E : Type 0} (v : E) where
   element_left (Stands p n l w) = refl
 
 module _ {L E Z : Type 0} where
-  -- where a node has an element, its place is below the size
+  -- if a node has an element, its place is below the size
   pub node_below : (s : Links L E Z) (k : ℕ) → IsSome (element_at s k) → k < vec_len s.nodes
   node_below s k some = elim (cases_lt k (vec_len s.nodes)) [
     | inl lt ↦ lt
@@ -172,7 +172,7 @@ module _ {L E Z : Type 0} (f : Labelled L E → Labelled L E) (old new : Links L
       let m = edited_kept in
       walked new n m.items m.frees m.holds m.count ∙ ap (edited f c) (kept_items old n v k view)
 
--- links with a value written where one stood
+-- links with a value written where there was one
 module _ {L E Z : Type 0} (s : Links L E Z) (n c : ℕ) (w : E) (k : IsChain s n) (some : IsSome (element_at s c)) where
   -- they are of the elements with the other one
   pub written_kept : IsChain (with_value s c w) n

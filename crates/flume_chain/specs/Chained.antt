@@ -7,17 +7,17 @@ use Rattle.flume_chain.specs.declared.chain.links.Links.{Links}
 use Rattle.flume_chain.specs.declared.labelled.Labelled.{Labelled}
 use Rattle.flume_chain.specs.Links.{end, next_at, previous_at, element_at}
 
--- an element, with the place that names it while it stands
+-- an element, with the place that names it while it is in the list
 pub record Placed (E : Type 0) : Type 0 where
   pub place : ℕ
   pub element : E
 
--- the elements in order, and how many more may stand with no more memory
+-- the elements in order, and how many more fit with no further allocation
 pub record Chained (E : Type 0) : Type 0 where
   pub items : List (Placed E)
   pub room : ℕ
 
--- 1 where two places are the same, and else 0
+-- 1 if two places are the same, and else 0
 abbrev pub once : ℕ → ℕ → ℕ
 once x k = if x == k then 1 else 0
 
@@ -26,8 +26,8 @@ abbrev pub times : ℕ → List ℕ → ℕ
 times k [] = 0
 times k (x ∷ xs) = once x k + times k xs
 
--- what the links say: how many nodes there are, what is after and before each place, what stands
--- there, and the first free place
+-- what the links say: how many nodes there are, what is after and before each place, what is there,
+-- and the first free place
 pub record Table (E : Type 0) : Type 0 where
   pub size : ℕ
   pub next : ℕ → ℕ
@@ -50,7 +50,7 @@ module _ {E : Type 0} where
   without [] k = []
   without (x ∷ xs) k = if x.place == k then without xs k else x ∷ without xs k
 
-  -- the elements with one more ahead of that at a place, or behind all others where none stands
+  -- the elements with one more ahead of that at a place, or behind all others if there is none
   -- there
   abbrev pub put_before : List (Placed E) → ℕ → Placed E → List (Placed E)
   put_before [] k x = x ∷ []
@@ -76,17 +76,17 @@ module _ {E : Type 0} where
   place_after [] k = None
   place_after (x ∷ xs) k = if k == x.place then first_place xs else place_after xs k
 
-  -- the element that may stand at a place, ahead of others
+  -- the element that may be at a place, ahead of others
   abbrev pub listed : ℕ → Option E → List (Placed E) → List (Placed E)
   listed k None xs = xs
   listed k (Some e) xs = record { place = k; element = e } ∷ xs
 
-  -- the elements with that at a place behind all others; the same ones where none stands there
+  -- the elements with that at a place behind all others; the same ones if there is none there
   abbrev pub moved_back : List (Placed E) → ℕ → List (Placed E)
   moved_back xs k = without xs k ++ listed k (found xs k) []
 
-  -- the elements met from a place on in so many steps, where `next` is the place after each, and
-  -- `element` what stands there
+  -- the elements met from a place on in this many steps, where `next` is the place after each, and
+  -- `element` what is there
   abbrev pub walk : (ℕ → ℕ) → (ℕ → Option E) → ℕ → ℕ → List (Placed E)
   walk next element k zero = []
   walk next element k (suc n) = listed k (element k) (walk next element (next k) n)
@@ -114,7 +114,7 @@ module _ {L E Z : Type 0} where
     free = s.free;
   }
 
-  -- how many more elements may stand in these links, in which n do
+  -- how many more elements fit into these links, which have n
   abbrev pub room_of : Links L E Z → ℕ → ℕ
   room_of s n = min (vec_capacity s.nodes) end - n
 

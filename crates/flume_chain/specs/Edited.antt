@@ -12,10 +12,10 @@ module _ {E : Type 0} where
       (if k == x.place then record x { element = f x.element } else x) ∷ edited f k xs
 
 module _ {L E : Type 0} where
-  -- the elements with another value at a place where one stands
+  -- the elements with another value at a place where there is one
   abbrev pub with_value_at : ℕ → List (Placed (Labelled L E)) → E → List (Placed (Labelled L E))
   with_value_at k items v = edited (revalued v) k items
 
-  -- the elements with another label at a place where one stands
+  -- the elements with another label at a place where there is one
   abbrev pub with_label_at : ℕ → List (Placed (Labelled L E)) → L → List (Placed (Labelled L E))
   with_label_at k items l = edited (relabelled l) k items

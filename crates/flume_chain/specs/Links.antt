@@ -17,7 +17,7 @@ abbrev pub with : {X : Type 0} → (ℕ → X) → ℕ → X → ℕ → X
 with f k v x = if x == k then v else f x
 
 module _ {L E : Type 0} where
-  -- what is read where there is no node
+  -- what is read if there is no node
   abbrev pub no_node : Node L E
   no_node = Free end end
 
@@ -44,7 +44,7 @@ module _ {L E : Type 0} where
   abbrev pub revalued : E → Labelled L E → Labelled L E
   revalued v e = record e { value = v }
 
-  -- a node with this value, where it has one
+  -- a node with this value, if it has one
   abbrev pub with_value_of : Node L E → E → Node L E
   with_value_of (Free previous next) v = Free previous next
   with_value_of (Stands previous next label value) v = Stands previous next label v

@@ -1,5 +1,5 @@
-//! Elements in order, of which each can be taken out at the same cost wherever it stands. An
-//! element is a value and a label.
+//! Elements in order, of which each can be taken out at the same cost wherever it is. An element is
+//! a value and a label.
 ghost use Rattle.std.specs.Prelude.{◌≡◌, ◌≢◌, ◌<◌, ◌≤◌, ◌+◌, ◌++◌, ◌∷◌, [], Some, None, length};
 ghost use Rattle.std.specs.Prelude.{ℕ, true, false};
 ghost use Rattle.std.specs.Prelude.{IsOk, IfOk, IfErr, OnOk, OnErr, IfSome, IfNone, OnSome, IsSome};
@@ -20,7 +20,8 @@ use std::alloc::Allocator;
 use std::marker::Model;
 
 /// Elements in order, each a value with a label. Each has a place, a number that names it while it
-/// stands.
+/// is in the list. Only `push_back` and `insert_before` allocate. Each method leaves the order and
+/// the places of all other elements.
 #[derive(Drop)]
 pub struct Chain<L, E, A: Allocator> {
     links: Links<L, E, A>,
@@ -41,7 +42,7 @@ impl<L, E, A: Allocator> Model for Chain<L, E, A> {
 impl<L: Drop, E: Drop, A: Allocator> Chain<L, E, A> {
     ghost use Rattle.flume_chain.specs.Lends.{lends_value, lends_get};
 
-    /// No elements. Takes no memory.
+    /// No elements.
     ///
     /// ```
     /// let mut chain = Chain::new(alloc);
@@ -70,7 +71,7 @@ impl<L: Drop, E: Drop, A: Allocator> Chain<L, E, A> {
         let _ = self.links.capacity();
     }
 
-    /// How many elements stand. It reads a count, whatever the length.
+    /// How many elements there are. Reads a count.
     #[inline(always)]
     pub fn len(&self) -> usize
         ensures len { result ≡ length self.now.items }
@@ -78,7 +79,7 @@ impl<L: Drop, E: Drop, A: Allocator> Chain<L, E, A> {
         self.len
     }
 
-    /// How many more elements may stand before more memory is needed.
+    /// How many more elements fit before one needs an allocation.
     #[inline(always)]
     pub fn room(&self) -> usize
         ensures room { result ≡ self.now.room }
@@ -97,8 +98,7 @@ impl<L: Drop, E: Drop, A: Allocator> Chain<L, E, A> {
         self.links.allocator()
     }
 
-    /// The value at a place, which no other has. `None` where none stands there.
-    // What the links have there is said of the list of elements here, and of no node.
+    /// The value at a place, which no other has. `None` if there is none there.
     #[inline(always)]
     pub fn get(&self, place: u32) -> Option<&E>
         ensures found { option_copied result
@@ -107,7 +107,7 @@ impl<L: Drop, E: Drop, A: Allocator> Chain<L, E, A> {
         self.links.get(place)
     }
 
-    /// The label at a place. `None` where none stands there.
+    /// The label at a place. `None` if there is none there.
     #[inline(always)]
     pub fn label(&self, place: u32) -> Option<&L>
         ensures found { option_copied result
@@ -116,8 +116,8 @@ impl<L: Drop, E: Drop, A: Allocator> Chain<L, E, A> {
         self.links.label(place)
     }
 
-    /// The value at a place, for writing: it keeps its place and its label. `None` where none
-    /// stands there, and then nothing changes. Takes no memory.
+    /// The value at a place, for writing: it keeps its place and its label. `None` if there is none
+    /// there, and then nothing changes.
     #[inline(always)]
     pub fn get_mut(&mut self, place: u32) -> Option<&mut E>
         ensures* writes_back { sem 𝓛
@@ -132,8 +132,8 @@ impl<L: Drop, E: Drop, A: Allocator> Chain<L, E, A> {
         }
     }
 
-    // The value at a place where one stands, for writing. By itself, so that what it lends is said
-    // of the list of elements, where `Links::value_mut` says it of nodes.
+    // Apart from `get_mut`: what it lends is said of the list of elements, and by
+    // `Links::value_mut` of nodes.
     #[inline(always)]
     fn value_mut(&mut self, place: u32) -> &mut E
         requires stands { IsSome (found self.old.items place) }
@@ -144,8 +144,8 @@ impl<L: Drop, E: Drop, A: Allocator> Chain<L, E, A> {
         self.links.value_mut(place)
     }
 
-    /// Writes the label at a place, and drops the one that was there. Nothing changes where no
-    /// element stands there. Takes no memory.
+    /// Writes the label at a place, and drops the one that was there. Nothing changes if there is
+    /// no element there.
     #[inline(always)]
     pub fn set_label(&mut self, place: u32, label: L)
         ensures labelled { self.new.items ≡ with_label_at place self.old.items label }
@@ -154,7 +154,7 @@ impl<L: Drop, E: Drop, A: Allocator> Chain<L, E, A> {
         self.links.set_label(place, label);
     }
 
-    /// The place of the element behind that at a place. `None` where none stands at the place, or
+    /// The place of the element behind that at a place. `None` if there is none at the place, or
     /// none behind it.
     #[inline(always)]
     pub fn next(&self, place: u32) -> Option<u32>
@@ -170,9 +170,9 @@ impl<L: Drop, E: Drop, A: Allocator> Chain<L, E, A> {
         Some(next)
     }
 
-    /// Puts an element behind all others, and returns its place, which no other has. With no memory
-    /// left, or 4,294,967,295 elements standing, the element comes back, and the chain stays as it
-    /// was.
+    /// Puts an element behind all others, and returns its place, which no other has. If an
+    /// allocation fails, or there are 4,294,967,295 elements already, the element comes back, and
+    /// the chain stays as it was.
     #[inline(always)]
     pub fn push_back(&mut self, element: Labelled<L, E>) -> Result<u32, Labelled<L, E>>
         ensures pushed { IfOk result (λ place. self.new.items
@@ -189,9 +189,9 @@ impl<L: Drop, E: Drop, A: Allocator> Chain<L, E, A> {
         Ok(place)
     }
 
-    /// Puts an element ahead of that at a place, or behind all others where none stands there, and
-    /// returns its own place, which no other has. With no memory left, or 4,294,967,295 elements
-    /// standing, the element comes back, and the chain stays as it was.
+    /// Puts an element ahead of that at a place, or behind all others if there is none there, and
+    /// returns its own place, which no other has. If an allocation fails, or there are
+    /// 4,294,967,295 elements already, the element comes back, and the chain stays as it was.
     #[inline(always)]
     pub fn insert_before(
         &mut self,
@@ -215,9 +215,8 @@ impl<L: Drop, E: Drop, A: Allocator> Chain<L, E, A> {
         Ok(place)
     }
 
-    /// Puts the element at a place behind all others. It keeps its place, and the others their
-    /// order and their places. `false` where none stands there, and then nothing changes. Takes no
-    /// memory.
+    /// Puts the element at a place behind all others. It keeps its place. `false` if there is none
+    /// there, and then nothing changes.
     #[inline(always)]
     pub fn move_back(&mut self, place: u32) -> bool
         ensures stood { result ≡ true ↔ IsSome (found self.old.items place) }
@@ -233,8 +232,8 @@ impl<L: Drop, E: Drop, A: Allocator> Chain<L, E, A> {
         true
     }
 
-    /// Takes out the element at a place, which then names none. The others keep their order and
-    /// their places. `None` where none stands there, and then nothing changes. Takes no memory.
+    /// Takes out the element at a place, which then names none. `None` if there is none there, and
+    /// then nothing changes.
     #[inline(always)]
     pub fn remove(&mut self, place: u32) -> Option<Labelled<L, E>>
         ensures found { result ≡ found self.old.items place }
@@ -250,9 +249,8 @@ impl<L: Drop, E: Drop, A: Allocator> Chain<L, E, A> {
         Some(element)
     }
 
-    /// Drops the element at a place, which then names none. The others keep their order and their
-    /// places. Nothing changes where none stands there. Takes no memory.
-    // `remove` would do, but it moves the element out, a part at a time and more than once.
+    /// Drops the element at a place, which then names none. Nothing changes if there is none there.
+    // Not by `remove`, which moves the element out, a part at a time and more than once.
     #[inline(always)]
     pub fn discard(&mut self, place: u32)
         ensures left { self.new.items ≡ without self.old.items place }
@@ -267,8 +265,7 @@ impl<L: Drop, E: Drop, A: Allocator> Chain<L, E, A> {
         self.len -= 1;
     }
 
-    /// Takes out the first element. The others keep their order and their places. `None` where
-    /// none stands, and then nothing changes. Takes no memory.
+    /// Takes out the first element. `None` if there is none, and then nothing changes.
     #[inline(always)]
     pub fn pop_front(&mut self) -> Option<Labelled<L, E>>
         ensures first { result ≡ first_element self.old.items }
@@ -281,7 +278,7 @@ impl<L: Drop, E: Drop, A: Allocator> Chain<L, E, A> {
         Some(element)
     }
 
-    /// Takes out all elements, and drops them. Gives back no memory, and takes none.
+    /// Drops all elements. Neither allocates nor gives memory back.
     pub fn clear(&mut self)
         ensures empty { self.new.items ≡ [] }
         ensures room { self.new.room ≡ self.old.room + length self.old.items }

@@ -1,10 +1,9 @@
-//! A value of a chain, and what its caller keeps beside it.
+//! A value of a chain with a label.
 
-/// A value, and what its caller keeps beside it.
+/// A value with a label, which its caller chooses.
 #[derive(Drop)]
 pub struct Labelled<L, E> {
-    /// What the caller keeps beside it. It lies in the node, beside the links, and takes no memory
-    /// of its own.
+    /// The label. It is in the node, next to the links, and isn't allocated apart.
     pub label: L,
     /// The value.
     pub value: E,

@@ -84,7 +84,8 @@ module _ {T : Type 0} (A : Type 0) where
   parked_next c _ t h = absurd h
 
 module _ {T A : Type 0} where
-  -- the message that an answer gives, if it gives one, was handed out, after so many others at least
+  -- the message that an answer gives, if it gives one, was handed out, after this many others at
+  -- least
   abbrev pub Told : ℕ → Log T A → Answer T A → Type 0
   Told n log (answer.Got own) = IsHandedSince n log own
   Told n log _ = Unit {0}

@@ -21,13 +21,13 @@ use Rattle.flume_model.proofs.order.Runs.{placed}
 use Rattle.flume_model.proofs.order.TicketLaws.{handed_out_stay}
 
 module _ {X : Type 0} where
-  -- what stands at a place of a list stands there too if more is put behind the list
+  -- what is at a place of a list is there too if more is put behind the list
   get_more : (xs ys : List X) (j : ℕ) (x : X) → slice_get xs j ≡ Some x → slice_get (xs ++ ys) j ≡ Some x
   get_more [] ys j x e = absurd (let none : ⊥ = cc in none)
   get_more (y ∷ xs) ys zero x e = e
   get_more (y ∷ xs) ys (suc j) x e = get_more xs ys j x e
 
-  -- the element behind a list stands at the place that is the list's length
+  -- the element behind a list is at the place that is the list's length
   get_behind : (xs : List X) (x : X) → slice_get (xs ++ x ∷ []) (length xs) ≡ Some x
   get_behind [] x = refl
   get_behind (y ∷ xs) x = get_behind xs x
@@ -91,8 +91,9 @@ module _ {T A : Type 0} where
       ∙ fills_none (channel o past) (change past p.0 p.1) t (fits_run o past p run) none)
       (unissued_not_filled o past run.1 t (omega arith))
 
-  -- Since a moment at which so many messages had been handed out, and this was the next ticket: no fewer are handed out, no
-  -- lesser ticket is next, and each receiver that was filled under a later ticket was so by a hand-out after that moment.
+  -- Since a moment at which this many messages had been handed out, and this was the next ticket:
+  -- no fewer are handed out, no lesser ticket is next, and each receiver that was filled under a
+  -- later ticket was so by a hand-out after that moment.
   pub record Since (n k : ℕ) (o : Opening) (log : Log T A) : Type 0 where
     pub more_handed : n ≤ hand_outs log
     pub more_issued : k ≤ next_ticket o log
@@ -133,7 +134,7 @@ module _ {T A : Type 0} where
       → slice_get (kept (p ∷ past)) j ≡ slice_get (kept past) j
   kept_on o past p run j lt = at_front (hand_outs past) (kept (p ∷ past)) (kept past) j lt (handed_out_stay o p past run)
 
-  -- the message was handed out, after so many others at least
+  -- the message was handed out, after this many others at least
   pub record IsHandedSince (n : ℕ) (log : Log T A) (own : T) : Type 0 where
     pub number : ℕ
     pub offer : Offer T

@@ -25,7 +25,7 @@ use Rattle.flume_concurrent.proofs.Received.{HandedTo, HandedOut, received, rece
 use Rattle.flume_concurrent.proofs.SplitItems.{told_all, Split, split, split_at}
 
 module _ {X : Type 0} where
-  -- an element of a list stands between two parts of it
+  -- an element of a list is between two parts of it
   parted : (xs : List X) (x : X) → Contains xs x → (before : List X) × (after : List X) × (xs ≡ before ++ x ∷ after)
   parted xs x h = (
     take h.0 xs,
@@ -61,7 +61,7 @@ module _ {T : Type 0} where
       ]
 
 module _ {T A : Type 0} (equal : T → T → Bool) where
-  -- where the hand-out of this number stands among all offers
+  -- where the hand-out of this number is among all offers
   place_of : (log : Log T A) (line : HandedOutInOrder log) (j : ℕ) (offer : Offer T) → j < hand_outs log
       → slice_get (kept log) j ≡ Some offer → slice_get (offers log) (line.place j) ≡ Some offer
   place_of log line j offer lt at =

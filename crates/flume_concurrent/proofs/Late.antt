@@ -1,4 +1,4 @@
--- The steps of an explanation may stand late: each waits for an event of its thread.
+-- The steps of an explanation may come late: each waits for an event of its thread.
 use Rattle.std.proofs.Common.{◌≡◌, ℕ, ◌==◌, Bool, true, false, List, [], ◌∷◌, ◌++◌, Option, Some, None, refl, sym, ap, ◌∙◌, subst, append_assoc, reverse, eq-eqb, if◌then◌else◌}
 use Rattle.std.proofs.lemmas.Bool.{eqb-true}
 use Rattle.std.proofs.lemmas.List.{reverse-append, reverse-reverse, append-nil}
@@ -20,13 +20,13 @@ use Rattle.flume_concurrent.proofs.LateItems.{of_item, pick, own, steps_reverse,
 
 -- where `equal` compares messages
 module _ {T A : Type 0} (equal : T → T → Bool) where
-  -- what a thread may do next, by how it stands
+  -- what a thread may do next, by its state
   abbrev Fit : Option (Call T × Stage T A) → Item T A → Type 0
   Fit c (Happens (Begins t call)) = c ≡ None
   Fit c (Happens (Returns t told)) = IsTrue (returns equal c told)
   Fit c (Makes t step reply) = IsNextStep c step
 
-  -- and how it stands then
+  -- and its state then
   abbrev after : Option (Call T × Stage T A) → Item T A → Option (Call T × Stage T A)
   after c (Happens (Begins t call)) = Some (call, Begun)
   after c (Happens (Returns t told)) = None
@@ -42,7 +42,7 @@ module _ {T A : Type 0} (equal : T → T → Bool) where
   does_first c [] ys h = tt
   does_first c (item ∷ xs) ys h = (h.0, does_first (after c item) xs ys h.1)
 
-  -- an item fits the past exactly if it fits how its thread stands
+  -- an item fits the past exactly if it fits its thread's state
   fit_of : (past : List (Item T A)) (item : Item T A) → Fits equal past item → Fit (open_call past (of_item item)) item
   fit_of past (Happens (Begins t call)) h = h
   fit_of past (Happens (Returns t told)) h = h
@@ -53,7 +53,7 @@ module _ {T A : Type 0} (equal : T → T → Bool) where
   fits_of past (Happens (Returns t told)) h = h
   fits_of past (Makes t step reply) h = h
 
-  -- how a thread stands behind an item: as it stood, but for the item's own thread
+  -- a thread's state behind an item: as it was, but for the item's own thread
   stands_is : (past : List (Item T A)) (item : Item T A) (t : ℕ)
       → open_call (item ∷ past) t ≡ (if of_item item == t then after (open_call past t) item else open_call past t)
   stands_is past (Happens (Begins u call)) t = refl
@@ -120,7 +120,7 @@ module _ {T A : Type 0} (equal : T → T → Bool) where
       by_thread t true is does = subst (λ c. Does c (own t items)) (sym (stands_own past item t is)) does.1
       by_thread t false is does = subst (λ c. Does c (own t items)) (sym (stands_other past item t is)) does
 
-  -- who has made a step has a call open, and doesn't begin another one
+  -- a thread that has made a step has a call open, and doesn't begin another one
   still_open : (c : Option (Call T × Stage T A)) (step : Step T) (reply : Reply T A) → IsNextStep c step → further reply c ≡ None → ⊥
   still_open None step reply made none = made
   still_open (Some far) step reply made none = let no_way : ⊥ = cc in no_way
@@ -148,7 +148,7 @@ module _ {T A : Type 0} (equal : T → T → Bool) where
   run_behind o [] log run = run
   run_behind o (p ∷ later) log run = run_behind o later log run.1
 
-  -- the steps of an explanation may stand late
+  -- the steps of an explanation may come late
   pub explained_late : (o : Opening) (events : List (Event T A)) → IsExplained equal o events → IsExplainedLate equal o events
   explained_late o events h =
       let items = reverse h.0 in

@@ -134,7 +134,7 @@ module _ {T A : Type 0} where
   apart t [] = refl
   apart t (m ∷ p) = apart_at t (has t (m ∷ p)) m p refl (apart t p)
 
-  -- one more waits: its item stands behind theirs
+  -- one more waits: its item is behind theirs
   put_more : (p : Waiting T A) (m : ℕ × Step T × Reply T A) (items : List (Item T A))
       → put (p ++ m ∷ []) ++ items ≡ put p ++ Makes m.0 m.1 m.2 ∷ items
   put_more [] m items = refl

@@ -84,7 +84,7 @@ module _ {T A : Type 0} where
         receivers = h.receivers_are i;
       }
 
-  -- a change looks at the log only through who was filled
+  -- a change looks at the log only through which receivers were filled
   change_is : (log lean : Log T A) (step : Step T) (reply : Reply T A) → was_filled log ≡ was_filled lean
       → change log step reply ≡ change lean step reply
   change_is log lean (Poll t) (Got m) h = λ i. if h i t then Collects t else Takes m (Some t)

@@ -19,7 +19,7 @@ use Rattle.flume_concurrent.proofs.LeanAlike.{Alike}
 open_not_over : (s r : ℕ) → IsOpen s r → eqb (s + r) 0 ≡ false
 open_not_over s r is = grind (arith, common_steps)
 
--- a ticket stays live where the channel isn't over
+-- a ticket stays live if the channel isn't over
 stays_live : (over live : Bool) → over ≡ false → (not over && (false || (live && true))) ≡ live
 stays_live true live e = absurd (let none : ⊥ = cc in none)
 stays_live false true e = refl
@@ -31,7 +31,7 @@ module _ {T N : Type 0} where
   one_more [] e = omega arith
   one_more (x ∷ es) e = grind (arith, common_steps, one_more es e)
 
-  -- where a receiver asks again and no more wait, the entries are the same
+  -- if a receiver asks again and no more wait, the entries are the same
   again_same : (t : ℕ) (es : List (Entry T N)) → waiting_count (again t es) ≡ waiting_count es → again t es ≡ es
   again_same t es =
       again_cases (λ after. waiting_count after ≡ waiting_count es → after ≡ es) t es (λ same. refl)
@@ -60,7 +60,7 @@ module _ {T : Type 0} where
   asks _ = false
 
 module _ {T : Type 0} (A : Type 0) where
-  -- who leaves isn't told to wait
+  -- a call that leaves isn't answered `Waiting`
   gone_marked : (c : Channel T) (t : ℕ) (k : Kind) (m : Mark T) → IsGoneMark {A = A} c t k m Waiting → ⊥
   gone_marked c t k (Filled held) h = h
   gone_marked c t Block StillWaits h = h
@@ -72,7 +72,7 @@ module _ {T : Type 0} (A : Type 0) where
   gone_waits c t None h = h
   gone_waits c t (Some e) h = gone_marked c t e.kind e.mark h
 
-  -- only who asks is told to wait
+  -- only a call that asks is answered `Waiting`
   pub waiting_asks : (c : Channel T) (step : Step T) → IsReply {A = A} c step Waiting → asks step ≡ true
   waiting_asks c (Poll t) h = refl
   waiting_asks c (PollSend t) h = refl
@@ -85,7 +85,7 @@ module _ {T A : Type 0} where
   over_empty o [] over = refl
   over_empty o (p ∷ past) over = rw over refl
 
-  -- nobody is told to wait once the channel is over
+  -- nobody is answered `Waiting` once the channel is over
   asked_not_over : (o : Opening) (past : Log T A) (t : ℕ) → IsPolled {A = A} (channel o past) (entry_of t (entries o past)) Waiting
       → is_over past ≡ false
   asked_not_over o past t h = by_case (is_over past) refl
@@ -95,7 +95,8 @@ module _ {T A : Type 0} where
       by_case true e = absurd
           (subst (λ es. IsPolled {A = A} (channel o past) (entry_of t es) Waiting) (over_empty o past e) h)
 
-  -- where no more wait by it, the log with a step that is told to wait is like the log without it
+  -- if no more wait by it, the log with a step that is answered `Waiting` is like the log without
+  -- it
   pub alike_idle : (o : Opening) (past : Log T A) (step : Step T) → IsReply {A = A} (channel o past) step Waiting
       → waiting_count (entries o ((step, Waiting) ∷ past)) ≡ waiting_count (entries o past)
       → Alike o ((step, Waiting) ∷ past) past

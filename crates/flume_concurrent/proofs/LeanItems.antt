@@ -1,4 +1,5 @@
--- Items with the newest first: which step may stand before which item, and why a call that asked goes on asking.
+-- Items with the newest first: which step may be before which item, and why a call that asked goes
+-- on asking.
 use Rattle.std.proofs.Common.{◌≡◌, ℕ, Bool, true, false, List, [], ◌∷◌, ◌++◌, Option, Some, None, inl, inr, refl, sym, ap, ◌∙◌, subst, append_assoc, reverse}
 use Rattle.std.proofs.lemmas.List.{reverse-append}
 use Rattle.flume_model.specs.declared.step.Step.{Step}
@@ -18,20 +19,20 @@ use Rattle.flume_concurrent.specs.LateSteps.{IsFollowed, AreLate}
 use Rattle.flume_concurrent.proofs.LeanIdle.{asks}
 
 module _ {T A : Type 0} where
-  -- a step of this thread may stand just before this item, if there is one
+  -- a step of this thread may come just before this item, if there is one
   abbrev pub Follows : Option (Item T A) → ℕ → Type 0
   Follows None t = ⊥
   Follows (Some (Makes u step reply)) t = Unit {0}
   Follows (Some (Happens (Begins u call))) t = ⊥
   Follows (Some (Happens (Returns u answer))) t = t ≡ u
 
-  -- each step stands late, where this item comes next; the newest stands first
+  -- each step comes late, if this item comes next; the newest comes first
   abbrev pub Ends : Option (Item T A) → List (Item T A) → Type 0
   Ends next [] = Unit {0}
   Ends next (Happens event ∷ past) = Ends (Some (Happens event)) past
   Ends next (Makes t step reply ∷ past) = Follows next t × Ends (Some (Makes t step reply)) past
 
-  -- before one step may stand what may stand before another
+  -- before one step may come what may come before another
   pub ends_before : (t u : ℕ) (step other : Step T) (reply told : Reply T A) (past : List (Item T A))
       → Ends (Some (Makes t step reply)) past → Ends (Some (Makes u other told)) past
   ends_before t u step other reply told [] h = tt
@@ -59,7 +60,7 @@ module _ {T A : Type 0} where
   follows (Happens (Begins u call) ∷ items) t h = h
   follows (Happens (Returns u answer) ∷ items) t h = h
 
-  -- that the steps stand late, by the items with the newest first, and the other way round
+  -- that the steps come late, by the items with the newest first, and the other way round
   pub ends_late : (items past : List (Item T A)) → AreLate items → Ends (first_of_items items) past → Ends None (reverse items ++ past)
   ends_late [] past late h = h
   ends_late (Happens event ∷ items) past late h =

@@ -1,4 +1,4 @@
--- Each idle step of an explanation whose steps stand late may be taken out.
+-- Each idle step of an explanation whose steps come late may be taken out.
 use Rattle.std.proofs.Common.{◌≡◌, ◌≢◌, ℕ, ◌==◌, Bool, true, false, List, [], ◌∷◌, Option, Some, None, ◌⊎◌, inl, inr, refl, sym, ap, ◌∙◌, subst, reverse, if◌then◌else◌}
 use Rattle.std.proofs.lemmas.Bool.Decides.{eqb_tells}
 use Rattle.std.proofs.lemmas.List.{reverse-reverse, append-nil}
@@ -49,12 +49,12 @@ module _ {T A : Type 0} where
   alike_waiting o past step Waiting is h same = alike_idle o past step h same
   alike_waiting o past step _ is h same = absurd (let none : ⊥ = cc in none)
 
-  -- who is told to wait has asked
+  -- a call that is answered `Waiting` has asked
   told_asks : (c : Channel T) (step : Step T) (reply : Reply T A) → reply ≡ Waiting → IsReply c step reply → asks step ≡ true
   told_asks c step Waiting is h = waiting_asks A c step h
   told_asks c step _ is h = absurd (let none : ⊥ = cc in none)
 
-  -- a call that is told to wait is as far as before
+  -- a call that is answered `Waiting` is as far as before
   further_waiting : (far : Option (Call T × Stage T A)) → further Waiting far ≡ far
   further_waiting None = refl
   further_waiting (Some far) = refl
@@ -89,7 +89,7 @@ module _ {T A : Type 0} (equal : T → T → Bool) where
   Goes past None = Unit {0}
   Goes past (Some item) = Fits equal past item
 
-  -- what is left of items without the idle steps, where this item comes next
+  -- what is left of items without the idle steps, if this item comes next
   pub record Leaner (o : Opening) (next : Option (Item T A)) (past : List (Item T A)) : Type 0 where
     pub items : List (Item T A)
     pub run : IsRun o (steps_in items)
@@ -100,7 +100,7 @@ module _ {T A : Type 0} (equal : T → T → Bool) where
     pub events_are : events_in past ≡ events_in items
     pub ends : Ends next items
 
-  -- where an idle step may stand before an item, a step that stood before it may stand there as well
+  -- if an idle step may be before an item, a step that was before it may be there as well
   ends_without : (next : Option (Item T A)) (t : ℕ) (step : Step T) (reply : Reply T A) (past items : List (Item T A)) → asks step ≡ true
       → reply ≡ Waiting → IsNextStep (open_call past t) step → Goes (Makes t step reply ∷ past) next → Follows next t
       → Ends (Some (Makes t step reply)) items → Ends next items
@@ -182,7 +182,7 @@ module _ {T A : Type 0} (equal : T → T → Bool) where
       more_step o next t step reply past calls.0 run.0 goes ends.0
       (leaner o (Some (Makes t step reply)) past run.1 calls.1 calls.0 ends.1)
 
-  -- events that have an explanation whose steps stand late have one without idle steps
+  -- events that have an explanation whose steps come late have one without idle steps
   pub explained_lean : (o : Opening) (events : List (Event T A)) → IsExplainedLate equal o events → IsExplainedLean equal o events
   explained_lean o events h =
       let items = h.0 in

@@ -95,7 +95,7 @@ module _ {T A : Type 0} (equal : T → T → Bool) where
           (subst (λ v. IsNextStep (open_call (newer ++ past) v) step) (eqb-true u t is) calls.0) (before begun)
       by_thread false is before (inr begun) = stands_in_on n k o log (step, r) run (open_call (newer ++ past) t) (before begun)
 
-  -- a message was handed out that equals the one that is told, and it was after the past
+  -- a message was handed out that equals the recorded one, and it was after the past
   pub record HandedTo (newer past : List (Item T A)) (told : T) : Type 0 where
     pub number : ℕ
     pub offer : Offer T
@@ -146,7 +146,7 @@ module _ {T A : Type 0} (equal : T → T → Bool) where
   returns_there None told e = let none : ⊥ = cc in none
   returns_there (Some far) told e = tt
 
-  -- a message was handed out that equals the one that is told
+  -- a message was handed out that equals the recorded one
   pub record HandedOut (items : List (Item T A)) (told : T) : Type 0 where
     pub number : ℕ
     pub offer : Offer T

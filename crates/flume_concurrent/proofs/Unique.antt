@@ -67,7 +67,7 @@ module _ {T A : Type 0} (equal : T → T → Bool) where
   apart call.RecvAsync (Parked t) told h k = parked_receives_apart equal told t h k
   apart _ _ told h k = k
 
-  -- so one of them is told
+  -- so one of them is recorded
   one_step : (far : Option (Call T × Stage T A)) (told s r : Step T) → IsNextStep far s → IsNextStep far r
       → equal_steps equal told s ≡ true → equal_steps equal told r ≡ true → s ≡ r
   one_step None told s r m n h k = absurd m
@@ -78,7 +78,7 @@ module _ {T A : Type 0} (equal : T → T → Bool) where
   one_step (Some far) told s r (inr m) (inl n) h k =
       absurd (apart far.0 far.1 told (subst (equals equal told) (sym n) k) (subst (equals equal told) (sym m) h))
 
-  -- where no reply that is told of the own step is lawful, the item goes nowhere
+  -- if no recorded reply of the own step is lawful, the item goes nowhere
   pub unlawful : (o : Opening) (past : List (Item T A)) (t : ℕ) (told : Step T) (reply : Reply T A) (s : Step T)
       → IsNextStep (open_call past t) s → equal_steps equal told s ≡ true
       → ((other : Reply T A) → IsReply (channel o (steps_in past)) s other → Equals equal reply other → ⊥)
@@ -99,7 +99,7 @@ module _ {T A : Type 0} (equal : T → T → Bool) where
   further_same None reply other h = refl
   further_same (Some far) reply other h = ap (λ stage. Some (far.0, stage)) (stage_same far.0 far.1 reply other h)
 
-  -- what is told leads to the same calls, by the same steps
+  -- what is recorded leads to the same calls, by the same steps
   abbrev AreSame : List (Item T A) → List (Item T A) → Type 0
   AreSame past other = ((t : ℕ) → open_call past t ≡ open_call other t) × SameSteps (steps_in past) (steps_in other)
 
@@ -155,7 +155,7 @@ module _ {T A : Type 0} (equal : T → T → Bool) where
             steps,
           )
 
-  -- what goes nowhere after one explanation does so after each that is told so
+  -- what goes nowhere after one explanation does so after each with the same record
   run_same : (o : Opening) (item : Item T A) (past other : List (Item T A)) → IsRun o (steps_in past) → AreSame past other
       → IsRun o (steps_in (item ∷ other)) → IsRun o (steps_in (item ∷ past))
   run_same o (Happens event) past other run alike run' = run
@@ -195,7 +195,7 @@ module _ {T A : Type 0} (equal : T → T → Bool) where
       behind o (reverse (drop n items)) (reverse (take n items)) h.0
       (subst (λ l. AreTold equal l h.0) (ap reverse (sym (take-append-drop n items)) ∙ reverse-append (take n items) (drop n items)) h.1) h.2
 
-  -- the events are those that are told
+  -- the events are the recorded ones
   pub events_append : (xs ys : List (Item T A)) → events_in (xs ++ ys) ≡ events_in xs ++ events_in ys
   events_append [] ys = refl
   events_append (Happens event ∷ xs) ys = ap (λ l. event ∷ l) (events_append xs ys)

@@ -1,4 +1,4 @@
--- What a call that is so far may return.
+-- What a call at a stage may return.
 use Rattle.std.specs.Prelude.{Bool, true, false, ◌||◌, nat_eq}
 use Rattle.std.specs.Option.{option_eq}
 use Rattle.std.specs.Bool.{beq}
@@ -41,9 +41,9 @@ module _ {T A : Type 0} where
   is_dropped RecvAsync Dropped = true
   is_dropped _ _ = false
 
-  -- Whether a call that is so far may return this, where `equal` compares messages: the answer of
-  -- its last step; or, where it was to park, that there was no memory for what it parks on. A
-  -- future that isn't parked may be dropped, whatever it came to.
+  -- Whether a call at this stage may return this, where `equal` compares messages: the answer of
+  -- its last step; or, if it was to park, that there was no memory for what it parks on. A future
+  -- that isn't parked may be dropped, whatever it came to.
   abbrev pub may_return : (T → T → Bool) → Call T → Stage T A → Answer T A → Bool
   may_return equal call Begun told = is_dropped call told
   may_return equal call Tried told = equal_answers equal told NoMemory || is_dropped call told

@@ -34,7 +34,7 @@ module _ {T A : Type 0} where
   further reply None = None
   further reply (Some far) = Some (far.0, stage_after far.0 far.1 reply)
 
-  -- the call that a thread has open, if it has one, and how far it is; the newest item stands first
+  -- the call that a thread has open, if it has one, and how far it is; the newest item comes first
   abbrev pub open_call : List (Item T A) → ℕ → Option (Call T × Stage T A)
   open_call [] t = None
   open_call (Happens (Begins u call) ∷ past) t =
@@ -57,13 +57,13 @@ module _ {T A : Type 0} (equal : T → T → Bool) where
   returns (Some far) told = may_return equal far.0 far.1 told
 
   -- an item may come next: a thread begins a call while it has none open, and makes steps and
-  -- returns answers while it has, as this call does that is so far
+  -- returns answers while it has, as this call does at its stage
   abbrev pub Fits : List (Item T A) → Item T A → Type 0
   Fits past (Happens (Begins t call)) = open_call past t ≡ None
   Fits past (Happens (Returns t told)) = IsTrue (returns (open_call past t) told)
   Fits past (Makes t step reply) = IsNextStep (open_call past t) step
 
-  -- each item is what the open calls may do, after those before it; the newest stands first
+  -- each item is what the open calls may do, after those before it; the newest comes first
   abbrev pub AreCalls : List (Item T A) → Type 0
   AreCalls [] = Unit {0}
   AreCalls (item ∷ past) = Fits past item × AreCalls past

@@ -1,4 +1,4 @@
--- Explanations in which each step stands as late as it may.
+-- Explanations in which each step comes as late as it may.
 use Rattle.std.specs.Prelude.{◌≡◌, ℕ, Bool, List, [], ◌∷◌, reverse}
 use Rattle.flume_model.specs.Log.{Opening}
 use Rattle.flume_concurrent.specs.declared.event.Event.{Event}
@@ -15,7 +15,7 @@ module _ {T A : Type 0} where
   IsFollowed t (Happens (Begins u call) ∷ items) = ⊥
   IsFollowed t (Happens (Returns u answer) ∷ items) = t ≡ u
 
-  -- steps stand only just before a return, and the last of them is of the call that returns
+  -- steps come only just before a return, and the last of them is of the call that returns
   abbrev pub AreLate : List (Item T A) → Type 0
   AreLate [] = Unit {0}
   AreLate (Happens event ∷ items) = AreLate items

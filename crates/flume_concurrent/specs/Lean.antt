@@ -1,4 +1,4 @@
--- Explanations in which each step stands late, and none is a step that changes nothing.
+-- Explanations in which each step comes late, and none is a step that changes nothing.
 use Rattle.std.specs.Prelude.{◌≡◌, Bool, List, [], ◌∷◌, reverse}
 use Rattle.flume_model.specs.declared.step.Step.{Step}
 use Rattle.flume_model.specs.declared.step.Reply.{Reply}
@@ -19,12 +19,12 @@ module _ {T A : Type 0} where
       (p.1 ≡ Waiting)
       × (waiting_count (entries opening (p ∷ past)) ≡ waiting_count (entries opening past))
 
-  -- no step of the log is idle; the newest stands first
+  -- no step of the log is idle; the newest comes first
   abbrev pub AreLean : Opening → Log T A → Type 0
   AreLean opening [] = Unit {0}
   AreLean opening (p ∷ past) = (IsIdle opening past p → ⊥) × AreLean opening past
 
-  -- the events have an explanation whose steps stand late, and none of them is idle, where `equal`
+  -- the events have an explanation whose steps come late, and none of them is idle, where `equal`
   -- compares messages
   pub record IsExplainedLean (equal : T → T → Bool) (opening : Opening) (events : List (Event T A))
       : Type 0 where

@@ -70,9 +70,9 @@ pub enum Answer<T, A: Allocator = Global> {
     Disconnected,
     /// The deadline came first.
     Timeout,
-    /// Memory was refused.
+    /// Out of memory.
     NoMemory,
-    /// The future was dropped, and nobody looked at what it came to.
+    /// The future was dropped before its result was read.
     Dropped,
     /// These messages were received, in order.
     Drained(Messages<T, A>),
@@ -86,13 +86,13 @@ pub enum Answer<T, A: Allocator = Global> {
     Number(usize),
     /// This truth value.
     Truth(bool),
-    /// This capacity, or none of an unbounded channel.
+    /// This capacity, or `None` if unbounded.
     Capacity(Option<usize>),
     /// The channel has no capacity to set.
     Unbounded,
 }
 
-/// A list of messages. A contract sees the messages, and not where they are kept.
+/// A list of messages. A contract sees the messages, and not the memory that they are in.
 #[derive(Drop)]
 pub struct Messages<T, A: Allocator = Global> {
     list: Vec<T, A>,

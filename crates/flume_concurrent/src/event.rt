@@ -13,7 +13,7 @@ pub enum Event<T, A: Allocator = Global> {
     Returns { thread: usize, answer: Answer<T, A> },
 }
 
-/// What stands in an explanation of events.
+/// What is in an explanation of events.
 #[derive(Drop)]
 pub enum Item<T, A: Allocator = Global> {
     /// An event.

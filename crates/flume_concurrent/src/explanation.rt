@@ -24,20 +24,20 @@ use std::collections::BTreeMap;
 /// What items were found to be.
 #[derive(Clone, Copy, Debug, PartialEq, Eq, Drop)]
 pub enum Explained {
-    /// They tell of an explanation of their events.
+    /// They are an explanation of their events.
     Explains,
-    /// So many items tell of an explanation, and with the next one they don't.
+    /// This many items are an explanation, and with the next one they aren't.
     Breaks(usize),
-    /// The check itself found no memory: nothing is known of the items.
+    /// The check itself ran out of memory: nothing is known of the items.
     NoMemory,
 }
 
-/// Whether the items, the oldest first, tell of an explanation of their events, on a channel that
-/// was opened with this capacity, or with none. `Explains`: each step was made by a call of its
-/// thread, while that was open, as such a call does; each answer is what the call came to; and a
-/// channel may have answered each step with its reply. `Breaks`: so many items tell of an
-/// explanation, and with the next one they don't. `NoMemory`: the check itself ran out of memory.
-/// Messages are compared by their `Eq`. The first ticket is 1.
+/// Whether the items, the oldest first, are an explanation of their events, on a channel of this
+/// capacity (`None`: unbounded) whose first ticket is 1. `Explains`: each step was made by a call
+/// of its thread, while that was open, as such a call does; each answer is what the call came to;
+/// and each reply is lawful. `Breaks`: this many items are an explanation, and with the next one
+/// they aren't. `NoMemory`: the check itself ran out of memory. Messages are compared by their
+/// `Eq`.
 ///
 /// ```
 /// let items = [
@@ -71,7 +71,7 @@ pub fn check_explanation<T: Copy + Eq + Drop, A: Allocator + Copy>(
     Explained::Explains
 }
 
-// Takes the next item. Whether it may come next; none if there was no memory.
+// Takes the next item. Whether it may come next; `None` if memory ran out.
 fn goes_on<T: Copy + Eq + Drop, A: Allocator + Copy>(
     chan: &mut Chan<T, (), A>,
     calls: &mut OpenCalls<T, A>,
@@ -93,7 +93,6 @@ fn goes_on<T: Copy + Eq + Drop, A: Allocator + Copy>(
     }
 }
 
-// Takes the next event, which doesn't change the channel.
 fn happens<T: Copy + Eq + Drop, A: Allocator + Copy>(
     chan: &Chan<T, (), A>,
     calls: &mut OpenCalls<T, A>,
@@ -116,8 +115,7 @@ fn happens<T: Copy + Eq + Drop, A: Allocator + Copy>(
     }
 }
 
-// Makes the next step, if the thread's open call may make it, and a channel may answer it as is
-// told.
+// Makes the next step, if the thread's open call may make it and its reply is lawful.
 fn makes<T: Copy + Eq + Drop, A: Allocator + Copy>(
     chan: &mut Chan<T, (), A>,
     calls: &mut OpenCalls<T, A>,
@@ -148,19 +146,16 @@ fn makes<T: Copy + Eq + Drop, A: Allocator + Copy>(
     }
 }
 
-// What came of following a step.
 #[derive(Drop)]
 enum Followed<T, A: Allocator> {
-    // A channel may answer it as is told, with this reply.
+    // Its reply is lawful; this is the channel's.
     Lawful(Reply<T, A>),
-    // No channel may.
     Unlawful,
-    // This channel ran out of memory.
     NoMemory,
 }
 
-// Makes the step, unless it is told that memory ran out for it. Where `NoMemory` is told, `chan`
-// makes no step: it had the memory, so only its state says whether a channel might have wanted some.
+// Makes the step, unless its recorded reply is `NoMemory`. Then `chan`, which had the memory, makes
+// no step, and its state says whether a channel might have run out of memory.
 fn follows<T: Copy + Eq + Drop, A: Allocator + Copy>(
     chan: &mut Chan<T, (), A>,
     step: &Step<T>,
@@ -190,7 +185,7 @@ fn follows<T: Copy + Eq + Drop, A: Allocator + Copy>(
     }
 }
 
-// Whether a channel that stands so may have run out of memory for the step, as is told.
+// Whether a channel in this state may have run out of memory for the step.
 fn refused<T: Copy + Eq + Drop, A: Allocator + Copy>(
     chan: &Chan<T, (), A>,
     step: &Step<T>,
@@ -214,7 +209,6 @@ fn refused<T: Copy + Eq + Drop, A: Allocator + Copy>(
     }
 }
 
-// The message that the step hands in, which comes back where memory ran out.
 fn handed_in<T: Copy>(step: &Step<T>) -> Option<T>
     ensures message { result ≡ handed_in step.now }
 {

@@ -18,8 +18,8 @@ pub fn answers_are_equal_by_case<T: PartialEq, A: Allocator>()
         → ⟦<Answer<T, A> as PartialEq>⟧.eq told own ≡ equal_answers T.eq told own }
 {}
 
-/// Events that have an explanation have one in which steps stand only just before a return, and the
-/// last of them is of the call that returns. So who looks for an explanation need try no others.
+/// Events that have an explanation have one in which steps come only just before a return, and the
+/// last of them is of the call that returns. So a search for an explanation need try no others.
 pub fn steps_may_stand_late<T: Eq, A: Allocator>()
     ensures late { (opening : Opening) (events : List (Event T A))
         → IsExplained T.eq opening events → IsExplainedLate T.eq opening events }
@@ -32,8 +32,8 @@ pub fn beginnings_are_explained<T: Eq, A: Allocator>()
         → IsExplained T.eq opening events → IsExplained T.eq opening (take n events) }
 {}
 
-/// Events that have an explanation whose steps stand late have one in which, moreover, no step is
-/// idle: answered `Waiting`, while no receiver waits by it that didn't before. So who looks for an
+/// Events that have an explanation whose steps come late have one in which, moreover, no step is
+/// idle: answered `Waiting`, while no receiver waits by it that didn't before. So a search for an
 /// explanation need try no such step.
 pub fn lean_steps_suffice<T: Eq, A: Allocator>()
     ensures lean { (opening : Opening) (events : List (Event T A))

@@ -1,5 +1,5 @@
-//! What threads recorded of their calls on a channel, and how a correct channel may have come to
-//! answer so.
+//! What threads recorded of their calls on a channel, and whether a correct channel could have
+//! answered so.
 #![tactic(auto)]
 
 pub mod call;

@@ -18,10 +18,8 @@ use flume_model::step::{Reply, Step};
 use std::alloc::Allocator;
 use std::collections::BTreeMap;
 
-// The open calls, each with how far it is.
 pub(crate) type OpenCalls<T, A> = BTreeMap<usize, (Call<T>, Stage<T, A>), A>;
 
-// Whether the event may come next.
 pub(crate) fn may_happen<T: Copy + Eq + Drop, A: Allocator + Copy>(
     calls: &OpenCalls<T, A>,
     event: &Event<T, A>,
@@ -39,7 +37,7 @@ pub(crate) fn may_happen<T: Copy + Eq + Drop, A: Allocator + Copy>(
 }
 
 impl<T: Copy + Eq> Call<T> {
-    /// Whether the call may return this, where it is so far.
+    /// Whether the call may return this at this stage.
     pub fn may_return<A: Allocator>(&self, stage: &Stage<T, A>, told: &Answer<T, A>) -> bool
         ensures may { result ≡ may_return T.eq self.now stage.now told.now }
     {
@@ -53,7 +51,6 @@ impl<T: Copy + Eq> Call<T> {
         }
     }
 
-    // Whether this is said of a future that was dropped.
     fn is_dropped<A: Allocator>(&self, told: &Answer<T, A>) -> bool
         ensures dropped { result ≡ is_dropped self.now told.now }
     {
@@ -64,7 +61,7 @@ impl<T: Copy + Eq> Call<T> {
     }
 }
 
-// The step that the thread's open call may make next, and that equals this one.
+// The thread's next step, if its open call may make this one.
 pub(crate) fn own_step<T: Copy + Eq + Drop, A: Allocator + Copy>(
     calls: &OpenCalls<T, A>,
     thread: usize,
@@ -84,7 +81,6 @@ pub(crate) fn own_step<T: Copy + Eq + Drop, A: Allocator + Copy>(
     }
 }
 
-// This one, if there is one and it equals the step.
 fn equal_step<T: Copy + Eq>(step: &Step<T>, own: Option<Step<T>>) -> Option<Step<T>>
     ensures some { IfSome result (λ same. (own ≡ Some same)
         × IsTrue (equal_steps T.eq step.now same)) }
@@ -98,7 +94,7 @@ fn equal_step<T: Copy + Eq>(step: &Step<T>, own: Option<Step<T>>) -> Option<Step
     }
 }
 
-// Takes the event, after which the calls are open that are then. `false`: there was no memory.
+// Takes the event. `false`: an allocation failed.
 pub(crate) fn take_event<T: Copy + Drop, A: Allocator + Copy>(
     calls: &mut OpenCalls<T, A>,
     event: &Event<T, A>,
@@ -115,7 +111,7 @@ pub(crate) fn take_event<T: Copy + Drop, A: Allocator + Copy>(
     }
 }
 
-// Takes a step of the thread's open call, with its reply. `false`: there was no memory.
+// Takes a step of the thread's open call, with its reply. `false`: an allocation failed.
 pub(crate) fn take_step<T: Copy + Drop, A: Allocator + Copy>(
     calls: &mut OpenCalls<T, A>,
     thread: usize,

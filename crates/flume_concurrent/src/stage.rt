@@ -16,7 +16,7 @@ pub enum Stage<T, A: Allocator = Global> {
     Tried,
     /// It is parked under this ticket.
     Parked(u64),
-    /// It is parked under this ticket, and was refused memory: it withdraws.
+    /// It is parked under this ticket, and was answered `NoMemory`: it withdraws.
     Refused(u64),
     /// It has made its last step, and returns this.
     Answered(Answer<T, A>),
@@ -80,7 +80,6 @@ impl<T: Copy> Call<T> {
         }
     }
 
-    // The step by which it parks, once it has tried.
     fn parking_step(&self) -> Option<Step<T>>
         ensures step { result ≡ parking_step self.now }
     {
@@ -92,7 +91,6 @@ impl<T: Copy> Call<T> {
         }
     }
 
-    // Whether it is a send that waits.
     fn is_send(&self) -> bool
         ensures send { result ≡ is_send self.now }
     {
@@ -138,7 +136,6 @@ pub fn stage_after<T: Copy + Drop, A: Allocator + Copy>(
     }
 }
 
-// After a reply that no room was found: `TrySend` returns, and each other call is to park.
 fn after_full<T, A: Allocator>(call: &Call<T>) -> Stage<T, A>
     ensures stage { (stage : Stage T A) (back : T)
         → result ≡ stage_after call.now stage (Reply.Full back) }
@@ -149,7 +146,6 @@ fn after_full<T, A: Allocator>(call: &Call<T>) -> Stage<T, A>
     }
 }
 
-// After a reply that there is no message: `TryRecv` returns, and each other call is to park.
 fn after_empty<T, A: Allocator>(call: &Call<T>) -> Stage<T, A>
     ensures stage { (stage : Stage T A) → result ≡ stage_after call.now stage Reply.Empty }
 {
@@ -159,8 +155,8 @@ fn after_empty<T, A: Allocator>(call: &Call<T>) -> Stage<T, A>
     }
 }
 
-// After a reply that memory was refused: a parked future stays so, another parked call is to
-// withdraw, and each other one returns.
+// After `NoMemory` a parked future stays parked, another parked call is to withdraw, and any other
+// call returns.
 fn after_no_memory<T: Drop, A: Allocator>(call: &Call<T>, stage: Stage<T, A>) -> Stage<T, A>
     ensures stage { (back : Option T)
         → result ≡ stage_after call.now stage (Reply.NoMemory back) }
@@ -183,7 +179,6 @@ fn after_no_ticket<T: Copy + Drop, A: Allocator>(call: &Call<T>, stage: Stage<T,
     }
 }
 
-// After a reply by which the message of a send comes back.
 fn after_returned<T, A: Allocator>(call: &Call<T>, closed: bool) -> Stage<T, A>
     ensures stage { (stage : Stage T A) (back : T)
         → result ≡ stage_after call.now stage (Reply.Returned back closed) }
@@ -195,7 +190,6 @@ fn after_returned<T, A: Allocator>(call: &Call<T>, closed: bool) -> Stage<T, A>
     }
 }
 
-// After a reply by which a parked receiver leaves with no message.
 fn after_gone<T: Drop, A: Allocator>(
     call: &Call<T>,
     stage: Stage<T, A>,

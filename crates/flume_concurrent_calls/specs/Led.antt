@@ -35,7 +35,7 @@ module _ {T A : Type 0} where
   stage_of_receive (receiving.Refused ticket) = Refused ticket
 
 module _ {T : Type 0} where
-  -- what a send led to that has no deadline: it took its message back since memory was refused
+  -- what a send led to that has no deadline: it took its message back since an allocation failed
   abbrev pub untimed : SendNext T → SendNext T
   untimed (sending.Done (Err (send.Timeout back))) = sending.Done (Err (send.NoMemory back))
   untimed next = next

@@ -1,6 +1,6 @@
-//! The calls of `flume_concurrent` are those of `flume_calls`: they make the same steps, and each reply
-//! leads them to the same. Nobody has to believe these files: they show that the definitions mean what
-//! they were meant to. The functions do nothing: each contract is a law.
+//! The calls of `flume_concurrent` are those of `flume_calls`: they make the same steps, and each
+//! reply leads them to the same. No proof depends on these files: they show that the definitions
+//! mean what they should. The functions do nothing: each contract is a law.
 #![tactic(auto)]
 
 ghost use Rattle.std.specs.Prelude.{◌≡◌, ℕ, true, false, Some, Result};
@@ -28,7 +28,7 @@ ghost use Rattle.flume_concurrent_calls.specs.Led.{blocks_to_receive, untimed};
 
 use std::alloc::Allocator;
 
-/// Where a reply leads a send that waits, as the turn does that is made of the same step.
+/// A send that waits is led by a reply to the same stage as by the turn that makes the same step.
 pub fn sends_agree<T, A: Allocator>()
     ensures tries { (call : Call T) (reply : Reply T A) (next : SendNext T)
         → is_send call ≡ true → after_try_send reply next
@@ -51,7 +51,8 @@ pub fn sends_agree<T, A: Allocator>()
         → other_step {A = A} (SendTimeout message) (Parked t) ≡ Some (step_of_parked_send t true) }
 {}
 
-/// Where a reply leads a receive that blocks, as the turn does that is made of the same step.
+/// A receive that blocks is led by a reply to the same stage as by the turn that makes the same
+/// step.
 pub fn receives_agree<T, A: Allocator>()
     ensures tries { (call : Call T) (reply : Reply T A) (next : RecvNext T)
         → blocks_to_receive call ≡ true → after_try_recv reply next

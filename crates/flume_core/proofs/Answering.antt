@@ -31,7 +31,7 @@ pub closed_where : (n m : ℕ) → (IsOpen n m → ⊥) → IsClosed n m
 closed_where n m shut = omega (arith, shut)
 
 module _ {T S : Type 0} where
-  -- where no message comes to the front, nothing is queued
+  -- if no message comes to the front, nothing is queued
   pub fronted_empty : (s : State T S) → (with_front s).queue ≡ [] → s.queue ≡ []
   fronted_empty s none = go s.queue refl
     where
@@ -78,7 +78,7 @@ module _ {T A S : Type 0} where
       withdraws o log (step, r) old new t m back.before back.later h (replies m closed is blocked_ back.closed_is) (changes m closed is)
       back.found back.becomes
 
-  -- where this message comes to the front, the line begins with it
+  -- if this message comes to the front, the line begins with it
   pub front_line : (o : Opening) (log : Log T A) (s : State T S) (m : T) (rest : List T) → Represents o log s
       → (with_front s).queue ≡ m ∷ rest → (later : List T) × (messages (line log) ≡ m ∷ later)
   front_line o log s m rest h front = go s.queue s.blocked refl refl
@@ -94,7 +94,7 @@ module _ {T A S : Type 0} where
           let same : y ≡ m = cc in
           (q ++ map (λ b. b.message) xs, line_messages h ∙ rw (queue, at, same) refl)
 
-  -- where no message comes to the front, the line is empty
+  -- if no message comes to the front, the line is empty
   pub empty_line : (o : Opening) (log : Log T A) (s : State T S) → Represents o log s → (with_front s).queue ≡ [] → messages (line log) ≡ []
   empty_line o log s h none = line_messages h ∙ go s.queue s.blocked refl refl
     where

@@ -15,7 +15,7 @@ use Rattle.flume_core.specs.PossibleReply.{PossibleReply}
 use Rattle.flume_core.proofs.Views.{room_or_full}
 
 module _ {T A S : Type 0} where
-  -- where two steps with their replies make the same change, they leave the same state
+  -- if two steps with their replies make the same change, they leave the same state
   stands_by : (o : Opening) (log : Log T A) (p q : Step T × Reply T A) (s : State T S) → change log q.0 q.1 ≡ change log p.0 p.1
       → IsReply (channel o log) q.0 q.1 → Represents o (p ∷ log) s → Represents o (q ∷ log) s
   stands_by o log p q s e reply h = record {

@@ -54,7 +54,7 @@ module _ {T : Type 0} where
       by_case false f rest = or_right _ _ (rest (simp f at found) woken)
 
 module _ {T S : Type 0} where
-  -- where one stands, there is an entry
+  -- if there is one, there is an entry
   one_found : (found : Option (Entry T (Notice S))) (st : ReceiverStatus) → option_map status_of found ≡ Some st
       → (e : Entry T (Notice S)) × (found ≡ Some e) × (status_of e ≡ st)
   one_found None st e = absurd (let no : ⊥ = cc in no)

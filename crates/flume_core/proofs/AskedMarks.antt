@@ -45,7 +45,7 @@ module _ {T : Type 0} where
   blocks_unfilled k Waiting e = refl
   blocks_unfilled k Woken e = refl
 
-  -- one that stands so that it looks isn't filled
+  -- one that is such that it looks isn't filled
   pub unfilled_as : (k : Kind) (mark : Mark T) (st : ReceiverStatus) → status_by k mark ≡ st → looks (Some st) ≡ true → is_filled mark ≡ false
   unfilled_as k mark st e looking = looks_unfilled k mark (ap (λ x. looks (Some x)) e ∙ looking)
 
@@ -55,7 +55,7 @@ module _ {T : Type 0} where
   other_parts k mark (inl e) = (ap (λ x. blocks (Some x)) e, unfilled_as k mark IsWaiting e refl)
   other_parts k mark (inr e) = (ap (λ x. blocks (Some x)) e, unfilled_as k mark IsWoken e refl)
 
-  -- one that stands filled is filled with a message
+  -- one that is filled is filled with a message
   pub filled_with : (k : Kind) (mark : Mark T) → status_by k mark ≡ IsFilled → (m : T) × (mark ≡ Filled m)
   filled_with k (Filled m) e = (m, refl)
   filled_with Block Waiting e = absurd (let none : ⊥ = cc in none)
@@ -78,7 +78,7 @@ module _ {T : Type 0} (A : Type 0) where
   polled_got c Block Woken m e front = front
   polled_got c _ _ m e front = front
 
-  -- one that looks may be told of the end
+  -- one that looks may be answered `Ended`
   pub polled_ended : (c : Channel T) (k : Kind) (mark : Mark T) → looks (Some (status_by k mark)) ≡ true → c.line ≡ []
       → IsClosed c.senders c.receivers → IsPolledMark {A = A} c k mark Ended
   polled_ended c k (Filled x) e none closed = absurd (let no : ⊥ = cc in no)
@@ -86,7 +86,7 @@ module _ {T : Type 0} (A : Type 0) where
   polled_ended c Block Woken e none closed = none
   polled_ended c _ _ e none closed = (none, closed)
 
-  -- one that looks may wait on, where it wasn't woken as one that blocks
+  -- one that looks may wait on, if it wasn't woken as one that blocks
   pub polled_waits : (c : Channel T) (k : Kind) (mark : Mark T) → looks (Some (status_by k mark)) ≡ true → c.line ≡ []
       → IsOpen c.senders c.receivers → (is_block k && is_woken mark) ≡ false → IsPolledMark {A = A} c k mark WaitsOn
   polled_waits c k (Filled x) e none open_ other = absurd (let no : ⊥ = cc in no)

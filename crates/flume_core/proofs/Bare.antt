@@ -16,7 +16,7 @@ use Rattle.flume_state.specs.Receivers.{noticed_receiver}
 use Rattle.flume_state.specs.State.{bare}
 
 module _ {T N : Type 0} where
-  -- who waits
+  -- the receivers that wait
   pub bare_some_wait : (es : List (Entry T N)) → some_wait (map bare es) ≡ some_wait es
   bare_some_wait [] = refl
   bare_some_wait (e ∷ es) = simp (bare_some_wait es) refl
@@ -69,7 +69,7 @@ module _ {T N : Type 0} where
   bare_fills [] = refl
   bare_fills (e ∷ es) = simp (bare_fills es) refl
 
-  -- a round where there is a queue
+  -- a round if there is a queue
   pub bare_round_for : (tell : N → N) (queue : List T) (es : List (Entry T N))
       → map bare (round_for tell queue es) ≡ round_for same_notice queue (map bare es)
   bare_round_for tell [] es = refl
@@ -79,7 +79,7 @@ module _ {T N : Type 0} where
   bare_round_for_fills [] es = refl
   bare_round_for_fills (m ∷ queue) es = bare_fills es
 
-  -- all who wait are woken
+  -- all waiting receivers are woken
   pub bare_all_woken : (tell : N → N) (es : List (Entry T N)) → map bare (all_woken tell es) ≡ all_woken same_notice (map bare es)
   bare_all_woken tell [] = refl
   bare_all_woken tell (e ∷ es) = by_case (is_waiting e.mark) refl (bare_all_woken tell es)

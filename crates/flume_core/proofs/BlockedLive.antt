@@ -33,13 +33,13 @@ module _ {T : Type 0} where
   has_drop t k xs h =
       sym (ap (has_ticket t) (take-append-drop k xs)) ∙ has_ticket-append t (take k xs) (drop k xs) ∙ or_right _ _ h
 
-  -- behind more of them stand no others
+  -- behind more of them are no others
   has_behind : (t n k : ℕ) (xs : List (Offer T)) → n ≤ k → has_ticket t (drop k xs) ≡ true → has_ticket t (drop n xs) ≡ true
   has_behind t n k xs le h =
       let sum : n + (k - n) ≡ k = omega arith in
       has_drop t (k - n) (drop n xs) (ap (has_ticket t) (drop-drop (k - n) n xs ∙ ap (λ i. drop i xs) sum) ∙ h)
 
-  -- a ticket among two lists of offers is among them where one more stands between
+  -- a ticket among two lists of offers is among them if one more is between
   has_among : (t : ℕ) (x : Offer T) (before later : List (Offer T)) → (has_ticket t before || has_ticket t later) ≡ true
       → has_ticket t (before ++ x ∷ later) ≡ true
   has_among t x before later h =
@@ -68,7 +68,7 @@ module _ {T A : Type 0} where
   left_same o past done t open_ keeps h =
       sym (ap (λ l. has_ticket t (drop (boundary o past) l)) (line_same past done keeps ∙ sym (line_is_open past open_))) ∙ h
 
-  -- where the front is taken, no more are blocked
+  -- if the front is taken, no more are blocked
   left_taken : (o : Opening) (past : Log T A) (m : T) (receiver : Option ℕ) → IsRun o past → IsFront (channel o past) m
       → is_over past ≡ false → (t : ℕ) → has_ticket t (blocked_by o past (Takes m receiver)) ≡ true → has_ticket t (blocked o past) ≡ true
   left_taken o past m receiver run h open_ t is =

@@ -1,4 +1,4 @@
--- An end that leaves: what that leaves stands for the log with that step added.
+-- An end that leaves: what that leaves represents the log with that step added.
 use Rattle.std.proofs.Common.{◌≡◌, ◌≢◌, ℕ, ◌+◌, ◌<◌, Bool, true, false, not, ◌&&◌, if◌then◌else◌, List, ◌∷◌}
 use Rattle.std.proofs.Common.{map}
 use Rattle.std.proofs.Common.{refl, sym, ◌∙◌, ap, arith, eqb, eqb-true}
@@ -41,7 +41,7 @@ leaving_issues SenderLeaves e = refl
 leaving_issues ReceiverLeaves e = refl
 leaving_issues _ e = absurd (let none : ⊥ = cc in none)
 
--- where an end leaves, all who wait are woken just where that closes the channel
+-- if an end leaves, all waiting receivers are woken exactly if that closes the channel
 entries_leaving : {T : Type 0} (done : Change T) → leaves_end done ≡ true → (queue : List T) (closes : Bool) (es : List (LogEntry T))
     (b : Bool)
     → closes ≡ b → entries_after queue closes es done ≡ (if b then all_woken same_notice es else es)

@@ -1,4 +1,4 @@
--- All queued messages handed out: what that leaves stands for the log with that step added.
+-- All queued messages handed out: what that leaves represents the log with that step added.
 use Rattle.std.proofs.Common.{◌≡◌, ℕ, ◌+◌, ◌≤◌, Bool, true, false, ◌⊎◌, inl, inr, ⊎_elim, List, [], ◌∷◌, ◌++◌}
 use Rattle.std.proofs.Common.{length, map, Option, Some, None, refl, sym, ◌∙◌, ap, ap₂, arith, append_assoc, append-nil, length-append}
 use Rattle.std.proofs.Math.Bool.{and-true}
@@ -28,7 +28,7 @@ abbrev pub IsInCapacity : Option ℕ → ℕ → Type 0
 IsInCapacity None n = Unit {0}
 IsInCapacity (Some c) n = n ≤ c
 
--- one more where there is room
+-- one more if there is room
 in_capacity_more : (cap_ : Option ℕ) (n : ℕ) → HasRoom cap_ n → IsInCapacity cap_ (n + 1)
 in_capacity_more None n room = tt
 in_capacity_more (Some c) n room = omega arith
@@ -52,7 +52,7 @@ module _ {T S : Type 0} where
   accepted_all [] sends = sends
   accepted_all (b ∷ moved) sends = accepted_all moved (changed sends b.ticket accepted_now)
 
-  -- what stands once blocked messages moved in while there was room
+  -- what is there once blocked messages moved in while there was room
   pub record MovedIn (xs : List (Blocked T)) (s new : State T S) : Type 0 where
     pub moved : List (Blocked T)
     pub later : List (Blocked T)
@@ -107,7 +107,7 @@ module _ {T S : Type 0} where
             enough = rw (← same) rest.enough;
           }
 
-  -- how each ticket stands once the first of them have moved in
+  -- the state of each ticket once the first of them have moved in
   pub marks_all : (moved later : List (Blocked T)) (sends : SendMap S) (live : ℕ → Bool)
       → ((q : ℕ) → mark sends q ≡ status (live q) (has_ticket q (offers_of (moved ++ later)))) → ApartFrom (moved ++ later)
       → (q : ℕ) → mark (accepted_all moved sends) q ≡ status (live q) (has_ticket q (offers_of later))
@@ -117,7 +117,7 @@ module _ {T S : Type 0} where
       (marks_moved_in sends live b (moved ++ later) marks (apart [] b (moved ++ later) refl))
       (λ before x rest e. apart (b ∷ before) x rest (ap (λ l. b ∷ l) e)) q
 
-  -- none moves in where the queue is full
+  -- none moves in if the queue is full
   pub fills_none_full : (s : State T S) → IsAtCapacity s.capacity (length s.queue) → after_admissions s ≡ s
   fills_none_full s full = go s.blocked
     where

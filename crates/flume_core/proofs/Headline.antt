@@ -1,4 +1,4 @@
--- The headline, of a state and the log that it stands for.
+-- The headline, of a state and the log that it represents.
 use Rattle.std.proofs.Common.{◌≡◌, Bool, true, false, List, [], ◌∷◌, ◌++◌, map, take, drop, refl, sym, ap, subst, ◌∙◌}
 use Rattle.flume_model.specs.Log.{Log, Opening, Offer, HandOut, Shown, FilledIn}
 use Rattle.flume_model.specs.Offers.{kept, hand_outs}
@@ -58,7 +58,7 @@ module _ {T A S : Type 0} where
       let found = in_order o log h.run j given at in
       (found.0, found.1, same_hand_out o log s h given found.0.message found.2)
 
-  -- what stands for a log has the headline
+  -- what represents a log has the headline
   pub headline : (o : Opening) (log : Log T A) (s : State T S) → Represents o log s → Headline o log s
   headline o log s h = record {
     in_order = order o log s h;

@@ -1,4 +1,5 @@
--- What a step leaves stands for the log with that step added, where it moves no message and no ticket of a send.
+-- What a step leaves represents the log with that step added, if it moves no message and no ticket
+-- of a send.
 use Rattle.std.proofs.Common.{◌≡◌, ℕ, ◌+◌, ◌<◌, ◌≤◌, Bool, true, false, not, ◌&&◌, ◌∷◌, length, map, max, Option}
 use Rattle.std.proofs.Common.{refl, sym, ◌∙◌, ap, arith, eq-eqb}
 use Rattle.std.specs.FinMap.{get-empty}

@@ -1,4 +1,4 @@
--- How each ticket stands once a send has blocked, was accepted or is spent.
+-- The state of each ticket once a send has blocked, was accepted or is spent.
 use Rattle.std.proofs.Common.{◌≡◌, ◌≢◌, ℕ, Bool, true, false, not, ◌&&◌, ◌||◌, ⊎_elim, eqb, List, [], ◌∷◌, ◌++◌, Option, Some, None, refl}
 use Rattle.std.proofs.Common.{sym, ◌∙◌, ap, eq-eqb, ne_eqb}
 use Rattle.std.specs.Option.{option_map}

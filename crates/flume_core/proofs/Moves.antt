@@ -1,4 +1,4 @@
--- What each step of a sender leaves stands for the log with that step added.
+-- What each step of a sender leaves represents the log with that step added.
 use Rattle.std.proofs.Common.{◌≡◌, ℕ, ◌+◌, ◌-◌, ◌≤◌, Bool, true, false, List, [], ◌∷◌, ◌++◌, length, drop, Option}
 use Rattle.std.proofs.Common.{Some, None}
 use Rattle.std.proofs.Common.{refl, sym, ◌∙◌, ap, arith, append-nil, append_assoc}
@@ -43,7 +43,7 @@ module _ {T : Type 0} where
   push_front xs ys x e = rw (e, append-nil xs, append-nil (xs ++ x ∷ []))
 
 module _ {T A S : Type 0} where
-  -- nobody is blocked where a message is queued
+  -- nobody is blocked if a message is queued
   none_blocked_joining : {o : Opening} {log : Log T A} {s : State T S} → Represents o log s → TakesIn (channel o log) → s.blocked ≡ []
   none_blocked_joining {o} {log} {s} h takes = by_case (some_wait s.entries) refl
     where

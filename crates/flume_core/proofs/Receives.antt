@@ -1,4 +1,4 @@
--- What each step of a parked receiver leaves stands for the log with that step added.
+-- What each step of a parked receiver leaves represents the log with that step added.
 use Rattle.std.proofs.Common.{◌≡◌, ℕ, ◌+◌, ◌≤◌, Bool, true, false, List, [], ◌∷◌, ◌++◌, length, drop, max, Option, Some, None}
 use Rattle.std.proofs.Common.{refl, sym, ◌∙◌, ap, arith}
 use Rattle.std.proofs.lemmas.List.{map_push, length-drop, drop-append-le, drop-map}
@@ -61,7 +61,7 @@ module _ {T S : Type 0} where
       by_case true passes = rw passes refl
       by_case false stays = rw stays refl
 
-  -- where nothing is queued, no wake is passed on
+  -- if nothing is queued, no wake is passed on
   pub departed_empty : (t : ℕ) (s : State T S) → s.queue ≡ [] → after_withdrawal t s ≡ without_receiver t s
   departed_empty t s none = by_case (passes_on (entry_of t s.entries)) refl
     where

@@ -1,4 +1,4 @@
--- The capacity set: what that leaves stands for the log with that step added.
+-- The capacity set: what that leaves represents the log with that step added.
 use Rattle.std.proofs.Common.{◌≡◌, ℕ, ◌+◌, ◌≤◌, true, false, ◌⊎◌, inl, inr, ⊎_elim, ◌∷◌, ◌++◌}
 use Rattle.std.proofs.Common.{length, max, min, Some, refl, sym, ◌∙◌, ap, ap₂, arith, append_assoc, length-append}
 use Rattle.std.proofs.Math.Bool.{and-true}

@@ -1,4 +1,4 @@
--- How many messages may stand in a channel before more memory is wanted, once blocked ones moved in.
+-- How many messages may be in a channel before more memory is wanted, once blocked ones moved in.
 use Rattle.std.proofs.Common.{◌≡◌, ℕ, Bool, true, false, if◌then◌else◌, List, [], ◌∷◌, refl, ap, ◌∙◌}
 use Rattle.flume_model.specs.Limits.{is_full}
 use Rattle.flume_state.specs.Messages.{Blocked}
@@ -11,7 +11,7 @@ module _ {T S : Type 0} where
   either true x y space first second = first
   either false x y space first second = second
 
-  -- those that move in stood before
+  -- those that move in was before
   space_filled : (blocked : List (Blocked T)) (s : State T S) → (after_admissions_of blocked s).space ≡ s.space
   space_filled [] s = refl
   space_filled (b ∷ later) s = either (is_full s.capacity _) s _ s.space refl (space_filled later _)

@@ -1,4 +1,4 @@
--- What a step has to leave of a state for it to stand for the log with that step added.
+-- What a step has to leave of a state for it to represent the log with that step added.
 use Rattle.std.proofs.Common.{◌≡◌, ℕ, ◌+◌, ◌<◌, ◌≤◌, Bool, true, false, not, ◌&&◌, ◌||◌, eqb, List, [], ◌∷◌, ◌++◌, length, drop, take, map, max}
 use Rattle.std.proofs.Common.{Option, None, refl, sym, ◌∙◌, ap, ap₂, subst, arith, ne_eqb}
 use Rattle.std.proofs.Math.Bool.{and-true}
@@ -38,12 +38,12 @@ not_live_now false true true a b = refl
 not_live_now false false true a b = refl
 
 module _ {T : Type 0} where
-  -- whether a ticket is live after a change, where it was live or not before
+  -- whether a ticket is live after a change, if it was live or not before
   abbrev live_by : Change T → ℕ → Bool → Bool
   live_by done t live = issues done t || (live && not (spends done t))
 
 module _ {T A : Type 0} where
-  -- the change after a lawful reply fits what stands before it
+  -- the change after a lawful reply fits what is before it
   pub fits_as : (o : Opening) (past : Log T A) (p : Step T × Reply T A) (done : Change T) → IsRun o past
       → IsReply (channel o past) p.0 p.1 → change past p.0 p.1 ≡ done → Fits (channel o past) done
   fits_as o past p done run reply e =
@@ -76,7 +76,8 @@ module _ {T A : Type 0} where
   live_open past p done t e open_ =
       ap (λ b. not b && live_by (change past p.0 p.1) t (is_live past t)) open_ ∙ ap (λ d. live_by d t (is_live past t)) e
 
--- what a step has to leave of a state for it to stand for the longer log, while the channel isn't over
+-- what a step has to leave of a state for it to represent the longer log, while the channel isn't
+-- over
 pub record LeftBy {T A S : Type 0} (o : Opening) (past : Log T A) (p : Step T × Reply T A) (done : Change T)
     (old new : State T S) : Type 0 where
   pub capacity_is : new.capacity ≡ capacity_after old.capacity done
@@ -95,11 +96,11 @@ pub record LeftBy {T A S : Type 0} (o : Opening) (past : Log T A) (p : Step T ×
   pub receivers_are : new.receivers ≡ receivers_after old.receivers done
 
 module _ {T A S : Type 0} where
-  -- a state equal to one that stands for a log
+  -- a state equal to one that represents a log
   pub stands_as : (o : Opening) (log : Log T A) (s u : State T S) → s ≡ u → Represents o log u → Represents o log s
   stands_as o log s u e h = subst (λ (x : State T S). Represents o log x) (sym e) h
 
-  -- what such a step leaves stands for the longer log
+  -- what such a step leaves represents the longer log
   pub stands_open : (o : Opening) (past : Log T A) (p : Step T × Reply T A) (done : Change T) (old new : State T S) → Represents o past old
       → IsReply (channel o past) p.0 p.1 → change past p.0 p.1 ≡ done → is_over (p ∷ past) ≡ false → LeftBy o past p done old new
       → Represents o (p ∷ past) new
@@ -138,7 +139,7 @@ module _ {T A S : Type 0} where
             ∙ sym (ap (receivers_after (receivers past)) e);
       }
 
-  -- once over, what has no message and no ticket left stands for the log
+  -- once over, what has no message and no ticket left represents the log
   pub stands_over : (o : Opening) (past : Log T A) (p : Step T × Reply T A) (done : Change T) (old new : State T S) → Represents o past old
       → IsReply (channel o past) p.0 p.1 → change past p.0 p.1 ≡ done → is_over (p ∷ past) ≡ true
       → ((c : Option ℕ) → capacity_after c done ≡ c)
@@ -170,7 +171,7 @@ module _ {T A S : Type 0} where
             ∙ sym (ap (receivers_after (receivers past)) e);
       }
 
-  -- where no more wait, the peak stays
+  -- if no more wait, the peak stays
   pub peak_kept : {o : Opening} {log : Log T A} {s : State T S} → Represents o log s → (es : EntryList T S)
       → waiting_count es ≤ waiting_count s.entries → s.peak ≡ max s.peak (waiting_count es)
   peak_kept {o} {log} {s} h es fewer = let within = waiting_within h in omega arith

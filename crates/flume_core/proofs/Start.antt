@@ -6,7 +6,7 @@ use Rattle.flume_state.specs.State.{State, new_state}
 use Rattle.flume_core.specs.Represents.{Represents}
 
 module _ {T A S : Type 0} where
-  -- it stands for the empty log
+  -- it represents the empty log
   pub stands_at_start : (o : Opening) (s : State T S) → s ≡ new_state o → Represents {A = A} o [] s
   stands_at_start o s e =
       let P : State T S → Type 0 = λ x. Represents {A = A} o [] x in

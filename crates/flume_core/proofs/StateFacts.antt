@@ -1,4 +1,4 @@
--- What holds of a state that stands for a log.
+-- What holds of a state that represents a log.
 use Rattle.std.proofs.Common.{◌≡◌, ℕ, ◌+◌, ◌<◌, ◌≤◌, Bool, true, false, not, List, [], ◌∷◌, ◌++◌, length, map, Some}
 use Rattle.std.proofs.Common.{refl, sym, ◌∙◌, ap, ap₂, subst₂, arith, eq-eqb, eqb-true, take, append_assoc, take-append-drop}
 use Rattle.std.specs.List.{All}
@@ -34,12 +34,12 @@ use Rattle.flume_core.proofs.Views.{at_capacity, none_blocked_waiting, waiting_a
 use Rattle.flume_core.proofs.Views.{line_length, none_mapped, nil_mapped, live_by, boundary_is, line_is, queued}
 
 module _ {T N : Type 0} where
-  -- how many stand woken
+  -- how many are woken
   bare_woken : (es : List (Entry T N)) → woken_count (map bare es) ≡ woken_count es
   bare_woken [] = refl
   bare_woken (e ∷ es) = simp (bare_woken es) refl
 
-  -- whether one that blocks stands woken
+  -- whether one that blocks is woken
   bare_block_woken : (es : List (Entry T N)) → block_woken (map bare es) ≡ block_woken es
   bare_block_woken [] = refl
   bare_block_woken (e ∷ es) = simp (bare_block_woken es) refl
@@ -79,13 +79,13 @@ module _ {T A S : Type 0} where
     none_blocked_waiting h some,
   )
 
-  -- while a receiver waits as many stand woken as messages are queued
+  -- while a receiver waits as many are woken as messages are queued
   pub woken_cover : (o : Opening) (log : Log T A) (s : State T S) → Represents o log s → WokenCoverQueued s
   woken_cover o log s h some =
       subst₂ (λ a b. a ≤ b) (sym (boundary_is h)) (sym (ap woken_count h.entries_are) ∙ bare_woken s.entries)
       (covered o log h.run (waiting_at_log h ∙ some))
 
-  -- what is queued and who waits are bounded
+  -- queued messages and waiting receivers are bounded
   pub queued_bounded : (o : Opening) (log : Log T A) (s : State T S) → Represents o log s → QueuedAndWaitingAreBounded s
   queued_bounded o log s h =
       let waiting : waiting_count (entries o log) ≡ waiting_count s.entries =
@@ -97,7 +97,7 @@ module _ {T A S : Type 0} where
   receivers_apart o log s h =
       rw h.next_is (bare_apart (next_ticket o log) s.entries (rw h.entries_are (entries_apart o log h.run)))
 
-  -- how a send ticket stands
+  -- the state of a send ticket
   stands_live : (o : Opening) (log : Log T A) (s : State T S) → Represents o log s → (t : ℕ) (accepted : Bool)
       → accepted_at s t ≡ Some accepted → (is_live log t ≡ true) × (has_ticket t (blocked o log) ≡ not accepted)
   stands_live o log s h t accepted e = live_by (is_live log t) (has_ticket t (blocked o log)) accepted (sym (h.sends_are t) ∙ e)
@@ -110,7 +110,7 @@ module _ {T A S : Type 0} where
         none_mapped bare (entry_of t s.entries) (sym (entry_at_log h t) ∙ sides.1),
       )
 
-  -- once both ends are gone, nothing is left
+  -- once both sides have disconnected, nothing is left
   pub empty_over : (o : Opening) (log : Log T A) (s : State T S) → Represents o log s → EmptyOnceOver s
   empty_over o log s h none =
       let over : is_over log ≡ true =
@@ -157,7 +157,7 @@ module _ {T A S : Type 0} where
       all_tickets (λ u. t < u) s.blocked
       (λ u of. accepted_below_blocked o log h.run t u stands.0 stands.1 (ap (has_ticket u) (blocked_is h) ∙ of))
 
-  -- one that blocks stands woken only in a closed channel
+  -- one that blocks is woken only in a closed channel
   pub blocking_woken : (o : Opening) (log : Log T A) (s : State T S) → Represents o log s → BlockingWokenByClosing s
   blocking_woken o log s h woken =
       let law = woken_block_while_closed o log h.run (sym (ap block_woken h.entries_are) ∙ bare_block_woken s.entries ∙ woken) in (
@@ -165,7 +165,7 @@ module _ {T A S : Type 0} where
         nil_mapped (λ b. record { message = b.message; ticket = Some b.ticket }) s.blocked (sym (blocked_is h) ∙ law.1),
       )
 
-  -- where nobody stands woken, nobody is stuck
+  -- if nobody is woken, nobody is stuck
   pub nobody_is_stuck : (o : Opening) (log : Log T A) (s : State T S) → Represents o log s → woken_count s.entries ≡ 0
       → NobodyIsStuck s
   nobody_is_stuck o log s h none =

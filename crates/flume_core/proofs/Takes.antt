@@ -1,4 +1,4 @@
--- A message handed out: what that leaves stands for the log with that step added.
+-- A message handed out: what that leaves represents the log with that step added.
 use Rattle.std.proofs.Common.{◌≡◌, ℕ, ◌+◌, ◌-◌, ◌<◌, ◌≤◌, Bool, true, false, not, ◌&&◌, if◌then◌else◌, ◌⊎◌, inl, inr, ⊎_elim, nat_le, List}
 use Rattle.std.proofs.Common.{[], ◌∷◌, ◌++◌, length, map, suc, max, Option, Some, None, refl, sym, ◌∙◌, ap, subst, arith, length-append}
 use Rattle.std.proofs.Common.{append_assoc}

@@ -1,4 +1,4 @@
--- Signals, and what is due, are no matter of the log: it stands where they change.
+-- Signals, and what is due, are no matter of the log: it holds if they change.
 use Rattle.std.proofs.Common.{◌≡◌, ℕ, Bool, true, false, List, [], ◌∷◌}
 use Rattle.std.proofs.Common.{map, Option}
 use Rattle.std.proofs.Common.{Some}
@@ -65,7 +65,7 @@ module _ {T S : Type 0} where
       ap (map bare) some.told ∙ map-append bare some.before _ ∙ sym (ap (map bare) some.found ∙ map-append bare some.before _)
 
 module _ {T A S : Type 0} where
-  -- what a log knows of a state doesn't change where no mark does
+  -- what a log knows of a state doesn't change if no mark does
   pub stands_told : (o : Opening) (log : Log T A) (old new : State T S) (m : SendMap S) (es : EntryList T S) → Represents o log old
       → new ≡ record old { sends = m; entries = es } → SameMarks m old.sends → map bare es ≡ map bare old.entries → Represents o log new
   stands_told o log old new m es h e marks same =

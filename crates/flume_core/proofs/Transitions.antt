@@ -35,7 +35,7 @@ module _ {T A S : Type 0} where
       let whole : DoneUpTo old now steps [] replies = subst (λ left. DoneUpTo old now steps left replies) none done in
       subst (λ all. AreTransitions old steps all now) (append-nil replies) (whole [] now refl)
 
-  -- what stood for a log before them stands for the longer log after them
+  -- what represented a log before them represents the longer log after them
   pub extended : (old new : State T S) (steps : List (Step T)) (replies : List (Reply T A)) → AreTransitions old steps replies new
       → (o : Opening) (log : Log T A) → Represents o log old → Represents o (after log steps replies) new
   extended old new [] [] is o log h = subst (λ s. Represents o log s) (sym is) h

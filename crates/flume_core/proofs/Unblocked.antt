@@ -1,4 +1,4 @@
--- What a take leaves where nobody is blocked.
+-- What a take leaves if nobody is blocked.
 use Rattle.std.proofs.Common.{◌≡◌, Bool, true, false, if◌then◌else◌, List, [], ◌∷◌, length, Option, Some, None, refl, sym, ◌∙◌, ap, arith}
 use Rattle.std.specs.Prelude.{IfSome}
 use Rattle.flume_state.specs.Messages.{Messages}

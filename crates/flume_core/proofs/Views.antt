@@ -1,4 +1,4 @@
--- What a state that stands for a log says of the log.
+-- What a state that represents a log says of the log.
 use Rattle.std.proofs.Common.{◌≡◌, ◌≢◌, ℕ, ◌+◌, ◌<◌, Bool, true, false, not, cond, ⊎_elim, eqb, List, [], ◌∷◌, ◌++◌, length, map, take, ◌≤◌}
 use Rattle.std.proofs.Common.{Option}
 use Rattle.std.proofs.Common.{Some, None, refl, sym, ◌∙◌, ap, ap₂, max, subst₂, arith, eqb-true, length-append}
@@ -81,7 +81,7 @@ nil_by [] longer = refl
 nil_by (x ∷ xs) longer = absurd (longer (omega arith))
 
 module _ {T : Type 0} where
-  -- where an offer has the ticket, not all blocked messages have others
+  -- if an offer has the ticket, not all blocked messages have others
   pub none_blocked_if_absent : (t : ℕ) (xs : List (Blocked T)) → has_ticket t (offers_of xs) ≡ true → All (λ b. b.ticket ≢ t) xs → ⊥
   none_blocked_if_absent t [] h all = let no : ⊥ = cc in no
   none_blocked_if_absent t (b ∷ xs) h all =
@@ -100,7 +100,7 @@ module _ {T A : Type 0} where
   greatest_covers o [] = greater_self o.capacity
   greatest_covers o (p ∷ past) = greater_again (greatest o past) (capacity o (p ∷ past))
 
-  -- the peak is at least who waits
+  -- the peak is at least the number that wait
   peak_covers : (o : Opening) (log : Log T A) → waiting_count (entries o log) ≤ peak o log
   peak_covers o [] = omega arith
   peak_covers o (p ∷ past) = omega arith
@@ -147,12 +147,12 @@ module _ {T A S : Type 0} where
       let more : length (offers_of s.blocked) ≡ length s.blocked = length-map s.blocked _ in
       omega arith
 
-  -- how each ticket stands
+  -- the state of each ticket
   pub status_is : {o : Opening} {log : Log T A} {s : State T S} → Represents o log s → (t : ℕ)
       → mark s.sends t ≡ status (is_live log t) (has_ticket t (offers_of s.blocked))
   status_is {o} {log} {s} h t = h.sends_are t ∙ ap (λ l. status (is_live log t) (has_ticket t l)) (blocked_is h)
 
-  -- where a message is blocked, the queue is at capacity
+  -- if a message is blocked, the queue is at capacity
   pub at_capacity : {o : Opening} {log : Log T A} {s : State T S} → Represents o log s → 0 < length s.blocked
       → IsAtCapacity s.capacity (length s.queue)
   at_capacity {o} {log} {s} h some =
@@ -164,7 +164,7 @@ module _ {T A S : Type 0} where
   pub queue_at_log : {o : Opening} {log : Log T A} {s : State T S} → Represents o log s → queue o log ≡ s.queue
   queue_at_log {o} {log} {s} h = sym h.queue_is
 
-  -- where a message is queued, the log queues one
+  -- if a message is queued, the log queues one
   pub some_queued : {o : Opening} {log : Log T A} {s : State T S} → Represents o log s → s.queue ≢ [] → 0 < boundary o log
   some_queued {o} {log} {s} h some = go s.queue refl
     where
@@ -202,7 +202,7 @@ module _ {T A S : Type 0} where
       let whole = waits_whole o log h.run (waiting_at_log h ∙ some) in
       nil_by s.blocked (λ more. omega arith)
 
-  -- where the queue has room, none is blocked
+  -- if the queue has room, none is blocked
   pub none_blocked : {o : Opening} {log : Log T A} {s : State T S} → Represents o log s → HasRoom s.capacity (length s.queue)
       → s.blocked ≡ []
   none_blocked {o} {log} {s} h room =
@@ -229,7 +229,7 @@ module _ {T A S : Type 0} where
       → HasRoom s.capacity (length s.queue) → HasRoom (capacity o log) (boundary o log)
   room_at_log {o} {log} {s} h is = subst₂ HasRoom h.capacity_is (boundary_is h) is
 
-  -- where the queue has room in the log it has room
+  -- if the queue has room in the log it has room
   pub room_at_state : {o : Opening} {log : Log T A} {s : State T S} → Represents o log s
       → HasRoom (capacity o log) (boundary o log) → HasRoom s.capacity (length s.queue)
   room_at_state {o} {log} {s} h is = subst₂ HasRoom (sym h.capacity_is) (sym (boundary_is h)) is

@@ -1,4 +1,5 @@
--- Who is due after each step: of one ticket, of all sends, of all parked receivers, and after what each step leaves.
+-- Which tickets are due after each step: of one ticket, of all sends, of all parked receivers, and
+-- after what each step leaves.
 pub mod OneTicket
 pub mod SendsDue
 pub mod ReceiversDue

@@ -20,12 +20,12 @@ module _ {T A S : Type 0} where
     pub queue_is_front :
         s.queue ≡ messages (take (boundary opening log) (drop (hand_outs log) (kept log)))
     -- the blocked ones are the rest of these offers, with their tickets, up to the step that leaves
-    -- both ends gone
+    -- both sides disconnected
     pub blocked_are_rest : is_over log ≡ false
         → offers_of s.blocked ≡ drop (boundary opening log) (drop (hand_outs log) (kept log))
     -- each reply is the abstract channel's
     pub replies_lawful : IsRun opening log
-    -- while a receiver waits, at least as many stand woken as messages are queued
+    -- while a receiver waits, at least as many are woken as messages are queued
     pub woken_cover : WokenCoverQueued s
     -- queued messages and waiting receivers are at most the greater of the greatest capacity so far
     -- and the peak

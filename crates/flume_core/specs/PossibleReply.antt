@@ -17,8 +17,8 @@ use Rattle.flume_model.specs.declared.step.Reply.TheVariants.{Gone, Drained, Don
 use Rattle.flume_model.specs.declared.step.Reply.TheVariants.{Number, Truth, Capacity, Unbounded}
 
 module _ {T A : Type 0} where
-  -- The step may be answered so: an offer that is refused hands its own message back, and other
-  -- refusals hand none back. No other reply comes.
+  -- The replies that a step may have: a refused offer hands its own message back, and other
+  -- refusals hand none back.
   abbrev pub PossibleReply : Step T → Reply T A → Type 0
   PossibleReply (TrySend message) (Sent filled) = Unit {0}
   PossibleReply (TrySend message) (Full back) = back ≡ message

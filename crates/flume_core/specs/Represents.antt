@@ -18,7 +18,7 @@ use Rattle.flume_model.specs.Replies.{IsRun}
 use Rattle.flume_state.specs.State.{State, accepted_at, offers_of, bare}
 
 module _ {T A : Type 0} where
-  -- how a send ticket stands: not live, or live and accepted, or live and not
+  -- the state of a send ticket: not live, or live and accepted, or live and not
   abbrev pub send_status : Opening → Log T A → ℕ → Option Bool
   send_status opening log t =
       if is_live log t then Some (not (has_ticket t (blocked opening log))) else None
@@ -52,8 +52,8 @@ module _ {T A : Type 0} where
   IsRefusal Unbounded = Unit {0}
   IsRefusal _ = ⊥
 
-  -- the step, answered so, changes nothing: it is a query, or it was refused; where a parked
-  -- receiver asks for the last time, it leaves
+  -- the step with this reply changes nothing: it is a query, or it was refused, or it is the last
+  -- poll of a parked receiver, which leaves
   abbrev pub ChangesNothing : Step T → Reply T A → Type 0
   ChangesNothing (Poll ticket) Ended = ⊥
   ChangesNothing Len reply = Unit {0}

@@ -10,8 +10,8 @@ use Rattle.flume_model.specs.WaitLaws.{IsWithin, Apart, block_woken}
 use Rattle.flume_state.specs.State.{State, accepted_at, offers_of}
 
 module _ {T S : Type 0} where
-  -- a sender is blocked only where the channel has a capacity and the queue is at or past it, and
-  -- only while no receiver waits
+  -- a sender is blocked only if the channel has a capacity and the queue is at or past it, and only
+  -- while no receiver waits
   abbrev pub SendersBlockAtCapacity : State T S → Type 0
   SendersBlockAtCapacity s =
       0 < length s.blocked
@@ -22,7 +22,7 @@ module _ {T S : Type 0} where
   ReceiversWaitWhileOpen s =
       some_wait s.entries ≡ true → IsOpen s.senders s.receivers × (s.blocked ≡ [])
 
-  -- while a receiver waits, at least as many stand woken as messages are queued
+  -- while a receiver waits, at least as many are woken as messages are queued
   abbrev pub WokenCoverQueued : State T S → Type 0
   WokenCoverQueued s = some_wait s.entries ≡ true → length s.queue ≤ woken_count s.entries
 
@@ -61,8 +61,7 @@ module _ {T S : Type 0} where
       s.senders + s.receivers ≡ 0
       → (s.queue ≡ []) × (s.blocked ≡ []) × (s.entries ≡ []) × ((t : ℕ) → get s.sends t ≡ None)
 
-  -- a receiver that blocks stands woken only in a closed channel, and only where no sender is
-  -- blocked
+  -- a receiver that blocks is woken only in a closed channel, and only if no sender is blocked
   abbrev pub BlockingWokenByClosing : State T S → Type 0
   BlockingWokenByClosing s =
       block_woken s.entries ≡ true → IsClosed s.senders s.receivers × (s.blocked ≡ [])

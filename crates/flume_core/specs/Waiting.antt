@@ -1,4 +1,4 @@
--- Where a call would have to wait: what a state says of it.
+-- When a call would have to wait: what a state says of it.
 use Rattle.std.specs.Prelude.{◌≡◌, ℕ, false, Some, [], length}
 use Rattle.flume_model.specs.Limits.{IsOpen, IsAtCapacity}
 use Rattle.flume_model.specs.Entries.{some_wait}

@@ -1,4 +1,4 @@
--- Where memory may be wanted for a step: what a state says of it.
+-- When a step may be answered with `NoMemory`: what a state says of it.
 use Rattle.std.specs.Prelude.{◌≡◌, ◌≢◌, ◌<◌, ◌≤◌, ◌⊎◌, true, [], length}
 use Rattle.flume_model.specs.declared.step.Step.{Step}
 use Rattle.flume_model.specs.declared.step.Step.TheVariants.{TrySend, Send, TryRecv, Recv}
@@ -11,7 +11,7 @@ use Rattle.flume_core.specs.Waiting.{FindsNothing, FindsNoRoom}
 module _ {T S : Type 0} where
   -- A channel in this state may answer the step with `NoMemory`: an offer that is taken in or
   -- blocks, a receiver that parks, a receive that lets a blocked message into the queue, a drain of
-  -- some message. `Chan` itself makes no use of the last but one: its receives take no memory.
+  -- some message. `Chan` never answers a receive so, since its receives don't allocate.
   abbrev pub MayWant : State T S → Step T → Type 0
   MayWant s (TrySend message) = IsOpen s.senders s.receivers × (FindsNoRoom s → ⊥)
   MayWant s (Send message) = IsOpen s.senders s.receivers × (FindsNoRoom s → s.next < most)
@@ -22,9 +22,8 @@ module _ {T S : Type 0} where
   MayWant s Drain = 0 < length s.queue
   MayWant s _ = ⊥
 
-  -- Only so may memory be refused to a step of `Chan` itself: to an offer where no room is left for
-  -- its message, to a send that blocks, to a receiver that parks, and to a drain of some message.
-  -- No other step is ever refused so.
+  -- When a step of `Chan` itself may be answered with `NoMemory`: an offer with no room left for
+  -- its message, a send that blocks, a receiver that parks, and a drain of some message.
   abbrev pub MayNeedMemory : State T S → Step T → Type 0
   MayNeedMemory s (TrySend message) = s.space ≤ message_count s
   MayNeedMemory s (Send message) = FindsNoRoom s ⊎ (s.space ≤ message_count s)

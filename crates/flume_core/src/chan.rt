@@ -25,13 +25,15 @@ use std::marker::Model;
 
 /// A channel without its lock: many senders and many receivers of messages of type `T`, as one
 /// value whose owner makes each step. `S` is the signal that a blocked send or a parked receiver
-/// leaves. It holds at most 4,294,967,295 messages, as many live tickets of sends, and as many
-/// parked receivers: past that a step answers `NoMemory` though no allocation was refused.
+/// leaves.
+///
+/// A channel has at most 4,294,967,295 messages, as many live tickets of sends, and as many parked
+/// receivers. Past that a step answers `NoMemory`, though no allocation failed.
 #[derive(Drop)]
 pub struct Chan<T, S, A: Allocator = Global> {
     capacity: Option<usize>,
-    // The greatest capacity so far, and below the most receivers that waited at once: these two
-    // bound the queue, since the capacity in force may have been lowered under it.
+    // The queue is bounded by these two, since the capacity in force may have been lowered under
+    // it: the greatest capacity so far, and the most receivers that waited at once.
     greatest: Option<usize>,
     line: Line<T, S, A>,
     entries: Entries<T, S, A>,
@@ -67,8 +69,7 @@ impl<T, S, A: Allocator> Model for Chan<T, S, A> {
 
 impl<T: Drop, S: Drop, A: Allocator + Copy> Chan<T, S, A> {
     /// A channel with one sender, one receiver and no message, whose first ticket is 1. Its queue
-    /// has room for as many messages as `capacity` says, or for any number where that is `None`.
-    /// Takes no memory.
+    /// has room for `capacity` messages; `None` is unbounded. Doesn't allocate.
     ///
     /// ```
     /// let mut chan: Chan<u64, ()> = Chan::new(alloc, Some(1));
@@ -83,7 +84,7 @@ impl<T: Drop, S: Drop, A: Allocator + Copy> Chan<T, S, A> {
         Chan::starting_at(alloc, capacity, 1)
     }
 
-    /// A channel as `new` makes it, with `ticket` as its first ticket. Takes no memory.
+    /// A channel as `new` makes it, with `ticket` as its first ticket. Doesn't allocate.
     ///
     /// ```
     /// let mut chan: Chan<u64, ()> = Chan::starting_at(alloc, Some(0), 5);

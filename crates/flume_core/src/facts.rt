@@ -8,12 +8,11 @@ ghost use Rattle.flume_core.specs.StateFacts.{ChannelFacts, NobodyIsStuck};
 use crate::chan::Chan;
 use std::alloc::Allocator;
 
-/// The laws of the state of a channel, which hold where some run led to it: so of one that was made
-/// by `Chan::new` or `Chan::starting_at`, and changed only by its steps and `next_due`. Once every
-/// receiver that was woken has looked, nobody waits for a message or for room that is there: a
-/// receiver waits only in an open channel that has no message, and a sender is blocked only while
-/// the queue is at capacity and no receiver waits. Of any state, the messages that stand never pass
-/// the room that was taken for messages. Does nothing.
+/// What holds of every state that a run leads to, from `Chan::new` or `Chan::starting_at` on: once
+/// every woken receiver has looked, nobody waits for a message or for room that is there. A
+/// receiver waits only in an open channel that has no message; a sender is blocked only while the
+/// queue is at capacity and no receiver waits. In any state, the messages in the channel fit into
+/// the room that was allocated for them. Does nothing.
 ///
 /// ```
 /// let mut chan: Chan<u64, u32> = Chan::new(alloc, Some(0));

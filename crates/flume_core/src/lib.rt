@@ -15,10 +15,10 @@
 //! chan.poll_send(1, None);           // Accepted
 //! ```
 //!
-//! The contract of each step says which reply comes when, what the step leaves of the state, and
-//! whose ticket becomes due. `run::run` makes a list of steps, and its contract has the theorem of
-//! the repository as its clause `headline`. `facts::facts` gives the invariants of the state. The
-//! definitions that the contracts cite are in `flume_model` and `flume_state`.
+//! The contract of each step says which reply comes when, what the state is then, and whose ticket
+//! becomes due. `run::run` makes a list of steps, and its clause `headline` is the theorem of the
+//! repository. `facts::facts` gives the invariants of the state. The definitions are in
+//! `flume_model` and `flume_state`.
 #![tactic(auto)]
 
 pub mod chan;

@@ -1,4 +1,4 @@
--- Up to when a call waits.
+-- The deadline of a call.
 use Rattle.std.specs.Prelude.{◌≡◌, ℕ, ◌+◌, ◌<◌}
 use Rattle.std.specs.Duration.{as_nanos}
 use Rattle.std.specs.declared.time.Duration.{Duration}
@@ -6,13 +6,13 @@ use Rattle.std.specs.Time.{instant_nanos, FitsClock}
 use Rattle.flume_deadline.specs.declared.Deadline.{Deadline}
 use Rattle.flume_deadline.specs.declared.Deadline.TheVariants.{Never, At, Reached}
 
--- the deadline is so many nanoseconds after the start of the clock
+-- the deadline is this many nanoseconds after the start of the clock
 abbrev pub IsAt : Deadline → ℕ → Type 0
 IsAt (At time) nanos = instant_nanos time ≡ nanos
 IsAt _ nanos = ⊥
 
--- The deadline is so long after a time that the clock can show. There is none if no time of the
--- clock is that late, and it is reached if the clock couldn't be read.
+-- The deadline is this long after a time that the clock can show; never if it overflows, and
+-- already reached if the clock couldn't be read.
 abbrev pub IsAfter : Duration → Deadline → Type 0
 IsAfter timeout (At time) =
     (now : ℕ) × FitsClock now × (instant_nanos time ≡ now + as_nanos timeout)

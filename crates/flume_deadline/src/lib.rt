@@ -11,20 +11,19 @@ ghost use Rattle.flume_deadline.specs.Deadlines.{IsAt, IsAfter, CanBeAhead};
 use std::io;
 use std::time::{Clock, Duration, Instant};
 
-/// Up to when a call waits.
+/// The deadline of a call.
 #[derive(Clone, Copy, Drop)]
 pub enum Deadline {
     /// As long as it takes.
     Never,
     /// Up to this time.
     At(Instant),
-    /// It is reached.
+    /// Already reached.
     Reached,
 }
 
 impl Deadline {
-    /// So long from now: `Never` where no time of the clock is that late, `Reached` where the clock
-    /// can't be read.
+    /// This long from now: `Never` if the deadline overflows, `Reached` if the clock can't be read.
     ///
     /// ```
     /// let deadline = Deadline::after(&rt, Duration::from_secs(1));
@@ -36,8 +35,6 @@ impl Deadline {
         Deadline::past(Instant::now(rt), timeout)
     }
 
-    // So long past what the clock read. Where no time is that late, never; where the clock couldn't
-    // be read, it is reached.
     fn past(now: io::Result<Instant>, timeout: Duration) -> Deadline
         ensures unread { IsErr now → result ≡ Deadline.Reached }
         ensures sum { (time : Instant) → now ≡ Ok time
@@ -56,7 +53,7 @@ impl Deadline {
         }
     }
 
-    /// Whether it is reached, by the clock. A clock that can't be read counts as past it.
+    /// Whether the clock has reached it; true if the clock can't be read.
     pub fn is_reached<R: Clock>(self, rt: &R) -> bool
         ensures never { result ≡ true → self ≢ Deadline.Never }
         ensures ahead { result ≡ false → CanBeAhead self }
@@ -69,7 +66,7 @@ impl Deadline {
     }
 }
 
-/// How long it is to the deadline: `None` once it is reached, or where the clock can't be read.
+/// The time to the deadline; `None` once it is reached, or if the clock can't be read.
 pub fn left_until<R: Clock>(rt: &R, deadline: Instant) -> Option<Duration>
     ensures left { IfSome result (λ left. (now : ℕ) × (now < instant_nanos deadline)
         × (as_nanos left + now ≡ instant_nanos deadline)) }
@@ -77,7 +74,6 @@ pub fn left_until<R: Clock>(rt: &R, deadline: Instant) -> Option<Duration>
     left_from(Instant::now(rt), deadline)
 }
 
-// How long it is from what the clock read to the deadline.
 fn left_from(now: io::Result<Instant>, deadline: Instant) -> Option<Duration>
     ensures unread { IsErr now → IsNone result }
     ensures reached { (time : Instant) → now ≡ Ok time

@@ -1,4 +1,4 @@
--- When two send errors are equal: where their cases are the same and their messages are equal.
+-- When two send errors are equal: if their cases are the same and their messages are equal.
 use Rattle.std.specs.Prelude.{Bool, false}
 use Rattle.flume_error.specs.declared.error.send.SendError.{SendError}
 use Rattle.flume_error.specs.declared.error.send.SendError.TheVariants as send

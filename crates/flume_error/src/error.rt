@@ -1,7 +1,7 @@
 //! The errors of the channel.
 //!
-//! A send that fails gives its message back, in the error. `NoMemory`, a type and a case of each
-//! error, says that memory ran out.
+//! A failed send gives its message back in the error. `NoMemory`, a type and a case of each error
+//! but `CapacityError`, says that memory ran out.
 ghost use Rattle.std.specs.Prelude.{◌≡◌, Some};
 ghost use Rattle.std.specs.Fmt.{styled_text};
 ghost use Rattle.flume_error.specs.Texts.{no_memory_text, select_text};
@@ -18,14 +18,13 @@ use std::alloc::AllocError;
 use std::error::Error;
 use std::fmt;
 
-/// Memory was wanted, and there was none.
+/// Out of memory.
 ///
-/// It comes of a call that can fail in no other way and has no message to give back.
+/// The error of a call that can fail in no other way and has no message to give back.
 #[derive(Clone, Copy, Debug, PartialEq, Eq)]
 pub struct NoMemory;
 
 impl NoMemory {
-    // What `{}` writes of it.
     pub(crate) fn text() -> &'static str
         ensures text { result.now ≡ no_memory_text }
     {
@@ -57,12 +56,11 @@ impl From<AllocError> for NoMemory {
 pub enum SelectError {
     /// The deadline was reached, and no arm was ready.
     Timeout,
-    /// Memory was wanted, and there was none.
+    /// Out of memory.
     NoMemory,
 }
 
 impl SelectError {
-    // What `{}` writes of it.
     pub(crate) fn text(&self) -> &'static str
         ensures text { result.now ≡ select_text self.now }
     {

@@ -28,7 +28,7 @@ pub fn conversions_keep_the_message<T>()
         → send_timeout_message r ≡ send_message e }
 {}
 
-/// Two send errors are equal exactly where their cases are the same and their messages are equal.
+/// Two send errors are equal exactly if their cases are the same and their messages are equal.
 pub fn send_errors_are_equal_by_case_and_message<T: PartialEq>()
     ensures send { (a b : SendError T)
         → ⟦<SendError<T> as PartialEq>⟧.eq a b ≡ equal_sends T.eq a b }
@@ -38,7 +38,7 @@ pub fn send_errors_are_equal_by_case_and_message<T: PartialEq>()
         → ⟦<SendTimeoutError<T> as PartialEq>⟧.eq a b ≡ equal_send_timeouts T.eq a b }
 {}
 
-/// Two other errors are equal exactly where their cases are the same.
+/// Two other errors are equal exactly if their cases are the same.
 pub fn other_errors_are_equal_by_case()
     ensures receive { (a b : RecvError)
         → IsTrue (⟦<RecvError as PartialEq>⟧.eq a b) ↔ (a ≡ b) }
@@ -54,7 +54,7 @@ pub fn other_errors_are_equal_by_case()
         → IsTrue (⟦<NoMemory as PartialEq>⟧.eq a b) ↔ (a ≡ b) }
 {}
 
-/// Equality of send errors is an equivalence where that of their messages is one.
+/// Equality of send errors is an equivalence if that of their messages is one.
 pub fn equality_of_send_errors_is_an_equivalence<T: PartialEq>()
     ensures send { IsEquivalence T.eq → IsEquivalence ⟦<SendError<T> as PartialEq>⟧.eq }
     ensures try_send { IsEquivalence T.eq

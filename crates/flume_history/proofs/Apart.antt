@@ -1,4 +1,4 @@
--- What excludes what in a channel, so that a step has at most one reply beside want of memory.
+-- What excludes what in a channel, so that a step has at most one reply other than `NoMemory`.
 use Rattle.std.proofs.Common.{◌≡◌, ℕ, true, false, List, [], ◌∷◌, ◌++◌, length, get_or}
 use Rattle.std.proofs.Common.{Option, Some, None, refl, sym, ◌∙◌, ap, arith, eq-eqb}
 use Rattle.std.proofs.lemmas.Grind.{common_steps}
@@ -61,8 +61,8 @@ module _ {T : Type 0} (c : Channel T) where
   taken_or_not t taken blocked = let never : ⊥ = cc in never
 
 module _ {T : Type 0} (A : Type 0) where
-  -- of two replies neither of which tells of want of memory, one of which comes by `P`, and the
-  -- other too: they are the same
+  -- of two replies neither of which is `NoMemory`, one of which comes by `P`, and the other too:
+  -- they are the same
   abbrev pub Determines : (Reply T A → Type 0) → Type 0
   Determines P =
       (reply other : Reply T A) → P reply → P other → (IsWant reply → ⊥) → (IsWant other → ⊥)

@@ -23,13 +23,13 @@ both : (b c : Bool) → b ≡ true → c ≡ true → (b && c) ≡ true
 both b c first second = ap₂ (λ x y. x && y) first second
 
 module _ {T A : Type 0} (equal : T → T → Bool) where
-  -- what equals a want is one
+  -- what equals `NoMemory` is it
   want : (told reply : Reply T A) → IsWant told → Equals equal told reply → IsWant reply
   want (NoMemory back) (NoMemory other) w h = tt
   want (NoMemory back) _ w h = absurd (never h)
   want _ reply w h = absurd w
 
-  -- what is no want equals none
+  -- what isn't `NoMemory` equals none
   no_want : (told reply : Reply T A) → (IsWant told → ⊥) → Equals equal told reply → IsWant reply → ⊥
   no_want told (NoMemory other) none h w = against told none h
     where
@@ -38,7 +38,7 @@ module _ {T A : Type 0} (equal : T → T → Bool) where
       against _ none h = never h
   no_want told _ none h w = w
 
-  -- of two equal replies both are wants or neither is
+  -- of two equal replies both are `NoMemory` or neither is
   pub same_want : (told reply : Reply T A) → Equals equal told reply → IsWant told ↔ IsWant reply
   same_want told reply h = by_want (want_or_not told)
     where
@@ -46,7 +46,7 @@ module _ {T A : Type 0} (equal : T → T → Bool) where
       by_want (inl w) = (λ v. want told reply w h, λ v. w)
       by_want (inr none) = (λ w. absurd (none w), λ w. absurd (no_want told reply none h w))
 
-  -- of two replies that equal one both are wants or neither is
+  -- of two replies that equal one both are `NoMemory` or neither is
   pub tells_want : (told reply other : Reply T A) → Equals equal told reply → Equals equal told other → IsWant reply ↔ IsWant other
   tells_want told reply other h k = (
     λ w. (same_want told other k).0 ((same_want told reply h).1 w),
@@ -84,7 +84,7 @@ module _ {T A : Type 0} (equal : T → T → Bool) (laws : IsEquivalence equal) 
   equals_itself (Capacity capacity) = (options_equiv nat_eq_equiv).refl capacity
   equals_itself _ = refl
 
-  -- a log is told by itself
+  -- a log equals itself
   pub told_by_itself : (log : Log T A) → IsSaidOf (Equals equal) log log
   told_by_itself [] = tt
   told_by_itself (p ∷ past) = (refl, equals_itself p.1, told_by_itself past)

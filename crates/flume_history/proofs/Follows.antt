@@ -24,7 +24,7 @@ use Rattle.flume_history.proofs.SameLogs.{channel_same}
 use Rattle.flume_history.proofs.Wanting.{want_only}
 
 module _ {T A : Type 0} where
-  -- a reply that is no such one is no want
+  -- a reply that is no such one isn't `NoMemory`
   pub not_want : (reply : Reply T A) → ((back : Option T) → reply ≡ NoMemory back → ⊥) → IsWant reply → ⊥
   not_want (NoMemory back) none w = none back refl
   not_want _ none w = w
@@ -35,7 +35,7 @@ module _ {T A : Type 0} where
   want_stays past _ back = refl
 
 module _ {T A X : Type 0} (says : X → Reply T A → Type 0) where
-  -- what is said of two replies tells of want of memory in both or in neither
+  -- what is said of two replies is `NoMemory` in both or in neither
   abbrev pub TellsWant : Type 0
   TellsWant = (x : X) (reply other : Reply T A) → says x reply → says x other → IsWant reply ↔ IsWant other
 
@@ -54,7 +54,7 @@ module _ {T A X : Type 0} (says : X → Reply T A → Type 0) (tells : TellsWant
   same_steps (p ∷ said) (q ∷ log) (r ∷ other) h k =
       (sym h.0 ∙ k.0, tells p.1 q.1 r.1 h.1 k.1, same_steps said log other h.2 k.2)
 
-  -- where nothing that is said of the next step is lawful, no run is said so with it
+  -- if nothing that is said of the next step is lawful, no run is said so with it
   pub not_on : (o : Opening) (said : List (Step T × X)) (p : Step T × X) (log : Log T A) → IsRun o log → IsSaidOf says said log
       → ((reply : Reply T A) → IsReply (channel o log) p.0 reply → says p.1 reply → ⊥)
       → (other : Log T A) → IsRun o other → IsSaidOf says (p ∷ said) other → ⊥
@@ -67,7 +67,7 @@ module _ {T A X : Type 0} (says : X → Reply T A → Type 0) (tells : TellsWant
       k.1
 
 module _ {T A X : Type 0} (says : X → Reply T A → Type 0) (goes : GoesByMessages says) where
-  -- beside want of memory, nothing else is lawful than what the channel answered
+  -- apart from `NoMemory`, nothing else is lawful than what the channel answered
   pub no_other : (o : Opening) (log : Log T A) (x : X) (step : Step T) (own : Reply T A) → IsRun o log → IsReply (channel o log) step own
       → (IsWant own → ⊥) → (says x own → ⊥) → (other : Reply T A) → IsReply (channel o log) step other → (IsWant other → ⊥)
       → says x other → ⊥
@@ -75,7 +75,7 @@ module _ {T A X : Type 0} (says : X → Reply T A → Type 0) (goes : GoesByMess
       unsaid (goes x other own (one_reply (channel o log) (one_blocked o log run) step other own also is other_wanted wanted) said)
 
 module _ {T A X : Type 0} (says : X → Reply T A → Type 0) where
-  -- where memory may not be wanted, or not so, no want is lawful that this is said of
+  -- if memory may not be needed, or not so, no `NoMemory` is lawful that this is said of
   pub no_other_want : {S : Type 0} {o : Opening} {log : Log T A} {s : State T S} → Represents o log s → (x : X) (step : Step T)
       → (MayWant s step → says x (NoMemory (handed_in step)) → ⊥)
       → (reply : Reply T A) → IsReply (channel o log) step reply → says x reply → IsWant reply → ⊥

@@ -16,7 +16,7 @@ use Rattle.flume_history.proofs.OneRun.{one_run}
 use Rattle.flume_history.proofs.ReplyWants.{same_want}
 use Rattle.flume_history.proofs.SameLogs.{channel_same}
 
--- the text of a reply tells whether memory was wanted
+-- the text of a reply tells whether memory was needed
 tells_want : {A : Type 0} → TellsWant (Says {A = A})
 tells_want said reply other is also = (same_want reply other (sym is ∙ also), same_want other reply (sym also ∙ is))
 
@@ -29,7 +29,7 @@ pub pair_at : (pairs : List (Step ℕ × Bor (List ℕ))) (place : ℕ) (d : Ste
     → shown (get_or pairs place d) ≡ get_or (pairs_of pairs) place (shown (get_or pairs place d))
 pair_at pairs place d within = sym (get_or-map shown pairs place d (shown (get_or pairs place d)) within)
 
--- a list is what stands before a place, the element there, and what stands behind it
+-- a list is what is before a place, the element there, and what is behind it
 parts : {E : Type 0} (list : List E) (place : ℕ) (e : E) → place < length list → e ≡ get_or list place e
     → list ≡ take place list ++ e ∷ drop (suc place) list
 parts list place e within at =
@@ -44,7 +44,7 @@ shown_after {A} o said log step should run so shows other run' so' =
     subst (λ c. Shows A c step should)
     (channel_same o log other (one_run o log other run run' (same_steps Says tells_want said log other so so'))) shows
 
--- where what was said isn't lawful, the history breaks
+-- if what was said isn't lawful, the history breaks
 pub told_break : {A : Type 0} (input : List ℕ) (capacity : Option ℕ) (history : List Pair) (place : ℕ) (step : Step ℕ) (said : List ℕ)
     → IsHistoryText (lines input) capacity history → place < length history
     → (step, said) ≡ get_or history place (step, said) → (log : Log ℕ A) → IsRun (opens capacity 1) log

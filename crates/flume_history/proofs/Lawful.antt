@@ -1,4 +1,5 @@
--- Which texts are lawful: that of the channel's own reply, and that of a want where memory may be wanted.
+-- Which texts are lawful: that of the channel's own reply, and that of `NoMemory` if memory may be
+-- needed.
 use Rattle.std.proofs.Common.{◌≡◌, ℕ, List, ◌++◌, ◌⊎◌, inl, inr, Some, None, sym, ap, ◌∙◌, codes}
 use Rattle.flume_model.specs.declared.step.Step.{Step}
 use Rattle.flume_model.specs.declared.step.Reply.{Reply}
@@ -21,12 +22,12 @@ use Rattle.flume_history.proofs.Wanting.{want_allowed, want_only}
 
 module _ {A S : Type 0} {o : Opening} {log : Log ℕ A} {s : State ℕ S} (h : Represents o log s) (step : Step ℕ) (own : Reply ℕ A)
     (lawful : IsReply (channel o log) step own) (no_want : IsWant own → ⊥) where
-  -- a lawful reply that is no want has the text of the channel's own
+  -- a lawful reply that isn't `NoMemory` has the text of the channel's own
   own_text : (reply : Reply ℕ A) → IsReply (channel o log) step reply → (IsWant reply → ⊥) → reply_text reply ≡ reply_text own
   own_text reply is none =
       same_text reply own (one_reply (channel o log) (one_blocked o log h.run) step reply own is lawful none no_want)
 
-  -- a want that is lawful hands in what the step does
+  -- a lawful `NoMemory` hands in what the step does
   want_text : (reply : Reply ℕ A) → IsReply (channel o log) step reply → IsWant reply
       → MayWant s step × (reply_text reply ≡ reply_text {A = A} (NoMemory (handed_in step)))
   want_text (NoMemory back) is w =
@@ -34,7 +35,7 @@ module _ {A S : Type 0} {o : Opening} {log : Log ℕ A} {s : State ℕ S} (h : R
       (only.0, ap (λ back. reply_text {A = A} (NoMemory back)) only.1)
   want_text _ is w = absurd w
 
-  -- where memory may not be wanted, each lawful text is the channel's own
+  -- if memory may not be needed, each lawful text is the channel's own
   only_own : (MayWant s step → ⊥) → (text : List ℕ) → IsLawfulText A (channel o log) step text → text ≡ reply_text own
   only_own never text is = by_want (want_or_not is.0)
     where
@@ -42,7 +43,7 @@ module _ {A S : Type 0} {o : Opening} {log : Log ℕ A} {s : State ℕ S} (h : R
       by_want (inl w) = absurd (never (want_text is.0 is.1 w).0)
       by_want (inr none) = is.2 ∙ own_text is.0 is.1 none
 
-  -- where it may be, there is that of a want beside it
+  -- if it may be, there is that of `NoMemory` too
   own_or_want : (want text : List ℕ) → want ≡ reply_text {A = A} (NoMemory (handed_in step))
       → IsLawfulText A (channel o log) step text → (text ≡ reply_text own) ⊎ (Some want ≡ Some text)
   own_or_want want text want_is is = by_want (want_or_not is.0)

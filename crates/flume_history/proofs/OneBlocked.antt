@@ -19,7 +19,7 @@ module _ {T : Type 0} where
   abbrev IsOfTicket : ℕ → T → Offer T → Type 0
   IsOfTicket t m x = x.ticket ≡ Some t → x.message ≡ m
 
-  -- where none of some offers has the ticket
+  -- if none of some offers has the ticket
   none_of : (t : ℕ) (m : T) (xs : List (Offer T)) → has_ticket t xs ≡ false
       → All (IsOfTicket t m) xs
   none_of t m [] h = All-nil _
@@ -45,7 +45,7 @@ module _ {T : Type 0} where
   rising_drop n (suc k) [] h = h
   rising_drop n (suc k) (x ∷ xs) h = rising_drop n k xs h.2
 
-  -- and where none is left
+  -- and if none is left
   rising_or_none : (n : ℕ) (b : Bool) (xs : List (Offer T)) → Rising n xs
       → Rising n (if b then [] else xs)
   rising_or_none n true xs h = tt

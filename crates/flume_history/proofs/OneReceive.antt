@@ -1,4 +1,5 @@
--- A receive, and a parked receiver that asks or leaves, has at most one reply beside want of memory.
+-- A receive, and a parked receiver that asks or leaves, has at most one reply other than
+-- `NoMemory`.
 use Rattle.std.proofs.Common.{ℕ}
 use Rattle.std.proofs.Common.{Option, Some, None, refl, sym, ◌∙◌, ap, arith}
 use Rattle.flume_model.specs.declared.step.Kind.{Kind}

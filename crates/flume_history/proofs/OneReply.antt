@@ -1,4 +1,4 @@
--- After a run each step has at most one reply beside want of memory.
+-- After a run each step has at most one reply other than `NoMemory`.
 use Rattle.std.proofs.Common.{◌≡◌, ℕ}
 use Rattle.std.proofs.Common.{refl, sym, ◌∙◌, ap, arith}
 use Rattle.flume_model.specs.declared.step.Step.{Step}
@@ -140,7 +140,7 @@ module _ {T A : Type 0} (c : Channel T) where
   is_disconnected (Truth a) _ h k n o = absurd k
   is_disconnected _ _ h k n o = absurd h
 
-  -- each step has at most one reply beside want of memory, where a ticket has one blocked message
+  -- each step has at most one reply other than `NoMemory`, if a ticket has one blocked message
   pub one_reply : ((t : ℕ) (m back : T) → IsBlocked c t m → IsBlocked c t back → m ≡ back)
       → (step : Step T) → Determines A (IsReply c step)
   one_reply one (TrySend m) = try_send c m

@@ -23,7 +23,7 @@ use Rattle.flume_history.proofs.OneReply.{one_reply}
 use Rattle.flume_history.proofs.SameLogs.{channel_same}
 
 module _ {T : Type 0} (A : Type 0) (c : Channel T) (back other : Option T) where
-  -- two wants by this
+  -- two replies `NoMemory` by this
   abbrev Alike : (Reply T A → Type 0) → Type 0
   Alike P = P (NoMemory back) → P (NoMemory other) → back ≡ other
 
@@ -39,7 +39,7 @@ module _ {T : Type 0} (A : Type 0) (c : Channel T) (back other : Option T) where
   polled None h k = absurd h
   polled (Some e) h k = polled_mark e.kind e.mark h k
 
-  -- one that leaves wants none
+  -- one that leaves needs no memory
   gone_mark : (t : ℕ) (kind : Kind) (mark : Mark T) → Alike (IsGoneMark c t kind mark)
   gone_mark t kind (Filled held) h k = absurd h
   gone_mark t Block StillWaits h k = absurd h
@@ -63,12 +63,12 @@ module _ {T : Type 0} (A : Type 0) (c : Channel T) (back other : Option T) where
   one_want _ h k = absurd h
 
 module _ {T A : Type 0} where
-  -- a reply tells of want of memory or not
+  -- a reply is `NoMemory` or not
   pub want_or_not : (reply : Reply T A) → IsWant reply ⊎ (IsWant reply → ⊥)
   want_or_not (NoMemory back) = inl tt
   want_or_not _ = inr (λ want. want)
 
-  -- two replies that both tell of want of memory are the same
+  -- two replies that are both `NoMemory` are the same
   both_wants : (c : Channel T) (step : Step T) (reply other : Reply T A) → IsReply c step reply
       → IsReply c step other → IsWant reply → IsWant other → SameReply reply other
   both_wants c step (NoMemory back) (NoMemory other) h k w v =
@@ -76,7 +76,7 @@ module _ {T A : Type 0} where
   both_wants c step (NoMemory back) _ h k w v = absurd v
   both_wants c step _ _ h k w v = absurd w
 
-  -- where all before was the same, so is the reply to the same step
+  -- if all before was the same, so is the reply to the same step
   same_reply : (o : Opening) (past other : Log T A) → IsRun o past → SameLog past other
       → (p q : Step T × Reply T A) → p.0 ≡ q.0 → (IsWant p.1 ↔ IsWant q.1)
       → IsReply (channel o past) p.0 p.1 → IsReply (channel o other) q.0 q.1 → SameReply p.1 q.1

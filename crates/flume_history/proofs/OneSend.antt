@@ -1,4 +1,4 @@
--- A send, and a blocked one that asks or leaves, has at most one reply beside want of memory.
+-- A send, and a blocked one that asks or leaves, has at most one reply other than `NoMemory`.
 use Rattle.std.proofs.Common.{◌≡◌, ℕ}
 use Rattle.std.proofs.Common.{refl, sym, ◌∙◌, ap, arith}
 use Rattle.flume_model.specs.declared.step.Step.TheVariants.{TrySend, Send, PollSend, WithdrawSend}

@@ -101,7 +101,8 @@ arrow text said = append_assoc text (codes " -> ") said ∙ sym (append_assoc te
 space : NoHyphen (codes " ")
 space = plain (codes " ") (search rules)
 
--- where a line is a text with no hyphen, an arrow and what was said, the arrow's hyphen is the first of the line
+-- if a line is a text with no hyphen, an arrow and what was said, the arrow's hyphen is the first
+-- of the line
 pub at_arrow : (line before after : List ℕ) → line ≡ before ++ 45 ∷ after → NoHyphen before
     → (text said : List ℕ) → NoHyphen text → line ≡ text ++ codes " -> " ++ said
     → (before ≡ text ++ codes " ") × (after ≡ codes "> " ++ said)

@@ -1,4 +1,4 @@
--- What the text of a reply tells: whether memory was wanted.
+-- What the text of a reply tells: whether memory was needed.
 use Rattle.std.proofs.Common.{◌≡◌, ℕ, suc, zero, Bool, true, false, cond, eqb, ◌/◌, ◌%◌, List, [], ◌∷◌, take, Some, None}
 use Rattle.std.proofs.Common.{refl, sym, ap, ◌∙◌, codes, rules, arith}
 use Rattle.std.specs.Fmt.{decimal, digits, digits_onto, digit_glyph}
@@ -14,11 +14,11 @@ use Rattle.flume_model.specs.Replies.{SameReply}
 use Rattle.flume_script.specs.ReplyTexts.{reply_text}
 use Rattle.flume_history.specs.SameRuns.{IsWant}
 
--- the text begins as that of a want does, and as no other
+-- the text begins as that of `NoMemory` does, and as no other
 abbrev Begins : List ℕ → Type 0
 Begins text = take 3 text ≡ codes "nom"
 
--- the text begins with another byte than that of a want
+-- the text begins with another byte than that of `NoMemory`
 abbrev Other : List ℕ → Type 0
 Other text = (later : List ℕ) → text ≡ 110 ∷ later → ⊥
 
@@ -45,13 +45,13 @@ decimal_other : (n : ℕ) → Other (decimal n)
 unfolding digits
 decimal_other n = onto_other 64 n [] (λ later e. let no : ⊥ = cc in no)
 
--- a text that begins with another byte begins not as that of a want
+-- a text that begins with another byte begins not as that of `NoMemory`
 no_want : (text : List ℕ) → Other text → Begins text → ⊥
 no_want [] other e = let no : ⊥ = cc in no
 no_want (x ∷ text) other e = other text (ap (λ y. y ∷ text) (let same : x ≡ 110 = cc in same))
 
 module _ {A : Type 0} where
-  -- the text of a want begins so
+  -- the text of `NoMemory` begins so
   begins : (reply : Reply ℕ A) → IsWant reply → Begins (reply_text reply)
   begins (NoMemory None) w = refl
   begins (NoMemory (Some message)) w = refl
@@ -91,7 +91,7 @@ module _ {A : Type 0} where
   only_want (Bound (Some capacity)) e = absurd (no_want (decimal capacity) (decimal_other capacity) e)
   only_want Unbounded e = absurd (search rules)
 
-  -- of two replies with one text both are wants or neither is
+  -- of two replies with one text both are `NoMemory` or neither is
   pub same_want : (reply other : Reply ℕ A) → reply_text reply ≡ reply_text other → IsWant reply → IsWant other
   same_want reply other e w = only_want other (ap (take 3) (sym e) ∙ begins reply w)
 

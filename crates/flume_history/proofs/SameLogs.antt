@@ -21,7 +21,7 @@ use Rattle.flume_model.specs.Replies.{SameReply}
 use Rattle.flume_history.specs.SameRuns.{SameLog}
 use Rattle.flume_history.proofs.Functions.{ap2, ap5}
 
--- the parts of a channel beside its line
+-- the parts of a channel other than its line
 abbrev Rest : Type 0 → Type 0
 Rest T = List (LogEntry T) × (ℕ → Bool) × ℕ × ℕ × ℕ
 
@@ -115,7 +115,7 @@ module _ {T A : Type 0} where
       step p past ∙ ap2 more (by_changes f more step past other h.1) h.0 ∙ sym (step q other)
 
 module _ {T A : Type 0} (o : Opening) where
-  -- as many senders and receivers live, and so both ends are gone in both or in none
+  -- as many senders and receivers live, and so both sides have disconnected in both or in none
   senders_same : (log other : Log T A) → SameChanges log other → senders log ≡ senders other
   senders_same = by_changes senders senders_after (λ p past. refl)
 

@@ -1,4 +1,4 @@
--- Where a state says that memory may be wanted: there the abstract channel may answer so.
+-- Where a state says that memory may be needed: there the abstract channel may answer so.
 use Rattle.std.proofs.Common.{◌≡◌, ℕ, ◌+◌, ◌<◌, inl, inr, true, [], ◌∷◌, ◌++◌, length, map}
 use Rattle.std.proofs.Common.{List, Option, Some, None, refl, sym, ◌∙◌, ap, subst, subst₂, arith, length-append}
 use Rattle.std.specs.Option.{option_map}
@@ -38,11 +38,11 @@ room_else None n full = tt
 room_else (Some c) n full = omega (arith, full)
 
 module _ {T A S : Type 0} {o : Opening} {log : Log T A} {s : State T S} (h : Represents o log s) where
-  -- the channel is open where the state says so
+  -- the channel is open if the state says so
   open_at_state : IsOpen (channel o log).senders (channel o log).receivers → IsOpen s.senders s.receivers
   open_at_state is = subst₂ IsOpen (sym h.senders_are) (sym h.receivers_are) is
 
-  -- where some message is blocked, the line goes on behind the queue
+  -- if some message is blocked, the line goes on behind the queue
   blocked_at_log : 0 < length s.blocked → boundary o log < length (messages (line log))
   blocked_at_log some =
       let whole : length (messages (line log)) ≡ length s.queue + length (map (λ b. b.message) s.blocked) =
@@ -59,7 +59,7 @@ module _ {T A S : Type 0} {o : Opening} {log : Log T A} {s : State T S} (h : Rep
       let bound = boundary_is h in
       omega arith
 
-  -- an offer finds no room in the state where it finds none in the log
+  -- an offer finds no room in the state if it finds none in the log
   no_room_at_log : FindsNoRoom s → TakesNoneIn (channel o log)
   no_room_at_log (open_, none, full) = takes_none_in h open_ none full
 
@@ -70,7 +70,7 @@ module _ {T A S : Type 0} {o : Opening} {log : Log T A} {s : State T S} (h : Rep
     subst₂ IsAtCapacity (sym h.capacity_is) (sym (boundary_is h)) full,
   )
 
-  -- where the line is empty, no message comes to the front
+  -- if the line is empty, no message comes to the front
   nothing_at_state : messages (line log) ≡ [] → (with_front s).queue ≡ []
   nothing_at_state none = go s.queue s.blocked refl refl
     where
@@ -83,7 +83,7 @@ module _ {T A S : Type 0} {o : Opening} {log : Log T A} {s : State T S} (h : Rep
       go (m ∷ q) xs queue at = absurd (let parts = rw queue at whole in let no : ⊥ = cc in no)
 
 module _ {T : Type 0} (A : Type 0) (c : Channel T) where
-  -- one that looks anew, and doesn't block, may want memory where a message is blocked
+  -- one that looks anew, and doesn't block, may need memory if a message is blocked
   polled_so : (kind : Kind) (mark : Mark T) → only_leaves (Some (status_by kind mark)) ≡ true
       → c.boundary < length c.line → IsPolledMark {A = A} c kind mark (NoMemory None)
   polled_so Block (Filled held) looks on = absurd (let no : ⊥ = cc in no)
@@ -115,7 +115,7 @@ module _ {T : Type 0} (A : Type 0) (c : Channel T) where
   polled_only Arm StillWaits back h = (refl, h.0, h.1)
   polled_only Arm Woken back h = (refl, h.0, h.1)
 
-  -- one that leaves wants none
+  -- one that leaves needs no memory
   gone_never : (t : ℕ) (kind : Kind) (mark : Mark T) (back : Option T) → IsGoneMark {A = A} c t kind mark (NoMemory back) → ⊥
   gone_never t Block (Filled held) back h = h
   gone_never t Block StillWaits back h = h
@@ -135,7 +135,7 @@ module _ {T : Type 0} (A : Type 0) (c : Channel T) where
   gone_none t (Some e) back h = gone_never t e.kind e.mark back h
 
 module _ {T S : Type 0} (A : Type 0) (c : Channel T) where
-  -- a poll of the entry that was found wants memory there
+  -- a poll of the entry that was found needs memory there
   found_so : (found : Option (Entry T (Notice S))) → only_leaves (option_map status_of found) ≡ true
       → c.boundary < length c.line → IsPolled {A = A} c (option_map bare found) (NoMemory None)
   found_so None looks on = absurd (let no : ⊥ = cc in no)
@@ -147,7 +147,7 @@ module _ {T S : Type 0} (A : Type 0) (c : Channel T) where
   found_only (Some e) back h = polled_only A c e.kind e.mark back h
 
 module _ {T A S : Type 0} {o : Opening} {log : Log T A} {s : State T S} (h : Represents o log s) where
-  -- where the state says that memory may be wanted, the abstract channel may answer so
+  -- if the state says that memory may be needed, the abstract channel may answer so
   pub want_allowed : (step : Step T) → MayWant s step → IsReply {A = A} (channel o log) step (NoMemory (handed_in step))
   want_allowed (TrySend m) may =
       (takes_in h may.0 (λ none. room_else s.capacity (length s.queue) (λ full. may.1 (may.0, none, full))), refl)

@@ -1,4 +1,4 @@
--- When two replies are equal: where their cases are the same, and what they hold is equal.
+-- When two replies are equal: if their cases are the same, and what they hold is equal.
 use Rattle.std.specs.Prelude.{Bool, true, false, ◌&&◌, nat_eq, IsTrue}
 use Rattle.std.specs.Option.{option_eq}
 use Rattle.std.specs.Bool.{beq}

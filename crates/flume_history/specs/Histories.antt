@@ -18,7 +18,7 @@ module _ {T A X : Type 0} (says : X → Reply T A → Type 0) where
   IsHistory opening history =
       (log : Log T A) × IsRun opening log × IsSaidOf (reverse history) log
 
-  -- the first so many are a history, and with the next one they aren't
+  -- the first this many are a history, and with the next one they aren't
   pub record BreaksAt (opening : Opening) (history : List (Step T × X)) (place : ℕ)
       : Type 0 where
     pub is_within : place < length history

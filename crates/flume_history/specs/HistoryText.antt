@@ -41,7 +41,7 @@ pub record IsHistoryText (lines : List (List ℕ)) (capacity : Option ℕ) (pair
 abbrev pub IsNoPair : List ℕ → Type 0
 IsNoPair line = (pair : Pair) → IsPairLine line pair → ⊥
 
--- of these lines, so many are pairs, and the next one isn't
+-- of these lines, this many are pairs, and the next one isn't
 pub record PairsUpTo (lines : List (List ℕ)) (place : ℕ) : Type 0 where
   pub before : List (List ℕ)
   pub pairs : List Pair
@@ -52,7 +52,7 @@ pub record PairsUpTo (lines : List (List ℕ)) (place : ℕ) : Type 0 where
   pub wrong : IsNoPair line
   pub place_is : length before ≡ place
 
--- the first wrong line has this number, counted from 1; where there is no line, the first is wrong
+-- the first wrong line has this number, counted from 1; if there is no line, the first is wrong
 abbrev pub IsFirstWrongPair : List (List ℕ) → ℕ → Type 0
 IsFirstWrongPair [] number = number ≡ 1
 IsFirstWrongPair (first ∷ rest) number =
@@ -70,7 +70,7 @@ joined own None = own
 joined own (Some other) = own ++ codes " or " ++ other
 
 -- the text shows what is lawful there: first the text of the reply that isn't `NoMemory`, and
--- behind it another one, where one is lawful; these are the texts of all replies that are lawful
+-- behind it another one, if one is lawful; these are the texts of all replies that are lawful
 pub record Shows (A : Type 0) (c : Channel ℕ) (step : Step ℕ) (should : List ℕ) : Type 0 where
   pub own : Reply ℕ A
   pub other : Option (List ℕ)
@@ -81,7 +81,7 @@ pub record Shows (A : Type 0) (c : Channel ℕ) (step : Step ℕ) (should : List
   pub are_all : (text : List ℕ)
       → IsLawfulText A c step text ↔ ((text ≡ reply_text own) ⊎ (other ≡ Some text))
 
--- what is printed where this line says `said`, and `should` is lawful
+-- what is printed if this line says `said`, and `should` is lawful
 abbrev pub break_text : ℕ → List ℕ → List ℕ → List ℕ
 break_text number said should =
     codes "line " ++ decimal number ++ codes ": " ++ said ++ codes ", but " ++ should ++ 10 ∷ []

@@ -1,4 +1,4 @@
-//! Whether a channel may have answered as a history says.
+//! Whether a correct channel could have produced a history.
 ghost use Rattle.std.specs.Prelude.{◌≡◌, ◌↔◌, ℕ, ◌∷◌, true, false, Some};
 ghost use Rattle.flume_model.specs.Channel.{channel};
 ghost use Rattle.flume_model.specs.Log.{Log, Opening, opens};
@@ -16,22 +16,21 @@ use std::alloc::Allocator;
 /// What a history was found to be.
 #[derive(Clone, Copy, Debug, PartialEq, Eq, Drop)]
 pub enum Checked {
-    /// It is a run: a channel may have answered so throughout.
+    /// A correct channel could have produced it.
     Run,
-    /// So many steps were answered as a channel may, and the next one wasn't.
+    /// This many steps have lawful replies, and the next one hasn't.
     Breaks(usize),
-    /// The check itself found no memory: nothing is known of the history.
+    /// The check itself ran out of memory: nothing is known of the history.
     NoMemory,
 }
 
-/// Whether a channel that was opened with this capacity, or with none, may have answered each step
-/// of the history with the reply beside it; the oldest step stands first. Messages are compared by
-/// their `Eq`, and lists of drained messages by their messages. `Run`: it may. `Breaks`: so many
-/// steps were answered lawfully, and no channel answers the next one so after them. A reply
-/// `NoMemory` is lawful where any channel might have run out of memory, so also where this one
-/// never does; a step answered so changed nothing. `NoMemory`: the check itself ran out of memory;
-/// it keeps what the channel would keep, and takes none for a history that is wrong at once. Linear
-/// in the history, but for finding tickets.
+/// Whether a correct channel of this capacity (`None`: unbounded) could have produced the history,
+/// a list of steps with their replies, the oldest first. `Run`: it could. `Breaks`: this many
+/// replies are lawful, and the next one isn't after them. `NoMemory`: the check itself ran out of
+/// memory; it keeps what the channel would keep. Messages are compared by their `Eq`, and drained
+/// lists by their messages. A reply `NoMemory` is lawful if any channel might have run out of
+/// memory at that step, also if a `Chan` never does; that step changed nothing. The time is linear
+/// in the history, except for finding tickets.
 ///
 /// ```
 /// let history = [
@@ -62,9 +61,9 @@ pub fn check_history<T: Copy + Eq + Drop, A: Allocator + Copy>(
     Checked::Run
 }
 
-// Makes the step, unless it is told that memory ran out for it. Whether a channel may answer it as
-// is told; none where this one ran out of memory. Where `NoMemory` is told, `chan` makes no step:
-// it had the memory, so only its state says whether a channel might have wanted some.
+// Makes the step, unless the recorded reply is `NoMemory`. Then `chan`, which had the memory, makes
+// no step, and its state says whether a channel might have run out of memory. Answers whether the
+// reply is lawful; `None` if `chan` ran out of memory.
 fn follows<T: Copy + Eq + Drop, A: Allocator + Copy>(
     chan: &mut Chan<T, (), A>,
     step: &Step<T>,
@@ -90,7 +89,6 @@ fn follows<T: Copy + Eq + Drop, A: Allocator + Copy>(
     }
 }
 
-// The message that the step hands in, which comes back where memory ran out.
 pub(crate) fn handed_in<T: Copy>(step: &Step<T>) -> Option<T>
     ensures message { result ≡ handed_in step.now }
 {

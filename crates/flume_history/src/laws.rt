@@ -17,8 +17,7 @@ ghost use Rattle.flume_history.specs.Wants.{handed_in};
 use flume_model::step::Reply;
 use std::alloc::Allocator;
 
-/// After each run, a step has at most one lawful reply beside `NoMemory`: two that tell of no want
-/// are the same.
+/// After each run, a step has at most one lawful reply other than `NoMemory`.
 pub fn replies_are_determined<T, A: Allocator>()
     ensures same { (opening : Opening) (log : Log T A) (step : Step T) (reply other : Reply T A)
         → IsRun opening log
@@ -27,21 +26,21 @@ pub fn replies_are_determined<T, A: Allocator>()
 {}
 
 /// Two runs from one opening, of the same steps, of which the same ones ran out of memory, have the
-/// same replies. So whoever knows what was done knows what was answered.
+/// same replies.
 pub fn runs_are_determined<T, A: Allocator>()
     ensures same { (opening : Opening) (log other : Log T A)
         → IsRun opening log → IsRun opening other → SameSteps log other → SameLog log other }
 {}
 
-/// What a channel did, with what it answered, is a history: `check_history` answers `Run` to it, or
+/// The steps of a channel with its replies are a history: `check_history` answers `Run` to it, or
 /// `NoMemory`. So it does to the history of each book.
 pub fn runs_are_histories<T: Eq, A: Allocator>()
     ensures history { (opening : Opening) (log : Log T A) → IsRun opening log
         → IsHistory (Equals T.eq) opening (reverse log) }
 {}
 
-/// Where a state says that memory may be wanted for a step, each channel that stands so may answer
-/// with that want, and with the message that the step hands in; nowhere else, and with no other.
+/// If a state says that a step may be answered with `NoMemory`, each channel in this state may
+/// answer so, with the message that the step hands in; nothing else may be answered so.
 pub fn memory_may_be_wanted_as_defined<T, S, A: Allocator>()
     ensures allowed { (opening : Opening) (log : Log T A) (s : State T S) (step : Step T)
         → Represents opening log s
@@ -53,7 +52,7 @@ pub fn memory_may_be_wanted_as_defined<T, S, A: Allocator>()
         → back ≡ handed_in step }
 {}
 
-/// Replies are equal where their cases are the same and what they hold is equal; lists of drained
+/// Replies are equal if their cases are the same and what they hold is equal; lists of drained
 /// messages by these, wherever they are kept.
 pub fn replies_are_equal_by_case<T: PartialEq, A: Allocator>()
     ensures same { (told reply : Reply T A)

@@ -1,4 +1,4 @@
-//! Histories as text: steps with what was said of their replies, and whether a channel answers so.
+//! Histories as text: steps with recorded replies, and whether a channel could have given them.
 ghost use Rattle.flume_core.specs.Represents.{Represents};
 ghost use Rattle.flume_history.specs.HistoryText.{IsLawfulText, IsHistoryText, Judges, Says, Shows};
 ghost use Rattle.flume_history.specs.HistoryText.{break_text};
@@ -22,17 +22,18 @@ use flume_script::writing::{write_reply, write_wrong};
 use reading::{History, read_history};
 use std::alloc::Allocator;
 
-/// Whether a channel may have answered as a text says. The first line opens the channel, as that of
-/// a script does, and each further line is a step, ` -> ` and what was said of its reply. All lines
-/// are read first: where one is wrong, the text is that of `run_script`, which names the first
-/// wrong line, with status 2. Else, where the lines are a history, the text is `run`, with status
-/// 0. Else the text names the first line whose reply isn't lawful after those before it, what was
-/// said there, and what is lawful there, with status 1: the channel's own reply, and behind ` or `
-/// `NoMemory`, where a channel may answer so too.
+/// Whether a correct channel could have given the replies that a text records. The first line opens
+/// the channel, as that of a script does; each further line is a step, ` -> ` and the reply.
 ///
-/// What was said is compared with the texts of replies, so a text that no reply has is a reply that
-/// isn't lawful. `NoMemory`: the pairs, the channel or a text found no room. Linear in the length
-/// of the input, but for finding tickets.
+/// - If a line is wrong, the text is that of `run_script`, which names the first wrong line, with
+///   status 2: all lines are read first.
+/// - If the lines are a history, the text is `run`, with status 0.
+/// - Else the text names the first line whose reply isn't lawful, this reply, and the lawful one, with
+///   status 1: the channel's own reply, and ` or ` `NoMemory` if a channel may answer so too.
+///
+/// Recorded replies are compared as text, so a text that no reply has is a reply that isn't lawful.
+/// `NoMemory`: the pairs, the channel or a text couldn't be allocated. The time is linear in the
+/// length of the input, except for finding tickets.
 ///
 /// ```
 /// let input = b"unbounded\ntry_send 42 -> sent\ntry_recv -> got 41\n";
@@ -49,7 +50,6 @@ pub fn check_script<A: Allocator + Copy>(alloc: A, input: &[u8]) -> Result<Scrip
     }
 }
 
-// The text of the first wrong line.
 fn refuse<A: Allocator + Copy>(alloc: A, line: usize) -> Result<Script<A>, NoMemory>
     ensures text { IfOk result (λ script. script.text.items ≡ wrong_text line) }
     ensures status { IfOk result (λ script. script.status ≡ 2) }
@@ -58,7 +58,6 @@ fn refuse<A: Allocator + Copy>(alloc: A, line: usize) -> Result<Script<A>, NoMem
     Ok(Script { text, status: 2 })
 }
 
-// Follows the pairs on a new channel, up to the first one that isn't lawful.
 fn judge<A: Allocator + Copy>(
     alloc: A,
     capacity: Option<usize>,
@@ -81,9 +80,9 @@ fn judge<A: Allocator + Copy>(
     Ok(Script { text, status: 0 })
 }
 
-// Makes the step, unless what was said is that memory ran out for it, where a channel may answer
-// so. None where what was said is lawful, and else what is. What was said is compared as text and
-// not read, so one that no channel gives anywhere is a wrong answer and no wrong line.
+// Makes the step, unless the recorded reply is `NoMemory` and a channel may answer so. `None` if
+// the recorded reply is lawful, and else what is lawful. It is compared as text and not parsed, so
+// one that no channel gives anywhere is a wrong answer and no wrong line.
 fn should_be<A: Allocator + Copy>(
     alloc: A,
     chan: &mut Chan<u64, (), A>,
@@ -120,7 +119,6 @@ fn should_be<A: Allocator + Copy>(
     Ok(Some(own))
 }
 
-// The text of the reply.
 fn text_of<A: Allocator + Copy>(alloc: A, reply: &Reply<u64, A>) -> Result<Vec<u8, A>, NoMemory>
     ensures value { IfOk result (λ text. text.items ≡ reply_text reply.now) }
 {
@@ -131,7 +129,6 @@ fn text_of<A: Allocator + Copy>(alloc: A, reply: &Reply<u64, A>) -> Result<Vec<u
     Ok(text)
 }
 
-// What is printed where this line says what isn't lawful, and what should be said is.
 fn write_break<A: Allocator + Copy>(
     alloc: A,
     line: usize,

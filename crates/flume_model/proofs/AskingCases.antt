@@ -74,7 +74,8 @@ module _ {T A : Type 0} where
       by_entry None is _ h = absurd h
       by_entry (Some e) is r h = polled_mark c t P when e is e.kind e.mark refl r h
 
-  -- what holds in each case holds of the reply to one that isn't filled and leaves, where it blocks and where it doesn't
+  -- what holds in each case holds of the reply to one that isn't filled and leaves, if it blocks
+  -- and if it doesn't
   gone_block : (c : Channel T) (t : ℕ) (P : Reply T A → Type 0) → WhenGone c t P → Unfilled c t → (reply : Reply T A)
       → IsGoneBlock c reply → P reply
   gone_block c t P when u (Got m) h = when.takes u m h

@@ -25,7 +25,7 @@ module _ {T : Type 0} where
   none_round : (t : ℕ) (front : T) (es : List (LogEntry T)) → entry_of t es ≡ None → entry_of t (round same_notice front es) ≡ None
   none_round t front es h = none_same t es (round same_notice front es) (sym (tickets_round same_notice front es)) h
 
-  -- where an end leaves, the tickets stay apart
+  -- if an end leaves, the tickets stay apart
   apart_close : (n : ℕ) (closes : Bool) (es : List (LogEntry T)) → Apart n es → Apart (n + 0) (if closes then all_woken same_notice es else es)
   apart_close n true es h = apart_above n (n + 0) _ (omega arith) (apart_same n es _ (sym (tickets_woken same_notice es)) h)
   apart_close n false es h = apart_above n (n + 0) es (omega arith) h
@@ -36,7 +36,7 @@ module _ {T : Type 0} where
   none_close t true es h = none_same t es _ (sym (tickets_woken same_notice es)) h
   none_close t false es h = h
 
-  -- where an end leaves, those entries are filled that were
+  -- if an end leaves, those entries are filled that were
   filled_close : (was : ℕ → Bool) (closes : Bool) (es : List (LogEntry T)) → FilledBy was es
       → FilledBy was (if closes then all_woken same_notice es else es)
   filled_close was closes es h = grind (arith, common_steps, filled_woken same_notice was es)
@@ -75,7 +75,7 @@ module _ {T : Type 0} where
       (λ passes front rest e. fills_none_else t (without u c.entries) (none_without t u c.entries none))
   fills_none c _ t h none = refl
 
-  -- after a change that fits, the entries are filled that were or are told as filled
+  -- after a change that fits, the entries are filled that were or are named as filled
   pub filled_by_change : (c : Channel T) (closes : Bool) (done : Change T) (was : ℕ → Bool) → Fits c done → Apart c.next c.entries
       → ((t : ℕ) → c.next ≤ t → was t ≡ false) → FilledBy was c.entries
       → FilledBy (λ t. is_ticket t (fills done) || was t) (entries_after c.queue closes c.entries done)
@@ -108,7 +108,7 @@ module _ {T : Type 0} where
   parks_under (Parks u kind) t = eqb u t
   parks_under _ t = false
 
-  -- a change gives no entry a ticket that none had, but where one parks
+  -- a change gives no entry a ticket that none had, but if one parks
   pub none_by : (c : Channel T) (closes : Bool) (done : Change T) (t : ℕ) → parks_under done t ≡ false → entry_of t c.entries ≡ None
       → entry_of t (entries_after c.queue closes c.entries done) ≡ None
   none_by c closes (Queues m filled) t e none =

@@ -1,4 +1,4 @@
--- How many entries wait and how many stand woken, after a wake round, a leave and one more entry.
+-- How many entries wait and how many are woken, after a wake round, a leave and one more entry.
 use Rattle.flume_model.proofs.Common.{◌≡◌, ℕ, ◌+◌, ◌<◌, ◌≤◌, true, false, if◌then◌else◌, List, [], ◌∷◌, Option, Some, refl, arith}
 use Rattle.flume_model.proofs.Common.{is_waiting, is_woken, some_wait, waiting_count, woken_count, round, round_fills, entry_of, without}
 use Rattle.flume_model.proofs.Common.{how_many, Entry, Mark, common_steps}
@@ -13,12 +13,12 @@ module _ {T : Type 0} where
   woken_one m = if is_woken m then 1 else 0
 
 module _ {T N : Type 0} where
-  -- where none waits, none is counted
+  -- if none waits, none is counted
   pub counted_none : (es : List (Entry T N)) → some_wait es ≡ false → waiting_count es ≡ 0
   counted_none [] h = refl
   counted_none (x ∷ es) h = grind (arith, common_steps, counted_none es)
 
-  -- where one waits, it is counted
+  -- if one waits, it is counted
   pub counted_some : (es : List (Entry T N)) → some_wait es ≡ true → 0 < waiting_count es
   counted_some [] h = absurd (let none : ⊥ = cc in none)
   counted_some (x ∷ es) h = grind (arith, common_steps, counted_some es)
@@ -29,7 +29,7 @@ module _ {T N : Type 0} where
     pub no_more : waiting_count after ≤ waiting_count es
     pub fewer : some_wait es ≡ true → waiting_count after + 1 ≤ waiting_count es
 
-  -- a round wakes or fills one where one waits, and as many wait no longer as it wakes and fills
+  -- a round wakes or fills one if one waits, and as many wait no longer as it wakes and fills
   pub round_counts : (tell : N → N) (front : T) (es : List (Entry T N)) → Rounded es (round tell front es) (round_fills es)
   round_counts tell front [] =
       record { total = omega arith; no_more = omega arith; fewer = λ some. absurd (let none : ⊥ = cc in none) }
@@ -44,7 +44,7 @@ module _ {T N : Type 0} where
     pub waiting : waiting_count after + waits_one m ≡ waiting_count es
     pub woken : woken_count after + woken_one m ≡ woken_count es
 
-  -- where an entry leaves, it is no longer counted
+  -- if an entry leaves, it is no longer counted
   pub without_counts : (t : ℕ) (e : Entry T N) (es : List (Entry T N)) → entry_of t es ≡ Some e → OneFewer es (without t es) e.mark
   without_counts t e [] h = absurd (let none : ⊥ = cc in none)
   without_counts t e (x ∷ es) h = record {

@@ -50,7 +50,7 @@ module _ {T N : Type 0} where
   none_push t [] x h e = none_more t x [] e refl
   none_push t (y ∷ es) x h e = grind (arith, common_steps, none_push t es x)
 
-  -- where none had its ticket, the one more is found by it
+  -- if none had its ticket, the one more is found by it
   pub entry_last : (es : List (Entry T N)) (x : Entry T N) → entry_of x.ticket es ≡ None → entry_of x.ticket (es ++ x ∷ []) ≡ Some x
   entry_last [] x h = let same = eq-eqb x.ticket x.ticket refl in simp same
   entry_last (y ∷ es) x h = grind (arith, common_steps, entry_last es x)
@@ -65,7 +65,7 @@ module _ {T N M : Type 0} where
   none_same t (x ∷ es) (y ∷ fs) e h = grind (arith, common_steps, none_same t es fs)
 
 module _ {T N : Type 0} where
-  -- what holds where a queue is empty and where a round comes, holds of what a round for the queue leaves
+  -- what holds if a queue is empty and if a round comes, holds of what a round for the queue leaves
   pub round_for_cases : (P : List (Entry T N) → Option ℕ → Type 0) (tell : N → N) (queue_ : List T) (es : List (Entry T N))
       → (queue_ ≡ [] → P es None)
       → ((front : T) (rest : List T) → queue_ ≡ front ∷ rest → P (round tell front es) (round_fills es))

@@ -5,7 +5,7 @@ use Rattle.flume_model.proofs.Common.{Entry, Mark, Waiting, Woken, Filled, Kind,
 use Rattle.flume_model.proofs.EntryLists.{tickets, fills_none_else, none_without, none_push, none_same}
 
 module _ {T N : Type 0} where
-  -- each entry is filled just where this test says so of its ticket
+  -- each entry is filled exactly if this test says so of its ticket
   abbrev pub FilledBy : (ℕ → Bool) → List (Entry T N) → Type 0
   FilledBy was [] = Unit {0}
   FilledBy was (e ∷ es) = (was e.ticket ≡ is_filled e.mark) × FilledBy was es
@@ -16,7 +16,7 @@ module _ {T N : Type 0} where
   filled_found was t e [] all h = absurd (let none : ⊥ = cc in none)
   filled_found was t e (x ∷ es) all h = grind (arith, common_steps, filled_found was t e es)
 
-  -- where one ticket more counts as filled, which no entry has, nothing changes
+  -- if one ticket more counts as filled, which no entry has, nothing changes
   pub filled_more : (was : ℕ → Bool) (t : ℕ) (es : List (Entry T N)) → entry_of t es ≡ None → FilledBy was es
       → FilledBy (λ u. eqb t u || was u) es
   filled_more was t [] h all = tt
@@ -33,7 +33,7 @@ module _ {T N : Type 0} where
   filled_push was [] x all h = (h, tt)
   filled_push was (y ∷ es) x all h = (all.0, filled_push was es x all.1 h)
 
-  -- where all that wait are woken
+  -- if all that wait are woken
   pub filled_woken : (tell : N → N) (was : ℕ → Bool) (es : List (Entry T N)) → FilledBy was es → FilledBy was (all_woken tell es)
   filled_woken tell was [] all = tt
   filled_woken tell was (x ∷ es) all = grind (arith, common_steps, filled_woken tell was es)

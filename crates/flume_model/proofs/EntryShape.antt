@@ -1,4 +1,5 @@
--- What the entries of each run are: their tickets are apart from one another and from those of sends, and they are filled where told.
+-- What the entries of each run are: their tickets are apart from one another and from those of
+-- sends, and they are filled if a reply says so.
 use Rattle.flume_model.proofs.Common.{◌≡◌, ℕ, ◌+◌, ◌<◌, ◌≤◌, Bool, true, false, not, ◌||◌, ◌&&◌, if◌then◌else◌, [], ◌∷◌, Option, Some, None}
 use Rattle.flume_model.proofs.Common.{refl, sym, ◌∙◌, ap, subst, arith, inl, inr, ◌⊎◌, or_from, or_cases, and_parts, channel, is_over}
 use Rattle.flume_model.proofs.Common.{entry_of, next_ticket, queue, issued, issues, spends, is_live, Log, Opening, Takes, Collects}
@@ -44,7 +45,7 @@ module _ {T A : Type 0} where
     pub unfilled : (t : ℕ) → next_ticket o log ≤ t → was_filled log t ≡ false
     pub sides : SidesApart o log
 
-  -- a receiver is filled just where a reply told its ticket
+  -- a receiver is filled exactly if a reply named its ticket as filled
   pub told_in : (o : Opening) (log : Log T A) → Entered o log → ToldFilled o log
   told_in o log h t e found = filled_found (was_filled log) t e (entries o log) h.marks found
 
@@ -104,7 +105,7 @@ module _ {T A : Type 0} where
   entered o [] run = record { apart = tt; marks = tt; unfilled = λ t le. refl; sides = λ t live. absurd (let none : ⊥ = cc in none) }
   entered o (p ∷ past) run = entered_more o past p run.0 (entered o past run.1)
 
-  -- a receiver is filled just where a reply told its ticket as filled
+  -- a receiver is filled exactly if a reply named its ticket as filled
   pub told_filled : (o : Opening) (log : Log T A) → IsRun o log → ToldFilled o log
   told_filled o log run = told_in o log (entered o log run)
 
@@ -116,6 +117,6 @@ module _ {T A : Type 0} where
   pub sides_apart : (o : Opening) (log : Log T A) → IsRun o log → SidesApart o log
   sides_apart o log run = (entered o log run).sides
 
-  -- what a lawful reply changes fits what stands before it
+  -- what a lawful reply changes fits what is before it
   pub fits_run : (o : Opening) (past : Log T A) (p : Step T × Reply T A) → IsRun o (p ∷ past) → Fits (channel o past) (change past p.0 p.1)
   fits_run o past p run = fits o past p.0 p.1 (told_filled o past run.1) run.0

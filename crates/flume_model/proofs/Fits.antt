@@ -1,4 +1,4 @@
--- A lawful reply makes a change that fits what stands before it.
+-- A lawful reply makes a change that fits what is before it.
 use Rattle.flume_model.proofs.Common.{◌≡◌, ℕ, ◌+◌, ◌<◌, true, false, if◌then◌else◌, List, [], ◌∷◌, Option, Some, None, refl, sym, ◌∙◌, ap}
 use Rattle.flume_model.proofs.Common.{arith, cond, take, take-nil, IsPolled, IsGone, Channel, TakesIn, TakesNoneIn, IsAccepted, IsBlocked}
 use Rattle.flume_model.proofs.Common.{IsFront, channel, senders, receivers, senders_after, receivers_after, is_over, is_filled, is_woken}
@@ -36,7 +36,7 @@ module _ {T : Type 0} where
   none_taken : (n : ℕ) (xs : List (Offer T)) → messages xs ≡ [] → messages (take n xs) ≡ []
   none_taken n xs e = grind (arith, common_steps, take-nil)
 
-  -- a receiver that leaves where nothing is queued fills nobody
+  -- a receiver that leaves if nothing is queued fills nobody
   pub fills_none : {N : Type 0} (t : ℕ) (queue_ : List T) (es : List (Entry T N)) → queue_ ≡ [] → leave_fills t queue_ es ≡ None
   fills_none t queue_ es e =
       rw e (elim (passes_on (entry_of t es)) as (λ b. cond {A = Option ℕ} b None None ≡ None) [ true ↦ refl | false ↦ refl ])
@@ -57,7 +57,7 @@ module _ {T A : Type 0} where
       let was : was_filled past t ≡ false = told t e found ∙ not_filled in
       rw was (front, record { entry = e; found = found; empty = not_filled })
 
-  -- one that isn't filled leaves where the line is empty
+  -- one that isn't filled leaves if the line is empty
   ends : (o : Opening) (past : Log T A) (t : ℕ) → Unfilled (channel o past) t → messages (line past) ≡ []
       → Fits (channel o past) (Leaves t None)
   ends o past t u empty =
@@ -97,7 +97,7 @@ module _ {T A : Type 0} where
   fits o past (Withdraw t) reply told h = gone o past t reply told h
   fits o past step reply told h = grind (arith, common_steps)
 
-  -- where both ends are gone, no change that fits brings one back
+  -- if both sides have disconnected, no change that fits brings one back
   over_stays : (o : Opening) (past : Log T A) (done : Change T) → Fits (channel o past) done → senders past + receivers past ≡ 0
       → senders_after (senders past) done + receivers_after (receivers past) done ≡ 0
   over_stays o past SenderJoins h e = absurd (omega arith)

@@ -1,10 +1,11 @@
--- A list at a place: what stands there, what stands before and behind it, and what is left when it is replaced.
+-- A list at a place: what is there, what is before and behind it, and what is left when it is
+-- replaced.
 use Rattle.flume_model.proofs.Common.{◌≡◌, ℕ, zero, suc, refl, ◌+◌, ◌<◌, List, ◌∷◌, ◌++◌, length, take, drop, Some, sym, ap}
 use Rattle.flume_model.proofs.Common.{◌∙◌, [], arith, ◌⊎◌, inl, inr, drop_more, take-append-drop}
 use Rattle.flume_model.proofs.Common.{get_or_from_slice_get, slice_get_within, slice_get}
 
 module _ {X : Type 0} where
-  -- a list from a place on, where this element stands there
+  -- a list from a place on, if this element is there
   pub rest_at : (xs : List X) (i : ℕ) (e : X) → slice_get xs i ≡ Some e → drop i xs ≡ e ∷ drop (i + 1) xs
   rest_at xs i e at = drop_more xs i e (slice_get_within xs i e at) ∙ ap (λ y. y ∷ drop (i + 1) xs) (get_or_from_slice_get xs i e e at)
 
@@ -12,7 +13,7 @@ module _ {X : Type 0} where
   pub split_at : (xs : List X) (i : ℕ) (e : X) → slice_get xs i ≡ Some e → xs ≡ take i xs ++ e ∷ drop (i + 1) xs
   split_at xs i e at = sym (take-append-drop i xs) ∙ ap (λ ys. take i xs ++ ys) (rest_at xs i e at)
 
-  -- what stands at a place of two lists, one behind the other, stands in the first or in the second
+  -- what is at a place of two lists, one behind the other, is in the first or in the second
   pub at_either : (xs ys : List X) (j : ℕ) (x : X) → slice_get (xs ++ ys) j ≡ Some x
       → (slice_get xs j ≡ Some x) ⊎ ((k : ℕ) × (j ≡ length xs + k) × (slice_get ys k ≡ Some x))
   at_either [] ys j x e = inr (j, omega arith, e)

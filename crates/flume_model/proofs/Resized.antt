@@ -14,11 +14,11 @@ use Rattle.flume_model.proofs.order.LineSteps.{line_stays}
 open_not_over : (s r : ℕ) → IsOpen s r → eqb (s + r) 0 ≡ false
 open_not_over s r is = grind (arith, common_steps)
 
--- a ticket stays live where the channel isn't over
+-- a ticket stays live if the channel isn't over
 stays_live : (over live : Bool) → over ≡ false → (not over && (false || (live && true))) ≡ live
 stays_live over live e = grind (arith, common_steps)
 
--- at capacity, or where the line is no longer, the same capacity lets none in
+-- at capacity, or if the line is no longer, the same capacity lets none in
 none_more : (n long same : ℕ) → n ≤ long → (n < long → same ≤ n) → max n (min same long) ≡ n
 none_more n long same within full = grind (arith, common_steps)
 
@@ -28,7 +28,7 @@ bounded None is e = is
 bounded (Some c) is e = let none : ⊥ = cc in none
 
 module _ {T A : Type 0} where
-  -- where the capacity was set
+  -- if the capacity was set
   pub resized : (o : Opening) (past : Log T A) (new : ℕ) → IsRun o (set_to new past)
       → IsResized o past (set_to new past) new (queued_at o past new)
   resized o past new run =
@@ -44,7 +44,7 @@ module _ {T A : Type 0} where
         live_are = λ t. stays_live (is_over past) (is_live past t) open_;
       }
 
-  -- where it was set to what it was
+  -- if it was set to what it was
   pub same_resized : (o : Opening) (past : Log T A) (same : ℕ) → IsRun o (set_to same past) → capacity o past ≡ Some same
       → IsResized o past (set_to same past) same (boundary o past)
   same_resized o past same run e =
@@ -61,7 +61,7 @@ module _ {T A : Type 0} where
         live_are = by.live_are;
       }
 
-  -- where it was set, and then set to no more
+  -- if it was set, and then set to no more
   pub twice_resized : (o : Opening) (past : Log T A) (high low : ℕ) → low ≤ high → IsRun o (set_to low (set_to high past))
       → IsResized o past (set_to low (set_to high past)) low (queued_at o past high)
   twice_resized o past high low le run =

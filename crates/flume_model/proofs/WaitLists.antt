@@ -5,21 +5,21 @@ use Rattle.flume_model.proofs.Common.{again, leave_fills, Entry, arith, common_s
 use Rattle.flume_model.proofs.WaitingCounts.{wait_without}
 
 module _ {T N : Type 0} where
-  -- a round fills only where one waits
+  -- a round fills only if one waits
   pub fills_waiting : (es : List (Entry T N)) (u : ℕ) → round_fills es ≡ Some u → some_wait es ≡ true
   fills_waiting [] u h = absurd (let none : ⊥ = cc in none)
   fills_waiting (e ∷ es) u h = grind (arith, common_steps, fills_waiting es u)
 
-  -- a round for a queue fills only where one waits
+  -- a round for a queue fills only if one waits
   pub fills_waiting_for : (queue : List T) (es : List (Entry T N)) (u : ℕ) → round_for_fills queue es ≡ Some u → some_wait es ≡ true
   fills_waiting_for queue es u h = grind (arith, common_steps, fills_waiting es u)
 
-  -- one that leaves fills another only where one waits
+  -- one that leaves fills another only if one waits
   pub leave_fills_waiting : (t : ℕ) (queue : List T) (es : List (Entry T N)) (u : ℕ) → leave_fills t queue es ≡ Some u
       → some_wait es ≡ true
   leave_fills_waiting t queue es u h = grind (arith, common_steps, wait_without t es, fills_waiting_for queue (without t es) u)
 
-  -- where one waits after one asked again, one waited, or the one that asked was woken
+  -- if one waits after one asked again, one waited, or the one that asked was woken
   pub wait_again : (t : ℕ) (es : List (Entry T N)) → some_wait (again t es) ≡ true
       → (some_wait es ≡ true) ⊎ ((e : Entry T N) × (entry_of t es ≡ Some e) × (is_woken e.mark ≡ true))
   wait_again t es h = by_entry (entry_of t es) refl

@@ -1,5 +1,5 @@
--- No more receivers wait after a wake round, nor after one leaves, nor once all are woken. So where one waits then, one waited
--- before.
+-- No more receivers wait after a wake round, nor after one leaves, nor once all are woken. So if
+-- one waits then, one waited before.
 use Rattle.flume_model.proofs.Common.{◌≡◌, ℕ, ◌≤◌, true, false, List, [], ◌∷◌, refl, arith, some_wait, waiting_count, round, round_for}
 use Rattle.flume_model.proofs.Common.{without, after_leave, all_woken, Entry, common_steps}
 use Rattle.flume_model.proofs.EntryCounts.{counted_none, counted_some, round_counts}
@@ -29,24 +29,24 @@ module _ {T N : Type 0} where
   pub fewer_woken : (tell : N → N) (es : List (Entry T N)) → waiting_count (all_woken tell es) ≤ waiting_count es
   fewer_woken tell es = let none = counted_none (all_woken tell es) (wait_woken tell es) in omega arith
 
-  -- where one waits and no more waited before, one waited before
+  -- if one waits and no more waited before, one waited before
   wait_by : (after es : List (Entry T N)) → waiting_count after ≤ waiting_count es → some_wait after ≡ true → some_wait es ≡ true
   wait_by after es fewer some = grind (arith, common_steps, counted_some after, counted_none es)
 
-  -- where one waits after a round, one waited before
+  -- if one waits after a round, one waited before
   pub wait_round : (tell : N → N) (front : T) (es : List (Entry T N)) → some_wait (round tell front es) ≡ true → some_wait es ≡ true
   wait_round tell front es = wait_by (round tell front es) es (round_counts tell front es).no_more
 
-  -- where one waits after a round for a queue, one waited before
+  -- if one waits after a round for a queue, one waited before
   pub wait_round_for : (tell : N → N) (queue : List T) (es : List (Entry T N)) → some_wait (round_for tell queue es) ≡ true
       → some_wait es ≡ true
   wait_round_for tell queue es = wait_by (round_for tell queue es) es (fewer_rounded tell queue es)
 
-  -- where one of the others waits
+  -- if one of the others waits
   pub wait_without : (t : ℕ) (es : List (Entry T N)) → some_wait (without t es) ≡ true → some_wait es ≡ true
   wait_without t es = wait_by (without t es) es (fewer_without t es)
 
-  -- where one waits after another leaves, one waited before
+  -- if one waits after another leaves, one waited before
   pub wait_after_leave : (tell : N → N) (t : ℕ) (queue : List T) (es : List (Entry T N)) → some_wait (after_leave tell t queue es) ≡ true
       → some_wait es ≡ true
   wait_after_leave tell t queue es = wait_by (after_leave tell t queue es) es (fewer_after_leave tell t queue es)

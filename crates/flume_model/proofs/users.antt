@@ -1,4 +1,4 @@
--- The laws for those who use a channel.
+-- The laws for users of a channel.
 pub mod Giving
 pub mod Holding
 pub mod Balances

@@ -17,7 +17,7 @@ module _ {T A : Type 0} where
   abbrev pub OnlyBlockingReceivers : Log T A → Type 0
   OnlyBlockingReceivers log = All (λ p. parks_blocking p.0 ≡ true) log
 
--- at most this capacity; no bound where there is none
+-- at most this capacity; no bound if there is none
 abbrev pub IsAtMostCapacity : Option ℕ → ℕ → Type 0
 IsAtMostCapacity None n = Unit {0}
 IsAtMostCapacity (Some capacity) n = n ≤ capacity

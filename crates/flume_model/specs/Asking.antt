@@ -34,7 +34,7 @@ module _ {T A : Type 0} where
   IsPolledOther c Waiting = (c.line ≡ []) × IsOpen c.senders c.receivers
   IsPolledOther c _ = ⊥
 
-  -- by its mark where it is filled, and else by its kind
+  -- by its mark if it is filled, and else by its kind
   abbrev pub IsPolledMark : Channel T → Kind → Mark T → Reply T A → Type 0
   IsPolledMark c kind (Filled held) reply = IsCollected held reply
   IsPolledMark c Block mark reply = IsPolledBlock c mark reply
@@ -59,7 +59,7 @@ module _ {T A : Type 0} where
       (closed ≡ is_closed c.senders c.receivers) × (filled ≡ leave_fills t c.queue c.entries)
   IsGoneOther c t _ = ⊥
 
-  -- by its mark where it is filled, and else by its kind
+  -- by its mark if it is filled, and else by its kind
   abbrev pub IsGoneMark : Channel T → ℕ → Kind → Mark T → Reply T A → Type 0
   IsGoneMark c t kind (Filled held) reply = IsCollected held reply
   IsGoneMark c t Block mark reply = IsGoneBlock c reply

@@ -8,7 +8,7 @@ use Rattle.flume_model.specs.Laws.{InOrder}
 use Rattle.flume_model.specs.WaitLaws.{Covered, Bounded}
 
 module _ {T A : Type 0} where
-  -- the log began with this one; what came later stands before it, since the newest stand first
+  -- the log began with this one; what came later is before it, since the newest come first
   abbrev pub IsBeginning : Log T A → Log T A → Type 0
   IsBeginning log before = (later : Log T A) × (log ≡ later ++ before)
 
@@ -20,7 +20,7 @@ module _ {T A : Type 0} where
     pub in_order : InOrder (entries opening log) log
     -- no more of the line is queued than there is of it
     pub boundary_within : boundary opening log ≤ length (line log)
-    -- while a receiver waits, at least as many stand woken as messages are queued
+    -- while a receiver waits, at least as many are woken as messages are queued
     pub woken_cover : Covered opening log
     -- queued messages and waiting receivers are at most the greater of the greatest capacity so far
     -- and the peak

@@ -11,7 +11,7 @@ use Rattle.flume_model.specs.Parked.{LogEntry, entries}
 
 -- what a reply is judged by
 pub record Channel (T : Type 0) : Type 0 where
-  -- none: unbounded
+  -- the capacity; none of an unbounded channel
   pub capacity : Option ℕ
   -- the messages that weren't handed out yet, in order
   pub line : List T

@@ -32,13 +32,13 @@ module _ {T A : Type 0} where
   gives (Drained list) = list.items
   gives _ = []
 
-  -- all messages that replies gave out; those of the newest reply stand first
+  -- all messages that replies gave out; those of the newest reply come first
   abbrev pub given_out : Log T A → List T
   given_out [] = []
   given_out (p ∷ past) = gives p.1 ++ given_out past
 
-  -- while the channel isn't over, all that was offered was given out, or stands in the line, or is
-  -- held by an entry. Once it is over, no more was given out than was offered: the rest is let go
+  -- while the channel isn't over, all that was offered was given out, or is in the line, or is held
+  -- by an entry. Once it is over, no more was given out than was offered: the rest is let go
   abbrev pub IsConserved : Opening → Log T A → (T → ℕ) → Bool → Type 0
   IsConserved opening log weight false =
       sum_by weight (messages (offers log))
@@ -47,7 +47,7 @@ module _ {T A : Type 0} where
   IsConserved opening log weight true =
       sum_by weight (given_out log) ≤ sum_by weight (messages (offers log))
 
-  -- no message is lost by any weight: where one message weighs 1 and all others 0, it is counted
+  -- no message is lost by any weight: if one message weighs 1 and all others 0, it is counted
   abbrev pub Conserved : Opening → Log T A → Type 0
   Conserved opening log =
       (weight : T → ℕ) → IsConserved opening log weight (is_over log)

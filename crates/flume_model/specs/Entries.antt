@@ -1,6 +1,6 @@
--- The parked receivers, an entry each: how they stand, what a wake round and closing do to them,
--- and how one asks again or leaves. The waiting ones stand in the order in which they began to
--- wait. N is what else an entry has: nothing in a log, its signal in a state.
+-- The parked receivers, an entry each: their states, what a wake round and closing do to them, and
+-- how one asks again or leaves. The waiting ones are in the order in which they began to wait. N is
+-- what else an entry has: nothing in a log, its signal in a state.
 use Rattle.std.specs.Prelude.{◌==◌, ℕ, ◌+◌, Bool, true, false, if◌then◌else◌, List, [], ◌∷◌, ◌++◌}
 use Rattle.std.specs.Prelude.{map, Option, Some, None}
 use Rattle.std.specs.List.{list_any}
@@ -47,7 +47,7 @@ module _ {T N : Type 0} where
   waiting_count [] = 0
   waiting_count (e ∷ entries) = (if is_waiting e.mark then 1 else 0) + waiting_count entries
 
-  -- how many stand woken
+  -- how many are woken
   abbrev pub woken_count : List (Entry T N) → ℕ
   woken_count [] = 0
   woken_count (e ∷ entries) = (if is_woken e.mark then 1 else 0) + woken_count entries
@@ -56,16 +56,16 @@ module _ {T N : Type 0} where
   abbrev pub marked : (N → N) → Mark T → Entry T N → Entry T N
   marked tell mark e = record e { mark = mark; notice = tell e.notice }
 
-  -- a waiting entry that a wake round meets, with the entries behind it: as they are where the
-  -- round ends here, as it leaves them where it goes on
+  -- a waiting entry that a wake round meets, with the entries behind it: as they are if the round
+  -- ends here, as it leaves them if it goes on
   abbrev pub met : (N → N) → Kind → T → Entry T N → List (Entry T N) → List (Entry T N)
       → List (Entry T N)
   met tell Stream front e as_are goes_on = marked tell Woken e ∷ goes_on
   met tell Block front e as_are goes_on = marked tell (Filled front) e ∷ as_are
   met tell kind front e as_are goes_on = marked tell Woken e ∷ as_are
 
-  -- A wake round: it wakes each waiting stream, until it meets a waiting entry of another kind. That
-  -- is woken, or, where it blocks, filled with the message at the front of the queue.
+  -- A wake round: it wakes each waiting stream, until it meets a waiting entry of another kind.
+  -- That is woken, or, if it blocks, filled with the message at the front of the queue.
   abbrev pub round : (N → N) → T → List (Entry T N) → List (Entry T N)
   round tell front [] = []
   round tell front (e ∷ entries) =
@@ -79,7 +79,7 @@ module _ {T N : Type 0} where
       if is_waiting e.mark then filled_at e.kind e.ticket (round_fills entries)
       else round_fills entries
 
-  -- a wake round where this is the queue; there is none where nothing is queued
+  -- a wake round where this is the queue; there is none if nothing is queued
   abbrev pub round_for : (N → N) → List T → List (Entry T N) → List (Entry T N)
   round_for tell [] entries = entries
   round_for tell (front ∷ queue) entries = round tell front entries
@@ -119,7 +119,7 @@ module _ {T N : Type 0} where
   abbrev pub again : ℕ → List (Entry T N) → List (Entry T N)
   again t entries = again_as t (entry_of t entries) entries
 
-  -- whether a wake is passed on where this entry leaves: it was woken
+  -- whether a wake is passed on if this entry leaves: it was woken
   abbrev pub passes_on : Option (Entry T N) → Bool
   passes_on None = false
   passes_on (Some e) = is_woken e.mark

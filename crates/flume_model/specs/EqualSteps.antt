@@ -1,4 +1,4 @@
--- When two steps are equal: where their cases are the same, and what they hold is equal.
+-- When two steps are equal: if their cases are the same, and what they hold is equal.
 use Rattle.std.specs.Prelude.{Bool, true, false, nat_eq}
 use Rattle.flume_model.specs.declared.step.Kind.{Kind}
 use Rattle.flume_model.specs.declared.step.Kind.TheVariants.{Block, Plain, Stream, Arm}

@@ -11,7 +11,7 @@ use Rattle.flume_model.specs.Counts.{is_over}
 use Rattle.flume_model.specs.Entries.{entry_of, held_by}
 
 module _ {T : Type 0} where
-  -- the first of two, or where it isn't there, the second
+  -- the first of two, or if it isn't there, the second
   abbrev pub or_else : Option T → Option T → Option T
   or_else None second = second
   or_else (Some message) second = Some message
@@ -39,7 +39,7 @@ module _ {T A : Type 0} where
 
 module _ {T A N : Type 0} where
   -- after a log, with these entries, the hand-out is of this message: the one that its reply shows;
-  -- or, where it filled a receiver, the one that this receiver got, or holds
+  -- or, if it filled a receiver, the one that this receiver got, or holds
   abbrev pub IsOf : List (Entry T N) → Log T A → HandOut T → T → Type 0
   IsOf entries log (Shown given) message = given ≡ message
   IsOf entries log (FilledIn t) message =

@@ -18,7 +18,7 @@ abbrev pub IsBelow : ℕ → Option ℕ → Type 0
 IsBelow n None = Unit {0}
 IsBelow n (Some t) = t < n
 
--- the first ticket, where both are there, is below the second
+-- the first ticket, if both are there, is below the second
 abbrev pub IsEarlier : Option ℕ → Option ℕ → Type 0
 IsEarlier (Some t) (Some u) = t < u
 IsEarlier _ _ = Unit {0}
@@ -44,7 +44,7 @@ module _ {T A : Type 0} where
   abbrev pub TicketsRise : Opening → Log T A → Type 0
   TicketsRise opening log = Rising (next_ticket opening log) (offers log)
 
-  -- a sender is blocked only where the queue is at capacity
+  -- a sender is blocked only if the queue is at capacity
   abbrev pub BlockedAtCapacity : Opening → Log T A → Type 0
   BlockedAtCapacity opening log =
       boundary opening log < length (line log)

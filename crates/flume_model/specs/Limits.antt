@@ -22,7 +22,7 @@ abbrev pub is_full : Option ℕ → ℕ → Bool
 is_full None n = false
 is_full (Some capacity) n = nat_le capacity n
 
--- there is a sender and a receiver, where there are so many of each
+-- there is a sender and a receiver, if there are this many of each
 abbrev pub IsOpen : ℕ → ℕ → Type 0
 IsOpen senders receivers = 0 < min senders receivers
 

@@ -1,4 +1,4 @@
--- Who is parked after a log, and the most that waited at once.
+-- The receivers parked after a log, and the most that waited at once.
 use Rattle.std.specs.Prelude.{ℕ, Bool, not, ◌&&◌, if◌then◌else◌, List, [], ◌∷◌, ◌++◌, max, Some}
 use Rattle.flume_model.specs.declared.entry.Entry.{Entry}
 use Rattle.flume_model.specs.declared.entry.Mark.TheVariants.{Waiting}
@@ -12,11 +12,11 @@ use Rattle.flume_model.specs.Line.{queue}
 use Rattle.flume_model.specs.Entries.{waiting_count, round_for, all_woken, without, again}
 use Rattle.flume_model.specs.Entries.{after_leave}
 
--- an entry of a log: nothing beside ticket, kind and mark
+-- an entry of a log: ticket, kind and mark alone
 abbrev pub LogEntry : Type 0 → Type 0
 LogEntry T = Entry T (Unit {0})
 
--- there is nothing to be told
+-- a log's notice, which never changes
 abbrev pub same_notice : Unit {0} → Unit {0}
 same_notice nothing = nothing
 

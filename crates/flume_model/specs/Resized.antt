@@ -12,7 +12,7 @@ module _ {T A : Type 0} where
   set_to new past = (SetCapacity new, Done) ∷ past
 
   -- from the one log to the other the line, the parked receivers and the tickets stay, and this is
-  -- the capacity then; of the line so many are queued then
+  -- the capacity then; of the line this many are queued then
   pub record IsResized (opening : Opening) (past log : Log T A) (new queued : ℕ) : Type 0 where
     pub capacity_is : capacity opening log ≡ Some new
     pub line_is : line log ≡ line past

@@ -14,7 +14,7 @@ use Rattle.flume_model.specs.Entries.{is_woken, is_filled, some_wait, waiting_co
 use Rattle.flume_model.specs.Entries.{entry_of}
 use Rattle.flume_model.specs.Parked.{LogEntry, entries, peak}
 
--- at most the greater of the capacity and another number; no bound where there is no capacity
+-- at most the greater of the capacity and another number; no bound if there is no capacity
 abbrev pub IsWithin : Option ℕ → ℕ → ℕ → Type 0
 IsWithin None other n = Unit {0}
 IsWithin (Some capacity) other n = n ≤ max capacity other
@@ -31,26 +31,26 @@ module _ {T N : Type 0} where
   Apart bound (e ∷ entries) =
       (e.ticket < bound) × (entry_of e.ticket entries ≡ None) × Apart bound entries
 
-  -- some receiver that blocks stands woken
+  -- some receiver that blocks is woken
   abbrev pub block_woken : List (Entry T N) → Bool
   block_woken entries = list_any (λ e. is_block e.kind && is_woken e.mark) entries
 
 module _ {T A : Type 0} where
-  -- while a receiver waits, at least as many stand woken as messages are queued
+  -- while a receiver waits, at least as many are woken as messages are queued
   abbrev pub Covered : Opening → Log T A → Type 0
   Covered opening log =
       some_wait (entries opening log) ≡ true
       → boundary opening log ≤ woken_count (entries opening log)
 
-  -- what is queued and who waits are together at most the greater of the greatest capacity so far
-  -- and the peak
+  -- queued messages and waiting receivers are together at most the greater of the greatest capacity
+  -- so far and the peak
   abbrev pub Bounded : Opening → Log T A → Type 0
   Bounded opening log =
       IsWithin (greatest opening log) (peak opening log)
       (boundary opening log + waiting_count (entries opening log))
 
-  -- a receiver waits, as many stand woken as messages are queued, and what is queued and who waits
-  -- are together the greater of the greatest capacity so far and the peak
+  -- a receiver waits, as many are woken as messages are queued, and queued messages and waiting
+  -- receivers are together the greater of the greatest capacity so far and the peak
   pub record MeetsBounds (opening : Opening) (log : Log T A) : Type 0 where
     pub waits : some_wait (entries opening log) ≡ true
     pub woken : boundary opening log ≡ woken_count (entries opening log)
@@ -77,8 +77,7 @@ module _ {T A : Type 0} where
         → IsAtCapacity (capacity opening log) (boundary opening log)
         × (some_wait (entries opening log) ≡ false)
 
-  -- a receiver that blocks stands woken only in a closed channel, and only where no sender is
-  -- blocked
+  -- a receiver that blocks is woken only in a closed channel, and only if no sender is blocked
   abbrev pub WokenBlockWhileClosed : Opening → Log T A → Type 0
   WokenBlockWhileClosed opening log =
       block_woken (entries opening log) ≡ true
@@ -94,7 +93,7 @@ module _ {T A : Type 0} where
       (t : ℕ) → is_live log t ≡ true
       → (t < next_ticket opening log) × (entry_of t (entries opening log) ≡ None)
 
-  -- a receiver is filled just where a reply told its ticket as filled
+  -- a receiver is filled exactly if a reply named its ticket as filled
   abbrev pub ToldFilled : Opening → Log T A → Type 0
   ToldFilled opening log =
       (t : ℕ) (e : LogEntry T) → entry_of t (entries opening log) ≡ Some e

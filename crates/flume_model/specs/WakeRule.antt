@@ -9,7 +9,7 @@ use Rattle.flume_model.specs.Entries.{is_waiting, marked, all_woken}
 use Rattle.flume_model.specs.WaitLaws.{is_block}
 
 module _ {T N : Type 0} where
-  -- a round goes past this entry: where it waits, it is a stream
+  -- a round goes past this entry: if it waits, it is a stream
   abbrev pub IsPassed : Entry T N → Type 0
   IsPassed e = is_waiting e.mark ≡ true → e.kind ≡ Stream
 
@@ -24,12 +24,12 @@ module _ {T N : Type 0} where
     pub passed : All IsPassed before
     pub waits : is_waiting first.mark ≡ true
     pub no_stream : first.kind ≢ Stream
-    -- those before it that wait are woken; it is filled with the front where it blocks, and else
+    -- those before it that wait are woken; it is filled with the front if it blocks, and else
     -- woken; all others stay as they are
     pub new_are :
         new ≡ all_woken tell before
         ++ marked tell (if is_block first.kind then Filled front else Woken) first ∷ later
-    -- it is filled where it blocks, and no other is
+    -- it is filled if it blocks, and no other is
     pub fills : filled ≡ (if is_block first.kind then Some first.ticket else None)
 
   -- a round that ends at none of the old entries leaves the new ones, and fills no ticket

@@ -1,27 +1,27 @@
-//! What a channel knows of a parked receiver.
+//! A parked receiver, as a channel knows it.
 
 use crate::step::Kind;
 
-/// How a parked receiver stands.
+/// The state of a parked receiver.
 #[derive(Drop)]
 pub enum Mark<T> {
     /// It waits.
     Waiting,
-    /// It was woken, and is to ask again.
+    /// It was woken, and hasn't asked since.
     Woken,
-    /// It was handed this message, and is to collect it.
+    /// It was handed this message, and hasn't collected it.
     Filled(T),
 }
 
-/// A parked receiver, with what an entry has beside: nothing in a log, its signal in a state.
+/// A parked receiver. `notice` is nothing in a log, and the receiver's signal in a state.
 #[derive(Drop)]
 pub struct Entry<T, N> {
     /// The ticket under which it parked.
     pub ticket: u64,
     /// How it receives.
     pub kind: Kind,
-    /// How it stands.
+    /// Its state.
     pub mark: Mark<T>,
-    /// What the entry has beside.
+    /// What else is known of it.
     pub notice: N,
 }

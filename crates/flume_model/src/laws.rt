@@ -17,8 +17,8 @@ pub mod waits;
 use crate::step::Step;
 use std::alloc::Allocator;
 
-/// Of each run, the messages handed out are the kept offers, in order: those that replies show, and
-/// those that filled receivers.
+/// Of each run, the messages handed out, by a reply or by filling a receiver, are the kept offers,
+/// in order.
 pub fn hands_out_in_order<T, A: Allocator>()
     ensures law { (opening : Opening) (log : Log T A)
         → IsRun opening log → InOrder (entries opening log) log }
@@ -44,7 +44,7 @@ pub fn withdrawals_move_nothing_handed_out<T, A: Allocator>()
         → IsRun opening (p ∷ past) → HandedOutStay p past }
 {}
 
-/// Of each run, a live ticket's offer is kept, and where its message was taken in, it was offered
+/// Of each run, a live ticket's offer is kept, and if its message was taken in, it was offered
 /// before all that are blocked.
 pub fn accepted_tickets_are_below_blocked_ones<T, A: Allocator>()
     ensures kept { (opening : Opening) (log : Log T A) → IsRun opening log → LiveAreKept log }
@@ -52,13 +52,13 @@ pub fn accepted_tickets_are_below_blocked_ones<T, A: Allocator>()
         → IsRun opening log → AcceptedBelowBlocked opening log }
 {}
 
-/// Of each run, a sender is blocked only where the queue is at or past the capacity.
+/// Of each run, a sender is blocked only if the queue is at or past the capacity.
 pub fn senders_block_only_at_capacity<T, A: Allocator>()
     ensures law { (opening : Opening) (log : Log T A)
         → IsRun opening log → BlockedAtCapacity opening log }
 {}
 
-/// Steps are equal where their cases are the same and what they hold is equal.
+/// Steps are equal if their cases are the same and what they hold is equal.
 pub fn steps_are_equal_by_case<T: PartialEq>()
     ensures same { (step other : Step T)
         → ⟦<Step<T> as PartialEq>⟧.eq step other ≡ equal_steps T.eq step other }

@@ -20,15 +20,15 @@ pub enum Kind {
 pub enum Step<T> {
     /// Offer a message, without waiting.
     TrySend(T),
-    /// Offer a message, and block where it isn't taken in at once.
+    /// Offer a message, and block if it isn't taken in at once.
     Send(T),
-    /// Ask how the blocked send with this ticket stands.
+    /// Ask for the state of the blocked send with this ticket.
     PollSend(u64),
     /// Take back the message of the blocked send with this ticket.
     WithdrawSend(u64),
     /// Ask for the message at the front, without waiting.
     TryRecv,
-    /// Ask for the message at the front, and park where there is none.
+    /// Ask for the message at the front, and park if there is none.
     Recv(Kind),
     /// Ask again, as the receiver parked under this ticket.
     Poll(u64),
@@ -73,7 +73,7 @@ pub enum Reply<T, A: Allocator = Global> {
     Full(T),
     /// All senders or all receivers were dropped: the message comes back.
     Closed(T),
-    /// Memory was wanted and refused: nothing was done, and the message of a send comes back.
+    /// Out of memory: nothing was done, and the message of a send comes back.
     NoMemory(Option<T>),
     /// Every ticket was issued: nothing was done, and the message of a send comes back.
     Spent(Option<T>),
@@ -111,7 +111,7 @@ pub enum Reply<T, A: Allocator = Global> {
     Number(usize),
     /// A truth value, as asked.
     Truth(bool),
-    /// The capacity, or none of an unbounded channel.
+    /// The capacity, or `None` if unbounded.
     Capacity(Option<usize>),
     /// The channel has no capacity to set.
     Unbounded,

@@ -17,11 +17,12 @@ ghost use Rattle.flume_model_rows.specs.Rows.{Runs, IsNearMiss};
 
 /// Worked rows of blocked sends, of ends and of queries are runs.
 pub fn blocked_rows_are_runs()
-    // A channel of capacity 0 takes a message in when it is asked for; a ticket is told of it once.
+    // A channel of capacity 0 takes a message in when it is asked for; a ticket's owner learns it
+    // once.
     ensures taken_in_when_asked { Runs (Some 0) ((TrySend 7, Full 7) ∷ (Send 7, Pending 1)
         ∷ (Len, Number 0) ∷ (TryRecv, Got 7) ∷ (PollSend 1, Accepted) ∷ (PollSend 1, NoTicket)
         ∷ []) }
-    // With the receiver gone, a blocked message comes back, and a queued one stays.
+    // Once the receiver has been dropped, a blocked message comes back, and a queued one stays.
     ensures blocked_comes_back { Runs (Some 1) ((Send 1, Sent None) ∷ (Send 2, Pending 1)
         ∷ (DropReceiver, Done) ∷ (PollSend 1, Returned 2 true) ∷ (Len, Number 1)
         ∷ (TrySend 3, Closed 3) ∷ (IsDisconnected, Truth true) ∷ []) }
@@ -36,13 +37,13 @@ pub fn blocked_rows_are_runs()
     // A blocked message outlives the last sender, and is handed out.
     ensures blocked_outlived { Runs (Some 0) ((Send 7, Pending 1) ∷ (DropSender, Done)
         ∷ (TryRecv, Got 7) ∷ (PollSend 1, Accepted) ∷ (TryRecv, Ended) ∷ []) }
-    // Senders may still come where no receiver lives, but receivers can't.
+    // Senders may still come if no receiver lives, but receivers can't.
     ensures senders_still_come { Runs None ((DropReceiver, Done) ∷ (CloneSender, Done)
         ∷ (SenderCount, Number 2) ∷ (IsDisconnected, Truth true) ∷ (CloneReceiver, NoEnd) ∷ []) }
-    // With both ends gone, no ticket is left.
+    // Once both sides have disconnected, no ticket is left.
     ensures tickets_all_spent { Runs (Some 1) ((Send 1, Sent None) ∷ (Send 2, Pending 1)
         ∷ (DropReceiver, Done) ∷ (DropSender, Done) ∷ (PollSend 1, NoTicket) ∷ []) }
-    // A bounded channel, asked how it stands.
+    // A bounded channel, asked for its state.
     ensures asked_how_it_stands { Runs (Some 2) ((TrySend 1, Sent None) ∷ (TrySend 2, Sent None)
         ∷ (IsFull, Truth true) ∷ (TryRecv, Got 1) ∷ (IsFull, Truth false) ∷ (IsEmpty, Truth false)
         ∷ (Capacity, Bound (Some 2)) ∷ (DropSender, Done) ∷ (IsDisconnected, Truth true) ∷ []) }
@@ -50,90 +51,61 @@ pub fn blocked_rows_are_runs()
 
 /// Logs of blocked sends, of ends and of queries are runs but for their last reply.
 pub fn blocked_near_misses_are_no_runs()
-    // A message comes back that moved into the queue.
     ensures returned_after_accepted { IsNearMiss (Some 1) ((Send 1, Sent None) ∷ (Send 2, Pending 1)
         ∷ (TryRecv, Got 1) ∷ (WithdrawSend 1, Returned 2 false) ∷ []) }
-    // A message is told as taken in that still blocks.
     ensures accepted_while_blocked { IsNearMiss (Some 1) ((Send 1, Sent None) ∷ (Send 2, Pending 1)
         ∷ (PollSend 1, Accepted) ∷ []) }
-    // A sender is told twice that its message was taken in.
     ensures accepted_twice { IsNearMiss (Some 0) ((Send 1, Pending 1) ∷ (TryRecv, Got 1)
         ∷ (PollSend 1, Accepted) ∷ (PollSend 1, Accepted) ∷ []) }
-    // A sender goes on waiting in a closed channel.
     ensures waiting_while_closed { IsNearMiss (Some 1) ((Send 1, Sent None) ∷ (Send 2, Pending 1)
         ∷ (DropReceiver, Done) ∷ (PollSend 1, Waiting) ∷ []) }
-    // A message comes back by a poll while the channel is open.
     ensures returned_while_open { IsNearMiss (Some 0) ((Send 1, Pending 1)
         ∷ (PollSend 1, Returned 1 false) ∷ []) }
-    // Another blocked message comes back than the one with the ticket.
     ensures another_withdrawn { IsNearMiss (Some 0) ((Send 1, Pending 1) ∷ (Send 2, Pending 2)
         ∷ (WithdrawSend 1, Returned 2 false) ∷ []) }
-    // A withdrawal from a closed channel tells of an open one.
     ensures open_told_when_closed { IsNearMiss (Some 0) ((Send 1, Pending 1) ∷ (DropReceiver, Done)
         ∷ (WithdrawSend 1, Returned 1 false) ∷ []) }
-    // One ticket is issued to two sends.
     ensures ticket_issued_twice { IsNearMiss (Some 0) ((Send 1, Pending 1) ∷ (Send 2, Pending 1)
         ∷ []) }
-    // A ticket is issued again after it was spent.
     ensures ticket_issued_again { IsNearMiss (Some 0) ((Send 1, Pending 1)
         ∷ (WithdrawSend 1, Returned 1 false) ∷ (Send 2, Pending 1) ∷ []) }
-    // A live ticket isn't known.
     ensures no_ticket_while_live { IsNearMiss (Some 0) ((Send 1, Pending 1) ∷ (PollSend 1, NoTicket)
         ∷ []) }
-    // A ticket is known that was never issued.
     ensures waiting_without_ticket { IsNearMiss (Some 0) ((Send 1, Pending 1)
         ∷ (PollSend 2, Waiting) ∷ []) }
-    // A ticket is live once both sides have disconnected.
     ensures ticket_outlives_both { IsNearMiss (Some 0) ((Send 1, Pending 1) ∷ (DropReceiver, Done)
         ∷ (DropSender, Done) ∷ (PollSend 1, Returned 1 true) ∷ []) }
-    // A sender stays blocked below the capacity, which is 1.
     ensures blocked_below_capacity { IsNearMiss (Some 1) ((Send 1, Sent None) ∷ (Send 2, Pending 1)
         ∷ (TryRecv, Got 1) ∷ (PollSend 1, Waiting) ∷ []) }
     // A take lets no blocked message in, as the length tells, at capacity 1.
     ensures none_moved_in { IsNearMiss (Some 1) ((Send 1, Sent None) ∷ (Send 2, Pending 1)
         ∷ (TryRecv, Got 1) ∷ (Len, Number 0) ∷ []) }
-    // One take moves two messages in, at capacity 1.
     ensures two_moved_in { IsNearMiss (Some 1) ((Send 1, Sent None) ∷ (Send 2, Pending 1)
         ∷ (Send 3, Pending 2) ∷ (TryRecv, Got 1) ∷ (PollSend 2, Accepted) ∷ []) }
-    // The later of two blocked messages moves in.
     ensures later_moved_in { IsNearMiss (Some 0) ((Send 1, Pending 1) ∷ (Send 2, Pending 2)
         ∷ (TryRecv, Got 2) ∷ []) }
-    // A message is handed out that was withdrawn.
     ensures withdrawn_handed_out { IsNearMiss (Some 0) ((Send 1, Pending 1)
         ∷ (WithdrawSend 1, Returned 1 false) ∷ (TryRecv, Got 1) ∷ []) }
-    // A send is taken in at the capacity, which is 1.
     ensures sent_past_capacity { IsNearMiss (Some 1) ((Send 1, Sent None) ∷ (Send 2, Sent None)
         ∷ []) }
-    // A send blocks below the capacity, which is 1.
     ensures pending_below_capacity { IsNearMiss (Some 1) ((Send 1, Pending 1) ∷ []) }
-    // A send blocks in a closed channel.
     ensures pending_while_closed { IsNearMiss (Some 1) ((DropReceiver, Done) ∷ (Send 1, Pending 1)
         ∷ []) }
-    // Tickets are told as spent while some are left.
     ensures spent_too_early { IsNearMiss (Some 0) ((Send 1, Spent (Some 1)) ∷ []) }
-    // A sender comes after the last one left.
     ensures sender_after_last { IsNearMiss (Some 1) ((DropSender, Done) ∷ (CloneSender, Done)
         ∷ []) }
-    // A receiver comes after the last one left.
     ensures receiver_after_last { IsNearMiss (Some 1) ((DropReceiver, Done) ∷ (CloneReceiver, Done)
         ∷ []) }
-    // No more senders can be counted although there is one.
     ensures count_full_at_one { IsNearMiss (Some 1) ((CloneSender, CountFull) ∷ []) }
-    // A count of senders is one off.
     ensures senders_one_off { IsNearMiss (Some 1) ((CloneSender, Done) ∷ (SenderCount, Number 1)
         ∷ []) }
-    // A count of receivers is one off.
     ensures receivers_one_off { IsNearMiss (Some 1) ((DropReceiver, Done)
         ∷ (ReceiverCount, Number 1) ∷ []) }
-    // A full channel is told as not full.
     ensures full_denied { IsNearMiss (Some 1) ((TrySend 1, Sent None) ∷ (IsFull, Truth false)
         ∷ []) }
-    // A channel with a message is told as empty.
     ensures empty_with_message { IsNearMiss (Some 1) ((TrySend 1, Sent None) ∷ (IsEmpty, Truth true)
         ∷ []) }
-    // An open channel is told as closed.
     ensures disconnected_while_open { IsNearMiss (Some 1) ((CloneSender, Done) ∷ (DropSender, Done)
         ∷ (IsDisconnected, Truth true) ∷ []) }
-    // The capacity, which is 1, is told one greater.
     ensures capacity_one_off { IsNearMiss (Some 1) ((Capacity, Bound (Some 2)) ∷ []) }
 {}

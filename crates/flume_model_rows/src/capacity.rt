@@ -14,7 +14,7 @@ ghost use Rattle.flume_model_rows.specs.Rows.{Runs, IsNearMiss};
 /// Worked rows in which the capacity is set are runs.
 pub fn capacity_rows_are_runs()
     // A raised capacity lets the first blocked message in and no other; a lowered one moves
-    // nothing, so that the queue stands past it, and a take lets none in.
+    // nothing, so that the queue is past it, and a take lets none in.
     ensures raised_then_lowered { Runs (Some 1) ((Send 1, Sent None) ∷ (Send 2, Pending 1)
         ∷ (Send 3, Pending 2) ∷ (SetCapacity 2, Done) ∷ (Len, Number 2) ∷ (PollSend 1, Accepted)
         ∷ (PollSend 2, Waiting) ∷ (SetCapacity 0, Done) ∷ (TryRecv, Got 1) ∷ (Len, Number 1) ∷ []) }
@@ -41,34 +41,24 @@ pub fn capacity_rows_are_runs()
 
 /// Logs in which the capacity is set are runs but for their last reply.
 pub fn capacity_near_misses_are_no_runs()
-    // A raised capacity, from 1 to 2, lets no blocked message in.
     ensures raised_lets_none_in { IsNearMiss (Some 1) ((Send 1, Sent None) ∷ (Send 2, Pending 1)
         ∷ (SetCapacity 2, Done) ∷ (PollSend 1, Waiting) ∷ []) }
-    // A capacity raised from 1 to 2 lets two blocked messages in.
     ensures raised_lets_two_in { IsNearMiss (Some 1) ((Send 1, Sent None) ∷ (Send 2, Pending 1)
         ∷ (Send 3, Pending 2) ∷ (SetCapacity 2, Done) ∷ (PollSend 2, Accepted) ∷ []) }
-    // A capacity raised from 0 to 2 lets one of two blocked messages in.
     ensures raised_lets_one_in { IsNearMiss (Some 0) ((Send 1, Pending 1) ∷ (Send 2, Pending 2)
         ∷ (SetCapacity 2, Done) ∷ (Len, Number 1) ∷ []) }
-    // A capacity raised from 0 to 1 lets the later of two blocked messages in.
     ensures raised_lets_later_in { IsNearMiss (Some 0) ((Send 1, Pending 1) ∷ (Send 2, Pending 2)
         ∷ (SetCapacity 1, Done) ∷ (TryRecv, Got 2) ∷ []) }
-    // A message that a raised capacity lets in is counted twice.
     ensures raised_counts_twice { IsNearMiss (Some 0) ((Send 1, Pending 1) ∷ (SetCapacity 5, Done)
         ∷ (TryRecv, Got 1) ∷ (TryRecv, Got 1) ∷ []) }
-    // A capacity lowered from 2 to 1 drops a queued message.
     ensures lowered_drops { IsNearMiss (Some 2) ((Send 1, Sent None) ∷ (Send 2, Sent None)
         ∷ (SetCapacity 1, Done) ∷ (Len, Number 1) ∷ []) }
-    // A capacity lowered from 1 to 0 gives a blocked message back.
     ensures lowered_returns { IsNearMiss (Some 1) ((Send 1, Sent None) ∷ (Send 2, Pending 1)
         ∷ (SetCapacity 0, Done) ∷ (PollSend 1, Returned 2 false) ∷ []) }
-    // A capacity lowered from 2 to 1 leaves room for a second message.
     ensures lowered_leaves_room { IsNearMiss (Some 2) ((TrySend 1, Sent None)
         ∷ (SetCapacity 1, Done) ∷ (TrySend 2, Sent None) ∷ []) }
-    // A capacity raised from 1 to 2 makes no room.
     ensures raised_makes_no_room { IsNearMiss (Some 1) ((TrySend 1, Sent None)
         ∷ (SetCapacity 2, Done) ∷ (TrySend 2, Full 2) ∷ []) }
-    // The capacity, which was 1, is told as before.
     ensures told_as_before { IsNearMiss (Some 1) ((SetCapacity 2, Done) ∷ (Capacity, Bound (Some 1))
         ∷ []) }
     // A receiver is woken, so that a send at capacity 0 finds none waiting.
@@ -77,19 +67,14 @@ pub fn capacity_near_misses_are_no_runs()
     // A receiver is filled with what another was woken for.
     ensures set_fills { IsNearMiss (Some 1) ((Recv Plain, Parked 1) ∷ (Recv Block, Parked 2)
         ∷ (TrySend 1, Sent None) ∷ (SetCapacity 5, Done) ∷ (Poll 2, Got 1) ∷ []) }
-    // The capacity of a closed channel is set.
     ensures done_while_closed { IsNearMiss (Some 1) ((DropReceiver, Done) ∷ (SetCapacity 5, Done)
         ∷ []) }
-    // The end is told by an unbounded channel, which is closed.
     ensures ended_while_unbounded { IsNearMiss None ((DropReceiver, Done) ∷ (SetCapacity 5, Ended)
         ∷ []) }
-    // The end is told by a bounded channel, which is open.
     ensures set_ended_while_open { IsNearMiss (Some 1) ((SetCapacity 5, Ended) ∷ []) }
-    // An unbounded channel gets a capacity.
     ensures done_while_unbounded { IsNearMiss None ((SetCapacity 5, Done) ∷ []) }
-    // A bounded channel is told to have no capacity.
     ensures unbounded_while_bounded { IsNearMiss (Some 1) ((SetCapacity 5, Unbounded) ∷ []) }
-    // A closed channel's capacity, which is 1, is changed although the end was told.
+    // A closed channel's capacity, which is 1, is changed although the answer was `Ended`.
     ensures set_though_ended { IsNearMiss (Some 1) ((DropReceiver, Done) ∷ (SetCapacity 5, Ended)
         ∷ (Capacity, Bound (Some 5)) ∷ []) }
 {}

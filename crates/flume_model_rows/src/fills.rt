@@ -18,7 +18,7 @@ pub fn fill_rows_are_runs()
 {}
 
 /// After such rows the definition calls a fill of one message only: of the one that was handed out.
-/// Only where both sides have disconnected before it was collected does it say nothing.
+/// Only if both sides have disconnected before it was collected does it say nothing.
 pub fn fills_are_of_what_was_handed_out()
     ensures holds { IsFillOfOnly holds 1 7 }
     ensures collects { IsFillOfOnly collects 1 7 }

@@ -56,7 +56,7 @@ pub fn parked_rows_are_runs()
     ensures tickets_of_a_side { Runs (Some 0) ((Send 7, Pending 1) ∷ (Poll 1, NoTicket)
         ∷ (Withdraw 1, NoTicket) ∷ (PollSend 1, Waiting) ∷ (WithdrawSend 1, Returned 7 false)
         ∷ (PollSend 1, NoTicket) ∷ (PollSend 9, NoTicket) ∷ []) }
-    // Where the queue is past its capacity, which is 1, a take lets no blocked message in.
+    // If the queue is past its capacity, which is 1, a take lets no blocked message in.
     ensures none_let_in_past_capacity { Runs (Some 1) ((Recv Plain, Parked 1)
         ∷ (Recv Plain, Parked 2) ∷ (Send 1, Sent None) ∷ (Send 2, Sent None) ∷ (Send 3, Pending 3)
         ∷ (TryRecv, Got 1) ∷ (PollSend 3, Waiting) ∷ (TryRecv, Got 2) ∷ (PollSend 3, Accepted)
@@ -64,17 +64,16 @@ pub fn parked_rows_are_runs()
     // A receiver that waits still, and asks, gets a message that another was woken for.
     ensures asks_unwoken { Runs None ((Recv Plain, Parked 1) ∷ (Recv Plain, Parked 2)
         ∷ (Send 5, Sent None) ∷ (Poll 2, Got 5) ∷ (Poll 1, Waiting) ∷ []) }
-    // A receiver that was told the end is parked no more.
+    // A receiver that was answered `Ended` is parked no more.
     ensures ended_once { Runs None ((Recv Stream, Parked 1) ∷ (DropSender, Done) ∷ (Poll 1, Ended)
         ∷ (Poll 1, NoTicket) ∷ []) }
-    // A receiver that leaves a closed channel with none is told that it is closed.
+    // A receiver that leaves a closed channel with none learns that it is closed.
     ensures gone_closed { Runs (Some 0) ((Recv Block, Parked 1) ∷ (DropReceiver, Done)
         ∷ (Withdraw 1, Gone true None) ∷ []) }
-    // With both ends gone, no receiver is parked.
+    // Once both sides have disconnected, no receiver is parked.
     ensures none_parked_when_over { Runs None ((Recv Plain, Parked 1) ∷ (DropSender, Done)
         ∷ (DropReceiver, Done) ∷ (Poll 1, NoTicket) ∷ []) }
-    // A woken receiver that waits again stands behind all others, and one that waited keeps its
-    // place.
+    // A woken receiver that waits again is behind all others, and one that waited keeps its place.
     ensures waits_again_behind { Runs None ((Recv Plain, Parked 1) ∷ (Recv Block, Parked 2)
         ∷ (Poll 1, Waiting) ∷ (Send 5, Sent None) ∷ (TryRecv, Got 5) ∷ (Poll 1, Waiting)
         ∷ (Send 6, Sent (Some 2)) ∷ []) }
@@ -96,75 +95,52 @@ pub fn parked_near_misses_are_no_runs()
     ensures drain_lets_none_in { (list : Numbers) → list.items ≡ 1 ∷ []
         → IsNearMiss (Some 1) ((TrySend 1, Sent None) ∷ (Send 2, Pending 1) ∷ (Drain, Drained list)
         ∷ (TrySend 3, Sent None) ∷ []) }
-    // A drain hands out another list than what is queued.
     ensures drained_another { (list : Numbers) → list.items ≡ 2 ∷ 1 ∷ []
         → IsNearMiss None ((TrySend 1, Sent None) ∷ (TrySend 2, Sent None) ∷ (Drain, Drained list)
         ∷ []) }
-    // A drain is refused because memory ran out where nothing is queued.
+    // A drain is refused because memory ran out while nothing is queued.
     ensures refused_drain { IsNearMiss None ((Drain, NoMemory None) ∷ []) }
-    // A receiver that blocks is filled with the new message, although an older one is queued.
     ensures filled_with_newest { IsNearMiss None ((Recv Plain, Parked 1) ∷ (Recv Block, Parked 2)
         ∷ (Send 1, Sent None) ∷ (Send 2, Sent (Some 2)) ∷ (Poll 2, Got 2) ∷ []) }
-    // A woken receiver leaves, and its wake is lost.
     ensures wake_lost { IsNearMiss None ((Recv Plain, Parked 1) ∷ (Recv Block, Parked 2)
         ∷ (Send 5, Sent None) ∷ (Withdraw 1, Gone false None) ∷ []) }
-    // A receiver that waits passes a wake on that it never got.
     ensures waiting_passes_on { IsNearMiss None ((Recv Plain, Parked 1) ∷ (Recv Block, Parked 2)
         ∷ (Recv Plain, Parked 3) ∷ (TrySend 1, Sent None) ∷ (Withdraw 3, Gone false (Some 2))
         ∷ []) }
-    // A receiver asks, and waits on although a message is queued.
     ensures waits_while_queued { IsNearMiss None ((Recv Plain, Parked 1) ∷ (Recv Plain, Parked 2)
         ∷ (Send 5, Sent None) ∷ (Poll 2, Waiting) ∷ []) }
-    // A receiver that blocks, and wasn't woken, takes what is queued for another.
     ensures unwoken_block_takes { IsNearMiss None ((Recv Plain, Parked 1) ∷ (Recv Block, Parked 2)
         ∷ (Send 5, Sent None) ∷ (Poll 2, Got 5) ∷ []) }
-    // The end is told to a parked receiver while a message is queued.
     ensures told_end_while_queued { IsNearMiss None ((Recv Plain, Parked 1) ∷ (TrySend 1, Sent None)
         ∷ (DropSender, Done) ∷ (Poll 1, Ended) ∷ []) }
-    // The end is told to a parked receiver while the channel is open.
     ensures told_end_while_open { IsNearMiss None ((Recv Plain, Parked 1) ∷ (Poll 1, Ended) ∷ []) }
-    // A receiver goes on waiting in a closed channel.
     ensures waits_while_closed { IsNearMiss None ((Recv Stream, Parked 1) ∷ (DropSender, Done)
         ∷ (Poll 1, Waiting) ∷ []) }
-    // A receiver that was told the end is still parked.
     ensures ended_twice { IsNearMiss None ((Recv Stream, Parked 1) ∷ (DropSender, Done)
         ∷ (Poll 1, Ended) ∷ (Poll 1, Ended) ∷ []) }
-    // A filled receiver collects twice.
     ensures collected_twice { IsNearMiss None ((Recv Block, Parked 1) ∷ (Send 5, Sent (Some 1))
         ∷ (Poll 1, Got 5) ∷ (Poll 1, Got 5) ∷ []) }
-    // A filled receiver leaves, and its message is lost.
     ensures message_lost { IsNearMiss None ((Recv Block, Parked 1) ∷ (Send 5, Sent (Some 1))
         ∷ (Withdraw 1, Gone false None) ∷ []) }
-    // A receiver that blocks leaves with no message although one is queued.
     ensures front_left { IsNearMiss None ((Recv Plain, Parked 1) ∷ (Recv Block, Parked 2)
         ∷ (Send 5, Sent None) ∷ (Withdraw 2, Gone false None) ∷ []) }
-    // A receiver of another kind leaves with the front.
     ensures front_taken_along { IsNearMiss None ((Recv Stream, Parked 1) ∷ (Send 5, Sent None)
         ∷ (Withdraw 1, Got 5) ∷ []) }
-    // A receiver that leaves a closed channel is told of an open one.
     ensures gone_from_closed_as_open { IsNearMiss (Some 0) ((Recv Block, Parked 1)
         ∷ (DropReceiver, Done) ∷ (Withdraw 1, Gone false None) ∷ []) }
-    // A receiver parks where a message is queued.
     ensures parked_while_queued { IsNearMiss None ((Send 5, Sent None) ∷ (Recv Block, Parked 1)
         ∷ []) }
-    // A receiver parks where a sender is blocked, at capacity 0.
     ensures parked_while_blocked { IsNearMiss (Some 0) ((Send 5, Pending 1) ∷ (Recv Plain, Parked 2)
         ∷ []) }
-    // A receiver parks in a closed channel.
     ensures parked_while_closed { IsNearMiss None ((DropSender, Done) ∷ (Recv Plain, Parked 1)
         ∷ []) }
-    // One ticket is issued to two receivers.
     ensures parked_under_one_ticket { IsNearMiss None ((Recv Plain, Parked 1)
         ∷ (Recv Block, Parked 1) ∷ []) }
-    // A send's ticket is taken for a receiver's.
     ensures ticket_of_other_side { IsNearMiss (Some 0) ((Send 7, Pending 1) ∷ (Poll 1, Waiting)
         ∷ []) }
-    // A parked receiver isn't known.
     ensures parked_unknown { IsNearMiss None ((Recv Arm, Parked 1) ∷ (Poll 1, NoTicket) ∷ []) }
-    // A receiver is parked once both sides have disconnected.
     ensures parked_when_over { IsNearMiss None ((Recv Plain, Parked 1) ∷ (DropSender, Done)
         ∷ (DropReceiver, Done) ∷ (Poll 1, Ended) ∷ []) }
-    // Where the queue is past its capacity, which is 1, a take lets a blocked message in.
     ensures let_in_past_capacity { IsNearMiss (Some 1) ((Recv Plain, Parked 1)
         ∷ (Recv Plain, Parked 2) ∷ (Send 1, Sent None) ∷ (Send 2, Sent None) ∷ (Send 3, Pending 3)
         ∷ (TryRecv, Got 1) ∷ (Len, Number 2) ∷ []) }
@@ -177,10 +153,8 @@ pub fn wake_near_misses_are_no_runs()
     // A refused send wakes the receiver, so that the next one finds none and capacity 0.
     ensures refused_send_wakes { IsNearMiss (Some 0) ((Recv Plain, Parked 1)
         ∷ (Send 1, NoMemory (Some 1)) ∷ (TrySend 2, Full 2) ∷ []) }
-    // A refused send removes the receiver.
     ensures refused_send_removes { IsNearMiss (Some 0) ((Recv Plain, Parked 1)
         ∷ (Send 1, NoMemory (Some 1)) ∷ (Poll 1, NoTicket) ∷ []) }
-    // A send is refused at capacity 0 although a receiver waits.
     ensures full_while_waiting { IsNearMiss (Some 0) ((Recv Plain, Parked 1) ∷ (TrySend 1, Full 1)
         ∷ []) }
     // A send wakes none, so that the next one is taken in at capacity 0.
@@ -189,43 +163,33 @@ pub fn wake_near_misses_are_no_runs()
     // A send wakes both that wait, so that the next one finds none and capacity 0.
     ensures send_wakes_all { IsNearMiss (Some 0) ((Recv Plain, Parked 1) ∷ (Recv Arm, Parked 2)
         ∷ (TrySend 1, Sent None) ∷ (TrySend 2, Full 2) ∷ []) }
-    // A round goes on after a plain receiver.
     ensures goes_on_after_plain { IsNearMiss None ((Recv Plain, Parked 1) ∷ (Recv Block, Parked 2)
         ∷ (Send 1, Sent (Some 2)) ∷ []) }
-    // A round goes on after an arm of a selector.
     ensures goes_on_after_arm { IsNearMiss None ((Recv Arm, Parked 1) ∷ (Recv Block, Parked 2)
         ∷ (Send 1, Sent (Some 2)) ∷ []) }
     // A round goes on after it filled one, and wakes the next, so that a send at capacity 0 finds
     // none.
     ensures goes_on_after_block { IsNearMiss (Some 0) ((Recv Block, Parked 1)
         ∷ (Recv Plain, Parked 2) ∷ (TrySend 1, Sent (Some 1)) ∷ (TrySend 2, Full 2) ∷ []) }
-    // A round ends at a stream.
     ensures ends_at_stream { IsNearMiss None ((Recv Stream, Parked 1) ∷ (Recv Block, Parked 2)
         ∷ (Send 5, Sent None) ∷ []) }
-    // A round ends at a receiver that was woken before.
     ensures ends_at_woken { IsNearMiss None ((Recv Plain, Parked 1) ∷ (Recv Block, Parked 2)
         ∷ (Recv Block, Parked 3) ∷ (TrySend 1, Sent None) ∷ (TrySend 2, Sent (Some 2))
         ∷ (TrySend 3, Sent None) ∷ []) }
-    // A round fills one that was filled before.
     ensures filled_again { IsNearMiss None ((Recv Block, Parked 1) ∷ (Recv Block, Parked 2)
         ∷ (TrySend 1, Sent (Some 1)) ∷ (TrySend 2, Sent (Some 1)) ∷ []) }
     // One message fills both that wait, so that the next send names none.
     ensures one_fills_two { IsNearMiss None ((Recv Block, Parked 1) ∷ (Recv Block, Parked 2)
         ∷ (TrySend 1, Sent (Some 1)) ∷ (TrySend 2, Sent None) ∷ []) }
-    // One message fills both that wait, and the second collects it too.
     ensures one_collected_by_two { IsNearMiss None ((Recv Block, Parked 1) ∷ (Recv Block, Parked 2)
         ∷ (TrySend 1, Sent (Some 1)) ∷ (Poll 1, Got 1) ∷ (Poll 2, Got 1) ∷ []) }
-    // A round fills the last that waits.
     ensures last_filled { IsNearMiss None ((Recv Block, Parked 1) ∷ (Recv Block, Parked 2)
         ∷ (TrySend 1, Sent (Some 2)) ∷ []) }
     ensures plain_filled { IsNearMiss None plain_filled }
-    // A message that filled a receiver is queued as well.
     ensures filled_and_queued { IsNearMiss None ((Recv Block, Parked 1) ∷ (Send 5, Sent (Some 1))
         ∷ (Len, Number 1) ∷ []) }
-    // A receiver that waits and asks goes behind the others.
     ensures asking_loses_place { IsNearMiss None ((Recv Plain, Parked 1) ∷ (Recv Block, Parked 2)
         ∷ (Poll 1, Waiting) ∷ (Send 5, Sent (Some 2)) ∷ []) }
-    // A woken receiver that waits again stands before the others.
     ensures again_before_others { IsNearMiss None ((Recv Plain, Parked 1) ∷ (TrySend 1, Sent None)
         ∷ (TryRecv, Got 1) ∷ (Recv Block, Parked 2) ∷ (Poll 1, Waiting) ∷ (TrySend 2, Sent None)
         ∷ []) }
@@ -234,7 +198,6 @@ pub fn wake_near_misses_are_no_runs()
     ensures passed_on_for_nothing { IsNearMiss (Some 0) ((Recv Plain, Parked 1)
         ∷ (TrySend 1, Sent None) ∷ (TryRecv, Got 1) ∷ (Recv Plain, Parked 2)
         ∷ (Withdraw 1, Gone false None) ∷ (TrySend 2, Full 2) ∷ []) }
-    // Closing wakes only the first of two.
     ensures closing_wakes_first { IsNearMiss None ((Recv Block, Parked 1) ∷ (Recv Block, Parked 2)
         ∷ (DropSender, Done) ∷ (Poll 2, Waiting) ∷ []) }
 {}
@@ -246,7 +209,7 @@ pub fn bounds_are_met()
 {}
 
 /// After a near-miss whose reply names a receiver as filled that doesn't block, none is: so only of
-/// runs is a receiver filled just where a reply named it.
+/// runs is a receiver filled exactly if a reply named it.
 pub fn a_plain_receiver_is_never_filled()
     ensures near_miss { ¬ ToldFilled (opens None 1) (as_log [] plain_filled) }
 {}

@@ -21,49 +21,34 @@ pub fn rows_are_runs()
     // A channel of capacity 0 queues nothing.
     ensures no_capacity { Runs (Some 0) ((Len, Number 0) ∷ (TrySend 1, Full 1) ∷ (TryRecv, Empty)
         ∷ []) }
-    // With both ends gone, nothing is left.
+    // Once both sides have disconnected, nothing is left.
     ensures both_gone { Runs None ((TrySend 1, Sent None) ∷ (DropReceiver, Done)
         ∷ (DropSender, Done) ∷ (Len, Number 0) ∷ (TryRecv, Ended) ∷ (DropReceiver, NoEnd) ∷ []) }
 {}
 
 /// Logs are runs but for their last reply.
 pub fn near_misses_are_no_runs()
-    // Another message comes out than went in.
     ensures wrong_message { IsNearMiss None ((TrySend 42, Sent None) ∷ (TryRecv, Got 43) ∷ []) }
-    // The newer message comes out first.
     ensures newer_first { IsNearMiss None ((TrySend 1, Sent None) ∷ (TrySend 2, Sent None)
         ∷ (TryRecv, Got 2) ∷ []) }
-    // One message comes out twice.
     ensures handed_out_twice { IsNearMiss None ((TrySend 1, Sent None) ∷ (TryRecv, Got 1)
         ∷ (TryRecv, Got 1) ∷ []) }
-    // Nothing is found where a message is queued.
     ensures empty_while_queued { IsNearMiss None ((TrySend 42, Sent None) ∷ (TryRecv, Empty) ∷ []) }
-    // The end is told while a message is queued.
     ensures ended_while_queued { IsNearMiss None ((TrySend 42, Sent None) ∷ (DropSender, Done)
         ∷ (TryRecv, Ended) ∷ []) }
-    // The end is told in an open channel.
     ensures ended_while_open { IsNearMiss None ((TryRecv, Ended) ∷ []) }
-    // A send is refused below the capacity, which is 2.
     ensures full_below_capacity { IsNearMiss (Some 2) ((TrySend 1, Sent None) ∷ (TrySend 2, Full 2)
         ∷ []) }
-    // A send is taken in at the capacity, which is 2.
     ensures sent_at_capacity { IsNearMiss (Some 2) ((TrySend 1, Sent None) ∷ (TrySend 2, Sent None)
         ∷ (TrySend 3, Sent None) ∷ []) }
-    // A send is taken in although no receiver lives.
     ensures sent_while_closed { IsNearMiss None ((DropReceiver, Done) ∷ (TrySend 1, Sent None)
         ∷ []) }
-    // A send is told of a closed channel while both ends live.
     ensures closed_while_open { IsNearMiss None ((TrySend 1, Closed 1) ∷ []) }
-    // Another message comes back than was handed in.
     ensures another_returned { IsNearMiss None ((DropReceiver, Done) ∷ (TrySend 1, Closed 2) ∷ []) }
-    // A receiver leaves although none is left.
     ensures done_at_zero { IsNearMiss None ((DropReceiver, Done) ∷ (DropReceiver, Done) ∷ []) }
-    // No sender is told of while one lives.
     ensures no_end_at_one { IsNearMiss None ((DropSender, NoEnd) ∷ []) }
-    // A message is left once both sides have disconnected.
     ensures left_when_over { IsNearMiss None ((TrySend 1, Sent None) ∷ (DropReceiver, Done)
         ∷ (DropSender, Done) ∷ (TryRecv, Got 1) ∷ []) }
-    // A number is one off.
     ensures one_off { IsNearMiss None ((TrySend 1, Sent None) ∷ (Len, Number 2) ∷ []) }
     // A receive is refused because memory ran out while no sender is blocked.
     ensures refused_receive { IsNearMiss None ((TrySend 1, Sent None) ∷ (TryRecv, NoMemory None)

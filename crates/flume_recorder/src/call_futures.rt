@@ -1,6 +1,6 @@
 //! The futures of a send and of a receive.
 ghost use Rattle.std.specs.Prelude.{◌≡◌, Bool, true, false, Option, None};
-ghost use Rattle.flume.specs.Ends.{end_of};
+ghost use Rattle.flume.specs.OwnedEnds.{end_of};
 ghost use Rattle.flume_model.specs.declared.step.Kind.TheVariants.{Plain};
 ghost use Rattle.flume_calls.specs.declared.polled.send.PolledSend.{PolledSend};
 ghost use Rattle.flume_recorder.specs.declared.slot.FutureAnswer.{FutureAnswer};
@@ -27,11 +27,11 @@ use std::alloc::{Allocator, Global};
 /// }
 /// ```
 pub trait CallFuture<T>: Future {
-    // What an output says of the call, if the future had waited before, or not.
+    // What an output says of the call, given whether the future had waited before.
     ghost returned: { Self.Output → Bool → Option (FutureAnswer T) };
 
-    /// What the call returned, if this output ends it. A receive that waits, and is polled again
-    /// when there is no memory, gives `NoMemory` and waits on: its call isn't over.
+    /// What the call returned, if this output ends it. A receive that waits, and whose next poll is
+    /// out of memory, gives `NoMemory` and waits on: its call isn't over.
     fn answer(output: &Self::Output, was_pending: bool) -> Option<FutureAnswer<T>>
         ensures value { result ≡ returned output.now was_pending };
 }
@@ -61,9 +61,8 @@ impl<T: Copy + Drop, R: Waits, C: Allocator + Copy> CallFuture<T> for RecvFut<'_
     }
 }
 
-/// A send or a receive as a future, which hands what its call returned to its recorder. It has a
-/// thread's number of its own. Once its call is over it is pending. Dropped before, it records that
-/// it was dropped.
+/// A send or a receive as a future, which hands its call's result to its recorder. It has a thread
+/// number of its own. Once its call is over it is pending; dropped before, it records that.
 ///
 /// ```
 /// assert_eq!(rt; block_on(&rt, recorder.send_async(&tx, 7))?, Ok(()));
@@ -77,7 +76,6 @@ pub struct RecordedFuture<F: CallFuture<T>, T: Copy + Drop, A: Allocator = Globa
 }
 
 impl<F: CallFuture<T>, T: Copy + Drop, A: Allocator> RecordedFuture<F, T, A> {
-    // The future of a call that began, and the place for its return.
     fn new(future: F, slot: Option<SlotWriter<T, A>>) -> Self
         ensures future { result.future ≡ future }
     {
@@ -90,7 +88,6 @@ impl<F: CallFuture<T>, T: Copy + Drop, A: Allocator> RecordedFuture<F, T, A> {
         }
     }
 
-    // The call returned this.
     fn end(&mut self, answer: FutureAnswer<T>)
         ensures over { self.new.is_over ≡ true }
     {
@@ -149,8 +146,8 @@ impl<F: CallFuture<T>, T: Copy + Drop, A: Allocator> Drop for RecordedFuture<F, 
 }
 
 impl<T: Copy + Drop, A: Allocator + Copy> Recorder<T, A> {
-    /// Makes the future of `Sender::send_async`, whose call begins here. `RecordedFuture` records
-    /// what it returns.
+    /// Makes the future of `Sender::send_async`, whose call begins here, and which records its
+    /// result.
     ///
     /// ```
     /// assert_eq!(rt; block_on(&rt, recorder.send_async(&tx, 7))?, Ok(()));
@@ -168,8 +165,8 @@ impl<T: Copy + Drop, A: Allocator + Copy> Recorder<T, A> {
         RecordedFuture::new(tx.send_async(message), slot)
     }
 
-    /// Makes the future of `Receiver::recv_async`, whose call begins here. `RecordedFuture` records
-    /// what it returns.
+    /// Makes the future of `Receiver::recv_async`, whose call begins here, and which records its
+    /// result.
     ///
     /// ```
     /// recorder.send(&tx, 7)?;

@@ -3,7 +3,7 @@ ghost use Rattle.std.specs.Prelude.{◌≡◌, ◌≤◌, IfOk, OnErr, [], lengt
 ghost use Rattle.std.specs.Iterator.{at_most};
 ghost use Rattle.std.specs.Map.Iter.{TakesFirst};
 ghost use Rattle.flume.specs.Iterators.{after_drain};
-ghost use Rattle.flume.specs.Turning.{HasMade};
+ghost use Rattle.flume.specs.LockedTurns.{HasMade};
 ghost use Rattle.flume_recorder.specs.Drains.{drain_result, messages_of};
 ghost use Rattle.flume_recorder.specs.Records.{Records};
 
@@ -15,7 +15,7 @@ use flume_model::step::Step;
 use std::alloc::{Allocator, Global};
 use std::collections::VecDeque;
 
-/// The messages that a drain took, in order. What is left of them is dropped with it.
+/// The messages that a drain took, in order. The remaining ones are dropped with it.
 ///
 /// ```
 /// recorder.send(&tx, 7)?;
@@ -25,7 +25,7 @@ use std::collections::VecDeque;
 /// ```
 #[derive(Drop)]
 pub enum DrainedMessages<'a, T: Drop, C: Allocator, A: Allocator = Global> {
-    /// As the drain gave them: there was no memory to record them.
+    /// As the drain gave them: they couldn't be recorded, since an allocation failed.
     Own(Drain<'a, T, C>),
     /// A list of their own.
     List(VecDeque<T, A>),
@@ -47,7 +47,6 @@ impl<T: Drop, C: Allocator, A: Allocator> Iterator for DrainedMessages<'_, T, C,
     }
 }
 
-// The messages of a drain, moved to a list that has room for them.
 fn list_of<T: Drop, C: Allocator, A: Allocator>(
     messages: Drain<'_, T, C>,
     mut list: Vec<T, A>,
@@ -107,7 +106,6 @@ impl<T: Copy + Drop, A: Allocator + Copy> Recorder<T, A> {
         DrainedMessages::List(VecDeque::from_vec(list))
     }
 
-    // A drain that began at this stamp returns these messages now.
     fn record_messages(&mut self, began: u64, messages: &[T])
         ensures recorded { Records self.old self.new Call.Drain (Answer.Drained messages.now) }
     {

@@ -1,7 +1,7 @@
 //! What a sender and a receiver have in common.
 ghost use Rattle.flume_calls.specs.Singles.{after_set_capacity};
 ghost use Rattle.flume.specs.CallSteps.{HasReplied};
-ghost use Rattle.flume.specs.Turning.{HasMade};
+ghost use Rattle.flume.specs.LockedTurns.{HasMade};
 
 use flume::error::CapacityError;
 use flume::{Receiver, Sender, Waits};
@@ -16,7 +16,7 @@ use std::alloc::Allocator;
 /// }
 /// ```
 pub trait End {
-    /// What the channel carries.
+    /// The type of the messages.
     type Message;
     /// The channel's allocator.
     type Memory: Allocator;
@@ -29,11 +29,11 @@ pub trait End {
     fn is_empty(&self) -> bool
         ensures made { HasReplied {T = Self.Message} {A = Self.Memory} Step.IsEmpty
             (Reply.Truth result) };
-    /// Whether as many messages are queued as the channel holds.
+    /// Whether the queue is at or past the capacity.
     fn is_full(&self) -> bool
         ensures made { HasReplied {T = Self.Message} {A = Self.Memory} Step.IsFull
             (Reply.Truth result) };
-    /// The capacity, or none of an unbounded channel.
+    /// The capacity, or `None` if unbounded.
     fn capacity(&self) -> Option<usize>
         ensures made { HasReplied {T = Self.Message} {A = Self.Memory} Step.Capacity
             (Reply.Capacity result) };
@@ -49,7 +49,7 @@ pub trait End {
     fn is_disconnected(&self) -> bool
         ensures made { HasReplied {T = Self.Message} {A = Self.Memory} Step.IsDisconnected
             (Reply.Truth result) };
-    /// Sets how many messages the channel holds from now on.
+    /// Sets the capacity.
     fn set_capacity(&self, capacity: usize) -> Result<(), CapacityError>
         ensures made { HasMade {T = Self.Message} {A = Self.Memory} (Step.SetCapacity capacity)
             after_set_capacity result };

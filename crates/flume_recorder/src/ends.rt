@@ -12,8 +12,8 @@ use flume_model::step::{Reply, Step};
 use std::alloc::{AllocError, Allocator};
 
 impl<T: Copy + Drop, A: Allocator + Copy> Recorder<T, A> {
-    /// Clones a sender. If that is refused, since there are as many ends as can be counted, it isn't
-    /// known which step was made, and the recorder isn't complete any more.
+    /// Clones a sender. If that is refused, since no more ends can be counted, it isn't known which
+    /// step was made, and the recorder isn't complete any more.
     ///
     /// ```
     /// let other = recorder.clone_sender(&tx)?;
@@ -38,7 +38,7 @@ impl<T: Copy + Drop, A: Allocator + Copy> Recorder<T, A> {
         result
     }
 
-    /// Clones a receiver. A refusal is as of `clone_sender`.
+    /// Clones a receiver; a refusal has the same effect as in `clone_sender`.
     ///
     /// ```
     /// let other = recorder.clone_receiver(&rx)?;
@@ -63,8 +63,8 @@ impl<T: Copy + Drop, A: Allocator + Copy> Recorder<T, A> {
         result
     }
 
-    /// Makes a sender of a weak one, by `WeakSender::upgrade`. It is recorded as a clone of a
-    /// sender. A refusal is as of `clone_sender`.
+    /// Makes a sender of a weak one, by `WeakSender::upgrade`, and records it as a clone of a
+    /// sender. A refusal has the same effect as in `clone_sender`.
     ///
     /// ```
     /// let weak = tx.downgrade()?;

@@ -29,8 +29,8 @@
 //!
 //! # When memory is refused
 //!
-//! The call is made all the same, and its result is handed on. The recorder then knows that it
-//! isn't complete, and `Recording::events` answers `Incomplete`.
+//! The call is made all the same, and its result is handed on. The recorder isn't complete then,
+//! and `Recording::events` answers `Incomplete`.
 //!
 //! # What isn't recorded
 //!

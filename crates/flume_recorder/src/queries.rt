@@ -1,7 +1,7 @@
 //! The calls that ask, and the one that sets the capacity.
 ghost use Rattle.flume_calls.specs.Singles.{after_set_capacity};
 ghost use Rattle.flume.specs.CallSteps.{HasReplied};
-ghost use Rattle.flume.specs.Turning.{HasMade};
+ghost use Rattle.flume.specs.LockedTurns.{HasMade};
 ghost use Rattle.flume_recorder.specs.Answers as spec;
 ghost use Rattle.flume_recorder.specs.Records.{Records};
 
@@ -46,7 +46,7 @@ impl<T: Copy + Drop, A: Allocator + Copy> Recorder<T, A> {
         result
     }
 
-    /// Asks the end whether as many messages are queued as the channel holds.
+    /// Asks the end whether the queue is at or past the capacity.
     ///
     /// ```
     /// assert!(rt; !recorder.is_full(&tx));

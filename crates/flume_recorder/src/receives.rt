@@ -5,7 +5,7 @@ ghost use Rattle.flume_deadline.specs.Deadlines.{IsAfter};
 ghost use Rattle.flume_calls.specs.ReceiveTurns.{after_try_recv};
 ghost use Rattle.flume.specs.CallSteps as answer;
 ghost use Rattle.flume.specs.GateSteps.{Receives};
-ghost use Rattle.flume.specs.Turning.{HasMade};
+ghost use Rattle.flume.specs.LockedTurns.{HasMade};
 ghost use Rattle.flume_recorder.specs.Answers as spec;
 ghost use Rattle.flume_recorder.specs.Records.{Records};
 
@@ -30,7 +30,7 @@ impl<T: Copy + Drop, A: Allocator + Copy> Recorder<T, A> {
         rx: &Receiver<T, R, C>,
     ) -> Result<T, RecvError>
         ensures recorded { Records self.old self.new Call.Recv (spec.receive_answer result) }
-        ensures made { Receives C Deadline.Never (answer.untimed_receive result) }
+        ensures made { Receives C Deadline.Never (answer.receive_as_timed result) }
     {
         let began = self.begin();
         let result = rx.recv();
@@ -92,7 +92,8 @@ impl<T: Copy + Drop, A: Allocator + Copy> Recorder<T, A> {
     ) -> Result<T, TryRecvError>
         ensures recorded { Records self.old self.new Call.TryRecv
             (spec.try_receive_answer result) }
-        ensures made { HasMade {A = C} Step.TryRecv after_try_recv (answer.tried_receive result) }
+        ensures made { HasMade {A = C} Step.TryRecv after_try_recv
+            (answer.try_receive_as_turn result) }
     {
         let began = self.begin();
         let result = rx.try_recv();

@@ -37,7 +37,7 @@ pub struct Recorder<T: Drop, A: Allocator + Copy = Global> {
 }
 
 impl<T: Copy + Drop, A: Allocator + Copy> Recorder<T, A> {
-    /// One that has recorded nothing. Takes no memory.
+    /// One that has recorded nothing. Doesn't allocate.
     pub(crate) fn new(alloc: A, counters: Arc<Counters, A>) -> Self
         ensures none { events_of result ≡ [] }
         ensures whole { IsTrue (is_whole result) }
@@ -54,7 +54,7 @@ impl<T: Copy + Drop, A: Allocator + Copy> Recorder<T, A> {
         }
     }
 
-    /// Whether each call was recorded: no memory was refused.
+    /// Whether each call was recorded: no allocation failed.
     ///
     /// ```
     /// recorder.try_send(&tx, 7)?;
@@ -66,7 +66,7 @@ impl<T: Copy + Drop, A: Allocator + Copy> Recorder<T, A> {
         self.is_complete
     }
 
-    /// Something that happened can't be recorded.
+    /// From now on the recorder isn't complete.
     pub(crate) fn lose(&mut self)
         ensures added { (events : List (Event T A)) → Adds self.old self.new events }
         ensures lost { IsTrue (is_whole self.new) → ⊥ }
@@ -79,7 +79,6 @@ impl<T: Copy + Drop, A: Allocator + Copy> Recorder<T, A> {
         self.counters.next_stamp()
     }
 
-    // Keeps an event.
     fn keep(&mut self, stamp: u64, event: Event<T, A>)
         ensures added { Adds self.old self.new (event ∷ []) }
     {
@@ -98,8 +97,8 @@ impl<T: Copy + Drop, A: Allocator + Copy> Recorder<T, A> {
         self.keep(returned, Event::Returns { thread, answer });
     }
 
-    /// A future's call begins now, under a number of its own. Where the future writes what its call
-    /// returns; none if memory was refused.
+    /// A future's call begins now, under a number of its own. The answer is what the future writes
+    /// its result into; `None` if an allocation failed.
     pub(crate) fn begin_future(&mut self, call: Call<T>) -> Option<SlotWriter<T, A>>
         ensures begun { BeginsFuture self.old self.new call }
     {
@@ -113,7 +112,6 @@ impl<T: Copy + Drop, A: Allocator + Copy> Recorder<T, A> {
         slot
     }
 
-    // A place for one more future's return.
     fn place_future(&mut self, thread: usize) -> Option<SlotWriter<T, A>>
         ensures added { Adds self.old self.new [] }
     {

@@ -13,16 +13,15 @@ use std::{fmt, io};
 /// Why there is no list of events.
 #[derive(Clone, Copy, Debug, PartialEq, Eq, Drop)]
 pub enum RecordingError {
-    /// Memory was refused while the list was made.
+    /// The list couldn't be allocated.
     NoMemory,
-    /// A recorder isn't complete: memory was refused while it recorded.
+    /// A recorder isn't complete: an allocation failed while it recorded.
     Incomplete,
     /// Not all recorders that were made are there.
     Missing,
 }
 
 impl RecordingError {
-    // What `{}` writes of it.
     fn text(&self) -> &'static str
         ensures text { result.now ≡ error_text self.now }
     {
@@ -55,7 +54,7 @@ impl From<AllocError> for RecordingError {
     }
 }
 
-/// Of the kind `InvalidInput` if a recorder is missing, and else `OutOfMemory`.
+/// `InvalidInput` if a recorder is missing, and else `OutOfMemory`.
 impl From<RecordingError> for io::Error {
     ghost from_gives = { λ e error. error_kind error ≡ kind_of e };
 

@@ -5,7 +5,7 @@ ghost use Rattle.flume_deadline.specs.Deadlines.{IsAfter};
 ghost use Rattle.flume_calls.specs.SendTurns.{after_try_send};
 ghost use Rattle.flume.specs.CallSteps as answer;
 ghost use Rattle.flume.specs.GateSteps.{Sends};
-ghost use Rattle.flume.specs.Turning.{HasMade};
+ghost use Rattle.flume.specs.LockedTurns.{HasMade};
 ghost use Rattle.flume_recorder.specs.Answers as spec;
 ghost use Rattle.flume_recorder.specs.Records.{Records};
 
@@ -30,7 +30,7 @@ impl<T: Copy + Drop, A: Allocator + Copy> Recorder<T, A> {
         message: T,
     ) -> Result<(), SendError<T>>
         ensures recorded { Records self.old self.new (Call.Send message) (spec.send_answer result) }
-        ensures made { Sends C Deadline.Never message (answer.untimed_send result) }
+        ensures made { Sends C Deadline.Never message (answer.send_as_timed result) }
     {
         let began = self.begin();
         let result = tx.send(message);
@@ -107,7 +107,7 @@ impl<T: Copy + Drop, A: Allocator + Copy> Recorder<T, A> {
         ensures recorded { Records self.old self.new (Call.TrySend message)
             (spec.try_send_answer result) }
         ensures made { HasMade {A = C} (Step.TrySend message) after_try_send
-            (answer.tried_send result) }
+            (answer.try_send_as_turn result) }
     {
         let began = self.begin();
         let result = tx.try_send(message);

@@ -16,7 +16,7 @@ pub enum FutureAnswer<T> {
     Got(T),
     /// The channel is closed.
     Disconnected,
-    /// Memory was refused.
+    /// Out of memory.
     NoMemory,
     /// It was dropped before it was ready.
     Dropped,

@@ -8,7 +8,6 @@ use flume_error::error::NoMemory;
 use flume_recording::writing::write_event;
 use std::alloc::Allocator;
 
-// The number of the thread of an event.
 fn thread_of<A: Allocator>(event: &Event<u64, A>) -> usize
     ensures value { result ≡ spec.thread_of event.now }
 {
@@ -18,7 +17,6 @@ fn thread_of<A: Allocator>(event: &Event<u64, A>) -> usize
     }
 }
 
-// Adds the line that opens a channel of this capacity.
 fn write_opening<A: Allocator + Copy>(
     alloc: A,
     text: &mut Vec<u8, A>,
@@ -36,7 +34,6 @@ fn write_opening<A: Allocator + Copy>(
     Ok(())
 }
 
-// Adds the line of an event, whose thread is named by its number.
 fn write_line<A: Allocator + Copy>(
     alloc: A,
     text: &mut Vec<u8, A>,
@@ -53,9 +50,9 @@ fn write_line<A: Allocator + Copy>(
     Ok(())
 }
 
-/// The text of a recording, which `flume_recording::recording::read_recording` reads: of a channel
-/// that was opened with this capacity, or with none. The threads' names are their numbers.
-/// `NoMemory`: the text found no room.
+/// The text of a recording of a channel of this capacity (`None`: unbounded), which
+/// `flume_recording::recording::read_recording` reads. The threads' names are their numbers.
+/// `NoMemory`: the text couldn't be allocated.
 ///
 /// ```
 /// recorder.try_send(&tx, 7)?;

@@ -39,7 +39,7 @@ same_cuts byte before before' later later' none none' e =
     let rest = append_cancel_left before' (byte ∷ later) (byte ∷ later') (ap (λ w. w ++ byte ∷ later) (sym same) ∙ e) in
     (same, cc)
 
--- what stands at the left of a text without the byte
+-- what is at the left of a text without the byte
 pub without_left : (byte : ℕ) (left right text : List ℕ) → text ≡ left ++ right → Without byte text → Without byte left
 without_left byte left right text e none =
     let P : ℕ → Type 0 = λ x. eqb x byte ≡ false in

@@ -21,13 +21,13 @@ at_colon name text = append_assoc name (58 ∷ []) (32 ∷ text) ∙ sym (append
 at_arrow : (name text : List ℕ) → returns_line name text ≡ name ++ 32 ∷ (codes "-> " ++ text)
 at_arrow name text = append_assoc name (codes " -> ") text
 
--- so what stands before the first space is the name and the colon
+-- so what is before the first space is the name and the colon
 begins_cut : (front rest name text : List ℕ) → Without 32 front → IsName name → front ++ 32 ∷ rest ≡ begins_line name text
     → (front ≡ name ++ 58 ∷ []) × (rest ≡ text)
 begins_cut front rest name text none named e =
     same_cuts 32 front (name ++ 58 ∷ []) rest text none (with_colon name named) (e ∙ sym (at_colon name text))
 
--- and where a call returns, it is the name
+-- and if a call returns, it is the name
 returns_cut : (front rest name text : List ℕ) → Without 32 front → IsName name → front ++ 32 ∷ rest ≡ returns_line name text
     → (front ≡ name) × (rest ≡ codes "-> " ++ text)
 returns_cut front rest name text none named e =
@@ -40,7 +40,8 @@ without_space line none = λ name text named. (
   λ e. has_byte 32 name (codes "-> " ++ text) line (sym (at_arrow name text) ∙ sym e) none,
 )
 
--- nor one with a colon before its first space, if the colon doesn't stand behind a byte and before the space
+-- nor one with a colon before its first space, if the colon doesn't are behind a byte and before
+-- the space
 pub misplaced_colon : (line front rest name after : List ℕ) → line ≡ front ++ 32 ∷ rest → Without 32 front
     → front ≡ name ++ 58 ∷ after → Without 58 name → (0 < length name → length after ≡ 0 → ⊥) → HasNoParts line
 misplaced_colon line front rest name after parts none front_is none' bad = λ name' text named. (

@@ -9,7 +9,7 @@ use Rattle.flume_recording.specs.Texts.{FitsWord, behind_space}
 use Rattle.flume_recording.proofs.Cuts.{Without, has_byte, same_cuts}
 use Rattle.flume_recording.proofs.Digits.{decimal_without}
 
--- of the whole text, what stands before the rest are these numbers; where it is a list, so is the rest
+-- of the whole text, what is before the rest are these numbers; if it is a list, so is the rest
 pub record ReadNumbers (whole : List ℕ) (list : List ℕ) (rest : List ℕ) : Type 0 where
   pub parts : whole ≡ spaced list ++ rest
   pub fit : All FitsWord list
@@ -68,7 +68,7 @@ one_more {whole} {list} numbers digits later n read parts none is fits = record 
       (first_left numbers digits later parts none more.0 more.1 more.2).3;
 }
 
--- where the first of the numbers that are left is none, the whole is no list
+-- if the first of the numbers that are left is none, the whole is no list
 pub no_number : {whole list : List ℕ} (numbers digits : List ℕ) (later : Option (Bor (List ℕ))) → ReadNumbers whole list (32 ∷ numbers)
     → numbers ≡ digits ++ behind_space later → Without 32 digits → ((n : ℕ) → FitsWord n → ¬ (digits ≡ decimal n))
     → (all : List ℕ) → All FitsWord all → ¬ (whole ≡ spaced all)

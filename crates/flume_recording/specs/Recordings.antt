@@ -29,7 +29,7 @@ AreDistinct names =
     (t u : ℕ) → t < u → u < length names → ¬ (name_of names t ≡ name_of names u)
 
 module _ {A : Type 0} where
-  -- The threads are numbered in the order in which they appear first: where so many have appeared,
+  -- The threads are numbered in the order in which they appear first: if this many have appeared,
   -- each event is of one of them, or of the next one. In the end as many have appeared as `count`.
   abbrev pub AreNumbered : ℕ → List (Event ℕ A) → ℕ → Type 0
   AreNumbered known [] count = known ≡ count
@@ -71,7 +71,7 @@ pub record IsRecordingText {A : Type 0} (lines : List (List ℕ)) (capacity : Op
   pub opens : IsOpeningLine first capacity
   pub events_are : AreEventLines rest events names
 
--- of these lines, so many are events, and the next one is none, for this reason
+-- of these lines, this many are events, and the next one is none, for this reason
 pub record EventsUpTo (A : Type 0) (lines : List (List ℕ)) (place : ℕ) (fault : Fault)
     : Type 0 where
   pub before : List (List ℕ)
@@ -85,8 +85,8 @@ pub record EventsUpTo (A : Type 0) (lines : List (List ℕ)) (place : ℕ) (faul
   pub reason : IsFault A line fault
   pub place_is : length before ≡ place
 
--- the first wrong line has this number, counted from 1, and is wrong for this reason; where there
--- is no line, the first is wrong
+-- the first wrong line has this number, counted from 1, and is wrong for this reason; if there is
+-- no line, the first is wrong
 abbrev pub IsFirstWrongEvent : Type 0 → List (List ℕ) → ℕ → Fault → Type 0
 IsFirstWrongEvent A [] number fault = (number ≡ 1) × (fault ≡ NoOpening)
 IsFirstWrongEvent A (first ∷ rest) number fault =
@@ -98,13 +98,13 @@ IsFirstWrongEvent A (first ∷ rest) number fault =
 abbrev pub names_of : List (Bor (List ℕ)) → List (List ℕ)
 names_of names = map (λ name. name.now) names
 
--- the lines of the bytes are these events, or so many of them are, and the next one is none
+-- the lines of the bytes are these events, or this many of them are, and the next one is none
 abbrev pub IsLinesReading : {A : Type 0} → List ℕ → Lines A → Type 0
 IsLinesReading input (lines_read.Right events names) =
     AreEventLines (lines input) events.items (names_of names.items)
 IsLinesReading {A} input (lines_read.Wrong place fault) = EventsUpTo A (lines input) place fault
 
--- if a line is no event, fewer than so many stand before it
+-- if a line is no event, fewer than this many are before it
 abbrev pub IsWithin : {A : Type 0} → Lines A → ℕ → Type 0
 IsWithin (lines_read.Wrong place fault) count = place < count
 IsWithin _ count = Unit {0}

@@ -22,7 +22,7 @@ use Rattle.flume_concurrent.specs.declared.call.Answer.TheVariants.{Dropped, Dra
 use Rattle.flume_concurrent.specs.declared.call.Answer.TheVariants.{CountFull, Number, Truth}
 use Rattle.flume_concurrent.specs.declared.call.Answer.TheVariants.{Capacity, Unbounded}
 
--- what stands behind a number of a list: nothing, or a space and this
+-- what is behind a number of a list: nothing, or a space and this
 abbrev pub behind_space : Option (Bor (List ℕ)) → List ℕ
 behind_space None = []
 behind_space (Some text) = 32 ∷ text.now
@@ -51,7 +51,7 @@ call_word SenderCount = codes "sender_count"
 call_word ReceiverCount = codes "receiver_count"
 call_word IsDisconnected = codes "is_disconnected"
 
--- the number that stands behind the word of a call, if there is one
+-- the number that is behind the word of a call, if there is one
 abbrev pub call_number : Call ℕ → Option ℕ
 call_number (Send message) = Some message
 call_number (SendTimeout message) = Some message

@@ -15,7 +15,6 @@ use flume_error::error::NoMemory;
 use flume_script::reading::part_at;
 use std::alloc::Allocator;
 
-// The answer of a word that stands alone.
 fn plain_answer<A: Allocator>(word: &[u8]) -> Option<Answer<u64, A>>
     requires no_space { All (λ x. (x == 32) ≡ false) word.now }
     requires no_list { (list : List ℕ) → ¬ (word.now ≡ codes "drained" ++ spaced list) }
@@ -42,7 +41,6 @@ fn plain_answer<A: Allocator>(word: &[u8]) -> Option<Answer<u64, A>>
     }
 }
 
-// The answer of a number, of a call that asked for the capacity or for something else.
 fn number_answer<A: Allocator>(number: u64, asks: bool) -> Answer<u64, A>
     ensures text { IsAnswerText (decimal number) result }
     ensures number_of { IsNumberOf asks result }
@@ -54,7 +52,6 @@ fn number_answer<A: Allocator>(number: u64, asks: bool) -> Answer<u64, A>
     }
 }
 
-// The answer of a text that is no list.
 fn short_answer<A: Allocator>(text: &[u8], asks: bool) -> Option<Answer<u64, A>>
     requires no_list { (list : List ℕ) → ¬ (text.now ≡ codes "drained" ++ spaced list) }
     ensures value { MatchOption result (IsNoAnswer A text.now)
@@ -73,8 +70,9 @@ fn short_answer<A: Allocator>(text: &[u8], asks: bool) -> Option<Answer<u64, A>>
     }
 }
 
-/// The answer of a text, where the call asked for the capacity, or for something else: a number is
-/// read as what the call asked for. `NoMemory`: a list found no room.
+/// The answer that a text represents; `None` if it represents none. `asks` says whether the call
+/// asked for the capacity: a number is read as that or as another number. `NoMemory`: a list
+/// couldn't be allocated.
 ///
 /// ```
 /// answer_of(alloc, b"got 7", false)?;    // Some(Got(7))
@@ -98,7 +96,6 @@ pub fn answer_of<A: Allocator + Copy>(
     }
 }
 
-// Adds a truth value.
 fn write_truth<A: Allocator>(text: &mut String<A>, truth: bool) -> Result<(), NoMemory>
     ensures value { OnOk result (string_bytes text.new
         ≡ string_bytes text.old ++ answer_text {A = A} (Truth truth)) }
@@ -111,7 +108,6 @@ fn write_truth<A: Allocator>(text: &mut String<A>, truth: bool) -> Result<(), No
     Ok(())
 }
 
-// Adds the capacity of a channel.
 fn write_capacity<A: Allocator>(
     text: &mut String<A>,
     capacity: Option<usize>,
@@ -126,7 +122,6 @@ fn write_capacity<A: Allocator>(
     Ok(())
 }
 
-// Adds the text of a drained list.
 fn write_drained<A: Allocator>(text: &mut String<A>, list: &[u64]) -> Result<(), NoMemory>
     ensures value { OnOk result (string_bytes text.new
         ≡ string_bytes text.old ++ (codes "drained" ++ spaced list.now)) }
@@ -138,8 +133,7 @@ fn write_drained<A: Allocator>(text: &mut String<A>, list: &[u64]) -> Result<(),
     Ok(())
 }
 
-/// Adds the text of an answer. `NoMemory`: the text found no room, and part of this may stand in
-/// it.
+/// Adds the text of an answer. `NoMemory`: the text couldn't grow, and may have a part of this.
 ///
 /// ```
 /// let mut text = String::new(alloc);

@@ -12,14 +12,12 @@ use flume_error::error::NoMemory;
 use flume_script::reading::part_at;
 use std::alloc::Allocator;
 
-/// Whether a text is this word.
 pub(crate) fn is(text: &[u8], word: &[u8]) -> bool
     ensures value { IsTrue result ↔ (text.now ≡ word.now) }
 {
     text == word
 }
 
-// The call of a word that stands alone.
 fn plain_call(word: &[u8]) -> Option<Call<u64>>
     requires no_space { All (λ x. (x == 32) ≡ false) word.now }
     ensures value { MatchOption result (IsNoCall word.now) (IsCallText word.now) }
@@ -45,7 +43,6 @@ fn plain_call(word: &[u8]) -> Option<Call<u64>>
     }
 }
 
-// The call of a word with a number behind it.
 fn number_call(word: &[u8], number: u64) -> Option<Call<u64>>
     requires no_space { All (λ x. (x == 32) ≡ false) word.now }
     ensures value { MatchOption result (IsNoCall (word.now ++ 32 ∷ decimal number))
@@ -61,7 +58,7 @@ fn number_call(word: &[u8], number: u64) -> Option<Call<u64>>
     }
 }
 
-/// The call of a text.
+/// The call that a text represents; `None` if it represents none.
 ///
 /// ```
 /// call_of(b"send 7");                // Some(Send(7))
@@ -76,7 +73,6 @@ pub fn call_of(text: &[u8]) -> Option<Call<u64>>
     }
 }
 
-// The word of a call.
 fn word_of(call: &Call<u64>) -> &'static str
     ensures value { result.now ≡ call_word call.now }
 {
@@ -105,7 +101,6 @@ fn word_of(call: &Call<u64>) -> &'static str
     }
 }
 
-// The number behind the word of a call.
 fn number_in(call: &Call<u64>) -> Option<u64>
     ensures value { result ≡ call_number call.now }
 {
@@ -119,7 +114,7 @@ fn number_in(call: &Call<u64>) -> Option<u64>
     }
 }
 
-/// Adds the text of a call. `NoMemory`: the text found no room, and part of this may stand in it.
+/// Adds the text of a call. `NoMemory`: the text couldn't grow, and may have a part of this.
 ///
 /// ```
 /// let mut text = String::new(alloc);

@@ -7,8 +7,8 @@ pub enum Fault {
     NoOpening,
     /// It isn't a thread's name with a colon or an arrow behind it.
     NoEvent,
-    /// What stands behind the colon is no call.
+    /// What is behind the colon is no call.
     NoCall,
-    /// What stands behind the arrow is no answer.
+    /// What is behind the arrow is no answer.
     NoAnswer,
 }

@@ -6,7 +6,7 @@
 //! `calls` and `answers` have the texts of both.
 //!
 //! A thread's name is one byte or more, none of them a space or a colon. So each line can be read
-//! in one way only: what stands before its first space ends in a colon if it begins a call, and in no
+//! in one way only: what is before its first space ends in a colon if it begins a call, and in no
 //! colon if a call returns.
 #![tactic(auto)]
 

@@ -12,7 +12,6 @@ use flume_script::reading::part_at;
 use std::alloc::{AllocError, Allocator};
 use std::str;
 
-// The value of digits.
 #[tactic(auto, using(crate::proofs::Digits::numeral_is_text))]
 fn value_of(digits: &[u8]) -> Option<u64>
     ensures value { SomeIff result
@@ -63,7 +62,7 @@ pub(crate) fn numbers_of<A: Allocator + Copy>(
     Ok(Some(list))
 }
 
-// What stands before the first space, and after it.
+// What is before the first space, and after it.
 fn first_of(numbers: &[u8]) -> (&[u8], Option<&[u8]>)
     ensures parts { numbers.now ≡ result.0.now ++ behind_space result.1 }
     ensures first { All (λ x. (x == 32) ≡ false) result.0.now }

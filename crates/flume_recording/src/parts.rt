@@ -13,7 +13,7 @@ pub(crate) enum Parts<'s> {
     Returns { name: &'s [u8], answer: &'s [u8] },
 }
 
-/// The parts of a line: its first space stands behind the name and a colon, or behind the name.
+/// The parts of a line: its first space is behind the name and a colon, or behind the name.
 pub(crate) fn parts_of(line: &[u8]) -> Option<Parts<'_>>
     ensures value { MatchOption result (HasNoParts line.now) (ArePartsOf line.now) }
 {

@@ -16,7 +16,7 @@ use std::alloc::{AllocError, Allocator};
 pub enum Recording<'s, A: Allocator> {
     /// Every line is right.
     Right {
-        /// How many messages the channel is to hold: none of an unbounded one.
+        /// The capacity, or `None` if unbounded.
         capacity: Option<usize>,
         /// The events, in the order of their lines.
         events: Vec<Event<u64, A>, A>,
@@ -33,22 +33,21 @@ pub enum Recording<'s, A: Allocator> {
     },
 }
 
-// Lines as they were read.
 #[derive(Drop)]
 enum Lines<'s, A: Allocator> {
-    // Each is an event.
+    // Each line is an event.
     Right {
         events: Vec<Event<u64, A>, A>,
         names: Vec<&'s [u8], A>,
     },
-    // So many are events, and the next one is none.
+    // This many lines are events, and the next one is none.
     Wrong {
         place: usize,
         fault: Fault,
     },
 }
 
-// The events of the lines, or how many stand before the first line that is none.
+// The events of the lines, or how many are before the first line that is none.
 fn read_events<A: Allocator + Copy>(alloc: A, mut rest: &[u8]) -> Result<Lines<'_, A>, NoMemory>
     ensures value { IfOk result (λ read. IsLinesReading rest.now read) }
     ensures within { IfOk result (λ read. IsWithin read (length rest.now)) }
@@ -69,7 +68,6 @@ fn read_events<A: Allocator + Copy>(alloc: A, mut rest: &[u8]) -> Result<Lines<'
     Ok(Lines::Right { events, names })
 }
 
-// A recording whose first line opens no channel.
 fn unopened<'s, A: Allocator>() -> Recording<'s, A>
     ensures value { result ≡ Wrong 1 NoOpening }
 {
@@ -79,8 +77,9 @@ fn unopened<'s, A: Allocator>() -> Recording<'s, A>
     }
 }
 
-/// Reads a recording, up to its first wrong line. `NoMemory`: the events or the names found no
-/// room. Linear in the length of the input, and for each line in the number of threads.
+/// Reads a recording, up to its first wrong line. `NoMemory`: the events or the names couldn't be
+/// allocated. The time is linear in the length of the input, and for each line in the number of
+/// threads.
 ///
 ///     read_recording(alloc, b"unbounded\na: len\na -> 0\n")?;
 ///     // Right { capacity: None, names: ["a"], events: [Begins { thread: 0, call: Len },

@@ -26,7 +26,6 @@ pub(crate) struct Threads<'s, A: Allocator> {
     ghost as_many: { length names.items ≤ length asking.items },
 }
 
-// The number of this name among the names.
 fn place_of(names: &[&[u8]], name: &[u8]) -> Option<usize>
     ensures within { IfSome result (λ place. place < length names.now) }
     ensures found { IfSome result (λ place. name_of (names_of names.now) place ≡ name.now) }
@@ -41,7 +40,6 @@ fn place_of(names: &[&[u8]], name: &[u8]) -> Option<usize>
     None
 }
 
-// Whether a call asks for the capacity.
 fn asks_capacity(call: &Call<u64>) -> bool
     ensures value { result ≡ asks call.now }
 {
@@ -60,7 +58,6 @@ impl<'s, A: Allocator + Copy> Threads<'s, A> {
         }
     }
 
-    // The number of the thread of this name, which may appear here for the first time.
     fn number_of(&mut self, name: &'s [u8]) -> Result<usize, NoMemory>
         ensures within { IfOk result (λ thread. thread < length self.new.asking.items) }
         ensures thread { IfOk result (λ thread. IsThreadOf (names_of self.old.names.items) name.now
@@ -96,7 +93,6 @@ impl<'s, A: Allocator + Copy> Threads<'s, A> {
         }
     }
 
-    // The thread of this name begins the call of a text.
     fn begins(
         &mut self,
         name: &'s [u8],
@@ -118,7 +114,6 @@ impl<'s, A: Allocator + Copy> Threads<'s, A> {
         Ok(Ok(Event::Begins { thread, call }))
     }
 
-    // The call of the thread of this name returns the answer of a text.
     fn returns(
         &mut self,
         alloc: A,

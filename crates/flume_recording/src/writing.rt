@@ -9,9 +9,8 @@ use flume_concurrent::event::Event;
 use flume_error::error::NoMemory;
 use std::alloc::Allocator;
 
-/// The text of an event, with no line feed, where the threads have these names, in the order of
-/// their numbers. The name of a thread that has none is left out. `NoMemory`: the text found no
-/// room.
+/// The text of an event, with no line feed. `names` are the threads' names, in the order of their
+/// numbers; a name that isn't there is left out. `NoMemory`: the text couldn't be allocated.
 ///
 /// ```
 /// let event = Event::Begins { thread: 0, call: Call::Send(7) };

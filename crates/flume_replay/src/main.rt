@@ -1,5 +1,6 @@
-//! Replays what flume 0.12.0 answered to scripts, file by file. It says how many agree, and how
-//! many are histories that a channel may have. And it checks histories that were written by hand.
+//! Replays scripts whose replies were recorded from flume 0.12.0, file by file. It prints how many
+//! replies agree, and how many are histories that a correct channel could have produced. It also
+//! checks histories that were written by hand.
 #![tactic(auto)]
 
 use flume_core::error::NoMemory;
@@ -94,7 +95,7 @@ fn agrees(alloc: Global, block: &str) -> io::Result<bool> {
     }
 }
 
-/// Whether a channel may have answered the script of a block with the replies of the block.
+/// Whether a correct channel could have given the replies of a block to its script.
 fn is_run(alloc: Global, block: &str) -> io::Result<bool> {
     let Some((script, replies)) = parts_of(block) else {
         return Ok(false);

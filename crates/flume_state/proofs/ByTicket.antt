@@ -1,4 +1,4 @@
--- The map of the values that stand under a ticket in a chain, and where the element with a ticket stands.
+-- The map of the values that are under a ticket in a chain, and where the element with a ticket is.
 use Rattle.std.proofs.Common.{◌≡◌, ℕ, ◌≤◌, ◌==◌, true, false, cond, if◌then◌else◌, List, [], ◌∷◌, ◌++◌, Option, Some, None, refl, sym, ap, ◌∙◌, inl, inr, arith, subst, append-nil, option_map, nat_cmp}
 use Rattle.std.proofs.lemmas.Bool.{cases_Bool, eqb-true, eq-eqb, ne_eqb}
 use Rattle.std.specs.Cmp.{nat_cmp_total, unsigned_tied}
@@ -109,7 +109,7 @@ module _ {X : Type 0} where
     pub none_ahead : value_of t before ≡ None
     pub none_behind : value_of t after ≡ None
 
-  -- it stands so among others, where no two have one place or one ticket
+  -- it is so among others, if no two have one place or one ticket
   abbrev pub stands_amid : (t p : ℕ) (v : X) (items before after : List (Placed (Ticketed X))) → Apart items → ((u : ℕ) → times u (tickets items) ≤ 1)
       → items ≡ before ++ item p (under t v) ∷ after → Stands t p v items
   stands_amid t p v items before after apart single is =
@@ -134,7 +134,7 @@ module _ {X : Type 0} where
   stands t p v items apart single is =
       let s = found_some items p (under t v) is in stands_amid t p v items s.before s.after apart single s.is
 
-  -- what is found where a ticket stands
+  -- what is found at a ticket's place
   pub held : (t p : ℕ) (items : List (Placed (Ticketed X))) → ((k : ℕ) → times k (places items) ≤ 1) → place_of t items ≡ Some p
       → (v : X) × found items p ≡ Some (under t v)
   held t p [] apart is = absurd (let no : ⊥ = cc in no)
@@ -181,7 +181,7 @@ module _ {X : Type 0} where
   stands_written t p v w items s =
       ap (λ l. with_value_at p l w) s.is ∙ edited_at (revalued w) p s.before s.after (under t v) s.ahead s.behind
 
-  -- then it stands as before, with that value
+  -- then it is as before, with that value
   abbrev pub stands_again : (t p : ℕ) (v w : X) (items : List (Placed (Ticketed X))) → Stands t p v items → Stands t p w (with_value_at p items w)
   stands_again t p v w items s = record {
     before = s.before;

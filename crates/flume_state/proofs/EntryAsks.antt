@@ -1,4 +1,5 @@
--- A parked receiver that asks again: it waits on in its place, or behind all others where it was woken.
+-- A parked receiver that asks again: it waits on in its place, or behind all others if it was
+-- woken.
 use Rattle.std.proofs.Common.{◌≡◌, ℕ, ◌+◌, ◌==◌, Bool, [], ◌∷◌, ◌++◌, Option, Some, None, option_map, OnSome, IsSome, ◌↔◌, length, length-append, refl, sym, ap, ap₂, ◌∙◌, inl, inr, arith, true, false, if◌then◌else◌}
 use Rattle.std.proofs.lemmas.Bool.{cases_Bool}
 use Rattle.std.specs.Option.{option_or}
@@ -19,7 +20,7 @@ use Rattle.flume_state.proofs.EntrySeats.{Seated, entry_at, noticed_at, noticed_
 use Rattle.flume_state.proofs.EntrySorted.{Items, entries-append, sorted_push, sorted_without}
 
 module _ {T S : Type 0} where
-  -- one that waits stands in no part where none does, but behind it
+  -- one that waits is in no part if none does, but behind it
   waits_behind : (d : Bool) (xs ys : Items T S) (k : ℕ) (e : Ticketed (Parked T S)) → Each false d xs
       → is_waiting e.value.mark ≡ true → found (xs ++ ys) k ≡ Some e → (times k (places xs) ≡ 0) × (found ys k ≡ Some e)
   waits_behind d [] ys k e all waits h = (refl, h)
@@ -37,7 +38,7 @@ module _ {T S : Type 0} where
         )
   ]
 
-  -- the part of those that wait, where one of them has a value with which it waits
+  -- the part of those that wait, if one of them has a value with which it waits
   each-revalued : (xs : Items T S) (k : ℕ) (v : Parked T S) → Each true false xs → is_waiting v.mark ≡ true → v.notice.due ≡ false
       → Each true false (with_value_at k xs v)
   each-revalued [] k v all waits quiet = all
@@ -92,7 +93,7 @@ module _ {T S : Type 0} where
       ap (λ l. with_value_at k l q.element.value) q.is
       ∙ edited_at (revalued q.element.value) k q.before q.after q.element q.clear q.behind ∙ sym q.is
 
-  -- one that wasn't woken asks again: the parts stand as before
+  -- one that wasn't woken asks again: the parts are as before
   pub asks_sorted : (items : Items T S) (due waits : Option ℕ) (n t k : ℕ) (signal : Option S) (m : Mark T) → EntryLayout items due waits n
       → (q : Seated items t k) → q.element.value.mark ≡ m → is_woken m ≡ false
       → EntryLayout (with_value_at k items (after_asking m signal q.element.value)) due waits n
@@ -106,7 +107,7 @@ module _ {T S : Type 0} where
       → q.element.value.mark ≡ m → held_by (entry_of t old) ≡ held_in m
   holds items t k m old q view is = ap (λ l. held_by (entry_of t l)) (sym view) ∙ ap held_by q.entry ∙ ap held_in is
 
-  -- where nobody is parked under a ticket, nothing changes
+  -- if nobody is parked under a ticket, nothing changes
   pub asks_none : (f : Notice S → Notice S) (t : ℕ) (old : EntryList T S) → entry_of t old ≡ None
       → old ≡ again t (noticed_receiver f t old)
   asks_none f t old none = sym (ap (again t) (noticed_none_of f t old none) ∙ ap (λ o. again_as t o old) none)
@@ -115,7 +116,7 @@ module _ {T S : Type 0} where
   abbrev noticed : {items : Items T S} {t k : ℕ} → Option S → Seated items t k → Entry T (Notice S)
   noticed {items} {t} {k} signal q = let x = entry_in (item k q.element) in record x { notice = waits_on signal x.notice }
 
-  -- what becomes of the entries where it asks again
+  -- what becomes of the entries if it asks again
   asks_at : (items : Items T S) (t k : ℕ) (signal : Option S) (old : EntryList T S) (q : Seated items t k) → entries_in items ≡ old
       → again t (noticed_receiver (waits_on signal) t old)
       ≡ again_as t (Some (noticed signal q)) (entries_in q.before ++ noticed signal q ∷ entries_in q.after)
@@ -162,7 +163,7 @@ module _ {T S : Type 0} where
   abbrev pub behind_all : (items : Items T S) (k : ℕ) → Ticketed (Parked T S) → Items T S
   behind_all items k e = without items k ++ item k e ∷ []
 
-  -- one with another value in its place, and what moving it back leaves: it stands behind all others
+  -- one with another value in its place, and what moving it back leaves: it is behind all others
   pub moved : (items new : Items T S) (t k : ℕ) (v : Parked T S) (done : Bool) (q : Seated items t k)
       → (done ≡ true ↔ IsSome (found (with_value_at k items v) k))
       → (done ≡ true → (e : Ticketed (Parked T S)) → found (with_value_at k items v) k ≡ Some e → new ≡ behind_all (with_value_at k items v) k e)
@@ -173,7 +174,7 @@ module _ {T S : Type 0} where
       moves (stood.1 (rw here refl)) (with_value q.element v) here
       ∙ ap (λ l. l ++ item k (with_value q.element v) ∷ []) (without_written items k v)
 
-  -- as many stand after one moved behind all others
+  -- there are as many after one moved behind all others
   length-behind : (items : Items T S) (t k : ℕ) (e : Ticketed (Parked T S)) (q : Seated items t k)
       → length (behind_all items k e) ≡ length items
   length-behind items t k e q =

@@ -14,7 +14,7 @@ use Rattle.flume_state.proofs.EntryParts.{Apart, alone, edited_at, first_same, f
 use Rattle.flume_state.proofs.EntrySorted.{Is, Items, each-push, entries-append, waits-append}
 
 module _ {T S : Type 0} where
-  -- the entries where the element at a place has another value
+  -- the entries if the element at a place has another value
   pub revalued_entries : (items before after : Items T S) (k : ℕ) (e : Ticketed (Parked T S)) (v : Parked T S)
       → items ≡ before ++ item k e ∷ after → times k (places before) ≡ 0 → times k (places after) ≡ 0
       → entries_in (with_value_at k items v) ≡ entries_in before ++ entry_in (item k (with_value e v)) ∷ entries_in after
@@ -22,7 +22,7 @@ module _ {T S : Type 0} where
       ap (λ l. entries_in (with_value_at k l v)) is ∙ ap entries_in (edited_at (revalued v) k before after e clear behind)
       ∙ entries-append before (item k (with_value e v) ∷ after)
 
-  -- where the first ones don't wait, another is the first that waits
+  -- if the first ones don't wait, another is the first that waits
   waiting_skip : (d : Bool) (xs : Items T S) (es : EntryList T S) → Each false d xs
       → first_waiting (entries_in xs ++ es) ≡ first_waiting es
   waiting_skip d [] es all = refl
@@ -54,7 +54,7 @@ module _ {T S : Type 0} where
       ∙ marked_skip false tell m s.quiet (entries_in s.dues ++ entries_in s.last) s.are_quiet
       ∙ ap (λ l. entries_in s.quiet ++ l) (marked_skip true tell m s.dues (entries_in s.last) s.are_due)
 
-  -- where the boundary names no place, nobody waits
+  -- if the boundary names no place, nobody waits
   none_last : (items : Items T S) (due waits : Option ℕ) (n : ℕ) (s : EntryLayout items due waits n) → waits ≡ None → s.last ≡ []
   none_last items due waits n s none = no_first s.last (sym none ∙ s.first_waits)
 
@@ -155,7 +155,7 @@ module _ {T S : Type 0} where
       ∙ append_assoc (entries_in s.quiet) (entries_in s.dues) (entry_in (item k (with_value w.element v)) ∷ entries_in w.after)
       ∙ sym (mark_of_last due_now m items due waits n s ∙ ap (λ l. entries_in s.quiet ++ (entries_in s.dues ++ l)) here)
 
-  -- some wait where one does
+  -- some wait if one does
   pub waits_some : (items : Items T S) (due waits : Option ℕ) (n : ℕ) (k : ℕ) (s : EntryLayout items due waits n) → FirstWaiting items due waits n k s → 1 ≤ n
   waits_some items due waits n k s w =
       let one : weight (entry_in (item k w.element)) ≡ 1 = rw w.class.0 refl in

@@ -10,7 +10,7 @@ weight-le : (b : Bool) → cond b 1 0 ≤ 1
 weight-le true = omega arith
 weight-le false = omega arith
 
--- where the first waits, somebody does, and else where somebody of the others does
+-- if the first waits, somebody does, and else if somebody of the others does
 wait_bool : (b : Bool) (n : ℕ) (some : Bool) → ltb 0 n ≡ some → ltb 0 (cond b 1 0 + n) ≡ (b || some)
 wait_bool true n some e = lt-ltb _ _ (omega arith)
 wait_bool false n some e = ap (ltb 0) (let less : 0 + n ≡ n = omega arith in less) ∙ e
@@ -37,7 +37,7 @@ module _ {T N : Type 0} where
   count-le [] = omega arith
   count-le (x ∷ xs) = omega (arith, count-le xs, weight-le (is_waiting x.mark))
 
-  -- somebody waits just where the count isn't 0
+  -- somebody waits exactly if the count isn't 0
   pub some_wait_counted : (xs : List (Entry T N)) → ltb 0 (waiting_count xs) ≡ some_wait xs
   some_wait_counted [] = refl
   some_wait_counted (x ∷ xs) = wait_bool (is_waiting x.mark) (waiting_count xs) (some_wait xs) (some_wait_counted xs)

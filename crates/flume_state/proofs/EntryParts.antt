@@ -1,4 +1,5 @@
--- The elements of a chain under single changes: what is at their places, and in which order they stand.
+-- The elements of a chain under single changes: what is at their places, and in which order they
+-- are.
 use Rattle.std.proofs.Common.{◌≡◌, ℕ, ◌+◌, ◌≤◌, ◌==◌, Bool, true, false, List, [], ◌∷◌, ◌++◌, Option, Some, None, option_map, length, refl, sym, ap, ◌∙◌, inl, inr, arith, if◌then◌else◌, eq-eqb, subst}
 use Rattle.std.proofs.lemmas.Bool.{cases_Bool, eqb-true}
 use Rattle.std.proofs.lemmas.List.{map-append}
@@ -47,14 +48,14 @@ module _ {E : Type 0} where
       let most = apart k in
       (omega arith, omega arith)
 
-  -- what is found stands at its place alone
+  -- what is found is at its place alone
   pub seat : (items : List (Placed E)) (k : ℕ) (e : E) → Apart items → found items k ≡ Some e → Seat items k e
   seat items k e apart h =
       let s = found_some items k e h in
       let a = alone s.before s.after k e (subst Apart s.is apart) in
       record { before = s.before; after = s.after; is = s.is; ahead = a.0; behind = a.1 }
 
-  -- what stands at a place is found
+  -- what is at a place is found
   pub seat_found : (before after : List (Placed E)) (k : ℕ) (e : E) → times k (places before) ≡ 0
       → found (before ++ item k e ∷ after) k ≡ Some e
   seat_found before after k e h = found_put before after k e k h ∙ with_same (found (before ++ after)) k (Some e)
@@ -121,7 +122,7 @@ module _ {E : Type 0} where
     | inr t ↦ rw t refl
   ]
 
-  -- the first element of a part, where the boundary names its place
+  -- the first element of a part, if the boundary names its place
   pub record Front (xs : List (Placed E)) (k : ℕ) : Type 0 where
     pub element : E
     pub rest : List (Placed E)

@@ -9,7 +9,7 @@ use Rattle.flume_model.specs.declared.step.Kind.TheVariants.{Stream}
 use Rattle.flume_model.specs.Entries.{is_waiting, waiting_count, marked, met, filled_at, round, round_fills, all_woken}
 use Rattle.flume_state.specs.layout.EntryLayout.{first_waiting, with_first_marked}
 
--- where a sum is 0, so is what is added, and the bit that adds 1 is false
+-- if a sum is 0, so is what is added, and the bit that adds 1 is false
 sum_zero : (b : Bool) (n : ℕ) → (if b then 1 else 0) + n ≡ 0 → (b ≡ false) × (n ≡ 0)
 sum_zero true n e = absurd (omega (arith, e))
 sum_zero false n e = (refl, omega (arith, e))
@@ -19,7 +19,7 @@ module _ {T N : Type 0} where
   abbrev pub ticket_and_kind : Option (Entry T N) → Option (ℕ × Kind)
   ticket_and_kind o = option_map (λ e. (e.ticket, e.kind)) o
 
-  -- the entry that is named is the front, where that waits
+  -- the entry that is named is the front, if that waits
   front_named : (x : Entry T N) (o : Option (Entry T N)) (p : ℕ × Kind) → is_waiting x.mark ≡ true
       → ticket_and_kind (if is_waiting x.mark then Some x else o) ≡ Some p → (x.ticket ≡ p.0) × (x.kind ≡ p.1)
   front_named x o p waits is =
@@ -28,7 +28,7 @@ module _ {T N : Type 0} where
       let both : front ≡ p = cc in
       (ap (λ q. q.0) both, ap (λ q. q.1) both)
 
-  -- the entry that is named stands behind the front, where that doesn't wait
+  -- the entry that is named is behind the front, if that doesn't wait
   behind_named : (x : Entry T N) (o : Option (Entry T N)) (p : Option (ℕ × Kind)) → is_waiting x.mark ≡ false
       → ticket_and_kind (if is_waiting x.mark then Some x else o) ≡ p → ticket_and_kind o ≡ p
   behind_named x o p awake is = sym (ap (λ b. ticket_and_kind (if b then Some x else o)) awake) ∙ is
@@ -51,7 +51,7 @@ module _ {T N : Type 0} where
     | inr w ↦ rw w (rw w (fills_on tell es t (behind_named x (first_waiting es) _ w is)))
   ]
 
-  -- the round ends at the first that waits, where its kind makes it so
+  -- the round ends at the first that waits, if its kind makes it so
   pub round_ends : (tell : N → N) (front : T) (mark : Mark T) (es : List (Entry T N)) (t : ℕ) (k : Kind)
       → ticket_and_kind (first_waiting es) ≡ Some (t, k)
       → ((e : Entry T N) (as_are goes_on : List (Entry T N)) → met tell k front e as_are goes_on ≡ marked tell mark e ∷ as_are)
@@ -65,7 +65,7 @@ module _ {T N : Type 0} where
         rw w (ap (λ l. x ∷ l) (round_ends tell front mark es t k (behind_named x (first_waiting es) _ w is) ends))
   ]
 
-  -- whom the round fills at the first that waits, where its kind makes it so
+  -- whom the round fills at the first that waits, if its kind makes it so
   pub fills_end : (es : List (Entry T N)) (t : ℕ) (k : Kind) (filled : Option ℕ) → ticket_and_kind (first_waiting es) ≡ Some (t, k)
       → ((on : Option ℕ) → filled_at k t on ≡ filled) → round_fills es ≡ filled
   fills_end [] t k filled is ends = absurd (let none : ⊥ = cc in none)
@@ -74,7 +74,7 @@ module _ {T N : Type 0} where
     | inr w ↦ rw w (fills_end es t k filled (behind_named x (first_waiting es) _ w is) ends)
   ]
 
-  -- nobody waits where nobody is named
+  -- nobody waits if nobody is named
   pub none_wait : (es : List (Entry T N)) → ticket_and_kind (first_waiting es) ≡ None → waiting_count es ≡ 0
   none_wait [] is = refl
   none_wait (x ∷ es) is = elim (cases_Bool (is_waiting x.mark)) [
@@ -94,7 +94,7 @@ module _ {T N : Type 0} where
     | inr w ↦ rw w (rw w (omega (arith, fewer_wait tell es p (behind_named x (first_waiting es) _ w is))))
   ]
 
-  -- one fewer waits once the first is woken, where some wait
+  -- one fewer waits once the first is woken, if some wait
   pub fewer_of : (tell : N → N) (es : List (Entry T N)) → 0 < waiting_count es
       → waiting_count (with_first_marked tell Woken es) < waiting_count es
   fewer_of tell es some = elim (ticket_and_kind (first_waiting es)) as
@@ -103,14 +103,14 @@ module _ {T N : Type 0} where
         | Some p ↦ λ is. fewer_wait tell es p is
       ] refl
 
-  -- where nobody waits a round changes nothing
+  -- if nobody waits a round changes nothing
   pub round_idle : (tell : N → N) (front : T) (es : List (Entry T N)) → waiting_count es ≡ 0 → round tell front es ≡ es
   round_idle tell front [] zero = refl
   round_idle tell front (x ∷ es) zero =
       let both = sum_zero (is_waiting x.mark) (waiting_count es) zero in
       rw both.0 (ap (λ l. x ∷ l) (round_idle tell front es both.1))
 
-  -- where nobody waits a round fills nobody
+  -- if nobody waits a round fills nobody
   pub fills_idle : (es : List (Entry T N)) → waiting_count es ≡ 0 → round_fills es ≡ None
   fills_idle [] zero = refl
   fills_idle (x ∷ es) zero =
@@ -124,7 +124,7 @@ module _ {T N : Type 0} where
     | inr w ↦ rw w (rw w (ap (λ l. x ∷ l) (all_on tell es)))
   ]
 
-  -- where nobody waits, to wake all changes nothing
+  -- if nobody waits, to wake all changes nothing
   pub all_idle : (tell : N → N) (es : List (Entry T N)) → waiting_count es ≡ 0 → all_woken tell es ≡ es
   all_idle tell [] zero = refl
   all_idle tell (x ∷ es) zero =

@@ -22,14 +22,14 @@ module _ {T N : Type 0} where
   entry_at t (x ∷ xs) ys e none is =
       let p = none_parts t x xs none in rw p.0 (entry_at t xs ys e p.1 is)
 
-  -- and the others are left where it leaves
+  -- and the others are left if it leaves
   pub without_entry : (t : ℕ) (xs ys : List (Entry T N)) (e : Entry T N) → entry_of t xs ≡ None → e.ticket ≡ t
       → without_ticket t (xs ++ e ∷ ys) ≡ xs ++ ys
   without_entry t [] ys e none is = rw (eq-eqb e.ticket t is) refl
   without_entry t (x ∷ xs) ys e none is =
       let p = none_parts t x xs none in rw p.0 (ap (λ l. x ∷ l) (without_entry t xs ys e p.1 is))
 
-  -- where nobody has the ticket, all are left
+  -- if nobody has the ticket, all are left
   pub without_none_of : (t : ℕ) (xs : List (Entry T N)) → entry_of t xs ≡ None → without_ticket t xs ≡ xs
   without_none_of t [] none = refl
   without_none_of t (x ∷ xs) none =
@@ -43,13 +43,13 @@ module _ {T S : Type 0} where
   noticed_at f t (x ∷ xs) ys e none is =
       let p = none_parts t x xs none in rw p.0 (ap (λ l. x ∷ l) (noticed_at f t xs ys e p.1 is))
 
-  -- where nobody has the ticket, no notice is changed
+  -- if nobody has the ticket, no notice is changed
   pub noticed_none_of : (f : Notice S → Notice S) (t : ℕ) (xs : EntryList T S) → entry_of t xs ≡ None → noticed_receiver f t xs ≡ xs
   noticed_none_of f t [] none = refl
   noticed_none_of f t (x ∷ xs) none =
       let p = none_parts t x xs none in rw p.0 (ap (λ l. x ∷ l) (noticed_none_of f t xs p.1))
 
-  -- where a ticket finds no place, nobody is parked under it
+  -- if a ticket finds no place, nobody is parked under it
   pub nobody : (t : ℕ) (items : Items T S) → place_of t items ≡ None → entry_of t (entries_in items) ≡ None
   nobody t [] none = refl
   nobody t (x ∷ items) none =
@@ -106,7 +106,7 @@ module _ {T S : Type 0} where
     pub entries : entries_in items ≡ entries_in before ++ entry_in (item k element) ∷ entries_in after
     pub entry : entry_of t (entries_in items) ≡ Some (entry_in (item k element))
 
-  -- what stands at the place that a ticket finds
+  -- what is at the place that a ticket finds
   pub seated : (items : Items T S) (t k : ℕ) → Apart items → place_of t items ≡ Some k → Seated items t k
   seated items t k apart h =
       let o = first_with items t k h in

@@ -15,7 +15,7 @@ abbrev pub Items : Type 0 → Type 0 → Type 0
 Items T S = List (Placed (Ticketed (Parked T S)))
 
 module _ {T S : Type 0} where
-  -- an element is of the part where these say whether it waits, and whether it is due
+  -- an element is of the part if these say whether it waits, and whether it is due
   abbrev pub Is : Bool → Bool → Ticketed (Parked T S) → Type 0
   Is waits due e = (is_waiting e.value.mark ≡ waits) × (e.value.notice.due ≡ due)
 
@@ -41,7 +41,7 @@ module _ {T S : Type 0} where
     | inr t ↦ rw t (h.0, h.1, each-without w d xs k h.2)
   ]
 
-  -- one more that waits and isn't due stands behind all others
+  -- one more that waits and isn't due is behind all others
   pub sorted_push : (items : Items T S) (due waits : Option ℕ) (n : ℕ) (k : ℕ) (e : Ticketed (Parked T S)) → EntryLayout items due waits n
       → found items k ≡ None → Is true false e → length (items ++ item k e ∷ []) ≤ 4294967295
       → EntryLayout (items ++ item k e ∷ []) (option_or due (Some k)) (option_or waits (Some k)) (n + 1)
@@ -77,7 +77,7 @@ module _ {T S : Type 0} where
       let without_it = ap (λ l. waiting_count (entries_in l)) left ∙ waits-append at.before at.after in
       omega arith
 
-  -- the others, where the one at a place leaves
+  -- the others, if the one at a place leaves
   pub sorted_without : (items : Items T S) (due waits next : Option ℕ) (n m : ℕ) (k : ℕ) (e : Ticketed (Parked T S)) → EntryLayout items due waits n
       → found items k ≡ Some e → next ≡ place_after items k → m + cond (is_waiting e.value.mark) 1 0 ≡ n
       → EntryLayout (without items k) (boundary_without due k next) (boundary_without waits k next) m
@@ -112,7 +112,7 @@ module _ {T S : Type 0} where
   pub waits_few : (items : Items T S) (due waits : Option ℕ) (n : ℕ) → EntryLayout items due waits n → n ≤ 4294967295
   waits_few items due waits n s = omega (arith, s.count, s.fits, count-le (entries_in items), length-entries items)
 
-  -- some wait where one that is found does
+  -- some wait if one that is found does
   pub one_waits : (items : Items T S) (due waits : Option ℕ) (n : ℕ) (k : ℕ) (e : Ticketed (Parked T S)) → EntryLayout items due waits n
       → found items k ≡ Some e → is_waiting e.value.mark ≡ true → 1 ≤ n
   one_waits items due waits n k e s here waits_too =

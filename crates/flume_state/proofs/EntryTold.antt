@@ -53,7 +53,7 @@ module _ {T S : Type 0} where
       let most = apart x.place in
       absurd (omega arith)
 
-  -- where both boundaries are at one place no receiver is due
+  -- if both boundaries are at one place no receiver is due
   pub none_due : (items : Items T S) (due waits : Option ℕ) (n : ℕ) → EntryLayout items due waits n → due ≡ waits → NoDueReceiver (entries_in items)
   none_due items due waits n s same =
       let none = nothing_between s.quiet s.dues s.last (subst Apart s.is s.apart) (sym s.first_due ∙ same ∙ s.first_waits) in
@@ -75,7 +75,7 @@ module _ {T S : Type 0} where
     pub class : Is false true element
     pub due_too : Each false true others
 
-  -- where the boundaries are two the first one names it
+  -- if the boundaries are two the first one names it
   front_due : (dues last : Items T S) (k : ℕ) → first_place (dues ++ last) ≢ first_place last → Some k ≡ first_place (dues ++ last) → Front dues k
   front_due [] last k other h = absurd (other refl)
   front_due (x ∷ xs) last k other h = front_at (x ∷ xs) k h
@@ -129,7 +129,7 @@ module _ {T S : Type 0} where
         fits = omega (arith, s.fits, length-edited (revalued v) items k);
       }
 
-  -- and it was told
+  -- and it was named
   pub tells : (items : Items T S) (due waits : Option ℕ) (n : ℕ) (k : ℕ) (es : EntryList T S) (s : EntryLayout items due waits n)
       (d : Dues items due waits n k s) → entries_in items ≡ es
       → NamesReceiver es (entries_in (with_value_at k items (told_value d.element.value))) d.element.label

@@ -38,7 +38,7 @@ module _ {T S N : Type 0} where
     pub leaves : round tell front now ≡ round tell front initial
     pub fills : round_fills now ≡ round_fills initial
 
-  -- nothing is done where nobody waits
+  -- nothing is done if nobody waits
   pub idle_by_count : (tell : N → N) (xs : List (Entry T N)) (line : Messages T S) → waiting_count xs ≡ 0 → Woke tell xs line None xs line
   idle_by_count tell xs line none = by_queue line.queued refl
     where
@@ -50,7 +50,7 @@ module _ {T S N : Type 0} where
         queue = rw is (rw (fills_idle xs none) refl);
       }
 
-  -- nothing is done where nothing is queued
+  -- nothing is done if nothing is queued
   pub idle_by_queue : (tell : N → N) (xs : List (Entry T N)) (line : Messages T S) → length line.queued ≡ 0 → Woke tell xs line None xs line
   idle_by_queue tell xs line none = by_queue line.queued refl
     where
@@ -87,7 +87,7 @@ module _ {T S N : Type 0} where
         queue = rw w.queue (rw (← none) (w.stays ∙ same_line line _ w.queue));
       }
 
-  -- the loop ends where nobody waits
+  -- the loop ends if nobody waits
   pub woke_over : (tell : N → N) (initial now : List (Entry T N)) (line line_now : Messages T S) → Wakes tell initial now line line_now
       → ticket_and_kind (first_waiting now) ≡ None → Woke tell initial line None now line_now
   woke_over tell initial now line line_now w none =

@@ -52,7 +52,7 @@ module _ {S : Type 0} where
         due = sym (ap (λ (e : Ticketed (LiveSend S)). e.value.notice.due) same) ∙ h.dues.0;
       }
 
-  -- it is told: the next is the first that is due
+  -- it is named: the next is the first that is due
   pub told_kept : (items : List (Element S)) (t p : ℕ) (v w : LiveSend S) → FirstDue items t p v → w.notice.due ≡ false
       → SendLayout (with_value_at p items w) (place_after (with_value_at p items w) p)
   told_kept items t p v w f e =
@@ -71,7 +71,7 @@ module _ {S : Type 0} where
   pub told_due : (items : List (Element S)) (t p : ℕ) (v : LiveSend S) → FirstDue items t p v → is_due_send (by_ticket items) t ≡ true
   told_due items t p v f = ap send_due_in (stands_value t p v items f.stands) ∙ f.due
 
-  -- the first that is due stands
+  -- the first that is due is there
   pub due_stands : (items : List (Element S)) (d : Option ℕ) (p : ℕ) → SendLayout items d → d ≡ Some p → Apart items → found items p ≢ None
   due_stands items d p l is apart = λ none.
       let h = late_of items d p l is apart in

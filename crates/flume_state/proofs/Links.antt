@@ -81,12 +81,12 @@ module _ {S : Type 0} where
   after_written xs k w =
       sym (after_sends (with_value_at k xs w) k) ∙ ap (λ (l : List (Element S)). place_after l k) (written_sends xs k w)
 
-  -- a send among others, where it is found by its place: with its ticket
+  -- a send among others, if it is found by its place: with its ticket
   pub record Seat (xs : SendList S) (p t : ℕ) (o : PlacedSend S) : Type 0 where
     pub is : found xs p ≡ Some (under t o)
     pub stands : Stands t p o.send (sends_in xs)
 
-  -- it stands so where it is found
+  -- it is so if it is found
   pub seat_of : (xs : SendList S) (p t : ℕ) (o : PlacedSend S) → Apart xs → ((u : ℕ) → times u (tickets xs) ≤ 1)
       → found xs p ≡ Some (under t o) → Seat xs p t o
   seat_of xs p t o apart single is = record {
@@ -94,7 +94,7 @@ module _ {S : Type 0} where
     stands = stands t p o.send (sends_in xs) (apart_sends xs apart) (single_sends xs single) (found_sends xs p ∙ ap (option_map bare) is);
   }
 
-  -- and where its ticket does
+  -- and if its ticket does
   pub seat_at : (xs : SendList S) (p t : ℕ) (o : PlacedSend S) → Apart xs → ((u : ℕ) → times u (tickets xs) ≤ 1)
       → place_of t xs ≡ Some p → Some o ≡ option_map (λ e. e.value) (found xs p) → Seat xs p t o
   seat_at xs p t o apart single place value =
@@ -103,14 +103,14 @@ module _ {S : Type 0} where
       let one : r.0 ≡ o = cc in
       seat_of xs p t o apart single (r.1 ∙ ap (λ (w : PlacedSend S). Some (under t w)) one)
 
-  -- the ticket of an element stands where the element does
+  -- the ticket of an element is where the element is
   pub ticket_place : (xs : SendList S) (p : ℕ) (e : Ticketed (PlacedSend S)) → Apart xs → ((u : ℕ) → times u (tickets xs) ≤ 1)
       → found xs p ≡ Some e → place_of e.label xs ≡ Some p
   ticket_place xs p e apart single is =
       let at = without_amid xs p e apart is in
       own xs (without xs p) (item p e) empty at e.label refl (others_none xs (without xs p) (item p e) empty at e.label refl (single e.label))
 
-  -- a send that is read at a place stands there
+  -- a send that is read at a place is there
   pub seat : (xs : SendList S) (p : ℕ) (o : PlacedSend S) → Apart xs → ((u : ℕ) → times u (tickets xs) ≤ 1)
       → Some o ≡ option_map (λ e. e.value) (found xs p) → (t : ℕ) × Seat xs p t o
   seat xs p o apart single value =
@@ -155,7 +155,7 @@ module _ {S : Type 0} where
   due_found f xs d p l is apart none =
       due_stands (sends_in xs) d p l is (apart_sends xs apart) (found_sends xs p ∙ ap (option_map bare) (none_found f (found xs p) none))
 
-  -- the links where one element more stands among others
+  -- the links if one element more is among others
   link_amid : (all rest : SendList S) (p : ℕ) (e : Ticketed (PlacedSend S)) → Amid all rest (item p e) → times p (places rest) ≡ 0
       → (k : ℕ) → link_at all k ≡ (if k == p then Some (link_of e) else link_at rest k)
   link_amid all rest p e at none k =
@@ -192,7 +192,7 @@ module _ {S : Type 0} where
             ∙ sym (ap (λ b. if b then None else link_at xs k) h)
       ]
 
-  -- the links where a value is written
+  -- the links if a value is written
   pub link_written : (xs : SendList S) (p t : ℕ) (f : Link → Link) (o w : PlacedSend S) → link_of (under t w) ≡ f (link_of (under t o)) → found xs p ≡ Some (under t o)
       → (k : ℕ) → link_at (with_value_at p xs w) k ≡ (if k == p then option_map f (link_at xs k) else link_at xs k)
   link_written xs p t f o w same is k =
@@ -208,7 +208,7 @@ module _ {S : Type 0} where
             ∙ sym (ap (λ b. if b then option_map f (link_at xs k) else link_at xs k) h)
       ]
 
-  -- and where the written one has the same link
+  -- and if the written one has the same link
   pub link_kept : (xs : SendList S) (p t : ℕ) (o w : PlacedSend S) → link_of (under t w) ≡ link_of (under t o) → found xs p ≡ Some (under t o)
       → (k : ℕ) → link_at (with_value_at p xs w) k ≡ link_at xs k
   link_kept xs p t o w same is k = link_written xs p t (λ l. l) o w same is k ∙ inner (k == p) (link_at xs k)
@@ -276,7 +276,7 @@ module _ {S : Type 0} where
             )
       ] refl
 
-  -- what is told of the place that a ticket may have
+  -- what is said of the place that a ticket may have
   pub told : (xs : SendList S) (t : ℕ) (r : Option ℕ) → Apart xs → ((u : ℕ) → times u (tickets xs) ≤ 1) → r ≡ place_of t xs
       → IfSome r (λ p. option_map (λ l. l.ticket) (link_at xs p) ≡ Some t)
       × IfSome r (λ p. option_map (λ l. l.accepted) (link_at xs p) ≡ option_map (λ s. s.accepted) (get (live_sends xs) t))
@@ -290,14 +290,14 @@ module _ {S : Type 0} where
         tt,
       )
 
-  -- where a ticket stands nowhere no link has it
+  -- if a ticket is nowhere no link has it
   pub link_nowhere : (xs : SendList S) (t k : ℕ) (l : Link) → Apart xs → ((u : ℕ) → times u (tickets xs) ≤ 1)
       → place_of t xs ≡ None → link_at xs k ≡ Some l → l.ticket ≢ t
   link_nowhere xs t k l apart single none is = λ same.
       let no : Some k ≡ None = sym (link_place xs k l apart single is) ∙ ap (λ u. place_of u xs) same ∙ none in
       let never : ⊥ = cc in never
 
-  -- and where it stands somewhere only the link there
+  -- and if it is somewhere only the link there
   pub link_where : (xs : SendList S) (t k p : ℕ) (l : Link) → Apart xs → ((u : ℕ) → times u (tickets xs) ≤ 1)
       → place_of t xs ≡ Some p → link_at xs k ≡ Some l → l.ticket ≡ t → k ≡ p
   link_where xs t k p l apart single at is same =

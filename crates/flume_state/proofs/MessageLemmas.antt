@@ -4,7 +4,7 @@ use Rattle.flume_chain.specs.Chained.{Placed}
 use Rattle.flume_state.specs.layout.MessageLayout.{Message, BlockedAt, MessageList, queued_ahead, blocked_ahead, queued_of, blocked_of, messages_of, MessageLayout}
 
 module _ {T : Type 0} where
-  -- where none is queued, the first isn't, and it has an owner
+  -- if none is queued, the first isn't, and it has an owner
   pub unqueued : (o : Option ℕ) (m : T) (ms : List T) → queued_ahead o m ms ≡ [] → (t : ℕ) × (o ≡ Some t) × (ms ≡ [])
   unqueued None m ms h = absurd cc
   unqueued (Some t) m ms h = (t, refl, h)
@@ -27,20 +27,20 @@ module _ {T : Type 0} where
   blocked_append [] ys = refl
   blocked_append (x ∷ xs) ys = blocked_ahead_append x.place x.element.label x.element.value _ _ _ (blocked_append xs ys)
 
-  -- where none is blocked, the first isn't, and it is queued
+  -- if none is blocked, the first isn't, and it is queued
   pub unblocked : (k : ℕ) (o : Option ℕ) (m : T) (ms : List T) (bs : List (BlockedAt T)) → blocked_ahead k o m bs ≡ []
       → (o ≡ None) × (bs ≡ []) × (queued_ahead o m ms ≡ m ∷ ms)
   unblocked k None m ms bs h = (refl, h, refl)
   unblocked k (Some t) m ms bs h = absurd cc
 
-  -- where none is blocked, all are queued
+  -- if none is blocked, all are queued
   queued_count : (xs : List (Placed (Message T))) → blocked_of xs ≡ [] → length (queued_of xs) ≡ length xs
   queued_count [] h = refl
   queued_count (x ∷ xs) h =
       let first = unblocked x.place x.element.label x.element.value (queued_of xs) (blocked_of xs) h in
       ap length first.2 ∙ ap suc (queued_count xs first.1)
 
-  -- where none is queued, all are blocked
+  -- if none is queued, all are blocked
   blocked_count : (xs : List (Placed (Message T))) → queued_of xs ≡ [] → length (blocked_of xs) ≡ length xs
   blocked_count [] h = refl
   blocked_count (x ∷ xs) h =

@@ -14,14 +14,14 @@ use Rattle.flume_state.proofs.MessageSteps.{owner_at}
 use Rattle.flume_state.proofs.Pairs.{ticket_by}
 
 module _ {E : Type 0} where
-  -- how many elements stand from a place on
+  -- how many elements there are from a place on
   abbrev pub left_from : List (Placed E) → Option ℕ → ℕ
   left_from items None = 0
   left_from [] (Some k) = 0
   left_from (x ∷ items) (Some k) =
       if k == x.place then suc (length items) else left_from items (Some k)
 
-  -- from the place of one among others on, it and those behind it stand
+  -- from the place of one among others on, it and those behind it are left
   left_here : (xs ys : List (Placed E)) (x : Placed E) → times x.place (places xs) ≡ 0 → left_from (xs ++ x ∷ ys) (Some x.place) ≡ suc (length ys)
   left_here [] ys x none = ap (λ b. if b then suc (length ys) else left_from ys (Some x.place)) (eq-eqb x.place x.place refl)
   left_here (y ∷ xs) ys x none =
@@ -85,7 +85,7 @@ module _ {T S : Type 0} where
             (record { held = held; links = λ k. refl; marks = refl });
       }
 
-  -- it is over where no place is left
+  -- it is over if no place is left
   pub walk_ends : (items : List (Placed (Message T))) (at : Option ℕ) (initial sends : SendList S) (done : SendMap S)
       → Walks items at initial sends done → at ≡ None → live_sends sends ≡ done
   walk_ends items at initial sends done w none =

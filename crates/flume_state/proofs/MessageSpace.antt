@@ -1,4 +1,4 @@
--- How many messages may stand in a chain before more memory is wanted, under its methods.
+-- How many messages may be in a chain before more memory is wanted, under its methods.
 use Rattle.std.proofs.Common.{◌≡◌, ◌<◌, ◌≤◌, ◌+◌, ℕ, zero, suc, List, [], ◌∷◌, length, Option, Some, None, refl, ap, ◌∙◌, arith, length-append}
 use Rattle.flume_state.proofs.Chains.{Chained, Placed, found, without, behind_first, first_element, times, places, length-put_before, length-without, relabelled, with_label_at, length-edited}
 use Rattle.flume_state.specs.layout.Ticketed.{put_ahead}
@@ -6,7 +6,7 @@ use Rattle.flume_state.specs.layout.MessageLayout.{Message, MessageList, message
 use Rattle.flume_state.proofs.MessageLemmas.{counts}
 
 module _ {T : Type 0} where
-  -- one more stands
+  -- there is one more
   pub length-put : (items : List (Placed (Message T))) (next : Option ℕ) (x : Placed (Message T)) → length (put_ahead items next x) ≡ suc (length items)
   length-put items None x = length-append items (x ∷ []) ∙ omega arith
   length-put items (Some k) x = length-put_before items k x
@@ -23,7 +23,7 @@ module _ {T : Type 0} where
           let less = room some in
           omega arith
 
-  -- as many messages stand as elements
+  -- there are as many messages as elements
   pub total : (items : List (Placed (Message T))) (first : Option ℕ) (n space : ℕ) (list : MessageList T) → MessageLayout items first n → messages_of items space ≡ list
       → message_count list ≡ length items
   total items first n space list w view =

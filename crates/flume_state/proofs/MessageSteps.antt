@@ -26,7 +26,7 @@ module _ {T : Type 0} where
   abbrev pub blocked_at : ℕ → ℕ → T → Placed (Message T)
   blocked_at place t m = record { place = place; element = record { label = Some t; value = m } }
 
-  -- a message that joins the queue stands between both parts
+  -- a message that joins the queue is between both parts
   pub queues : (items new : List (Placed (Message T))) (first label : Option ℕ) (count place space more : ℕ) (m : T) (list : MessageList T)
       → MessageLayout items first count → messages_of items space ≡ list → Apart items
       → new ≡ put_ahead items first (record { place = place; element = record { label = label; value = m } }) → label ≡ None → Lays new first count (record list { queued = list.queued ++ m ∷ []; space = more })
@@ -52,7 +52,7 @@ module _ {T : Type 0} where
             ∙ ap (λ (l : MessageList T). record l { queued = l.queued ++ m ∷ []; space = more }) (sym (laid items first count space w) ∙ view);
       }
 
-  -- a message that blocks stands behind all others
+  -- a message that blocks is behind all others
   pub blocks : (items new : List (Placed (Message T))) (first label : Option ℕ) (count place space more t queued all : ℕ) (m : T) (list : MessageList T)
       → MessageLayout items first count → messages_of items space ≡ list
       → new ≡ items ++ record { place = place; element = record { label = label; value = m } } ∷ [] → label ≡ Some t → queued ≡ length list.queued → all ≡ length new

@@ -31,7 +31,7 @@ module _ {T : Type 0} where
   elsewhere k (b ∷ bs) none =
       All-cons (λ (c : BlockedAt T). c.place ≢ k) b bs (eqb-false b.place k (once_none b.place k (omega (arith, none)))) (elsewhere k bs (omega (arith, none)))
 
-  -- where no two have one place, none but one has its place
+  -- if no two have one place, none but one has its place
   pub around : (before after : List (BlockedAt T)) (b : BlockedAt T) → ((k : ℕ) → times k (places_of (before ++ b ∷ after)) ≤ 1)
       → Elsewhere b.place before × Elsewhere b.place after
   around before after b apart =
@@ -104,7 +104,7 @@ module _ {S : Type 0} where
   removed_at None t new old none live = absurd (let no : ⊥ = cc in no)
   removed_at (Some l) t new old is live = live ∙ ap (remove old) (let same : l.ticket ≡ t = cc in same)
 
--- the ticket in a link, or 0 where there is none
+-- the ticket in a link, or 0 if there is none
 abbrev ticket_or_zero : Option Link → ℕ
 ticket_or_zero None = 0
 ticket_or_zero (Some l) = l.ticket
@@ -165,7 +165,7 @@ module _ {T S : Type 0} where
       let h = held k d lt in
       absurd (apart k d lt (ap message_in (sym h.is ∙ ap (link_at sends) same ∙ own.is)))
 
-  -- where no link changed, all are paired as before
+  -- if no link changed, all are paired as before
   pub record Kept (new old : SendList S) (bs : List (BlockedAt T)) : Type 0 where
     pub paired : Pairing bs new
     pub names : under_tickets new bs ≡ under_tickets old bs
@@ -178,7 +178,7 @@ module _ {T S : Type 0} where
         names = named_kept new old bs same;
       }
 
-  -- and so where a send left whose message was accepted
+  -- and so if a send left whose message was accepted
   pub spends : (new old : SendList S) (bs : List (BlockedAt T)) (o : ℕ) → LinksBut new old o (λ _. None)
       → ((l : Link) → link_at old o ≡ Some l → l.accepted ≡ true) → Pairing bs old → Kept new old bs
   spends new old bs o links known p =
@@ -263,7 +263,7 @@ module _ {T S : Type 0} where
             (named_kept new old l.blocked same) (ticket_by new o _ made);
       }
 
-  -- where the sends with a ticket were accepted, no blocked message is under it
+  -- if the sends with a ticket were accepted, no blocked message is under it
   pub none_under : (sends : SendList S) (t : ℕ) (bs : List (BlockedAt T)) → ((k : ℕ) (l : Link) → link_at sends k ≡ Some l → l.ticket ≡ t → l.accepted ≡ true)
       → All (HasLink sends) bs → All (λ b. b.ticket ≢ t) (under_tickets sends bs)
   none_under sends t bs known held =
@@ -272,7 +272,7 @@ module _ {T S : Type 0} where
       let no : false ≡ true = known _ _ h.is (sym (ticket_by sends _ _ h.is) ∙ e) in
       absurd (let none : ⊥ = cc in none))
 
-  -- where one send alone has a ticket, no message of another is under it
+  -- if one send alone has a ticket, no message of another is under it
   pub others_under : (sends : SendList S) (t o : ℕ) (bs : List (BlockedAt T)) → ((k : ℕ) (l : Link) → link_at sends k ≡ Some l → l.ticket ≡ t → k ≡ o)
       → OfOthers o bs → All (HasLink sends) bs → All (λ b. b.ticket ≢ t) (under_tickets sends bs)
   others_under sends t o bs only other held =

@@ -64,12 +64,12 @@ pub here_insert : (one : Option (ℕ × ℕ)) (n : ℕ × ℕ) (m all : PlaceMap
 here_insert one n m all t p is same view =
     rw (sym view) (rw is (rw (sym same) (lone_again m n.0 n.1 p)))
 
--- the others don't have the ticket where it is the lone one's
+-- the others don't have the ticket if it is the lone one's
 pub here_absent : (one : Option (ℕ × ℕ)) (n : ℕ × ℕ) (m : PlaceMap) (t : ℕ) → IsApart one m → one ≡ Some n
     → n.0 ≡ t → get m t ≡ None
 here_absent one n m t apart is same = let none : get m n.0 ≡ None = rw is at apart in rw (sym same) none
 
--- where there is no lone one the others are all
+-- if there is no lone one the others are all
 pub none_view : (one : Option (ℕ × ℕ)) (m all : PlaceMap) → one ≡ None → with_lone one m ≡ all → m ≡ all
 none_view one m all is view = rw (sym view) (rw is refl)
 
@@ -80,13 +80,13 @@ module _ {E : Type 0} where
   insert_apart one m n t p (Ok done) away apart ok err = rw ok (apart_insert one m t p away apart)
   insert_apart one m n t p (Err e) away apart ok err = rw err apart
 
-  -- it is among all where it was inserted
+  -- it is among all if it was inserted
   pub insert_ok : (one : Option (ℕ × ℕ)) (m n all : PlaceMap) (t p : ℕ) (r : Result (Unit {0}) E)
       → IsAway one t → with_lone one m ≡ all → OnOk r (n ≡ insert m t p) → OnOk r (with_lone one n ≡ insert all t p)
   insert_ok one m n all t p (Ok done) away view ok = rw (sym view, ok) (away_insert one m t p away)
   insert_ok one m n all t p (Err e) away view ok = ok
 
-  -- its ticket had no place where it wasn't
+  -- its ticket had no place if it wasn't
   pub insert_absent : (one : Option (ℕ × ℕ)) (m all : PlaceMap) (t : ℕ) (r : Result (Unit {0}) E)
       → IsAway one t → with_lone one m ≡ all → OnErr r (get m t ≡ None) → OnErr r (get all t ≡ None)
   insert_absent one m all t (Ok done) away view absent = absent

@@ -23,13 +23,14 @@ module _ {E : Type 0} where
       let at = alone xs ys x.place x.element apart in
       edited_at f x.place xs ys x.element at.0 at.1
 
-  -- one more ahead of the first of those behind stands between both parts
+  -- one more ahead of the first of those behind is between both parts
   pub put_ahead_between : (xs ys : List (Placed E)) (x : Placed E) → Apart (xs ++ ys)
       → put_ahead (xs ++ ys) (first_place ys) x ≡ xs ++ x ∷ ys
   put_ahead_between xs [] x apart = ap (λ (l : List (Placed E)). l ++ x ∷ []) (append-nil xs)
   put_ahead_between xs (y ∷ ys) x apart = put_before_at xs ys y.place y.element x (alone xs ys y.place y.element apart).0
 
-  -- the first place of some that stand last, once an element of them is out: the next one's if it was the first
+  -- the first place of some that come last, once an element of them is out: the next one's if it
+  -- was the first
   pub first_left : (items front before after : List (Placed E)) (x : Placed E) (first next : Option ℕ) → Apart items
       → items ≡ front ++ before ++ x ∷ after → first ≡ first_place (before ++ x ∷ after)
       → (first ≡ Some x.place → next ≡ place_after items x.place) → (first ≢ Some x.place → next ≡ first) → next ≡ first_place (before ++ after)

@@ -39,7 +39,7 @@ module _ {S : Type 0} where
         | false ↦ (h.0, lined_without due xs p h.1)
       ]
 
-  -- one that isn't due stands among those that aren't
+  -- one that isn't due is among those that aren't
   record QuietSide (before after quiet late : List (Element S)) (x : Element S) : Type 0 where
     pub between : List (Element S)
     pub ahead : quiet ≡ before ++ x ∷ between
@@ -65,7 +65,7 @@ module _ {S : Type 0} where
         behind = r.behind;
       }
 
-  -- one that is due stands among those that are
+  -- one that is due is among those that are
   record DueSide (before after quiet late : List (Element S)) (x : Element S) : Type 0 where
     pub between : List (Element S)
     pub ahead : before ≡ quiet ++ between
@@ -88,7 +88,7 @@ module _ {S : Type 0} where
         behind = r.behind;
       }
 
-  -- a send is written, and is due where it was
+  -- a send is written, and is due if it was
   pub written_lined : (before after : List (Element S)) (p t : ℕ) (v w : LiveSend S) (d : Option ℕ) → w.notice.due ≡ v.notice.due
       → SendLayout (before ++ item p (under t v) ∷ after) d → SendLayout (before ++ item p (under t w) ∷ after) d
   written_lined before after p t v w d same l = elim (cases_Bool v.notice.due) [
@@ -134,7 +134,7 @@ module _ {S : Type 0} where
         first = ap (λ o. option_or o (Some p)) l.first ∙ sym (first-push l.late (item p (under t w)));
       }
 
-  -- one more that isn't due stands ahead of the first that is
+  -- one more that isn't due is ahead of the first that is
   pub put_is : (items : List (Element S)) (d : Option ℕ) (x : Element S) (l : SendLayout items d)
       → Apart items → put_ahead items d x ≡ l.quiet ++ x ∷ l.late
   put_is items d x l apart =

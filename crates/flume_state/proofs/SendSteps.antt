@@ -15,7 +15,7 @@ use Rattle.flume_state.proofs.EntryParts.{Apart, off_first, no_first}
 use Rattle.flume_state.proofs.SendLines.{written_lined, moved_lined, lined_without, put_is}
 
 module _ {S : Type 0} where
-  -- where the ticket stands nowhere the map has none
+  -- if the ticket is nowhere the map has none
   pub get_none : (items : List (Element S)) (t : ℕ) → place_of t items ≡ None → get (by_ticket items) t ≡ None
   get_none items t is = get_by_ticket items t ∙ value_none t items (times_none t items is)
 
@@ -32,7 +32,7 @@ module _ {S : Type 0} where
       ∙ by_ticket_changed t p v f s.before s.after s.none_ahead
       ∙ ap (λ n. changed (by_ticket n) t f) (sym s.is)
 
-  -- a send that is written is due where it was
+  -- a send that is written is due if it was
   pub written_kept : (items : List (Element S)) (d : Option ℕ) (t p : ℕ) (v w : LiveSend S) → w.notice.due ≡ v.notice.due → Stands t p v items
       → SendLayout items d → SendLayout (with_value_at p items w) d
   written_kept items d t p v w same s l =
@@ -79,7 +79,7 @@ module _ {S : Type 0} where
       ∙ by_ticket_removed t p v s.before s.after s.none_ahead s.none_behind
       ∙ ap (λ n. remove (by_ticket n) t) (sym s.is)
 
-  -- the chain without one: the first that is due is the next one, where it was that
+  -- the chain without one: the first that is due is the next one, if it was that
   pub spent_kept : (items : List (Element S)) (d : Option ℕ) (p : ℕ) → Apart items → SendLayout items d
       → SendLayout (without items p) (boundary_without d p (place_after items p))
   spent_kept items d p apart l = record {
@@ -101,13 +101,13 @@ module _ {S : Type 0} where
         | false ↦ quiet_value t xs h.1
       ]
 
-  -- no send is due where there is no first one
+  -- no send is due if there is no first one
   pub none_first : (items : List (Element S)) → SendLayout items None → NoDueSend (by_ticket items)
   none_first items l = λ t.
       ap send_due_in (get_by_ticket items t ∙ ap (value_of t) (l.parts ∙ ap (λ (xs : List (Element S)). l.quiet ++ xs) (no_first l.late l.first) ∙ append-nil l.quiet))
       ∙ quiet_value t l.quiet l.none_due
 
--- the next one, where the place is the one that it is compared with
+-- the next one, if the place is the one that it is compared with
 pub bounded_same : (d : Option ℕ) (p : ℕ) (next : Option ℕ) → option_eq nat_eq d (Some p) ≡ true → boundary_without d p next ≡ next
 bounded_same None p next e = absurd (let no : ⊥ = cc in no)
 bounded_same (Some k) p next e = ap (λ b. if b then next else Some k) e

@@ -41,12 +41,12 @@ module _ {X : Type 0} where
   pub get-remove_other : (m : FinMap nat_cmp X) (k q : ℕ) → q ≢ k → get (remove m k) q ≡ get m q
   get-remove_other m k q ne = get-remove nat_cmp_total m k q ∙ ap (λ b. cond b None (get m q)) (untied q k ne)
 
-  -- `changed`, where there is a value
+  -- `changed`, if there is a value
   pub changed_some : (m : FinMap nat_cmp X) (k : ℕ) (f : X → X) (x : X) → get m k ≡ Some x → changed m k f ≡ insert m k (f x)
   unfolding changed
   changed_some m k f x e = ap (λ o. option_map_or (λ x. insert m k (f x)) o m) e
 
-  -- `changed`, where there is none
+  -- `changed`, if there is none
   pub changed_none : (m : FinMap nat_cmp X) (k : ℕ) (f : X → X) → get m k ≡ None → changed m k f ≡ m
   unfolding changed
   changed_none m k f e = ap (λ o. option_map_or (λ x. insert m k (f x)) o m) e

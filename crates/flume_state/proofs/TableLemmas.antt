@@ -48,7 +48,7 @@ module _ {X S : Type 0} where
       ∙ ap (λ b. cond b w (table.get nat_eq m q)) (sym (unsigned_tied k q) ∙ (eq_by_cmp_equiv nat_cmp_total).symm k q)
       ∙ ap (cond (eq_by_cmp nat_cmp q k) w) (sym (get_of_table m _ refl q))
 
-  -- a table is seen as empty exactly where it has no entries
+  -- a table is seen as empty exactly if it has no entries
   pub nothing_seen : (m : HashMap ℕ X S) (s : FinMap nat_cmp X) (b : Bool) → seen m.entries ≡ s
       → IsTrue b ↔ (hash_map_len m ≡ 0) → b ≡ true ↔ s ≡ empty
   nothing_seen m s b is count =

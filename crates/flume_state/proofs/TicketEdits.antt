@@ -1,4 +1,4 @@
--- A chain with tickets where an element is taken out, moved or changed: its map goes with it.
+-- A chain with tickets if an element is taken out, moved or changed: its map goes with it.
 use Rattle.std.proofs.Common.{◌≡◌, ℕ, List, Option, Some, None, refl, sym, ap, subst, ◌∙◌}
 use Rattle.std.specs.FinMap.{remove}
 use Rattle.flume_state.proofs.Chains.{Placed, found, without, moved_back, edited, with_value_at, item, without_at, edited_missing, moved_back_missing, moved_back_some, revalued}
@@ -10,7 +10,7 @@ use Rattle.flume_state.proofs.TicketMaps.{insert-remove}
 use Rattle.flume_state.proofs.TicketLemmas.{Amid, ticketed_out, ticketed_in, own, times_none, put_amid, without_amid, without_fresh}
 
 module _ {E : Type 0} where
-  -- the map stays where an element is taken out, and one with its place and its ticket is put in
+  -- the map stays if an element is taken out, and one with its place and its ticket is put in
   replaced : (items rest next : List (Placed (Ticketed E))) (m : PlaceMap) (k : ℕ) (e f : Ticketed E) → Amid items rest (item k e)
       → Amid next rest (item k f) → f.label ≡ e.label → Agrees items m → Agrees next m
   replaced items rest next m k e f at to same a =
@@ -21,7 +21,7 @@ module _ {E : Type 0} where
       subst (λ n. Agrees next n) (insert-remove m e.label k here)
       (ticketed_in next rest (item k f) (remove m e.label) to e.label same new fresh left)
 
-  -- the map stays where an element goes behind all others
+  -- the map stays if an element goes behind all others
   pub moved_agrees : (items : List (Placed (Ticketed E))) (m : PlaceMap) (k : ℕ) → Agrees items m → Agrees (moved_back items k) m
   moved_agrees items m k a = elim (found items k) as (λ (o : Option (Ticketed E)). found items k ≡ o → Agrees (moved_back items k) m) [
     | None ↦ λ none. subst (λ (l : List (Placed (Ticketed E))). Agrees l m) (sym (moved_back_missing items k none)) a
@@ -42,7 +42,7 @@ module _ {E : Type 0} where
         others = ap (λ (l : List (Placed (Ticketed E))). without l k) s.is ∙ without_at s.before s.after k e s.ahead s.behind;
       }
 
-  -- the map stays where a value is written at a place
+  -- the map stays if a value is written at a place
   pub written_agrees : (v : E) (items : List (Placed (Ticketed E))) (m : PlaceMap) (k : ℕ) → Agrees items m → Agrees (with_value_at k items v) m
   written_agrees v items m k a = elim (found items k) as (λ (o : Option (Ticketed E)). found items k ≡ o → Agrees (with_value_at k items v) m) [
     | None ↦ λ none. subst (λ (l : List (Placed (Ticketed E))). Agrees l m) (sym (edited_missing (revalued v) items k none)) a

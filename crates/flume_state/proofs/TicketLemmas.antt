@@ -12,7 +12,7 @@ use Rattle.flume_state.proofs.SendsLaws.{get-insert_same, get-insert_other, get-
 pub once_other : (a b : ℕ) → a ≢ b → once a b ≡ 0
 once_other a b ne = ap (λ t. if t then 1 else 0) (ne_eqb a b ne)
 
--- where a choice finds none it isn't the first, and the others have none
+-- if a choice finds none it isn't the first, and the others have none
 pub neither : {X : Type 0} (b : Bool) (x : X) (o : Option X) → (if b then Some x else o) ≡ None → (b ≡ false) × (o ≡ None)
 neither true x o none = absurd (let no : ⊥ = cc in no)
 neither false x o none = (refl, none)
@@ -35,7 +35,7 @@ module _ {E : Type 0} where
   place_amid t [] ys x other = ap (λ b. cond b (Some x.place) (place_of t ys)) (once_none x.element.label t other)
   place_amid t (y ∷ xs) ys x other = ap (cond (y.element.label == t) (Some y.place)) (place_amid t xs ys x other)
 
-  -- an element has the place of its ticket, where none beside it has that
+  -- an element has the place of its ticket, if no other one has that
   pub place_own : (t : ℕ) (xs ys : List (Placed (Ticketed E))) (x : Placed (Ticketed E)) → x.element.label ≡ t
       → times t (tickets (xs ++ ys)) ≡ 0 → place_of t (xs ++ x ∷ ys) ≡ Some x.place
   place_own t [] ys x own none = ap (λ b. cond b (Some x.place) (place_of t ys)) (eq-eqb x.element.label t own)
@@ -58,7 +58,7 @@ module _ {E : Type 0} where
       let here : once y.element.label t ≡ 0 = ap (λ b. if b then 1 else 0) both.0 in
       omega arith
 
-  -- rest is items but for one element, which stands somewhere among them
+  -- rest is items but for one element, which is somewhere among them
   pub record Amid (items rest : List (Placed (Ticketed E))) (x : Placed (Ticketed E)) : Type 0 where
     pub before : List (Placed (Ticketed E))
     pub after : List (Placed (Ticketed E))
@@ -78,7 +78,7 @@ module _ {E : Type 0} (items rest : List (Placed (Ticketed E))) (x : Placed (Tic
   pub own : (t : ℕ) → x.element.label ≡ t → times t (tickets rest) ≡ 0 → place_of t items ≡ Some x.place
   own t is none = rw at.whole (place_own t at.before at.after x is (ap (λ l. times t (tickets l)) (sym at.others) ∙ none))
 
-  -- where an element has a ticket none of the others has it
+  -- if an element has a ticket none of the others has it
   pub others_none : (t : ℕ) → x.element.label ≡ t → times t (tickets items) ≤ 1 → times t (tickets rest) ≡ 0
   others_none t has most =
       let one = ap (λ u. once u t) has ∙ once_same t in
@@ -146,12 +146,12 @@ module _ {E : Type 0} where
         )
   ]
 
-  -- one more where it is put
+  -- one more if it is put
   pub put_amid : (items : List (Placed (Ticketed E))) (next : Option ℕ) (x : Placed (Ticketed E)) → Amid (put_ahead items next x) items x
   put_amid items None x = record { before = items; after = []; whole = refl; others = sym (append-nil items) }
   put_amid items (Some k) x = put_before_amid items k x
 
-  -- those without a place are all but the element found there, where each place is of one
+  -- those without a place are all but the element found there, if each place is of one
   pub without_amid : (items : List (Placed (Ticketed E))) (k : ℕ) (e : Ticketed E) → Apart items → found items k ≡ Some e
       → Amid items (without items k) (item k e)
   without_amid items k e apart is =

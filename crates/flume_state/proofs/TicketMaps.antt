@@ -1,4 +1,4 @@
--- The map from tickets to places, where a ticket is put in ahead of its place, or moved.
+-- The map from tickets to places, if a ticket is put in ahead of its place, or moved.
 use Rattle.std.proofs.Common.{◌≡◌, ℕ, Option, Some, None, refl, sym, ap, ◌∙◌, false, is_some, is_err, Ok, Err, OnOk, OnErr, Result}
 use Rattle.std.specs.FinMap.{get, insert, remove}
 use Rattle.flume_state.specs.layout.Places.{PlaceMap}

@@ -10,7 +10,7 @@ use Rattle.flume_state.proofs.Pairs.{elsewhere}
 use Rattle.flume_state.proofs.MessageSteps.{owner_at, stands, leaves, FirstWithout}
 
 module _ {T : Type 0} where
-  -- no more blocked messages than elements stand at a place
+  -- no more blocked messages than elements are at a place
   ahead_fewer : (k p : ℕ) (o : Option ℕ) (m : T) (bs : List (BlockedAt T)) (n : ℕ) → times k (map (λ b. b.place) bs) ≤ n
       → times k (map (λ b. b.place) (blocked_ahead p o m bs)) ≤ once p k + n
   ahead_fewer k p None m bs n rest = omega arith
@@ -20,7 +20,7 @@ module _ {T : Type 0} where
   fewer k [] = omega arith
   fewer k (x ∷ xs) = ahead_fewer k x.place x.element.label x.element.value (blocked_of xs) _ (fewer k xs)
 
-  -- where the element at a place has no owner, no blocked message stands there
+  -- if the element at a place has no owner, no blocked message is there
   not_blocked : (k : ℕ) (xs : List (Placed (Message T))) → times k (places xs) ≤ 1 → None ≡ owner_at xs k → times k (map (λ b. b.place) (blocked_of xs)) ≡ 0
   not_blocked k [] apart none = refl
   not_blocked k (x ∷ xs) apart none = elim (cases_Bool (k == x.place)) [
@@ -43,7 +43,7 @@ module _ {T : Type 0} where
   absent items space place list view apart none =
       subst (λ (l : MessageList T). All (λ b. b.place ≢ place) l.blocked) view (elsewhere place _ (not_blocked place items (apart place) none))
 
-  -- so no two stand at the same one
+  -- so no two are at the same one
   pub blocked_apart : (items : List (Placed (Message T))) (space : ℕ) (list : MessageList T) → messages_of items space ≡ list → Apart items
       → (k : ℕ) → times k (map (λ b. b.place) list.blocked) ≤ 1
   blocked_apart items space list view apart k =

@@ -15,7 +15,7 @@ use Rattle.flume_state.specs.Receivers.{EntryList, new_receiver, after_fill}
 use Rattle.flume_state.specs.State.{State, with_nothing_left}
 
 module _ {T S : Type 0} where
-  -- the live sends, where each of these blocked ones is due
+  -- the live sends, if each of these blocked ones is due
   abbrev pub with_all_due : List (Blocked T) → SendMap S → SendMap S
   with_all_due [] sends = sends
   with_all_due (b ∷ blocked) sends = with_all_due blocked (noticed_send due_now b.ticket sends)
@@ -33,16 +33,16 @@ module _ {T S : Type 0} where
   abbrev pub after_admission : State T S → State T S
   after_admission s = after_admission_of s.blocked s
 
-  -- the state whose first blocked message has joined the queue, where the queue has room
+  -- the state whose first blocked message has joined the queue, if the queue has room
   abbrev pub after_refill : State T S → State T S
   after_refill s = if not (is_full s.capacity (length s.queue)) then after_admission s else s
 
-  -- the state whose first blocked message has joined the queue, where this queue is empty
+  -- the state whose first blocked message has joined the queue, if this queue is empty
   abbrev pub with_front_of : List T → State T S → State T S
   with_front_of [] s = after_admission s
   with_front_of (m ∷ rest) s = s
 
-  -- the state whose first blocked message has joined the queue, where none is queued
+  -- the state whose first blocked message has joined the queue, if none is queued
   abbrev pub with_front : State T S → State T S
   with_front s = with_front_of s.queue s
 
@@ -82,8 +82,8 @@ module _ {T S : Type 0} where
   abbrev pub after_take : List T → State T S → State T S
   after_take rest s = after_refill (record (with_front s) { queue = rest })
 
-  -- the state without the parked receiver that has this ticket, and after a wake round where it
-  -- passes its wake on
+  -- the state without the parked receiver that has this ticket, and after a wake round if it passes
+  -- its wake on
   abbrev pub after_withdrawal : ℕ → State T S → State T S
   after_withdrawal ticket s =
       if passes_on (entry_of ticket s.entries) then after_wake_round (without_receiver ticket s)
@@ -93,8 +93,8 @@ module _ {T S : Type 0} where
   abbrev pub with_peak : EntryList T S → State T S → State T S
   with_peak entries s = record s { entries = entries; peak = max s.peak (waiting_count entries) }
 
-  -- what an end that left leaves: nothing once both have disconnected; and where the channel was
-  -- open and is closed now, each waiting receiver is woken, and each blocked send is due
+  -- what an end that left leaves: nothing once both have disconnected; and if the channel was open
+  -- and is closed now, each waiting receiver is woken, and each blocked send is due
   abbrev pub after_end_dropped : Bool → State T S → State T S
   after_end_dropped was_open s =
       if s.senders + s.receivers == 0 then with_nothing_left s

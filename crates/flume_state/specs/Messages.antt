@@ -10,7 +10,7 @@ pub record Blocked (T : Type 0) : Type 0 where
   pub message : T
 
 -- what a contract sees of a line: the queued messages, and behind them the blocked ones; how many
--- messages may stand before more memory is needed, those that stand included; and the live sends
+-- messages fit before one needs an allocation, those that are there included; and the live sends
 pub record Messages (T S : Type 0) : Type 0 where
   pub queued : List T
   pub blocked : List (Blocked T)
@@ -18,7 +18,7 @@ pub record Messages (T S : Type 0) : Type 0 where
   pub sends : SendMap S
 
 module _ {T S : Type 0} where
-  -- how many messages stand, queued and blocked
+  -- how many messages there are, queued and blocked
   abbrev pub count : Messages T S → ℕ
   count line = length line.queued + length line.blocked
 

@@ -18,7 +18,7 @@ module _ {S : Type 0} where
   abbrev pub no_longer_due : Notice S → Notice S
   no_longer_due n = record n { due = false }
 
-  -- one with another signal, where one is given
+  -- one with another signal, if one is given
   abbrev pub with_signal : Option S → Notice S → Notice S
   with_signal None n = n
   with_signal (Some signal) n = record n { signal = signal }

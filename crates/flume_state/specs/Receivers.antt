@@ -1,4 +1,4 @@
--- For every contract: how the parked receivers stand, their notices, and who of them is due.
+-- For every contract: the state of the parked receivers, their notices, and which of them are due.
 use Rattle.std.specs.Prelude.{◌≡◌, ◌==◌, ℕ, Bool, true, false, if◌then◌else◌}
 use Rattle.std.specs.Prelude.{List, [], ◌∷◌, ◌++◌}
 use Rattle.std.specs.Prelude.{Option, Some, None}
@@ -22,7 +22,7 @@ use Rattle.flume_state.specs.declared.entries.ReceiverStatus.TheVariants.{Woken 
 abbrev pub EntryList : Type 0 → Type 0 → Type 0
 EntryList T S = List (Entry T (Notice S))
 
--- the queue after a wake round: its front is taken where the round filled a receiver
+-- the queue after a wake round: its front is taken if the round filled a receiver
 abbrev pub after_fill : {T : Type 0} → Option ℕ → List T → List T
 after_fill None queue = queue
 after_fill (Some ticket) [] = []
@@ -48,7 +48,7 @@ only_leaves (Some IsWoken) = true
 only_leaves _ = false
 
 module _ {S : Type 0} where
-  -- the notice of one that waits on, with another signal where one is given
+  -- the notice of one that waits on, with another signal if one is given
   abbrev pub waits_on : Option S → Notice S → Notice S
   waits_on given n = no_longer_due (with_signal given n)
 
@@ -78,11 +78,11 @@ module _ {T S : Type 0} where
       if e.ticket == t then record e { notice = f e.notice } ∷ entries
       else e ∷ noticed_receiver f t entries
 
-  -- how an entry stands
+  -- the state of an entry
   abbrev pub status_of : Entry T (Notice S) → ReceiverStatus
   status_of e = status_by e.kind e.mark
 
-  -- how the receiver with a ticket stands
+  -- the state of the receiver with a ticket
   abbrev pub receiver_status : ℕ → EntryList T S → Option ReceiverStatus
   receiver_status t entries = option_map status_of (entry_of t entries)
 

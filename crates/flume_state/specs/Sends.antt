@@ -35,7 +35,7 @@ accepted_now s = record { accepted = true; notice = due_now s.notice }
 abbrev pub with_notice : {S : Type 0} → (Notice S → Notice S) → LiveSend S → LiveSend S
 with_notice f s = record s { notice = f s.notice }
 
--- the map with f of its value at k, and as it was where it has none there
+-- the map with f of its value at k, and as it was if it has none there
 unfoldable pub changed : {X : Type 0} → FinMap nat_cmp X → ℕ → (X → X) → FinMap nat_cmp X
 changed m k f = option_map_or (λ x. insert m k (f x)) (get m k) m
 

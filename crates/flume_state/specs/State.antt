@@ -11,14 +11,14 @@ use Rattle.flume_state.specs.Receivers.{EntryList}
 
 -- the state of a channel
 pub record State (T S : Type 0) : Type 0 where
-  -- none: unbounded
+  -- the capacity; none of an unbounded channel
   pub capacity : Option ℕ
   -- the greatest capacity so far, the one in force included
   pub greatest : Option ℕ
   -- the queued messages, the front first, and the blocked ones behind them
   pub queue : List T
   pub blocked : List (Blocked T)
-  -- how many messages may stand before memory is needed for one more, those that stand included
+  -- how many messages fit before one more needs an allocation, those that are there included
   pub space : ℕ
   -- the live send tickets, the parked receivers, and the next ticket
   pub sends : SendMap S
@@ -50,11 +50,11 @@ module _ {T S : Type 0} where
   abbrev pub with_nothing_left : State T S → State T S
   with_nothing_left s = record s { queue = []; blocked = []; sends = empty; entries = [] }
 
-  -- how many messages stand, queued and blocked
+  -- how many messages there are, queued and blocked
   abbrev pub message_count : State T S → ℕ
   message_count s = length s.queue + length s.blocked
 
-  -- how a send ticket stands: none where it isn't live, else whether its message was accepted
+  -- the state of a send ticket: none if it isn't live, else whether its message was accepted
   abbrev pub accepted_at : State T S → ℕ → Option Bool
   accepted_at s t = option_map (λ send. send.accepted) (get s.sends t)
 

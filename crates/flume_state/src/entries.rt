@@ -19,7 +19,7 @@ use std::alloc::{AllocError, Allocator};
 use std::marker::Model;
 use std::mem;
 
-/// What decides how a parked receiver is answered.
+/// The state of a parked receiver, as far as it decides how it is answered.
 #[derive(Clone, Copy, Drop)]
 pub enum ReceiverStatus {
     /// It holds a message.
@@ -34,7 +34,7 @@ pub enum ReceiverStatus {
     Woken,
 }
 
-// A parked receiver, beside its ticket.
+// A parked receiver without its ticket.
 #[derive(Drop)]
 struct Parked<T, S> {
     kind: Kind,
@@ -42,22 +42,21 @@ struct Parked<T, S> {
     notice: Notice<S>,
 }
 
-/// The parked receivers, the waiting ones in the order in which they began to wait.
+/// The parked receivers, the waiting ones in the order in which they began to wait. Only `park`
+/// allocates.
 #[derive(Drop)]
 pub struct Entries<T, S, A: Allocator> {
-    // First those that neither wait nor are due, then those that are due, then those that wait. So
+    // First those that neither wait nor are due, then those that are due, then those that wait: so
     // a wake round meets only those that it wakes, and no call looks past another receiver.
     chain: TicketChain<Parked<T, S>, A>,
     // The place of the first that is due or waits.
     due: Option<u32>,
-    // The place of the first that waits.
     waits: Option<u32>,
-    // How many wait, so that a send needn't look.
+    // How many wait: a send reads this instead of the chain.
     waiting: usize,
 }
 
 impl ReceiverStatus {
-    // How a receiver of this kind stands that has this mark.
     fn of<T>(kind: Kind, mark: &Mark<T>) -> ReceiverStatus
         ensures status { result ≡ status_by kind mark.now }
     {
@@ -75,7 +74,6 @@ impl ReceiverStatus {
     }
 }
 
-// The message that a receiver with this mark holds.
 fn message_in<T: Drop>(mark: Mark<T>) -> Option<T>
     ensures held { result ≡ held_in mark }
 {
@@ -86,8 +84,8 @@ fn message_in<T: Drop>(mark: Mark<T>) -> Option<T>
 }
 
 impl<T: Drop, S: Drop> Parked<T, S> {
-    // It asks again, and waits on: it isn't due, and has another signal where one is given. A
-    // filled one stays as it is. Whether it was woken.
+    // It asks again, and waits on: it isn't due, and has another signal if one is given. A filled
+    // one stays as it is. Answers whether it was woken.
     fn ask_again(&mut self, signal: Option<S>) -> bool
         ensures asked { self.new ≡ after_asking self.old.mark signal self.old }
         ensures woken { result ≡ is_woken self.old.mark }
@@ -130,7 +128,7 @@ impl<T, S, A: Allocator> Model for Entries<T, S, A> {
 }
 
 impl<T: Drop, S: Drop, A: Allocator + Copy> Entries<T, S, A> {
-    /// Nobody is parked. Takes no memory.
+    /// Nobody is parked.
     ///
     /// ```
     /// let mut entries: Entries<u64, (), Global> = Entries::new(alloc);
@@ -151,7 +149,7 @@ impl<T: Drop, S: Drop, A: Allocator + Copy> Entries<T, S, A> {
         }
     }
 
-    /// Whether some receiver waits. It reads a count, whatever the length.
+    /// Whether some receiver waits. Reads a count.
     #[inline(always)]
     pub fn some_wait(&self) -> bool
         ensures some { result ≡ some_wait self.now }
@@ -159,7 +157,7 @@ impl<T: Drop, S: Drop, A: Allocator + Copy> Entries<T, S, A> {
         self.waiting > 0
     }
 
-    /// How many receivers wait: woken and filled ones don't. It reads a count, whatever the length.
+    /// How many receivers wait, not counting woken and filled ones. Reads a count.
     #[inline(always)]
     pub fn waiting(&self) -> usize
         ensures count { result ≡ waiting_count self.now }
@@ -168,8 +166,8 @@ impl<T: Drop, S: Drop, A: Allocator + Copy> Entries<T, S, A> {
     }
 
     /// Parks a receiver under this ticket, behind all others. It waits, and isn't due. All room for
-    /// what happens to it later is made here. With no memory left, or under a ticket under which
-    /// one is parked, nothing changes.
+    /// what happens to it later is made here. If memory runs out, or a receiver is parked under the
+    /// ticket already, nothing changes.
     pub fn park(&mut self, ticket: u64, kind: Kind, signal: S) -> Result<(), AllocError>
         ensures parked { OnOk result (self.new ≡ self.old ++ new_receiver ticket kind signal ∷ []) }
         ensures unchanged { OnErr result (self.new ≡ self.old) }
@@ -188,7 +186,7 @@ impl<T: Drop, S: Drop, A: Allocator + Copy> Entries<T, S, A> {
         }
     }
 
-    /// How the receiver with this ticket stands. `None` where nobody is parked under it.
+    /// The state of the receiver with this ticket. `None` if nobody is parked under it.
     pub fn status(&self, ticket: u64) -> Option<ReceiverStatus>
         ensures status { result ≡ option_map status_of (entry_of ticket self.now) }
     {
@@ -197,7 +195,7 @@ impl<T: Drop, S: Drop, A: Allocator + Copy> Entries<T, S, A> {
         Some(ReceiverStatus::of(parked.kind, &parked.mark))
     }
 
-    /// The signal that the receiver with this ticket left last. `None` where nobody is parked under
+    /// The signal that the receiver with this ticket left last. `None` if nobody is parked under
     /// it.
     pub fn signal(&self, ticket: u64) -> Option<&S>
         ensures signal { option_copied result
@@ -209,7 +207,7 @@ impl<T: Drop, S: Drop, A: Allocator + Copy> Entries<T, S, A> {
     }
 
     /// Removes the receiver with this ticket, and gives the message that it holds, if it does. The
-    /// others keep their order. Nothing changes where nobody is parked under it. Takes no memory.
+    /// others keep their order. Nothing changes if nobody is parked under it.
     pub fn remove(&mut self, ticket: u64) -> Option<T>
         ensures held { result ≡ held_by (entry_of ticket self.old) }
         ensures removed { self.new ≡ without ticket self.old }
@@ -227,9 +225,9 @@ impl<T: Drop, S: Drop, A: Allocator + Copy> Entries<T, S, A> {
         message_in(mark)
     }
 
-    /// The receiver with this ticket waits on, or again behind all others where it was woken, and
-    /// is due no more; a signal given here replaces the one that it left. A filled one stays as it
-    /// is. Nothing changes where nobody is parked under the ticket. Takes no memory.
+    /// The receiver with this ticket waits on, or, if it was woken, again behind all others, and
+    /// isn't due any more; a signal given here replaces the one that it left. A filled one stays as
+    /// it is. Nothing changes if nobody is parked under the ticket.
     pub fn wait_on(&mut self, ticket: u64, signal: Option<S>)
         ensures waits { held_by (entry_of ticket self.old) ≡ None → self.new
             ≡ again ticket (noticed_receiver (waits_on signal) ticket self.old) }
@@ -251,7 +249,7 @@ impl<T: Drop, S: Drop, A: Allocator + Copy> Entries<T, S, A> {
         self.waiting += 1;
     }
 
-    /// Removes every receiver, with what it holds. Takes no memory.
+    /// Removes every receiver, with what it holds.
     pub fn clear(&mut self)
         ensures empty { self.new ≡ [] }
     {

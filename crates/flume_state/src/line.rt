@@ -17,6 +17,7 @@ use std::alloc::{AllocError, Allocator};
 use std::marker::Model;
 
 /// The messages of a channel, the queued ones and behind them the blocked ones, and the live sends.
+/// Only `push_queued`, `block` and `drain_queued` allocate.
 #[derive(Drop)]
 pub struct Line<T, S, A: Allocator> {
     // A blocked message and its send have each other's place: so a ticket leads to its message, and
@@ -45,11 +46,10 @@ impl<T, S, A: Allocator> Model for Line<T, S, A> {
     ghost invariant = { λ s. Pairing s.messages.blocked s.sends };
 }
 
-// `queued_len`, `blocked_len`, `room`, `push_queued`, `take_queued` and `drain_queued` are those of
-// the chain of messages, `accepted`, `signal`, `set_signal` and `next_due` those of the sends: they
-// hand on, since both are private, so that neither changes without the other.
+// Methods that only forward to the chain of messages or to the sends are here since both are
+// private, so that neither changes without the other.
 impl<T: Drop, S: Drop, A: Allocator + Copy> Line<T, S, A> {
-    /// A line with no messages and no sends. Takes no memory.
+    /// A line with no messages and no sends.
     ///
     /// ```
     /// let mut line: Line<u64, (), Global> = Line::new(alloc);
@@ -68,7 +68,7 @@ impl<T: Drop, S: Drop, A: Allocator + Copy> Line<T, S, A> {
         }
     }
 
-    /// How many messages are queued. It reads counts, whatever the length.
+    /// How many messages are queued. Reads counts.
     #[inline(always)]
     pub fn queued_len(&self) -> usize
         ensures len { result ≡ length self.now.queued }
@@ -76,7 +76,7 @@ impl<T: Drop, S: Drop, A: Allocator + Copy> Line<T, S, A> {
         self.messages.queued_len()
     }
 
-    /// How many messages are blocked. It reads a count, whatever the length.
+    /// How many messages are blocked. Reads a count.
     #[inline(always)]
     pub fn blocked_len(&self) -> usize
         ensures len { result ≡ length self.now.blocked }
@@ -84,7 +84,7 @@ impl<T: Drop, S: Drop, A: Allocator + Copy> Line<T, S, A> {
         self.messages.blocked_len()
     }
 
-    /// How many more messages may stand before more memory is needed for one.
+    /// How many more messages fit before one needs an allocation.
     #[inline(always)]
     pub fn room(&self) -> usize
         ensures room { result + count self.now ≡ self.now.space }
@@ -92,9 +92,9 @@ impl<T: Drop, S: Drop, A: Allocator + Copy> Line<T, S, A> {
         self.messages.room()
     }
 
-    /// Queues a message behind the other queued ones, and before the blocked ones. With no memory
-    /// left, the message comes back, and the line stays as it was. While there is room, it isn't
-    /// refused.
+    /// Queues a message behind the other queued ones, and before the blocked ones. If there is no
+    /// memory for it, the message comes back, and the line stays as it was; while there is room, it
+    /// isn't refused.
     #[inline(always)]
     pub fn push_queued(&mut self, message: T) -> Result<(), T>
         ensures pushed { OnOk result (self.new ≡ record self.old {
@@ -109,9 +109,9 @@ impl<T: Drop, S: Drop, A: Allocator + Copy> Line<T, S, A> {
         self.messages.push_queued(message)
     }
 
-    /// Puts a message behind all others, as one that blocks under this ticket, which is live from
-    /// now on, with this signal and nothing due. With no memory left, or a ticket that is live
-    /// already, the message comes back, and the line stays as it was.
+    /// Puts a message behind all others, blocked under this ticket, which is live from now on, with
+    /// this signal and not due. If memory runs out, or the ticket is live already, the message
+    /// comes back, and the line stays as it was.
     pub fn block(&mut self, ticket: u64, message: T, signal: S) -> Result<(), T>
         ensures blocked { OnOk result (self.new ≡ record self.old {
           blocked = self.old.blocked ++ record { ticket = ticket; message = message } ∷ [];
@@ -122,8 +122,8 @@ impl<T: Drop, S: Drop, A: Allocator + Copy> Line<T, S, A> {
         ensures returned { IfErr result (λ back. back ≡ message) }
         ensures unchanged { OnErr result (self.new ≡ self.old) }
     {
-        // The send first: it is taken back where the message finds no memory. The other way round
-        // the message's place would stay, and a refusal would leave more room than it found.
+        // The send first: it is taken back if there is no memory for the message. The other way
+        // round the message's place would stay, and a refusal would leave more room than it found.
         let Ok(owner) = self.sends.block(ticket, signal) else {
             return Err(message);
         };
@@ -140,7 +140,7 @@ impl<T: Drop, S: Drop, A: Allocator + Copy> Line<T, S, A> {
     }
 
     /// Lets the first blocked message into the queue, behind all queued ones: its send is accepted,
-    /// and due. False where no message is blocked, and then nothing changes. Takes no memory.
+    /// and due. False if no message is blocked, and then nothing changes.
     #[inline(always)]
     pub fn admit(&mut self) -> bool
         ensures admitted { result ≡ true → Admits self.old self.new }
@@ -155,8 +155,8 @@ impl<T: Drop, S: Drop, A: Allocator + Copy> Line<T, S, A> {
         true
     }
 
-    /// Takes the message at the front of the queue. `None` where none is queued, though some may be
-    /// blocked, and then nothing changes. Takes no memory.
+    /// Takes the message at the front of the queue. `None` if none is queued, though some may be
+    /// blocked, and then nothing changes.
     #[inline(always)]
     pub fn take_queued(&mut self) -> Option<T>
         ensures taken { IfSome result (λ m.
@@ -167,8 +167,8 @@ impl<T: Drop, S: Drop, A: Allocator + Copy> Line<T, S, A> {
         self.messages.take_queued()
     }
 
-    /// Takes all queued messages, the front first, and leaves the blocked ones. With no memory left
-    /// for their list, nothing changes. It never fails where none is queued.
+    /// Takes all queued messages, the front first, and leaves the blocked ones. If there is no
+    /// memory for their list, nothing changes. It never fails if none is queued.
     #[inline(always)]
     pub fn drain_queued(&mut self) -> Result<Vec<T, A>, AllocError>
         ensures drained { IfOk result (λ list. list.items ≡ self.old.queued) }
@@ -179,7 +179,7 @@ impl<T: Drop, S: Drop, A: Allocator + Copy> Line<T, S, A> {
         self.messages.drain_queued()
     }
 
-    /// Marks the send of each blocked message due, the first one's first. Takes no memory.
+    /// Marks the send of each blocked message due, the first one's first.
     #[inline(always)]
     pub fn mark_blocked(&mut self)
         ensures marked { self.new ≡ record self.old {
@@ -189,9 +189,9 @@ impl<T: Drop, S: Drop, A: Allocator + Copy> Line<T, S, A> {
         self.messages.mark_blocked(&mut self.sends);
     }
 
-    /// Takes out the first blocked message with this ticket, which is live no more. The others keep
-    /// their order. `None` where none has it, and then nothing changes. It costs the same however
-    /// many are blocked. Takes no memory.
+    /// Takes out the first blocked message with this ticket, which isn't live any more. The others
+    /// keep their order. `None` if none has it, and then nothing changes. It costs the same however
+    /// many are blocked.
     pub fn withdraw(&mut self, ticket: u64) -> Option<T>
         ensures taken { IfSome result (λ m. TakesBack self.old self.new ticket m) }
         ensures absent { IfNone result (All (λ b. b.ticket ≢ ticket) self.old.blocked) }
@@ -204,7 +204,7 @@ impl<T: Drop, S: Drop, A: Allocator + Copy> Line<T, S, A> {
         Some(message)
     }
 
-    /// Whether the message of a live ticket was accepted. `None` where the ticket isn't live.
+    /// Whether the message of a live ticket was accepted. `None` if the ticket isn't live.
     #[inline(always)]
     pub fn accepted(&self, ticket: u64) -> Option<bool>
         ensures value { result ≡ option_map (λ s. s.accepted) (get self.now.sends ticket) }
@@ -212,7 +212,7 @@ impl<T: Drop, S: Drop, A: Allocator + Copy> Line<T, S, A> {
         self.sends.accepted(ticket)
     }
 
-    /// The signal that the sender of a live ticket left last. `None` where the ticket isn't live.
+    /// The signal that the sender of a live ticket left last. `None` if the ticket isn't live.
     #[inline(always)]
     pub fn signal(&self, ticket: u64) -> Option<&S>
         ensures value { option_copied result
@@ -221,8 +221,7 @@ impl<T: Drop, S: Drop, A: Allocator + Copy> Line<T, S, A> {
         self.sends.signal(ticket)
     }
 
-    /// Replaces the signal of a live ticket. Nothing changes where the ticket isn't live. Takes no
-    /// memory.
+    /// Replaces the signal of a live ticket. Nothing changes if the ticket isn't live.
     #[inline(always)]
     pub fn set_signal(&mut self, ticket: u64, signal: S)
         ensures replaced { self.new ≡ record self.old {
@@ -232,7 +231,7 @@ impl<T: Drop, S: Drop, A: Allocator + Copy> Line<T, S, A> {
         self.sends.set_signal(ticket, signal);
     }
 
-    /// The ticket, whose message was accepted, is live no more. Takes no memory.
+    /// The ticket, whose message was accepted, isn't live any more.
     #[inline(always)]
     pub fn spend_accepted(&mut self, ticket: u64)
         requires accepted { option_map (λ s. s.accepted) (get self.old.sends ticket) ≡ Some true }
@@ -243,9 +242,8 @@ impl<T: Drop, S: Drop, A: Allocator + Copy> Line<T, S, A> {
         }
     }
 
-    /// A live ticket that was due, and now isn't: it is named once. `None` where none is due, and
-    /// then nothing changes, and it only reads one place. It looks through no tickets, whatever the
-    /// length. Takes no memory.
+    /// A live ticket that was due, and isn't afterwards. `None` if none is due: then nothing
+    /// changes, and only one place is read. It searches no tickets.
     #[inline(always)]
     pub fn next_due(&mut self) -> Option<u64>
         ensures was_due { IfSome result (λ t. is_due_send self.old.sends t ≡ true) }
@@ -258,7 +256,7 @@ impl<T: Drop, S: Drop, A: Allocator + Copy> Line<T, S, A> {
         self.sends.next_due()
     }
 
-    /// Drops every message, queued and blocked, and every ticket is live no more. Takes no memory.
+    /// Drops every message, queued and blocked; no ticket is live any more.
     pub fn clear(&mut self)
         ensures empty { self.new
             ≡ record self.old { queued = []; blocked = []; sends = empty } }

@@ -3,11 +3,11 @@ ghost use Rattle.std.specs.Prelude.{◌≡◌, ◌↔◌, Some, None, IfSome};
 
 use std::marker::Model;
 
-// The number that stands for no place. No chain has it as a place.
+// No chain has this number as a place.
 const NO_PLACE: u32 = u32::MAX;
 
-/// A place, or none. It takes 4 bytes, half of an `Option<u32>`: so the node of a queued message
-/// of 8 bytes takes 24 bytes, in place of 32.
+/// A place, or none, in 4 bytes, half of an `Option<u32>`: so the node of a queued message of 8
+/// bytes takes 24 bytes instead of 32.
 #[derive(Drop)]
 pub struct MaybePlace {
     number: u32,
@@ -37,7 +37,7 @@ impl MaybePlace {
         MaybePlace { number: NO_PLACE }
     }
 
-    /// This place. `None` at the greatest number, which no chain has as a place.
+    /// This place. `None` for the greatest number, which no chain has as a place.
     #[inline(always)]
     pub fn of(place: u32) -> Option<Self>
         ensures place { IfSome result (λ made. made ≡ Some place) }
@@ -49,7 +49,7 @@ impl MaybePlace {
         Some(MaybePlace { number: place })
     }
 
-    /// The place. `None` where there is none.
+    /// The place. `None` if there is none.
     #[inline(always)]
     pub fn get(&self) -> Option<u32>
         ensures place { result ≡ self.now }

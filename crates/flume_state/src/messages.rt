@@ -16,16 +16,14 @@ use flume_chain::labelled::Labelled;
 use std::alloc::{AllocError, Allocator};
 use std::marker::Model;
 
-/// Messages in order: the queued ones, and behind them the blocked ones. Of each blocked one it
-/// keeps the owner, which is the place of its send.
+/// Messages in order: the queued ones, and behind them the blocked ones, each with its owner, which
+/// is the place of its send. Only `push_queued`, `push_blocked` and `drain_queued` allocate.
 #[derive(Drop)]
 pub struct MessageChain<T, A: Allocator> {
-    // A blocked one that joins the queue stays where it is, so letting it in takes no memory and
+    // A blocked one that joins the queue stays in its node: letting it in allocates nothing and
     // looks at no other message.
     chain: Chain<MaybePlace, T, A>,
-    // The place of the first blocked one.
     blocked: Option<u32>,
-    // How many are blocked.
     blocked_len: usize,
 }
 
@@ -40,7 +38,6 @@ impl<T, A: Allocator> Model for MessageChain<T, A> {
     ghost invariant = { λ s. MessageLayout s.chain.items s.blocked s.blocked_len };
 }
 
-// The place of the first blocked one, once that at a place has left.
 fn first_without<T: Drop, A: Allocator>(
     chain: &Chain<MaybePlace, T, A>,
     first: Option<u32>,
@@ -55,7 +52,7 @@ fn first_without<T: Drop, A: Allocator>(
     first
 }
 
-// The owner of the message at a place. `None` where none stands there, or it is queued.
+// The owner of the blocked message at a place.
 #[inline(always)]
 fn owner_at<T: Drop, A: Allocator>(chain: &Chain<MaybePlace, T, A>, place: u32) -> Option<u32>
     ensures owner { result ≡ option_and_then (λ e. e.label) (found chain.now.items place) }
@@ -64,7 +61,7 @@ fn owner_at<T: Drop, A: Allocator>(chain: &Chain<MaybePlace, T, A>, place: u32) 
 }
 
 impl<T: Drop, A: Allocator + Copy> MessageChain<T, A> {
-    /// No messages. Takes no memory.
+    /// No messages.
     ///
     /// ```
     /// let mut messages = MessageChain::new(alloc);
@@ -93,7 +90,7 @@ impl<T: Drop, A: Allocator + Copy> MessageChain<T, A> {
         self.chain.facts();
     }
 
-    /// How many messages are queued. It reads counts, whatever the length.
+    /// How many messages are queued. Reads counts.
     #[inline(always)]
     pub fn queued_len(&self) -> usize
         ensures len { result ≡ length self.now.queued }
@@ -101,7 +98,7 @@ impl<T: Drop, A: Allocator + Copy> MessageChain<T, A> {
         self.chain.len() - self.blocked_len
     }
 
-    /// How many messages are blocked. It reads a count, whatever the length.
+    /// How many messages are blocked. Reads a count.
     #[inline(always)]
     pub fn blocked_len(&self) -> usize
         ensures len { result ≡ length self.now.blocked }
@@ -109,7 +106,7 @@ impl<T: Drop, A: Allocator + Copy> MessageChain<T, A> {
         self.blocked_len
     }
 
-    /// How many more messages may stand before more memory is needed for one.
+    /// How many more messages fit before one needs an allocation.
     #[inline(always)]
     pub fn room(&self) -> usize
         ensures room { result + message_count self.now ≡ self.now.space }
@@ -117,8 +114,9 @@ impl<T: Drop, A: Allocator + Copy> MessageChain<T, A> {
         self.chain.room()
     }
 
-    /// Queues a message behind the other queued ones, and before the blocked ones. With no memory
-    /// left, the message comes back, and nothing changes. While there is room, it isn't refused.
+    /// Queues a message behind the other queued ones, and before the blocked ones. If there is no
+    /// memory for it, the message comes back, and nothing changes; while there is room, it isn't
+    /// refused.
     #[inline(always)]
     pub fn push_queued(&mut self, message: T) -> Result<(), T>
         ensures pushed { OnOk result (self.new ≡ record self.old {
@@ -142,8 +140,8 @@ impl<T: Drop, A: Allocator + Copy> MessageChain<T, A> {
         Ok(())
     }
 
-    /// Puts a message behind all others, as one that is blocked and has this owner, and returns
-    /// its own place, which no other has. With no memory left, or the greatest number as owner,
+    /// Puts a message behind all others, as one that is blocked and has this owner, and returns its
+    /// own place, which no other has. If memory runs out, or the owner is the greatest number,
     /// which is no place, the message comes back, and nothing changes.
     pub fn push_blocked(&mut self, owner: u32, message: T) -> Result<u32, T>
         ensures pushed { IfOk result (λ place. self.new ≡ record self.old {
@@ -176,7 +174,7 @@ impl<T: Drop, A: Allocator + Copy> MessageChain<T, A> {
     }
 
     /// Lets the first blocked message into the queue, behind all queued ones, and returns its
-    /// owner. `None` where no message is blocked, and then nothing changes. Takes no memory.
+    /// owner. `None` if no message is blocked, and then nothing changes.
     #[inline(always)]
     pub fn admit(&mut self) -> Option<u32>
         ensures admitted { IfSome result (λ owner. AdmitsOwner self.old self.new owner) }
@@ -192,8 +190,8 @@ impl<T: Drop, A: Allocator + Copy> MessageChain<T, A> {
         Some(owner)
     }
 
-    /// Takes the message at the front of the queue. `None` where none is queued, though some may be
-    /// blocked, and then nothing changes. Takes no memory.
+    /// Takes the message at the front of the queue. `None` if none is queued, though some may be
+    /// blocked, and then nothing changes.
     #[inline(always)]
     pub fn take_queued(&mut self) -> Option<T>
         ensures taken { IfSome result (λ m.
@@ -207,8 +205,8 @@ impl<T: Drop, A: Allocator + Copy> MessageChain<T, A> {
         Some(self.chain.pop_front()?.value)
     }
 
-    /// Takes all queued messages, the front first, and leaves the blocked ones. With no memory left
-    /// for their list, nothing changes. It never fails where none is queued.
+    /// Takes all queued messages, the front first, and leaves the blocked ones. If there is no
+    /// memory for their list, nothing changes. It never fails if none is queued.
     pub fn drain_queued(&mut self) -> Result<Vec<T, A>, AllocError>
         ensures drained { IfOk result (λ list. list.items ≡ self.old.queued) }
         ensures becomes { OnOk result (self.new ≡ record self.old { queued = [] }) }
@@ -222,7 +220,7 @@ impl<T: Drop, A: Allocator + Copy> MessageChain<T, A> {
         Ok(list)
     }
 
-    /// Marks the send of each blocked message due, the first one's first. Takes no memory.
+    /// Marks the send of each blocked message due, the first one's first.
     pub fn mark_blocked<S: Drop>(&self, sends: &mut Sends<S, A>)
         requires owned { All (HasLink sends.old) self.now.blocked }
         ensures marked { live_sends sends.new
@@ -239,8 +237,8 @@ impl<T: Drop, A: Allocator + Copy> MessageChain<T, A> {
         }
     }
 
-    /// Takes out the blocked message at a place. The others keep their order. `None` where no
-    /// blocked one stands there, and then nothing changes. Takes no memory.
+    /// Takes out the blocked message at a place. The others keep their order. `None` if there is no
+    /// blocked one there, and then nothing changes.
     pub fn withdraw(&mut self, place: u32) -> Option<T>
         ensures taken { IfSome result (λ m. TakesOut self.old self.new place m) }
         ensures absent { IfNone result (All (λ b. b.place ≢ place) self.old.blocked) }
@@ -255,7 +253,7 @@ impl<T: Drop, A: Allocator + Copy> MessageChain<T, A> {
         Some(element.value)
     }
 
-    /// Drops every message, queued and blocked. Takes no memory.
+    /// Drops every message, queued and blocked.
     pub fn clear(&mut self)
         ensures empty { self.new ≡ record self.old { queued = []; blocked = [] } }
     {

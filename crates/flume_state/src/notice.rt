@@ -1,9 +1,9 @@
-//! What a blocked send or a parked receiver leaves to be told by.
+//! The signal of a blocked send or a parked receiver, and whether its ticket is due.
 
-/// The signal that a blocked send or a parked receiver left, and whether it is to be told.
+/// The signal that a blocked send or a parked receiver left, and whether its ticket is due.
 #[derive(Drop)]
 pub struct Notice<S> {
-    /// What it is told by.
+    /// The signal.
     pub signal: S,
     /// Whether its ticket is due: `next_due` is to name it.
     pub due: bool,

@@ -1,4 +1,4 @@
-//! The place of each ticket: where what it stands for is found.
+//! The place of each ticket, by which its element is found.
 ghost use Rattle.std.specs.Prelude.{◌≡◌, None, OnOk, OnErr};
 ghost use Rattle.std.specs.FinMap.{empty, get, insert, remove};
 
@@ -9,13 +9,12 @@ use std::alloc::{AllocError, Allocator};
 use std::marker::Model;
 use ticket_table::TicketTable;
 
-/// The place of each of some tickets.
+/// The place of each of some tickets. Only `insert` allocates.
 #[derive(Drop)]
 pub struct Places<A: Allocator> {
     // A ticket that was alone when it came, and its place: so one that comes by itself needs no
     // table.
     lone: Option<(u64, u32)>,
-    // The others.
     table: TicketTable<A>,
 }
 
@@ -34,7 +33,7 @@ impl<A: Allocator> Model for Places<A> {
 }
 
 impl<A: Allocator + Copy> Places<A> {
-    /// No ticket has a place. Takes no memory.
+    /// No ticket has a place.
     ///
     /// ```
     /// let mut places = Places::new(alloc);
@@ -55,7 +54,7 @@ impl<A: Allocator + Copy> Places<A> {
         }
     }
 
-    /// The place of `ticket`, and `None` where it has none.
+    /// The place of `ticket`, and `None` if it has none.
     #[inline(always)]
     pub fn get(&self, ticket: u64) -> Option<u32>
         ensures place { result ≡ get self.now ticket }
@@ -66,8 +65,9 @@ impl<A: Allocator + Copy> Places<A> {
         }
     }
 
-    /// Gives `ticket` a place. One that it had is replaced, which needs no memory; nor does the
-    /// place of a ticket that comes where no other has one. With no memory left, nothing changes.
+    /// Gives `ticket` a place, instead of the one that it had, if any. Replacing one doesn't
+    /// allocate, nor does a ticket that comes while no other has a place. If memory runs out,
+    /// nothing changes.
     #[inline(always)]
     pub fn insert(&mut self, ticket: u64, place: u32) -> Result<(), AllocError>
         ensures inserted { OnOk result (self.new ≡ insert self.old ticket place) }
@@ -83,7 +83,7 @@ impl<A: Allocator + Copy> Places<A> {
         Ok(())
     }
 
-    /// The ticket has no place any more. Nothing changes where it had none. Takes no memory.
+    /// The ticket has no place any more.
     #[inline(always)]
     pub fn remove(&mut self, ticket: u64)
         ensures removed { self.new ≡ remove self.old ticket }
@@ -94,7 +94,7 @@ impl<A: Allocator + Copy> Places<A> {
         }
     }
 
-    /// No ticket has a place any more. Takes no memory.
+    /// No ticket has a place any more.
     pub fn clear(&mut self)
         ensures empty { self.new ≡ empty }
     {

@@ -15,33 +15,32 @@ use crate::ticketed::TicketChain;
 use std::alloc::{AllocError, Allocator};
 use std::marker::Model;
 
-/// A send that blocked and hasn't learned yet how it ended.
+/// A send that blocked and isn't spent.
 #[derive(Drop)]
 pub struct LiveSend<S> {
     /// Whether its message was taken into the queue.
     pub accepted: bool,
-    /// What the sender left to be told by, and whether it is due.
+    /// The sender's signal, and whether the ticket is due.
     pub notice: Notice<S>,
 }
 
-/// A live send, with the place of its message. Once this was accepted, the place says nothing.
+/// A live send, with the place of its message, which says nothing once the message was accepted.
 #[derive(Drop)]
 pub struct PlacedSend<S> {
-    /// Where its message stands in the chain of messages, while it is blocked.
+    /// Where its message is in the chain of messages, while it is blocked.
     pub message: u32,
     /// The send.
     pub send: LiveSend<S>,
 }
 
-/// The live send of each live ticket. Each has a place, which it keeps while it is live.
+/// The live send of each live ticket. Each has a place, which it keeps while it is live. Only
+/// `block` allocates.
 #[derive(Drop)]
 pub struct Sends<S, A: Allocator> {
     // First those that aren't due, then those that are, in the order in which they became due: so
-    // `next_due` reads one place, whatever the length. The first ones stand in the order in which
-    // they blocked or were named, but nothing reads that order: they are found by their tickets.
-    // The order of blocked messages is that of their chain.
+    // `next_due` reads one place. Nothing reads the order of the first ones. The order of blocked
+    // messages is that of their chain.
     chain: TicketChain<PlacedSend<S>, A>,
-    // The place of the first that is due.
     due: Option<u32>,
 }
 
@@ -57,7 +56,7 @@ impl<S, A: Allocator> Model for Sends<S, A> {
 }
 
 impl<S: Drop, A: Allocator + Copy> Sends<S, A> {
-    /// No ticket is live. Takes no memory.
+    /// No ticket is live.
     ///
     /// ```
     /// let mut sends = Sends::new(alloc);
@@ -77,10 +76,10 @@ impl<S: Drop, A: Allocator + Copy> Sends<S, A> {
         }
     }
 
-    /// Makes `ticket` live, with its message blocked and nothing due, and returns its place, which
-    /// no other has. The place of its message is to be set. All room for what happens to it later
-    /// is made here. With no memory left, or a ticket that is live already, nothing changes. No
-    /// caller gives such a ticket.
+    /// Makes `ticket` live, with its message blocked and not due, and returns its place, which no
+    /// other has. The place of its message has to be set next. All room for what happens to it
+    /// later is made here. If memory runs out, or the ticket is live already, which no caller
+    /// passes, nothing changes.
     #[inline(always)]
     pub fn block(&mut self, ticket: u64, signal: S) -> Result<u32, AllocError>
         ensures live { OnOk result (live_sends self.new
@@ -105,8 +104,8 @@ impl<S: Drop, A: Allocator + Copy> Sends<S, A> {
         }
     }
 
-    /// The message of the send at this place stands at that one. Nothing changes where no send
-    /// stands there. Takes no memory.
+    /// Sets the place of the message of the send at this place. Nothing changes if there is no such
+    /// send.
     #[inline(always)]
     pub fn set_message(&mut self, place: u32, message: u32)
         ensures live { live_sends self.new ≡ live_sends self.old }
@@ -121,7 +120,7 @@ impl<S: Drop, A: Allocator + Copy> Sends<S, A> {
     }
 
     /// The place of the send with this ticket, and that of its message, while this is blocked.
-    /// `None` where the ticket isn't live, or its message was accepted.
+    /// `None` if the ticket isn't live, or its message was accepted.
     #[inline(always)]
     pub fn blocked_at(&self, ticket: u64) -> Option<(u32, u32)>
         ensures found { IfSome result (λ b. link_at self.now b.0
@@ -140,7 +139,7 @@ impl<S: Drop, A: Allocator + Copy> Sends<S, A> {
         Some((place, placed.message))
     }
 
-    /// Whether the message of a live ticket was accepted. `None` where the ticket isn't live.
+    /// Whether the message of a live ticket was accepted. `None` if the ticket isn't live.
     #[inline(always)]
     pub fn accepted(&self, ticket: u64) -> Option<bool>
         ensures value { result
@@ -149,7 +148,7 @@ impl<S: Drop, A: Allocator + Copy> Sends<S, A> {
         Some(self.get(ticket)?.accepted)
     }
 
-    /// The signal that the sender of a live ticket left last. `None` where the ticket isn't live.
+    /// The signal that the sender of a live ticket left last. `None` if the ticket isn't live.
     #[inline(always)]
     pub fn signal(&self, ticket: u64) -> Option<&S>
         ensures value { option_copied result
@@ -167,8 +166,7 @@ impl<S: Drop, A: Allocator + Copy> Sends<S, A> {
         Some(&self.chain.get(place)?.send)
     }
 
-    /// Replaces the signal of a live ticket. Nothing changes where the ticket isn't live. Takes no
-    /// memory.
+    /// Replaces the signal of a live ticket. Nothing changes if the ticket isn't live.
     pub fn set_signal(&mut self, ticket: u64, signal: S)
         ensures live { live_sends self.new
             ≡ noticed_send (with_signal (Some signal)) ticket (live_sends self.old) }
@@ -185,8 +183,8 @@ impl<S: Drop, A: Allocator + Copy> Sends<S, A> {
     }
 
     /// The message of the send at this place was taken into the queue: its ticket is accepted, and
-    /// due. Nothing changes where no send stands there. Takes no memory.
-    // It and `mark_due` hand on to `make_due`, so that each call says which of its two cases it
+    /// due. Nothing changes if there is no such send.
+    // This and `mark_due` forward to `make_due`, so that each call says which of its two cases it
     // means.
     #[inline(never)]
     pub fn accept(&mut self, place: u32)
@@ -198,8 +196,8 @@ impl<S: Drop, A: Allocator + Copy> Sends<S, A> {
         self.make_due(place, true);
     }
 
-    /// Makes the ticket of the send at this place due, and leaves it accepted or not as it was.
-    /// Nothing changes where no send stands there. Takes no memory.
+    /// Makes the ticket of the send at this place due, accepted or not as it was. Nothing changes
+    /// if there is no such send.
     pub fn mark_due(&mut self, place: u32)
         ensures live { IfSome (link_at self.old place) (λ l. live_sends self.new
             ≡ noticed_send due_now l.ticket (live_sends self.old)) }
@@ -208,7 +206,7 @@ impl<S: Drop, A: Allocator + Copy> Sends<S, A> {
         self.make_due(place, false);
     }
 
-    // Makes the ticket of the send at this place due, and accepted where `accepts`. One that wasn't
+    // Makes the ticket of the send at this place due, and accepted if `accepts`. One that wasn't
     // due goes behind all others.
     fn make_due(&mut self, place: u32, accepts: bool)
         ensures live { IfSome (link_at self.old place) (λ l. live_sends self.new
@@ -229,7 +227,7 @@ impl<S: Drop, A: Allocator + Copy> Sends<S, A> {
         }
     }
 
-    /// The place of the send with this ticket. `None` where the ticket isn't live.
+    /// The place of the send with this ticket. `None` if the ticket isn't live.
     #[inline(always)]
     pub fn find(&self, ticket: u64) -> Option<u32>
         ensures found { IfSome result (λ p. option_map (λ l. l.ticket) (link_at self.now p)
@@ -242,8 +240,8 @@ impl<S: Drop, A: Allocator + Copy> Sends<S, A> {
         self.chain.find(ticket)
     }
 
-    /// The ticket of the send at this place is live no more. Nothing changes where no send stands
-    /// there. Takes no memory.
+    /// The ticket of the send at this place isn't live any more. Nothing changes if there is no
+    /// such send.
     #[inline(always)]
     pub fn spend(&mut self, place: u32)
         ensures live { IfSome (link_at self.old place) (λ l. live_sends self.new
@@ -259,9 +257,8 @@ impl<S: Drop, A: Allocator + Copy> Sends<S, A> {
         self.chain.discard(place);
     }
 
-    /// A live ticket that was due, and now isn't: it is named once. `None` where none is due, and
-    /// then nothing changes, and it only reads one place. It looks through no tickets, whatever the
-    /// length. Takes no memory.
+    /// A live ticket that was due, and isn't afterwards. `None` if none is due: then nothing
+    /// changes, and only one place is read. It searches no tickets.
     #[inline(always)]
     pub fn next_due(&mut self) -> Option<u64>
         ensures was_due { IfSome result (λ t. is_due_send (live_sends self.old) t ≡ true) }
@@ -277,7 +274,7 @@ impl<S: Drop, A: Allocator + Copy> Sends<S, A> {
         }
     }
 
-    // What `next_due` does where some send is due, out of line.
+    // The out-of-line part of `next_due`.
     #[cold]
     #[inline(never)]
     fn tell_first(&mut self) -> Option<u64>
@@ -297,7 +294,7 @@ impl<S: Drop, A: Allocator + Copy> Sends<S, A> {
         Some(ticket)
     }
 
-    /// Every ticket is live no more. Takes no memory.
+    /// No ticket is live any more.
     pub fn clear(&mut self)
         ensures empty { self.new ≡ [] }
     {

@@ -16,11 +16,11 @@ use flume_chain::labelled::Labelled;
 use std::alloc::Allocator;
 use std::marker::Model;
 
-/// Elements in order. Each has a place, and was put in with a ticket.
+/// Elements in order. Each has a place, and was put in with a ticket. Only `insert` allocates. Each
+/// method leaves the order and the places of all other elements.
 #[derive(Drop)]
 pub struct TicketChain<E, A: Allocator> {
     chain: Chain<u64, E, A>,
-    // Where each ticket stands.
     places: Places<A>,
 }
 
@@ -35,10 +35,10 @@ impl<E, A: Allocator> Model for TicketChain<E, A> {
     ghost invariant = { λ s. Agrees s.chain.items s.places };
 }
 
-// `next` and `move_back` are the chain's, and `find` is the places': they hand on, since both are
-// private, so that neither changes without the other.
+// Methods that only forward to the chain or to the places are here since both are private, so that
+// neither changes without the other.
 impl<E: Drop, A: Allocator + Copy> TicketChain<E, A> {
-    /// No elements. Takes no memory.
+    /// No elements.
     ///
     /// ```
     /// let mut chain = TicketChain::new(alloc);
@@ -67,7 +67,7 @@ impl<E: Drop, A: Allocator + Copy> TicketChain<E, A> {
         let _ = self.chain.len();
     }
 
-    /// The place of the element with a ticket. `None` where none has it.
+    /// The place of the element with a ticket. `None` if none has it.
     #[inline(always)]
     pub fn find(&self, ticket: u64) -> Option<u32>
         ensures place { result ≡ place_of ticket self.now.items }
@@ -75,7 +75,7 @@ impl<E: Drop, A: Allocator + Copy> TicketChain<E, A> {
         self.places.get(ticket)
     }
 
-    /// The value at a place. `None` where none stands there.
+    /// The value at a place. `None` if there is none there.
     #[inline(always)]
     pub fn get(&self, place: u32) -> Option<&E>
         ensures found { option_copied result
@@ -84,7 +84,7 @@ impl<E: Drop, A: Allocator + Copy> TicketChain<E, A> {
         self.chain.get(place)
     }
 
-    /// The ticket of the element at a place. `None` where none stands there.
+    /// The ticket of the element at a place. `None` if there is none there.
     #[inline(always)]
     pub fn ticket(&self, place: u32) -> Option<u64>
         ensures ticket { result ≡ option_map (λ e. e.label) (found self.now.items place) }
@@ -92,7 +92,7 @@ impl<E: Drop, A: Allocator + Copy> TicketChain<E, A> {
         self.chain.label(place).copied()
     }
 
-    /// The value at a place, to be written. `None` where none stands there.
+    /// The value at a place, to be written. `None` if there is none there.
     #[inline(always)]
     pub fn get_mut(&mut self, place: u32) -> Option<&mut E>
         ensures* writes_back { sem 𝓛 (lends_value E.row A.row A.Allocator self.entry place result) }
@@ -105,7 +105,7 @@ impl<E: Drop, A: Allocator + Copy> TicketChain<E, A> {
         }
     }
 
-    /// The place of the element behind that at a place. `None` where none stands at the place, or
+    /// The place of the element behind that at a place. `None` if there is none at the place, or
     /// none behind it.
     #[inline(always)]
     pub fn next(&self, place: u32) -> Option<u32>
@@ -114,10 +114,10 @@ impl<E: Drop, A: Allocator + Copy> TicketChain<E, A> {
         self.chain.next(place)
     }
 
-    /// Puts a value with a ticket ahead of that at a place, or behind all others where no place is
-    /// given or none stands there, and returns its own place, which no other has. With no memory
-    /// left, a ticket that an element has, or 4,294,967,295 elements standing, the value comes
-    /// back, and the chain stays as it was.
+    /// Puts a value with a ticket ahead of the one at a place, or behind all others if there is
+    /// none there or no place is given, and returns its own place, which no other has. If an
+    /// allocation fails, an element has the ticket, or there are 4,294,967,295 elements already,
+    /// the value comes back, and the chain stays as it was.
     pub fn insert(&mut self, next: Option<u32>, ticket: u64, value: E) -> Result<u32, E>
         ensures inserted { IfOk result (λ place. self.new.items ≡ put_ahead self.old.items next
             (record { place = place; element = record { label = ticket; value = value } })) }
@@ -149,8 +149,8 @@ impl<E: Drop, A: Allocator + Copy> TicketChain<E, A> {
         }
     }
 
-    /// The element at a place goes behind all others, and keeps its place and its ticket. False
-    /// where none stands there, and then nothing changes. Takes no memory.
+    /// The element at a place goes behind all others, and keeps its place and its ticket. False if
+    /// there is none there, and then nothing changes.
     #[inline(always)]
     pub fn move_back(&mut self, place: u32) -> bool
         ensures moved { result ≡ true → (e : Ticketed E) → found self.old.items place ≡ Some e
@@ -162,8 +162,8 @@ impl<E: Drop, A: Allocator + Copy> TicketChain<E, A> {
         self.chain.move_back(place)
     }
 
-    /// Drops the element at a place, which then names none, and its ticket finds none. The others
-    /// keep their order and their places. Nothing changes where none stands there. Takes no memory.
+    /// Drops the element at a place, which then names none, and its ticket finds none. Nothing
+    /// changes if there is none there.
     #[inline(always)]
     pub fn discard(&mut self, place: u32)
         ensures left { self.new.items ≡ without self.old.items place }
@@ -175,7 +175,7 @@ impl<E: Drop, A: Allocator + Copy> TicketChain<E, A> {
         self.chain.discard(place);
     }
 
-    /// Takes out all elements. Takes no memory.
+    /// Takes out all elements.
     pub fn clear(&mut self)
         ensures empty { self.new.items ≡ [] }
     {
@@ -184,8 +184,8 @@ impl<E: Drop, A: Allocator + Copy> TicketChain<E, A> {
     }
 }
 
-// Puts an element ahead of that at a place, or behind all others where no place is given or none
-// stands there.
+/// Puts an element ahead of the one at a place, or last. The place that it has now; if memory is
+/// refused, the element comes back, and nothing is changed.
 #[inline(always)]
 pub fn push<L: Drop, E: Drop, A: Allocator>(
     chain: &mut Chain<L, E, A>,

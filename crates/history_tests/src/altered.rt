@@ -49,7 +49,7 @@ impl Chance {
         }
     }
 
-    // One of the messages is another, or is left out. Where there are none, one is put in.
+    // One of the messages is another, or is left out. If there are none, one is put in.
     fn other_list(&mut self, rt: &impl Abort, alloc: Global, list: &[u64]) -> Vec<u64> {
         let place = self.below(list.len() as u64) as usize;
         let leaves_out = self.below(2) == 0;
@@ -131,8 +131,8 @@ impl Chance {
         drawn
     }
 
-    /// Want of memory in place of the reply to this step. In one case of four another message comes
-    /// back than the one that was handed in, or one where none was.
+    /// `NoMemory` in place of the reply to this step. In one case of four another message comes
+    /// back than the one that was handed in, or one if none was.
     pub(crate) fn want_of_memory(&mut self, step: &Step<u64>) -> Reply<u64> {
         let back = handed_in(step);
         if self.below(4) == 0 {

@@ -16,7 +16,7 @@ impl Slow {
         Reply::Done
     }
 
-    /// An end comes or goes, or it is asked how the channel stands.
+    /// An end comes or goes, or the channel's state is asked for.
     pub(crate) fn count(&mut self, step: &Step<u64>) -> Reply<u64> {
         let was_open = self.is_open();
         let reply = match step {
@@ -54,7 +54,7 @@ impl Slow {
     }
 }
 
-// One more end, where there are so many.
+// One more end, if there are this many.
 fn joined(ends: &mut usize) -> Reply<u64> {
     match *ends {
         0 => Reply::NoEnd,
@@ -66,7 +66,7 @@ fn joined(ends: &mut usize) -> Reply<u64> {
     }
 }
 
-// One end less, where there are so many.
+// One end less, if there are this many.
 fn gone(ends: &mut usize) -> Reply<u64> {
     if *ends == 0 {
         return Reply::NoEnd;

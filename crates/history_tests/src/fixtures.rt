@@ -18,7 +18,6 @@ pub(crate) struct Told<A: Allocator> {
     pub(crate) history: Vec<Pair<A>, A>,
 }
 
-// The reply that a text stands for, of those that are written here.
 fn reply_of<A: Allocator + Copy>(rt: &impl Abort, alloc: A, text: &str) -> Reply<u64, A> {
     let (word, rest) = text.split_once(" ").unwrap_or((text, ""));
     let mut numbers = Vec::new(alloc);
@@ -46,8 +45,8 @@ fn reply_of<A: Allocator + Copy>(rt: &impl Abort, alloc: A, text: &str) -> Reply
     }
 }
 
-/// The history of a text: a line that opens a channel, and then lines of a step, an arrow and what
-/// is told of it.
+/// The history of a text: a line that opens a channel, and then lines of a step, an arrow and its
+/// reply.
 pub(crate) fn told_by<A: Allocator + Copy>(rt: &impl Abort, alloc: A, text: &str) -> Told<A> {
     let mut lines = text.split("\n");
     let opening = lines.next().unwrap_or("");
@@ -66,12 +65,12 @@ pub(crate) fn is(rt: &impl Abort, title: &str, answer: Checked, wanted: Checked)
     assert_eq!(rt; answer, wanted, "{title}");
 }
 
-/// It is so; what fails where it isn't.
+/// It holds; if not, this name fails the test.
 pub(crate) fn holds(rt: &impl Abort, fault: &str, is_so: bool) {
     assert!(rt; is_so, "{fault}");
 }
 
-/// What a call answers that fails by memory alone.
+/// The result of a call that fails for memory alone.
 pub(crate) fn had<T, E: Debug + Drop>(rt: &impl Abort, answer: Result<T, E>) -> T {
     answer.expect(rt, "there is memory")
 }

@@ -1,5 +1,5 @@
 //! Tests of `flume_history`: histories written by hand, and those of a channel with one reply
-//! changed, beside a second judge.
+//! changed, compared with a second judge.
 #![tactic(auto)]
 
 #[cfg(test)]

@@ -1,4 +1,4 @@
-//! Want of memory of the check itself, which tells nothing of the history.
+//! The check itself runs out of memory, and then says nothing of the history.
 use crate::fixtures::{holds, is, told_by};
 use ends_tests::counting::Counting;
 use flume_history::check::{Checked, check_history};
@@ -17,20 +17,20 @@ send 3 -> pending 2
 drain -> drained 1 2
 try_recv -> got 3";
 
-// Steps for which a channel keeps nothing, and what is told of them.
+// Steps for which a channel allocates nothing, with their replies.
 const KEEPS_NOTHING: &str = "bounded 2
 try_recv -> empty
 try_send 5 -> nomemory 5
 drain -> drained
 len -> 0";
 
-// They are wrong at once, and right only where something is kept.
+// They are wrong at once, and right only if something is kept.
 const WRONG_AT_ONCE: &str = "bounded 2
 try_recv -> got 5
 try_send 5 -> sent";
 
 // Checks a history on an allocator that refuses these growths, counted from 1. It answers so, or
-// that there was no memory, where it refused some: how many.
+// that there was no memory, if it refused some: how many.
 fn refused(
     rt: &impl Abort,
     alloc: Global,

@@ -67,7 +67,7 @@ fn the_judge_of_drawn_scripts_finds_each_fault(rt: HostRuntime) {
     }
 }
 
-// A number with a label, by which no two are told apart.
+// A number with a label, which its equality ignores.
 #[derive(Clone, Copy, Debug, Drop)]
 #[derive_where(PartialEq, Eq)]
 struct Labelled {

@@ -1,6 +1,6 @@
 //! A slow judge of histories, written from the definitions on plain lists. It keeps what they say
-//! of a channel after a log, and answers each step as they say: a history is a run while what is
-//! told is that answer, or that memory ran out where it may be.
+//! of a channel after a log, and answers each step as they say: a history is a run as long as each
+//! reply is that answer, or `NoMemory` if that is lawful.
 use crate::fixtures::{Pair, had};
 use flume_history::check::Checked;
 use flume_model::step::{Kind, Reply, Step};
@@ -15,7 +15,7 @@ pub(crate) struct Offer {
     ticket: Option<u64>,
 }
 
-/// How a parked receiver stands.
+/// The state of a parked receiver.
 #[derive(Clone, Copy, Drop)]
 pub(crate) enum Mark {
     Waits,
@@ -89,7 +89,7 @@ impl Slow {
         self.senders.min(self.receivers) > 0
     }
 
-    // Memory may be wanted for the step.
+    // The step may need memory.
     fn may_want(&self, step: &Step<u64>) -> bool {
         let is_left = self.next < u64::MAX;
         let some_blocked = self.boundary < self.line.len();
@@ -132,7 +132,7 @@ impl Slow {
         self.parked.len()
     }
 
-    // Makes the step: the one lawful reply to it beside `NoMemory`.
+    // Makes the step: the one lawful reply to it other than `NoMemory`.
     fn answer(&mut self, rt: &impl Abort, alloc: Global, step: &Step<u64>) -> Reply<u64> {
         match step {
             Step::TrySend(message) => self.offer(rt, *message, false),
@@ -177,7 +177,7 @@ impl Slow {
     }
 
     // A wake round: streams are woken up to the first receiver that waits and is none; that one is
-    // woken, or filled with the front of the queue where it blocks. The ticket that is filled.
+    // woken, or filled with the front of the queue if it blocks. The ticket that is filled.
     fn wake_round(&mut self) -> Option<u64> {
         let front = self.line.front()?.message;
         for receiver in &mut self.parked {

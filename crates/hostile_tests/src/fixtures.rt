@@ -8,17 +8,17 @@ use std::process::Abort;
 /// The allocator of a channel, lent.
 pub(crate) type Heap<'h> = &'h Counting<Global>;
 
-/// What a call answers that fails by memory alone.
+/// The result of a call that fails for memory alone.
 pub(crate) fn had<T, E: Debug + Drop>(rt: &impl Abort, answer: Result<T, E>) -> T {
     answer.expect(rt, "there is memory")
 }
 
-/// The text is the wanted one.
+/// The text is the expected one.
 pub(crate) fn text_is(rt: &impl Abort, title: &str, answer: &str, wanted: &str) {
     assert_eq!(rt; answer, wanted, "{title}");
 }
 
-/// It is so; what fails where it isn't.
+/// It holds; if not, this name fails the test.
 pub(crate) fn holds(rt: &impl Abort, (title, fault): (&str, &str), is_so: bool) {
     assert!(rt; is_so, "{title}: {fault}");
 }

@@ -1,6 +1,6 @@
 //! The ends go at each place of a script, in both orders. A slow list that is kept from the replies
-//! alone says that the messages come in order, and each once, what senders are told, and who is due
-//! as a receiver is filled and as the channel is closed.
+//! alone says that the messages come in order, and each once, what senders are told, and which
+//! tickets are due as a receiver is filled and as the channel is closed.
 use crate::fixtures::{had, holds, text_is};
 use core_tests::judge::Told;
 use flume_core::chan::Chan;
@@ -10,7 +10,7 @@ use flume_script::writing::write_reply;
 use std::alloc::Global;
 use std::process::Abort;
 
-// Scripts, and what each step of them answers where no end goes.
+// Scripts, and what each step of them answers if no end goes.
 const SCRIPTS: &str = "
 = receivers of three kinds wait, are woken and filled, and ask out of order
 bounded 1
@@ -96,9 +96,8 @@ const TAKES: usize = 8;
 // More tickets than a script issues.
 const MOST: usize = 16;
 
-// Where the ends go: each before the step of this number, the sender first where both go before
-// the same step, or the receiver. Behind the last step an end goes last, and one step further it
-// stays.
+// Where the ends go: each before the step of this number, the sender first if both go before the
+// same step, or the receiver. Behind the last step an end goes last, and one step further it stays.
 #[derive(Clone, Copy, Drop)]
 struct Places {
     sender: usize,
@@ -116,7 +115,7 @@ struct Script {
     answers: String,
 }
 
-// A channel on which steps are made, what their replies told, and their texts.
+// A channel on which steps are made, what their replies say, and their texts.
 #[derive(Drop)]
 struct Made {
     chan: Chan<u64, ()>,
@@ -213,8 +212,8 @@ fn judged(rt: &impl Abort, alloc: Global, script: &Script, places: Places) -> (b
     (had(rt, made.told.is_right(alloc)), text)
 }
 
-// The replies are right with the sender that goes here, and the receiver at each place; where both
-// go at one place, in either order.
+// The replies are right with the sender that goes here, and the receiver at each place; if both go
+// at one place, in either order.
 fn are_right_with(rt: &impl Abort, alloc: Global, title: &str, script: &Script, sender: usize) {
     let places = script.steps.len().saturating_add(2);
     for number in 0..places.saturating_mul(4) {

@@ -56,7 +56,7 @@ fn short() -> Duration {
     Duration::from_millis(1)
 }
 
-// Sends by the call that the message picks. The message comes back where it isn't taken.
+// Sends by the call that the message picks. The message comes back if it isn't taken.
 fn send_once<R: Waits, A: Allocator + Copy>(tx: &Sender<u64, R, A>, message: u64) -> Option<u64> {
     match message % 3 {
         0 => tx.send(message).err().map(|error| error.into_inner()),
@@ -84,7 +84,7 @@ fn send_until_taken<R: Waits, A: Allocator + Copy>(
     unreachable!()
 }
 
-// What a sender was told of a message.
+// What a sender learned of a message.
 #[derive(Clone, Copy, PartialEq, Drop)]
 enum Sent {
     // Nothing: its send was left as it waited.
@@ -107,8 +107,8 @@ fn send_and_leave<R: Waits, A: Allocator + Copy>(
     }
 }
 
-// The sender, or in its place a clone, or another by way of a weak sender. Where the capacity
-// changes it is set as well.
+// The sender, or in its place a clone, or another by way of a weak sender. If the capacity changes
+// it is set as well.
 fn renewed<R: Waits, A: Allocator + Copy>(
     tx: Sender<u64, R, A>,
     number: u64,
@@ -126,8 +126,8 @@ fn renewed<R: Waits, A: Allocator + Copy>(
     tx.downgrade().ok()?.upgrade().ok()?
 }
 
-// Sends all messages of one thread, and notes what it is told of each. One that it can't send, or
-// that came back as another, stays unknown, and then it stops.
+// Sends all messages of one thread, and notes what became of each. One that it can't send, or that
+// came back as another, stays unknown, and then it stops.
 fn send_all<R: Runs, A: Allocator + Copy>(
     rt: R,
     mut tx: Sender<u64, R, A>,
@@ -199,7 +199,8 @@ fn receive_once<R: Waits, A: Allocator + Copy>(
     }
 }
 
-// How often each message came, what was told of it to who sent it, and who is told that one came.
+// How often each message came, what its sender learned of it, and the call that is notified that
+// one came.
 #[derive(Drop)]
 struct Tally<'w> {
     counts: Mutex<Vec<u32>>,
@@ -207,7 +208,7 @@ struct Tally<'w> {
     watched: &'w Watched,
 }
 
-// Notes what a sender was told of a message.
+// Notes what a sender learned of a message.
 fn note<R: Waits>(rt: &R, tally: &Tally<'_>, message: u64, told: Sent) {
     if let Some(sent) = tally.sent.lock(rt).get_mut(message as usize) {
         *sent = told;
@@ -292,13 +293,13 @@ fn are_right(counts: &[u32], sent: &[Sent]) -> bool {
 }
 
 // All run at this capacity, or at one that begins so and changes, and some message comes all along.
-// Growths were refused, messages came back from sends that were left, and no block is left.
+// No block is left. How many growths were refused.
 fn soak<R: Runs>(
     rt: R,
     alloc: Global,
     watched: &Watched,
     (capacity, changes): (Option<usize>, bool),
-) {
+) -> u64 {
     let heap = Counting::new(alloc);
     let counts = Mutex::new(had(&rt, vec![in alloc; 0u32; ALL]));
     let sent = Mutex::new(had(&rt, vec![in alloc; Sent::Unknown; ALL]));
@@ -319,8 +320,8 @@ fn soak<R: Runs>(
         (TITLE, "a message is lost, or came against its answer"),
         are_right,
     );
-    holds(&rt, (TITLE, "no growth was refused"), heap.refusals() > 0);
     holds(&rt, (TITLE, "blocks are left"), heap.live() == 0);
+    heap.refusals()
 }
 
 // The thread that watches over a test.
@@ -334,9 +335,12 @@ fn watching<R: Runs>(rt: R, alloc: Global) -> Watch {
 #[test]
 fn no_message_is_lost_where_one_growth_in_a_hundred_is_refused(rt: HostRuntime) {
     let watch = watching(rt, rt.alloc());
+    let mut refused = soak(rt, rt.alloc(), watch.watched(), (Some(3), true));
     for capacity in [None, Some(0), Some(1), Some(7), Some(64)] {
-        soak(rt, rt.alloc(), watch.watched(), (capacity, false));
+        let more = soak(rt, rt.alloc(), watch.watched(), (capacity, false));
+        refused = refused.saturating_add(more);
     }
-    soak(rt, rt.alloc(), watch.watched(), (Some(3), true));
+    // How many growths one capacity takes depends on how the threads meet.
+    holds(&rt, (TITLE, "no growth was refused"), refused > 0);
     watch.end(&rt);
 }

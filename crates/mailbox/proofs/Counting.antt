@@ -46,7 +46,7 @@ module _ (worker : ℕ) (pairs : List (ℕ × ℕ)) (place : ℕ) where
         let here = of_another within other in
         (λ rest. so_far.0 (here ∙ rest), λ all. sym here ∙ so_far.1 all)
 
-    -- another number of this worker, or one where none lacks: these aren't all
+    -- another number of this worker, or one if none lacks: these aren't all
     pub not_all : place < length pairs → (get_or pairs place (0, 0)).0 ≡ worker
         → (100 < next) ⊎ ((get_or pairs place (0, 0)).1 ≡ next → ⊥) → Whole → ⊥
     not_all within same wrong all = by_cases wrong
@@ -63,7 +63,7 @@ module _ (worker : ℕ) (pairs : List (ℕ × ℕ)) (place : ℕ) where
             let some = long in let le : next ≤ 100 = omega arith in
             other (ap (λ list. get_or list 0 0) (here ∙ lacking_from next le))
 
-    -- at the end of the list these are all just where none lacks
+    -- at the end of the list these are all exactly if none lacks
     pub at_end : length pairs ≤ place → next ≤ 101 → (100 < next) ↔ Whole
     at_end past at_most =
         let none : numbers_of worker (drop place pairs) ≡ [] = rw (drop_of_length-le pairs past) refl in (

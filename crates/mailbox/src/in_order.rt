@@ -9,7 +9,7 @@ pub const WORKERS: u64 = 3;
 pub const MESSAGES: u64 = 100;
 
 /// Whether each pair is of one of the three workers, and the numbers of each worker are 1 to 100,
-/// in this order. How the workers' pairs stand among each other is open. Takes no memory.
+/// in this order. The order of different workers' pairs is open. Doesn't allocate.
 ///
 /// ```
 /// in_order(&[]);                     // false: there are no numbers

@@ -1,10 +1,9 @@
 //! A mailbox: three workers send into one channel, which is widened while they send.
 //!
-//! Each worker sends the numbers from 1 to 100, with its own: 0, 1 or 2. The main thread receives all
-//! of them, and looks whether those of each worker came in order, as a channel owes its users. It
-//! prints how many there were and what they come to, with status 0. Where they weren't in order it
-//! says so, with status 1; where there was no memory or no thread, with status 3. Status 4: it
-//! couldn't print.
+//! Each worker sends the numbers from 1 to 100, with its own: 0, 1 or 2. The main thread receives
+//! all of them, and checks that those of each worker came in order. It prints how many there were
+//! and their sum, with status 0. If they weren't in order it says so, with status 1; if memory or
+//! threads ran out, with status 3. Status 4: it couldn't print.
 #![tactic(auto)]
 
 mod in_order;
@@ -34,7 +33,7 @@ fn gather<R: Runtime>(rt: R) -> io::Result<Vec<Message>> {
     }
     // From here on no worker waits while fewer than eight messages do.
     mailbox.set_capacity(8)?;
-    // The workers have clones of this one. The channel closes as the last clone goes.
+    // The workers have clones of this one. The channel closes when the last clone is dropped.
     drop(tx);
     let messages = receive_all(&rt, &mailbox)?;
     for worker in workers {
@@ -62,7 +61,7 @@ fn receive_all<R: Runtime>(rt: &R, mailbox: &Receiver<Message, R>) -> io::Result
     Ok(all)
 }
 
-/// Writes what came of the workers, and answers the status. Only memory and threads can be wanting.
+/// Writes what came of the workers, and answers the status. Only memory and threads can be missing.
 fn tell<W: Write>(gathered: io::Result<Vec<Message>>, output: &mut W) -> u8 {
     let (written, status) = match gathered {
         Err(_) => (output.write_all(b"out of memory\n"), 3),
@@ -75,7 +74,7 @@ fn tell<W: Write>(gathered: io::Result<Vec<Message>>, output: &mut W) -> u8 {
     if written.is_ok() { status } else { 4 }
 }
 
-/// What the numbers come to.
+/// The sum of the numbers.
 fn sum(messages: &[Message]) -> u64 {
     messages
         .iter()

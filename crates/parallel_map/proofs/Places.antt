@@ -5,7 +5,7 @@ use Rattle.std.proofs.lemmas.List.{take_more}
 use Rattle.std.proofs.lemmas.Option.{get_or_from_slice_get, slice_get_within}
 
 module _ {X : Type 0} where
-  -- what was found at a place comes behind what stands before it
+  -- what was found at a place comes behind what is before it
   pub take_found : (xs : List X) (n : ℕ) (x : X) → slice_get xs n ≡ Some x
       → take (n + 1) xs ≡ take n xs ++ x ∷ []
   take_found xs n x found =

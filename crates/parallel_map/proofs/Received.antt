@@ -35,11 +35,11 @@ module _ {X : Type 0} where
   get-set_other (x ∷ xs) (suc n) zero y other = refl
   get-set_other (x ∷ xs) (suc n) (suc k) y other = get-set_other xs n k y (λ e. other (ap suc e))
 
-  -- what stands at a place is got there
+  -- what is at a place is got there
   stands : (xs : List X) (n : ℕ) (x : X) → n < length xs → x ≡ get_or xs n x → slice_get xs n ≡ Some x
   stands xs n x within is = slice_get-get_or xs n x within ∙ ap Some (sym is)
 
-  -- nothing stands past the end
+  -- nothing is past the end
   pub past_end : (xs : List X) (n : ℕ) (x : X) → length xs ≤ n → slice_get xs n ≡ Some x → ⊥
   past_end xs n x past is = let none = slice_get_past xs n past in cc
 
@@ -49,7 +49,7 @@ module _ {X : Type 0} where
   at_seam P (y ∷ xs) x ys all = at_seam P xs x ys (All-tail P y (xs ++ x ∷ ys) all)
 
 module _ {J : Type 0} (eq : J → J → Bool) where
-  -- a job that isn't equal to the one that stands there doesn't stand there
+  -- a job that isn't equal to the one that is there doesn't are there
   pub no_job : IsEquivalence eq → (jobs : List J) (n : ℕ) (there job : J) → n < length jobs → there ≡ get_or jobs n there
       → not (eq (get_or jobs n there) job) ≡ true → slice_get jobs n ≡ Some job → ⊥
   no_job laws jobs n there job within is differs stood =
@@ -58,7 +58,7 @@ module _ {J : Type 0} (eq : J → J → Bool) where
       let equal : eq (get_or jobs n there) job ≡ true = subst (λ x. eq x job ≡ true) (sym same ∙ is) (laws.refl job) in
       let no = rw equal at differs in cc
 
-  -- and one that is equal stands there
+  -- and one that is equal is there
   pub its_job : ((one other : J) → eq one other ≡ true → one ≡ other) → (jobs : List J) (n : ℕ) (there job : J) → n < length jobs
       → there ≡ get_or jobs n there → not (eq (get_or jobs n there) job) ≡ false → slice_get jobs n ≡ Some job
   its_job exact jobs n there job within is differs =
@@ -89,7 +89,7 @@ module _ {V : Type 0} where
     others = λ k other. ap held_in (get-set_other old n k (Some v) other);
   }
 
-  -- at most one value stands at a place
+  -- at most one value is at a place
   one_at_most : (o : Option (Option V)) → held_in o ≤ 1
   one_at_most None = omega arith
   one_at_most (Some None) = omega arith
@@ -111,7 +111,7 @@ module _ {I R : Type 0} (steps : I → Option R → I → Type 0) where
       let rest = beginning all came yields.0 t next.1 yields.2 in
       (rest.0, (λ i. sym next.0 i ∷ rest.1 i), rest.2)
 
-  -- and where no more comes it is all
+  -- and if no more comes it is all
   ends : (t u : I) (later : List R) → AlwaysYields steps (λ r. r) t later → steps t None u → later ≡ []
   ends t u [] gives over = refl
   ends t u (y ∷ later) gives over = absurd (gives.0 u over)
@@ -122,7 +122,7 @@ module _ {I R J : Type 0} (steps : I → Option R → I → Type 0) (at : R → 
   seam all before later last is =
       ap (map at) (is ∙ append_assoc before (last ∷ []) later) ∙ map-append at before (last ∷ later)
 
-  -- where there is one right answer for each job, only memory may be wanted
+  -- if there is one right answer for each job, only memory may be needed
   pub served : (jobs : List J) (answers : I) (error : WorkError) (all : List R) → Brings steps at jobs answers error
       → AlwaysYields steps (λ r. r) answers all → AreComplete jobs (map at all) → error ≡ NoMemory
   served jobs answers _ all WantsMemory gives complete = refl

@@ -27,10 +27,10 @@ module _ {J : Type 0} where
     pub each : (number : ℕ) → number < length jobs → times number some ≡ 1
 
 module _ {I R J : Type 0} (steps : I → Option R → I → Type 0) (at : R → ℕ × J) where
-  -- Which error the answers bring that an iterator gives. Where it isn't memory that is wanted, it
-  -- is what the answers up to the first that isn't right say, or else what all of them say.
+  -- The error that an iterator's answers bring: `NoMemory`, or what the answers up to the first
+  -- wrong one say, or else what all of them say.
   pub data Brings (jobs : List J) (answers : I) : WorkError → Type 0 where
-    -- memory was wanted, whatever the answers are
+    -- memory was needed, whatever the answers are
     WantsMemory : Brings jobs answers NoMemory
     -- after right answers came one that is to no job of the list
     IsUnknown : (before : List R) (last : R) (rest : I)

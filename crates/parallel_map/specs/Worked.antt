@@ -7,7 +7,7 @@ use Rattle.parallel_map.specs.declared.error.WorkError.TheVariants.{Unknown}
 use Rattle.parallel_map.specs.Answered.{IsTo}
 
 module _ {V : Type 0} where
-  -- each place that holds a value holds the wanted one
+  -- each place that holds a value holds the expected one
   pub record AreWorked (wanted : List V) (places : List (Option V)) : Type 0 where
     pub each : length places ≡ length wanted
     pub right : (k : ℕ) (value : V) → slice_get places k ≡ Some (Some value)
@@ -18,7 +18,7 @@ module _ {V : Type 0} where
   held_in (Some (Some value)) = 1
   held_in _ = 0
 
-  -- how many values stand at a number
+  -- how many values there are at a number
   abbrev pub held : List (Option V) → ℕ → ℕ
   held places number = held_in (slice_get places number)
 
@@ -40,7 +40,7 @@ module _ {V : Type 0} where
 
     -- why the places don't give the values of all jobs
     pub data Lacks (jobs : List J) (places : List (Option V)) : WorkError → Type 0 where
-      -- memory was wanted
+      -- memory was needed
       NoRoom : Lacks jobs places NoMemory
       -- this is the first place that is empty
       FirstEmpty : (number : ℕ) → number < length jobs → held places number ≡ 0

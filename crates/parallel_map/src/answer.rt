@@ -3,8 +3,8 @@ ghost use Rattle.std.specs.Prelude.{◌≡◌};
 
 use crate::work::Work;
 
-/// A job, its number in the list, and its value. That the value is that of the job belongs to the
-/// type, so it holds of each answer, whichever way it came.
+/// A job, its number in the list, and its value. The type itself says that the value is that of the
+/// job: so it holds of each answer, by whichever way it came.
 ///
 /// ```
 /// let answer = Answer::of(&Square, 0, 7);

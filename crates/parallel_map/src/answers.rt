@@ -11,11 +11,11 @@ use crate::slots::Slots;
 use crate::work::Work;
 use std::alloc::Global;
 
-/// The values of all jobs, in the order of the jobs. It compares each answer with the list: what
-/// the iterator gives needn't be believed. It stops at the first answer that is to no job
-/// (`Unknown`) or to a job that was answered (`Doubled`). If the iterator ends before each job
-/// was answered, the first that wasn't is `Missing`. If it gives one right answer for each job,
-/// in any order, no error comes but `NoMemory` (`served`).
+/// The values of all jobs, in the order of the jobs. Each answer is compared with the list, so the
+/// iterator needn't be trusted. `Unknown`: an answer is to no job; `Doubled`: a second one to the
+/// same job. It stops at the first of these. `Missing`: the iterator ended, and this is the first
+/// job without an answer. If the iterator gives one right answer for each job, in any order, the
+/// only error is `NoMemory` (`served`).
 ///
 /// ```
 /// let mixed = [Answer::of(&Square, 1, 3), Answer::of(&Square, 0, 2)];
@@ -81,7 +81,6 @@ pub fn position<W: Work<Value = bool>, I: Iterator<Item = Answer<W>> + Drop>(
     Ok(first_true(&values))
 }
 
-// The values of all places. `Missing`: this place is empty.
 #[tactic(auto, using(crate::proofs::Places::take_found))]
 fn in_order<W: Work>(alloc: Global, slots: Slots<'_, W>) -> Result<Vec<W::Value>, WorkError>
     ensures values { IfOk result (λ values. values.items ≡ map W.meaning slots.entry.jobs.now) }
@@ -98,7 +97,6 @@ fn in_order<W: Work>(alloc: Global, slots: Slots<'_, W>) -> Result<Vec<W::Value>
     Ok(values)
 }
 
-// Where the first `true` stands.
 fn first_true(values: &[bool]) -> Option<usize>
     ensures found { IsFound values.now result }
 {

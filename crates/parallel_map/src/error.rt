@@ -6,8 +6,8 @@ use std::io::ErrorKind;
 use std::thread::SpawnError;
 use std::{fmt, io};
 
-/// Why there is no result. The last three say that the answers weren't those to the jobs. With
-/// channels that do what they should none of them comes.
+/// Why there is no result. The last three say that the answers weren't those to the jobs; with a
+/// correct channel none of them comes.
 ///
 /// ```
 /// let none = Vec::<Answer<Square>>::new(alloc);
@@ -16,9 +16,9 @@ use std::{fmt, io};
 /// ```
 #[derive(Clone, Copy, Debug, PartialEq, Eq, Drop)]
 pub enum WorkError {
-    /// Memory was wanted, and there was none.
+    /// Out of memory.
     NoMemory,
-    /// A thread was wanted, and none could be started.
+    /// No thread could be started.
     NoThread,
     /// No answer has this number.
     Missing(usize),
@@ -29,7 +29,6 @@ pub enum WorkError {
 }
 
 impl WorkError {
-    // What `{}` writes of it.
     fn text(self) -> &'static str {
         match self {
             WorkError::NoMemory => "out of memory",
@@ -50,7 +49,7 @@ impl fmt::Display for WorkError {
 
 impl Error for WorkError {}
 
-/// Of the kind `OutOfMemory`, `WouldBlock` if there was no thread, or `InvalidData`.
+/// `OutOfMemory`, `WouldBlock` if there was no thread, or `InvalidData`.
 impl From<WorkError> for io::Error {
     fn from(e: WorkError) -> io::Error {
         let kind = match e {

@@ -12,8 +12,8 @@
 //!
 //! # Why it is proved
 //!
-//! No contract says which message a receive gives: other threads decide that. So nothing here rests
-//! on what the channels deliver.
+//! No contract says which message a receive gives, since other threads decide that. So nothing here
+//! depends on what the channels deliver.
 //!
 //! - The type of an answer says that its value is the work of its job (`Answer`). A value of a type
 //!   keeps what its type says, whichever way it came.
@@ -27,11 +27,10 @@
 //! # For a program of your own
 //!
 //! Say what is to be done by a `Work`, and call one of the two functions. If your threads talk in
-//! another way, send an `Answer` or a type like it: a struct that has what was asked beside what
-//! came of it, with a ghost field that ties them together. Where it is received, compare what was
-//! asked with what you wanted to know. Then what you make of the answers is proved, and you needn't
-//! believe the way that they came. `answers::collect` and `answers::position` do that for any
-//! iterator over answers.
+//! another way, send an `Answer` or a type like it: a struct with the question and the result, and
+//! a ghost field that ties them together. The receiver compares the question with its own. Then
+//! what you make of the answers is proved, and you needn't trust the way that they came.
+//! `answers::collect` and `answers::position` do that for any iterator over answers.
 #![tactic(auto)]
 
 pub mod answer;

@@ -8,9 +8,9 @@ use crate::threads::by_threads;
 use crate::work::Work;
 use flume::Runtime;
 
-/// The values of all jobs, in the order of the jobs, by so many threads: at least one, and another
-/// one that hands the jobs to them. All have ended when it returns. If memory was refused to one
-/// of them it answers `NoMemory`.
+/// The values of all jobs, in the order of the jobs, by this many threads: at least one, and
+/// another one that hands the jobs to them. All have ended when it returns. `NoMemory`: an
+/// allocation failed, in one of them or here.
 ///
 /// ```
 /// let squares = parallel_map(rt, &Square, &[1, 2, 3], 2)?;
@@ -33,8 +33,8 @@ where
 /// The number of a job of the value `true`, by threads as those of `parallel_map`. If there are
 /// several such jobs it is one of them. `None`: there is none.
 ///
-/// It drops its receiver once it knows the number. Then the sends of the workers answer
-/// `Disconnected`, and they end; and with them the thread that hands out the jobs.
+/// Once it knows the number it drops its receiver. Then the workers' sends answer `Disconnected`
+/// and they end, and so does the thread that hands out the jobs.
 ///
 /// ```
 /// let found = position_any(rt, &IsEven, &[7, 8, 9], 2)?;

@@ -10,8 +10,8 @@ use crate::error::WorkError;
 use crate::work::Work;
 use std::alloc::{AllocError, Global};
 
-/// The jobs of a list, and the values that came so far. A place that isn't empty holds the value
-/// of the job that stands there.
+/// The jobs of a list, and the values that came so far. A place that isn't empty holds the value of
+/// the job that is there.
 #[derive(Drop)]
 pub(crate) struct Slots<'a, W: Work> {
     pub(crate) jobs: &'a [W::Job],
@@ -29,8 +29,8 @@ impl<'a, W: Work> Slots<'a, W> {
         Ok(Slots { jobs, values })
     }
 
-    /// Puts the value of an answer into its place, if the answer is to the job that stands there
-    /// and the place is empty.
+    /// Puts the value of an answer into its place, if the answer is to the job that is there and
+    /// the place is empty.
     pub(crate) fn put(&mut self, answer: Answer<W>) -> Result<(), WorkError>
         ensures jobs { self.new.jobs.now ≡ self.old.jobs.now }
         ensures value { OnOk result (slice_get (map W.meaning self.old.jobs.now) answer.number
@@ -47,7 +47,6 @@ impl<'a, W: Work> Slots<'a, W> {
         Ok(())
     }
 
-    // Whether this job stands there, and its place is empty.
     fn look(&self, number: usize, job: W::Job) -> Result<(), WorkError>
         ensures right { OnOk result (IsTo self.now.jobs.now (number, job)) }
         ensures empty { OnOk result (slice_get self.now.values.items number ≡ Some None) }

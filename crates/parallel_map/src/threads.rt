@@ -13,12 +13,13 @@ use std::thread::{JoinHandle, Threads};
 // How many jobs and how many answers wait in a channel at most.
 const CAPACITY: usize = 16;
 
-// What a thread says at its end: whether memory was refused to it.
+// What a thread returns: whether an allocation failed in it.
 type Ended = Result<(), NoMemory>;
 
-/// What is made of the answers of so many threads, at least one. One more hands the jobs to them:
-/// who receives the answers can't wait for room. At the end of the scope all of them have ended,
-/// even if one can't be started: the ends of the channels go then, and so the others end.
+/// What is made of the answers of this many threads, at least one. Another thread hands the jobs to
+/// them, since this one, which receives the answers, can't wait for room. At the end of the scope
+/// all have ended, even if one couldn't be started: then the ends of the channels are dropped, so
+/// the others end.
 pub(crate) fn by_threads<W: Work + Sync, R: Runtime, G: Gather<W>>(
     rt: R,
     work: &W,
@@ -52,7 +53,7 @@ where
     )
 }
 
-// Does jobs until there are no more, or nobody receives the answers.
+// Does jobs until there are no more, or no one receives the answers.
 fn serve<W: Work, R: Waits>(
     work: &W,
     to_do: &Receiver<(usize, W::Job), R>,
@@ -69,7 +70,7 @@ fn serve<W: Work, R: Waits>(
     jobs.ended()
 }
 
-// Sends all jobs with their numbers, or those up to where no worker is left.
+// Sends all jobs with their numbers, as long as there is a worker.
 fn feed<J: Copy, R: Waits>(jobs: &[J], give: &Sender<(usize, J), R>) -> Ended {
     for (number, job) in jobs.iter().enumerate() {
         match give.send((number, *job)) {
@@ -81,7 +82,7 @@ fn feed<J: Copy, R: Waits>(jobs: &[J], give: &Sender<(usize, J), R>) -> Ended {
     Ok(())
 }
 
-// What is made of the answers that come. Then the receiver goes, and so the threads end.
+// What is made of the answers that come. Then the receiver is dropped, and so the threads end.
 fn received<W: Work, R: Runtime, G: Gather<W>>(
     rt: R,
     jobs: &[W::Job],
@@ -100,7 +101,7 @@ fn received<W: Work, R: Runtime, G: Gather<W>>(
     found
 }
 
-// Waits until all have ended. `Err`: memory was refused to one of them.
+// Waits until all have ended. `Err`: an allocation failed in one of them.
 fn join_all<R: Threads>(rt: &R, threads: Vec<JoinHandle<Ended>>) -> Ended {
     let mut ended = Ok(());
     for thread in threads {

@@ -2,8 +2,8 @@
 ghost use Rattle.std.specs.Prelude.{◌≡◌, true};
 
 /// A kind of work: which jobs there are, and the value of each. The value is a function of the job
-/// alone (`meaning`), so what else the work needs stands in the job. It is a plain value, as a
-/// number: what takes memory of its own, as a `Vec` does, isn't determined by its job.
+/// alone (`meaning`), so what else the work needs is in the job. It is a plain value, as a number:
+/// what takes memory of its own, as a `Vec` does, isn't determined by its job.
 ///
 /// Jobs that `==` holds equal have to be the same (`exact`): the receiver of an answer compares
 /// its job so. For numbers the prover finds that.

@@ -1,5 +1,5 @@
 //! Three threads square numbers, and three look for a divisor. That the squares are right, and in
-//! order, is proved: the channels between the threads needn't be believed for it.
+//! order, is proved, whatever the channels between the threads deliver.
 #![tactic(auto)]
 
 ghost use Rattle.std.specs.Prelude.{◌≡◌, ◌*◌, ◌%◌, ◌==◌, ◌&&◌, IfOk, map, not};

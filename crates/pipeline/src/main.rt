@@ -28,13 +28,14 @@ fn main(rt: HostRuntime) -> io::Result<()> {
         println!(rt; "{mean}")?;
     }
     means.ended()?;
-    // If a stage failed, its error says why. Those before it only say that nobody received.
+    // If a stage failed, its error says why; those before it only say that no one received.
     dividing.join(&rt)?;
     adding.join(&rt)?;
     counting.join(&rt)
 }
 
-/// Sends the squares of the numbers from 1 to 10. Then the sender goes, and the next stage ends.
+/// Sends the squares of the numbers from 1 to 10. Then the sender is dropped, and the next stage
+/// ends.
 fn count<R: Waits>(squares: &Sender<u64, R>) -> io::Result<()> {
     for number in 1..=10u64 {
         squares.send(number.saturating_mul(number))?;

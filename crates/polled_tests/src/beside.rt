@@ -16,8 +16,8 @@ use std::thread;
 // In how many rounds the task is to find nothing.
 const ROUNDS: u64 = 500;
 
-// What the task tells: how often it found nothing and waits, and how many messages it had sent back
-// by the last time.
+// What the task reports: how often it found nothing and waits, and how many messages it had sent
+// back by the last time.
 #[derive(Drop)]
 struct Told {
     waits: AtomicU64,
@@ -139,7 +139,7 @@ impl<R: Runs> Beside<R> {
     }
 }
 
-// The task in a thread, and a receiver beside it.
+// The task in a thread, and another receiver.
 fn beside_a_task<R: Runs>(rt: R, alloc: Global) {
     let (tx, rx) = opened(rt, alloc, None);
     let (back, echoed) = opened(rt, alloc, None);

@@ -15,7 +15,7 @@ use std::process::Abort;
 use std::thread;
 use std::thread::{JoinHandle, Threads};
 
-/// The answer is the wanted one.
+/// The answer is the expected one.
 pub(crate) fn is<T: Debug + PartialEq + Drop>(rt: &impl Abort, answer: T, wanted: T) {
     assert_eq!(rt; answer, wanted);
 }

@@ -15,7 +15,7 @@ const ALL: u64 = 1000;
 // How many loops receive them.
 const LOOPS: usize = 20;
 
-// Receives until all senders have been dropped. Its output is what came, or none where there was no
+// Receives until all senders have been dropped. Its output is what came, or none if there was no
 // memory.
 #[derive(Drop)]
 struct UntilClosed<'a, R: Waits> {

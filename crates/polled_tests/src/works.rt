@@ -18,7 +18,7 @@ pub(crate) trait Runs: Waits
 
 impl<R: Waits + RandomSource + AllocGlobal + Threads + Abort + Send + Sync + 'static> Runs for R {}
 
-/// Sends 0, 1, 2 and so on, so many, by calls that block.
+/// Sends 0, 1, 2 and so on, this many, by calls that block.
 #[derive(Drop)]
 pub(crate) struct SendUpTo<R: Waits> {
     pub(crate) tx: Sender<u64, R>,

@@ -15,7 +15,6 @@ fn had<T, E: Debug + Drop>(rt: &impl Abort, answer: Result<T, E>) -> T {
     answer.expect(rt, "the system gives what is asked for")
 }
 
-// A recording with one recorder.
 fn begun<'h>(rt: &impl Abort, heap: Heap<'h>) -> (Recording<Heap<'h>>, Recorder<u64, Heap<'h>>) {
     let recording = had(rt, Recording::new(heap));
     let recorder = had(rt, recording.recorder());

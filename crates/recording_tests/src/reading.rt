@@ -57,7 +57,6 @@ a: is_disconnected
 a -> false
 ";
 
-// The recording of a text.
 fn recording_of<'s>(rt: &impl Abort, alloc: Global, text: &'s str) -> Recording<'s, Global> {
     match read_recording(alloc, text.as_bytes()) {
         Ok(recording) => recording,

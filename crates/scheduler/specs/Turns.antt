@@ -18,7 +18,7 @@ abbrev pub after_step : Task → Task
 after_step task = record task { steps = task.steps - 1 }
 
 -- What a turn of the task, with these others behind it, was and left: the others, and behind them
--- the task with one step less, or without it where that was its last step.
+-- the task with one step less, or without it if that was its last step.
 abbrev pub Turned : Task → List Task → Turn → List Task → Type 0
 Turned task others (Done number) left =
     (task.steps ≤ 1) × (number ≡ task.number) × (left ≡ others)

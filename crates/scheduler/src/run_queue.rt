@@ -1,4 +1,4 @@
-//! The queue of the tasks that are to run: a channel that one owner has, without a lock.
+//! The queue of the tasks to run: a channel of one owner, without a lock.
 ghost use Rattle.std.specs.Prelude.{◌≡◌, List, [], ◌∷◌, ◌++◌, IfOk, IfNone, IfSome};
 ghost use Rattle.std.specs.Prelude.{Err, None};
 ghost use Rattle.scheduler.specs.Turns.{IsPlain, Turned};
@@ -9,7 +9,8 @@ use flume_model::step::Reply;
 use std::alloc::Global;
 use std::marker::Model;
 
-/// A task: its number, and how many steps it has to go. One of no step is done as one of one is.
+/// A task: its number, and how many steps it has to go. A task of no step is done as one of one
+/// step is.
 #[derive(Clone, Copy)]
 pub struct Task {
     pub number: u64,
@@ -23,13 +24,13 @@ pub enum Turn {
     Idle,
     /// The last step of the task with this number.
     Done(u64),
-    /// A step of this task, which stands at the back of the queue now.
+    /// A step of this task, which is at the back of the queue now.
     Again(Task),
 }
 
-/// Tasks, the one whose turn is next at the front. Nobody waits at its channel, which has one
-/// sender and one receiver and holds any number of tasks: a task that comes back always fits, in
-/// the memory that it left. Nothing closes it but the end of its owner.
+/// Tasks, the next one at the front. The channel has one sender and one receiver, is unbounded, and
+/// no call waits at it: a task that comes back always fits, in the memory that it left. Only its
+/// owner's end closes it.
 #[derive(Drop)]
 pub struct RunQueue {
     tasks: Chan<Task, ()>,
@@ -48,7 +49,7 @@ impl Model for RunQueue {
 }
 
 impl RunQueue {
-    /// A queue of no task. Takes no memory.
+    /// A queue of no task. Doesn't allocate.
     ///
     /// ```
     /// let mut queue = RunQueue::new(alloc);
@@ -81,9 +82,8 @@ impl RunQueue {
     }
 
     /// One turn: the task at the front does one step, and goes to the back if it isn't done then.
-    /// No task is lost: those behind it stay, and it stands at the back with one step less, or it
-    /// was its last step. It is never refused for want of memory: a task that goes back has the
-    /// room that it left.
+    /// The tasks behind it stay. A turn needs no memory: a task that goes back has the room that it
+    /// left.
     ///
     /// ```
     /// queue.add(Task { number: 1, steps: 2 })?;
@@ -112,7 +112,7 @@ impl RunQueue {
     }
 }
 
-// Takes the task at the front. The room that it stood in stays.
+// Takes the task at the front, whose room is kept.
 fn take(tasks: &mut Chan<Task, ()>) -> Option<Task>
     requires plain { IsPlain tasks.old }
     ensures none { IfNone result ((tasks.old.queue ≡ []) × (tasks.new ≡ tasks.old)) }

@@ -4,16 +4,14 @@ use std::alloc::{AllocError, Global};
 // Words that a number follows. Here and below, texts are parted by bars.
 const NUMBERED: &str = "try_send |send |poll_send |withdraw_send |poll |withdraw |set_capacity ";
 
-// Lines with no number.
 const PLAIN: &str = "try_recv|recv block|recv plain|recv stream|recv arm|drain|clone_sender|\
     clone_receiver|drop_sender|drop_receiver|len|is_empty|is_full|capacity|sender_count|\
     receiver_count|is_disconnected";
 
-// Right numbers.
 const NUMBERS: &str = "0|1|2|3|4|10|007|9223372036854775808|18446744073709551615|\
     00018446744073709551615";
 
-// What is put into a script. Each may make a line wrong; some leave it right where they stand well.
+// What is put into a script. Each may make a line wrong; some leave it right if they stand well.
 const PIECES: &str = "\n|\r|\r\n|\n\r| |  |\t|\0|\u{b}|\u{85}|\u{660}|\u{2028}|+|-|_|.|0|9|a|e|S|s|\
     18446744073709551615|18446744073709551616|99999999999999999999|\
     340282366920938463463374607431768211456|unbounded\n|bounded 1\n|recv |len\n|send 5\n| block";
@@ -31,7 +29,6 @@ pub(crate) struct Draws {
 }
 
 impl Draws {
-    // A number below the bound, or 0 where that is 0.
     fn below(&mut self, bound: usize) -> usize {
         self.state = self
             .state
@@ -42,7 +39,6 @@ impl Draws {
             .unwrap_or(0)
     }
 
-    // One of these texts.
     fn one_of(&mut self, texts: &'static str) -> &'static str {
         let place = self.below(texts.split("|").count());
         texts.split("|").nth(place).unwrap_or("")
@@ -69,7 +65,7 @@ impl Draws {
         for _ in 0..self.below(10) {
             self.add_line(&mut script, false)?;
         }
-        // Without the end of the last line it is as right, where that end is a line feed alone.
+        // Without the end of the last line it is as right, if that end is a line feed alone.
         if self.below(4) == 0 && !script.ends_with(b"\r\n") {
             script.pop();
         }
@@ -91,7 +87,7 @@ impl Draws {
     }
 
     // The script with one change: a byte is another, goes, or comes; it is cut; a part of it is
-    // doubled; a text stands in it, or a long run of one.
+    // doubled; a text is in it, or a long run of one.
     fn changed(&mut self, alloc: Global, script: &[u8]) -> Result<Vec<u8>, AllocError> {
         let (len, byte) = (script.len(), [u8::try_from(self.below(256)).unwrap_or(0)]);
         let at = self.place(script);
@@ -123,7 +119,7 @@ impl Draws {
     }
 }
 
-// The bytes with so many of these pieces in place of those from one place up to another.
+// The bytes with this many of these pieces in place of those from one place up to another.
 fn replaced(
     alloc: Global,
     bytes: &[u8],

@@ -18,7 +18,7 @@ const USAGE: &str = "script_tests [SCRIPTS [SEED]]
 
 Draws so many scripts, 4000 where no number is given, and compares the answer to each with a reader's.";
 
-// How many scripts are drawn where no number is given.
+// How many scripts are drawn if no number is given.
 const SCRIPTS: u64 = 4000;
 
 fn main(rt: HostRuntime) -> io::Result<ExitCode> {
@@ -49,7 +49,7 @@ fn main(rt: HostRuntime) -> io::Result<ExitCode> {
     Ok(ExitCode::SUCCESS)
 }
 
-// How many scripts are asked for, and from which seed. `None` where the words are no such thing.
+// How many scripts are asked for, and from which seed. `None` if the words are no such thing.
 fn asked(words: &[String]) -> Option<(u64, u64)> {
     match words {
         [] => Some((SCRIPTS, 1)),

@@ -2,11 +2,11 @@
 //! reader of `flume_script`:
 //!
 //! A script is bytes. A line ends in a line feed; a last line without one counts as well. One
-//! carriage return before the line feed is dropped. Words are parted by exactly one space, with none
-//! before or after. A number is one or more ASCII digits, at most 2^64 - 1 in value; zeros may stand
-//! first. An empty line, a byte outside these forms or a wrong number of words makes a line wrong. The
-//! first line is `unbounded` or `bounded N`, each other one a step. A script without any line is
-//! wrong in line 1.
+//! carriage return before the line feed is dropped. Words are parted by exactly one space, with
+//! none before or after. A number is one or more ASCII digits, at most 2^64 - 1 in value; zeros may
+//! come first. An empty line, a byte outside these forms or a wrong number of words makes a line
+//! wrong. The first line is `unbounded` or `bounded N`, each other one a step. A script without any
+//! line is wrong in line 1.
 
 // Steps of one word, parted by spaces.
 const ALONE: &str = "try_recv drain clone_sender clone_receiver drop_sender drop_receiver len \
@@ -18,7 +18,6 @@ const WITH_NUMBER: &str = "try_send send poll_send withdraw_send poll withdraw s
 // What follows `recv`.
 const KINDS: &str = "block plain stream arm";
 
-// Whether the word is one of these.
 fn is_one_of(word: &[u8], words: &str) -> bool {
     words.split(" ").any(|other| word == other.as_bytes())
 }
@@ -36,7 +35,7 @@ fn is_number(word: &[u8]) -> bool {
     !word.is_empty() && value <= u64::MAX as u128
 }
 
-// The line's part before its first space, and the part after it, where it has one.
+// The line's part before its first space, and the part after it, if it has one.
 fn parted(line: &[u8]) -> (&[u8], Option<&[u8]>) {
     for (place, &byte) in line.iter().enumerate() {
         if byte == 32 {
@@ -60,7 +59,7 @@ fn is_right(line: &[u8], is_first: bool) -> bool {
     }
 }
 
-/// How many lines the script has, where each is right; else the number of the first wrong line,
+/// How many lines the script has, if each is right; else the number of the first wrong line,
 /// counted from 1.
 pub(crate) fn read(script: &[u8]) -> Result<u64, u64> {
     let mut number = 1u64;

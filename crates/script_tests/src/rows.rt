@@ -1,5 +1,5 @@
-//! Scripts with what the grammar says of each: the number of the first wrong line, or 0 where each
-//! line is right. They are written by hand, and show the reader to be right where drawn scripts only
+//! Scripts with what the grammar says of each: the number of the first wrong line, or 0 if each
+//! line is right. They are written by hand, and show that the reader is right; drawn scripts only
 //! show that it agrees.
 
 /// A script, and the number of its first wrong line.

@@ -32,7 +32,7 @@ pub(crate) fn offered(
     assert_eq!(rt; answer, wanted);
 }
 
-/// The answer is the wanted one.
+/// The answer is the expected one.
 pub(crate) fn is<T: Debug + PartialEq + Drop>(rt: &impl Abort, answer: T, wanted: T) {
     assert_eq!(rt; answer, wanted);
 }
@@ -42,7 +42,7 @@ pub(crate) fn holds(rt: &impl Abort, answer: bool) {
     assert!(rt; answer);
 }
 
-/// What a call answers that fails by memory alone.
+/// The result of a call that fails for memory alone.
 pub(crate) fn had<T, E: Debug + Drop>(rt: &impl Abort, answer: Result<T, E>) -> T {
     answer.expect(rt, "there is memory")
 }

@@ -10,7 +10,7 @@ use std::alloc::{AllocError, Global};
 use std::process::Abort;
 use std::thread::Threads;
 
-// How many selections each makes, where the other does as well.
+// How many selections each makes, if the other does as well.
 const ROUNDS: u64 = 10_000;
 
 // Sends or receives: in rounds of an even number the send arm comes first.
@@ -38,7 +38,7 @@ struct Log<R: Waits> {
 }
 
 impl<R: Waits> Log<R> {
-    // Adds what each round did, until all are over or the other is gone.
+    // Adds what each round did, until all are over or the other has been dropped.
     fn play(&mut self, tx: &Sender<u64, R>) -> Result<(), AllocError> {
         for round in 0..ROUNDS {
             match select(tx, &self.rx, round) {
@@ -86,7 +86,6 @@ impl<R: Waits> Work for Play<R> {
     }
 }
 
-// Whether each number is above the one before it.
 fn rises(numbers: &[u64]) -> bool {
     let mut least = 0;
     for &number in numbers {
@@ -98,7 +97,7 @@ fn rises(numbers: &[u64]) -> bool {
     true
 }
 
-// Whether each number of the one stands in the other, where both rise.
+// Whether each number of the one is in the other, if both rise.
 fn all_stand_in(some: &[u64], numbers: &[u64]) -> bool {
     let mut rest = numbers.iter();
     for wanted in some {

@@ -127,7 +127,6 @@ const NAPS: &[Nap] = &[
     LATE,
 ];
 
-// Wakes the parker, so often.
 fn fire<R: Wait>(rt: &R, parker: &Parker, wakes: u32) {
     for _ in 0..wakes {
         parker.fire(rt);

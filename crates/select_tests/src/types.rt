@@ -1,4 +1,4 @@
-//! A selection over channels of different types, beside threads.
+//! A selection over channels of different types, with other threads.
 use crate::fixtures::{begun, holds, opened, watching};
 use ends_tests::works::{SendOne, Work};
 use flume::error::{RecvError, SelectError};
@@ -15,7 +15,6 @@ enum Either {
     Truth(Result<bool, RecvError>),
 }
 
-// Sends a truth.
 #[derive(Drop)]
 struct SendTruth<R: Waits> {
     tx: Sender<bool, R>,
@@ -30,7 +29,6 @@ impl<R: Waits> Work for SendTruth<R> {
     }
 }
 
-// Receives from one of two.
 fn receive_either<R: Waits>(
     numbers: &Receiver<u64, R>,
     truths: &Receiver<bool, R>,

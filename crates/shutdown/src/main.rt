@@ -1,7 +1,7 @@
-//! A worker that can be told to stop, and that stops by itself where nothing comes for too long.
+//! A worker that can be told to stop, and that stops by itself if nothing comes for too long.
 //!
-//! What is printed hangs on no schedule: the worker is told to stop only once all its answers are
-//! there, and where it ends by itself nothing could have come.
+//! What is printed depends on no schedule: the worker is told to stop only once all its answers are
+//! there, and if it ends by itself nothing could have come.
 #![tactic(auto)]
 
 use flume::error::NoMemory;
@@ -13,7 +13,7 @@ use std::{io, thread};
 /// Why a worker ended.
 #[derive(Debug, Drop)]
 enum Why {
-    /// It was told to stop, or nobody was left to tell it so or to send it a job.
+    /// It was told to stop, or all senders of stops or of jobs have been dropped.
     Stopped,
     /// Neither came in time.
     Late,
@@ -32,7 +32,8 @@ impl<R: Waits> Worker<R> {
     /// Doubles numbers until it is to end, and says why it did. It waits for each up to `patience`.
     fn work(&self, patience: Duration) -> io::Result<Why> {
         for _ in self.rt.forever() {
-            // The stop is tried first: who is told to stop takes no job that is there as well.
+            // The stop is tried first: a worker that is told to stop takes no job that is there as
+            // well.
             let next = Selector::new()
                 .recv(&self.stop, |_| None)
                 .recv(&self.jobs, Result::ok);
@@ -47,7 +48,7 @@ impl<R: Waits> Worker<R> {
     }
 }
 
-/// Who employs a worker: the other ends of its channels, and the thread that it works in.
+/// A worker's owner: the other ends of its channels, and the thread that it works in.
 #[derive(Drop)]
 struct Boss<R: Waits> {
     tell: Sender<(), R>,
@@ -63,7 +64,7 @@ fn main(rt: HostRuntime) -> io::Result<()> {
 
 /// Starts a worker that waits for each job up to `patience`.
 fn employ<R: Runtime>(rt: R, patience: Duration) -> io::Result<Boss<R>> {
-    // Of capacity 1: one word is all that is ever said, and who says it doesn't wait.
+    // Of capacity 1: only one word is ever sent, so its send doesn't wait.
     let (tell, stop) = flume::on(rt).bounded(1)?;
     // Of capacity 1: each job is answered before the next one is given.
     let (give, jobs) = flume::on(rt).bounded(1)?;
@@ -89,14 +90,14 @@ fn told_to_stop<R: Runtime + Print>(rt: R) -> io::Result<Why> {
     // Longer than this program runs: the worker is told to stop before.
     let boss = employ(rt, Duration::from_secs(3600))?;
     let asked = ask(&rt, boss.tell, boss.give, boss.answers);
-    // If the worker failed, its error says why. The other one only says that it was gone.
+    // If the worker failed, its error says why; the other one only says that it is disconnected.
     let why = boss.working.join(&rt)?;
     asked?;
     Ok(why)
 }
 
-/// Gives the jobs, prints their answers, and only then tells the worker to stop. The ends go as it
-/// returns, so the worker ends too where this fails.
+/// Gives the jobs, prints their answers, and only then tells the worker to stop. The ends are
+/// dropped as it returns, so the worker ends too if this fails.
 fn ask<R: Runtime + Print>(
     rt: &R,
     tell: Sender<(), R>,

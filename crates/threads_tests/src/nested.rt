@@ -23,7 +23,7 @@ struct Request<R: Waits> {
     answer: Sender<u64, R>,
 }
 
-// Answers the requests that it receives, each by its double, until all who ask are gone.
+// Answers the requests that it receives, each by its double, until all callers have been dropped.
 #[derive(Drop)]
 struct ServeRequests<R: Waits> {
     rx: Receiver<Request<R>, R>,
@@ -76,7 +76,6 @@ fn requests_with_a_sender_for_the_answer_are_answered_in_another_thread(rt: Host
     watch.end(&rt);
 }
 
-// Sends an end of another channel.
 #[derive(Drop)]
 struct SendEnd<T: Drop, R: Waits> {
     outer: Sender<T, R>,

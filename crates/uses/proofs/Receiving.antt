@@ -36,21 +36,21 @@ module _ {T A : Type 0} where
   IsReplyOf (Park ticket) reply = reply ≡ ParkedUnder ticket
   IsReplyOf (Refused ticket) reply = Unit {0}
 
-  -- the last step of the receive that parked under this ticket, and its reply, where it ends so
+  -- the last step of the receive that parked under this ticket, and its reply, if it ends so
   abbrev IsLast : Ending T → ℕ → Step T → Reply T A → Type 0
   IsLast (Ok m) ticket step reply = IsOfReceiver ticket step × (reply ≡ Got m)
   IsLast (Err Timeout) ticket step reply =
       (step ≡ Withdraw ticket) × ((filled : Option ℕ) × (reply ≡ Gone false filled))
   IsLast (Err other) ticket step reply = Unit {0}
 
-  -- a step of it, and its reply, where the turn answers so
+  -- a step of it, and its reply, if the turn answers so
   abbrev IsTurn : RecvNext T → ℕ → Step T → Reply T A → Type 0
   IsTurn (Done result) ticket step reply = IsLast result ticket step reply
   IsTurn (Park same) ticket step reply = same ≡ ticket
   IsTurn (Refused same) ticket step reply = same ≡ ticket
   IsTurn NeedSignal ticket step reply = Unit {0}
 
-  -- where memory ran out, a message that comes is the turn's, and it never ends as late
+  -- if memory ran out, a message that comes is the turn's, and it never ends as late
   after_refusal : (answer : Ending T) (ticket : ℕ) (step : Step T) (reply : Reply T A)
       → IsLast answer ticket step reply → IsLast (got_or_no_memory answer) ticket step reply
   after_refusal answer ticket step reply last = grind arith

@@ -25,7 +25,7 @@ module _ {T A : Type 0} where
       let done = change (later ++ past) p.0 p.1 in
       (rest.0 ++ offered done, ap (λ l. l ++ offered done) rest.1 ∙ append_assoc (offers past) rest.0 (offered done))
 
--- what holds of each element holds of each where none is left, too
+-- what holds of each element holds of each if none is left, too
 all_or_none : {X : Type 0} (P : X → Type 0) (b : Bool) (xs : List X) → All P xs → All P (if b then [] else xs)
 all_or_none P true xs h = All-nil P
 all_or_none P false xs h = h
@@ -35,7 +35,7 @@ module _ {T : Type 0} where
   abbrev IsOfTicket : ℕ → T → Offer T → Type 0
   IsOfTicket t m x = x.ticket ≡ Some t → x.message ≡ m
 
-  -- where none of some offers has the ticket
+  -- if none of some offers has the ticket
   none_of : (t : ℕ) (m : T) (xs : List (Offer T)) → has_ticket t xs ≡ false → All (IsOfTicket t m) xs
   none_of t m [] h = All-nil _
   none_of t m (x ∷ xs) h =

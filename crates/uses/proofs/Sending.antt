@@ -35,14 +35,14 @@ module _ {T A : Type 0} where
   IsReplyOf (NeedSignal m) reply = reply ≡ Full m
   IsReplyOf (Park ticket) reply = reply ≡ Pending ticket
 
-  -- the last step of the send that parked under this ticket, and its reply, where it ends so
+  -- the last step of the send that parked under this ticket, and its reply, if it ends so
   abbrev IsLast : Ending T → ℕ → Step T → Reply T A → Type 0
   IsLast (Ok sent) ticket step reply = IsAccepted ticket step reply
   IsLast (Err (Timeout back)) ticket step reply =
       (step ≡ WithdrawSend ticket) × (reply ≡ Returned back false)
   IsLast (Err other) ticket step reply = Unit {0}
 
-  -- a step of it, and its reply, where the turn answers so
+  -- a step of it, and its reply, if the turn answers so
   abbrev IsTurn : SendNext T → ℕ → Step T → Reply T A → Type 0
   IsTurn (Done result) ticket step reply = IsLast result ticket step reply
   IsTurn (Park same) ticket step reply = same ≡ ticket

@@ -59,7 +59,7 @@ module _ {T A S : Type 0} where
   by_turn {step = step} made last =
       record { others = []; step = step; reply = made.reply; leads = made.leads; last = last }
 
-  -- after one turn and a wait, where the call keeps its ticket
+  -- after one turn and a wait, if the call keeps its ticket
   pub after_wait : {N : Type 0} {old asked waited new : State T S} {step : Step T}
       {table : Reply T A → N → Type 0} {answer : N} {ticket same : ℕ}
       (holds : ℕ → Step T → Reply T A → Type 0) → Makes A step table old asked answer

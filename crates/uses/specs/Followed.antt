@@ -8,7 +8,7 @@ use Rattle.flume_state.specs.State.{State}
 use Rattle.flume_core.specs.Represents.{Represents}
 use Rattle.flume_core.specs.Headline.{Headline}
 
--- the steps that offer so many numbers, from 0 on, with a receive after each; the last one first
+-- the steps that offer this many numbers, from 0 on, with a receive after each; the last one first
 abbrev pub passes : ℕ → List (Step ℕ)
 passes zero = []
 passes (suc count) = TryRecv ∷ TrySend count ∷ passes count
@@ -18,8 +18,8 @@ abbrev pub sum_of : List ℕ → ℕ
 sum_of messages = sum_by (λ message. message) messages
 
 module _ {A : Type 0} where
-  -- From a log to the channel after so many numbers: these steps were made on it, and no others; the
-  -- headline holds of the log that has them before it; and this is the sum of the messages that
+  -- From a log to the channel after this many numbers: these steps were made on it, and no others;
+  -- the headline holds of the log that has them before it; and this is the sum of the messages that
   -- their replies gave out, as far as 64 bits hold it.
   pub record HasPassed (opening : Opening) (log : Log ℕ A) (count : ℕ) (s : State ℕ (Unit {0}))
       (sum : ℕ) : Type 0 where

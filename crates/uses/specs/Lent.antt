@@ -1,4 +1,4 @@
--- What the relations of a gate tell: which steps were made on its channel, and how a send ended.
+-- What the relations of a gate say: which steps were made on its channel, and how a send ended.
 use Rattle.std.specs.Prelude.{◌≡◌, ℕ, Option, [], ◌∷◌, ◌++◌, false}
 use Rattle.flume_model.specs.declared.step.Step.{Step}
 use Rattle.flume_model.specs.declared.step.Step.TheVariants.{TrySend, Send, PollSend, WithdrawSend}
@@ -10,8 +10,8 @@ use Rattle.flume_state.specs.State.{State}
 use Rattle.flume_core.specs.Represents.{Represents}
 
 module _ {T S A : Type 0} where
-  -- each log that stood for the state before stands for the state after with these steps and their
-  -- replies before it, the last one first
+  -- each log that represented the state before represents the state after with these steps and
+  -- their replies before it, the last one first
   abbrev pub Leads : State T S → Log T A → State T S → Type 0
   Leads old steps new =
       (opening : Opening) (log : Log T A) → Represents opening log old
@@ -30,8 +30,8 @@ module _ {T S : Type 0} where
   Others A old new = (steps : Log T A) × Leads old steps new
 
 module _ {T A : Type 0} where
-  -- who asked for the blocked send with this ticket, or was to withdraw it, was told that its
-  -- message isn't blocked any more
+  -- the reply to a poll or a withdrawal of the send with this ticket says that its message isn't
+  -- blocked any more
   abbrev pub IsAccepted : ℕ → Step T → Reply T A → Type 0
   IsAccepted ticket (PollSend same) Accepted = same ≡ ticket
   IsAccepted ticket (PollSend same) NoTicket = same ≡ ticket
@@ -50,7 +50,7 @@ module _ {T A : Type 0} where
     -- by the step that may block
     Second : (filled : Option ℕ)
         → Offers message ((Send message, Sent filled) ∷ (TrySend message, Full message) ∷ [])
-    -- after it blocked, as who asks is told
+    -- after it blocked, as the reply to a poll or a withdrawal says
     Later : (ticket : ℕ) (others : Log T A) (step : Step T) (reply : Reply T A)
         → IsAccepted ticket step reply
         → Offers message ((step, reply) ∷ others ++ blocks message ticket)

@@ -1,4 +1,4 @@
--- How a receive through the lent gate ended: the steps that its relations tell.
+-- How a receive through the lent gate ended: the steps that its relations name.
 use Rattle.std.specs.Prelude.{◌≡◌, ℕ, Option, [], ◌∷◌, ◌++◌, false}
 use Rattle.flume_model.specs.declared.step.Kind.TheVariants.{Block}
 use Rattle.flume_model.specs.declared.step.Step.{Step}

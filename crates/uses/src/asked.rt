@@ -8,8 +8,8 @@ use futures::task::{Context, Poll};
 use std::alloc::Allocator;
 
 /// Polls a send once, by hand. `Some(None)`: its message was taken in. `Some(Some(back))`: its
-/// message comes back, and it is the one that the future was made with. None: it was pending, and
-/// was given up: the future goes, and if its message wasn't taken in by then, the message too.
+/// message comes back, the one that the future was made with. `None`: it was pending, and the
+/// future was dropped, with its message if that wasn't taken in by then.
 pub fn poll_once<T: Drop, R: Waits, A: Allocator + Copy>(
     tx: &Sender<T, R, A>,
     message: T,

@@ -1,4 +1,4 @@
-//! A chain over a stream by reference, which is asked afterwards how it ended.
+//! A chain over a stream by reference, which is asked afterwards why it ended.
 
 use flume::{Receiver, Runtime, Sender};
 use futures::StreamExt;

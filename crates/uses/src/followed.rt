@@ -1,4 +1,4 @@
-//! A channel without a lock, in a loop: its owner knows at the end what any run knows.
+//! A loop over a channel without a lock: at the end its owner knows what holds of any run.
 ghost use Rattle.std.specs.Prelude.{◌≡◌, ℕ};
 ghost use Rattle.flume_model.specs.declared.step.Reply.{Reply};
 ghost use Rattle.flume_model.specs.Log.{Log, Opening};
@@ -11,10 +11,9 @@ use flume_core::run::headline_of_steps;
 use flume_model::step::{Reply, Step};
 use std::alloc::Allocator;
 
-/// Sends each number below this one, and receives after each. The sum of what was received. At the
-/// end the channel represents the run that it represented before, with these steps after it. The
-/// headline holds of all that: what was handed out is what was offered, in order, and the rest is
-/// queued or blocked. The sum is that of the messages that these steps gave out.
+/// Sends each number below this one, and receives after each; answers the sum of what was received.
+/// At the end the channel represents the run that it represented before, with these steps after it,
+/// and the headline holds of all that. The sum is that of the messages that these steps gave out.
 pub fn pass_all<A: Allocator + Copy>(chan: &mut Chan<u64, (), A>, count: u64) -> u64
     ensures passed { (opening : Opening) (log : Log ℕ A) → Represents opening log chan.old
         → HasPassed opening log count chan.new result }
@@ -28,7 +27,6 @@ pub fn pass_all<A: Allocator + Copy>(chan: &mut Chan<u64, (), A>, count: u64) ->
     sum
 }
 
-// Receives a message if one is there, and 0 if none is.
 fn received<A: Allocator + Copy>(chan: &mut Chan<u64, (), A>) -> u64
     ensures step { (reply : Reply ℕ A) × Extends chan.old Step.TryRecv reply chan.new
         × (sum_of (gives reply) ≡ result) }

@@ -1,5 +1,5 @@
 //! A gate over a channel of one owner, whose relations say which step each turn made; and callers
-//! that conclude from them what became of a message, or where it came from.
+//! that conclude from them what became of a message, or which step it came from.
 ghost use Rattle.std.specs.Prelude.{◌≡◌, Ok, Err};
 ghost use Rattle.flume_core.specs.declared.error.SendTimeoutError.TheVariants.{Timeout};
 ghost use Rattle.flume_core.specs.declared.error.RecvTimeoutError.TheVariants.{Timeout as Late};
@@ -62,7 +62,7 @@ impl<T: Drop, A: Allocator + Copy> Lent<T, A> {
         }
     }
 
-    // Lets the other do it. True if there is nothing to do.
+    // Makes the other's step. True if there is none to make.
     fn let_other(&mut self) -> bool
         ensures does { Others A self.old.locked self.new.locked }
     {
@@ -185,9 +185,8 @@ impl<T: Drop, A: Allocator + Copy> RecvGate<T> for Lent<T, A> {
     }
 }
 
-/// A send through the gate. If it ends well its message was offered, and is not blocked any
-/// more; if it ends at its deadline its message was offered and blocked, and its last step took
-/// it back.
+/// A send through the gate. After `Ok` its message was offered, and isn't blocked any more; at its
+/// deadline its message was offered and blocked, and its last step took it back.
 pub fn send_through<T: Drop, A: Allocator + Copy, R: Wait>(
     rt: &R,
     gate: &mut Lent<T, A>,
@@ -201,8 +200,8 @@ pub fn send_through<T: Drop, A: Allocator + Copy, R: Wait>(
     send_over(rt, gate, message)
 }
 
-/// A receive through the gate. If it ends well its message was handed out to it by its last
-/// step; if it ends at its deadline it was parked, and left by its last step with no message.
+/// A receive through the gate. After `Ok` its message was handed out to it by its last step; at its
+/// deadline it was parked, and left by its last step with no message.
 pub fn receive_through<T: Drop, A: Allocator + Copy, R: Wait>(
     rt: &R,
     gate: &mut Lent<T, A>,

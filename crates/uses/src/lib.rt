@@ -1,5 +1,5 @@
-//! Callers of the library that conclude something from its contracts: each is one that a reader may
-//! begin with who proves things on top. `docs/PROVING.md` tells of each.
+//! Callers of the library that conclude something from its contracts: examples for your own proofs.
+//! `docs/PROVING.md` explains each.
 #![tactic(auto)]
 
 pub mod asked;

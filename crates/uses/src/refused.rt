@@ -5,8 +5,8 @@ use flume::{Sender, Waits};
 use std::alloc::Allocator;
 use std::collections::VecDeque;
 
-/// Offers a message once, without waiting. It comes back if it wasn't taken in, for whatever
-/// reason, and it is the very message.
+/// Offers a message once, without waiting. If it wasn't taken in, the very message comes back,
+/// whatever the reason.
 pub fn offer<T: Drop, R: Waits, A: Allocator + Copy>(tx: &Sender<T, R, A>, message: T) -> Option<T>
     ensures same { IfSome result (λ back. back ≡ message) }
 {
@@ -16,8 +16,8 @@ pub fn offer<T: Drop, R: Waits, A: Allocator + Copy>(tx: &Sender<T, R, A>, messa
     }
 }
 
-/// Offers messages from the front on, without waiting, until one comes back. It is answered, and
-/// the rest stays in the queue: what was sent, that one, and the rest are what was handed in.
+/// Offers messages from the front on, without waiting, until one comes back. That one is answered,
+/// and the rest stays in the queue: what was sent, that one, and the rest are what was handed in.
 pub fn offer_all<T: Drop, R: Waits, A: Allocator + Copy>(
     tx: &Sender<T, R, A>,
     messages: &mut VecDeque<T, A>,

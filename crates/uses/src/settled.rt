@@ -11,9 +11,9 @@ use flume_model::step::{Reply, Step};
 use std::alloc::Allocator;
 use std::sync::ledger::Ledger;
 
-/// Ends an audit. Its book, if it settled: each step of the book's history is told by the one
-/// receipt with its number, which equals it, so the history is what the seats were told, in order;
-/// and it has as many steps as all seats were told of together. None if it didn't settle.
+/// Ends an audit, and answers its book if it settled. Then each step of the book's history has
+/// exactly one receipt with its number, which equals it: the history is what the seats' receipts
+/// say, in order, and it has as many steps as there are receipts. `None` if it didn't settle.
 pub fn settled_book<T, L, R, A>(
     audit: Audit<T, L, R, Ones, A>,
     seats: Vec<Seat<T, L, Ones, A>, A>,

@@ -5,7 +5,8 @@ use flume::error::RecvError;
 use flume::{Receiver, Waits};
 use std::alloc::Allocator;
 
-/// So many parts of a whole: at least one makes the whole, and there are no more than make it.
+/// A number of parts of a whole: the whole has at least one part, and there are no more than it
+/// has.
 #[derive(Clone, Copy, Drop)]
 pub struct Share {
     parts: u32,
@@ -15,7 +16,7 @@ pub struct Share {
 }
 
 impl Share {
-    /// So many parts of a whole. None if the whole has no part, or fewer than there are.
+    /// This many parts of a whole. `None` if the whole has no part, or fewer than there are.
     pub fn new(parts: u32, whole: u32) -> Option<Share>
         ensures made { IfSome result (λ share. (share.parts ≡ parts) × (share.whole ≡ whole)) }
         ensures none { IfNone result ((whole ≡ 0) ⊎ (whole < parts)) }
@@ -27,9 +28,8 @@ impl Share {
     }
 }
 
-/// Receives a share, and says how many hundredths it is. No share is of a whole without parts: that
-/// came through the channel with its type, so the division can't fail, and no more than a hundred
-/// come out.
+/// Receives a share, and says how many hundredths it is. Every share that comes through the channel
+/// has its type's invariant: so the division can't fail, and the result is at most 100.
 pub fn receive_hundredths<R: Waits, A: Allocator + Copy>(
     rx: &Receiver<Share, R, A>,
 ) -> Result<u64, RecvError>

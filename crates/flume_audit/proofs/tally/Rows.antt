@@ -58,7 +58,7 @@ module _ {M : Type 1} {𝓤 : Ura M} {𝓛 : Logic 𝓤} {K : Type 0}
       rewrite t 0 (λ (u : ℕ × ℕ). ‵ (fres γ (pair u))) same refl $
       rewrite t 2 (λ (u : ℕ × ℕ). ‵ (known u)) same refl $ move t (1 ∷ 0 ∷ []) $ s)))
 
-  -- the holder's part of a row that stands past the cell γ
+  -- the holder's part of a row that is past the cell γ
   row_whole : K → (γ : ℕ) (known : ℕ × ℕ → Fml) (c : ℕ × ℕ)
       → Step K 𝓛 (‵ (fex (ℕ × ℕ) (past γ known)) ∷ Γ) G
       (‵ (fres γ (pair c)) ∷ ‵ (known c) ∷ Γ) G
@@ -78,7 +78,7 @@ module _ {M : Type 1} {𝓤 : Ura M} (𝓛 : Logic 𝓤) where
 
   infix 26 ◌⊢◌
   infixr 35 ◌∗◌
-  -- no row stands past an open cell
+  -- no row is past an open cell
   none_past_open : (γ : ℕ) (known : ℕ × ℕ → Fml) (Z : SProp 𝓤)
       → ⟦ chain [] γ ⟧ ∗ ⟦ fex (ℕ × ℕ) (past γ known) ⟧ ⊢ Z
   none_past_open γ known Z =

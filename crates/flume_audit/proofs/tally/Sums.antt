@@ -1,4 +1,4 @@
--- What becomes of the sums of a ledger's rows where one row has more.
+-- What becomes of the sums of a ledger's rows if one row has more.
 use Rattle.std.proofs.Common.{◌≡◌, ℕ, ◌+◌, ◌<◌, List, ◌∷◌, arith}
 use Rattle.std.specs.Sync.Ledger.{parts_of, amount_of, IsBacked, IsBalanced}
 

@@ -27,7 +27,7 @@ pub(super) struct Links<L, E, A: Allocator> {
 impl<L: Drop, E: Drop, A: Allocator> Links<L, E, A> {
     ghost use Rattle.flume_chain.specs.contracts.chain.links.Links.{the_row};
 
-    /// No nodes. Takes no memory.
+    /// No nodes. Doesn't allocate.
     #[inline(always)]
     pub fn new(alloc: A) -> Self
         ensures size { vec_len result.nodes ≡ 0 }
@@ -44,7 +44,7 @@ impl<L: Drop, E: Drop, A: Allocator> Links<L, E, A> {
         }
     }
 
-    /// How many nodes there may be with no more memory.
+    /// How many nodes fit before one needs an allocation.
     #[inline(always)]
     pub fn capacity(&self) -> usize
         ensures capacity { result ≡ vec_capacity self.now.nodes }
@@ -58,7 +58,7 @@ impl<L: Drop, E: Drop, A: Allocator> Links<L, E, A> {
         self.nodes.allocator()
     }
 
-    /// Drops all nodes. Gives back no memory.
+    /// Drops all nodes; their memory is kept.
     pub fn clear(&mut self)
         ensures size { vec_len self.new.nodes ≡ 0 }
         ensures capacity { vec_capacity self.new.nodes ≡ vec_capacity self.old.nodes }
@@ -118,7 +118,7 @@ impl<L: Drop, E: Drop, A: Allocator> Links<L, E, A> {
         self.nodes.get(place as usize)?.label()
     }
 
-    /// The value at a place where one stands, for writing.
+    /// The value at a place where there is one, for writing.
     #[inline(always)]
     pub fn value_mut(&mut self, place: u32) -> &mut E
         requires stands { IsSome (element_at self.old place) }
@@ -129,7 +129,7 @@ impl<L: Drop, E: Drop, A: Allocator> Links<L, E, A> {
         self.nodes[place as usize].value_mut()
     }
 
-    /// Writes the label at a place. Nothing changes where no element stands there.
+    /// Writes the label at a place. Nothing changes if there is no element there.
     #[inline(always)]
     pub fn set_label(&mut self, place: u32, label: L)
         ensures written { Linked self.old self.new (next_at self.old) (previous_at self.old)
@@ -152,7 +152,7 @@ impl<L: Drop, E: Drop, A: Allocator> Links<L, E, A> {
         node.take()
     }
 
-    /// Drops the element at a place, where one stands.
+    /// Drops the element at a place, if there is one.
     #[inline(always)]
     pub fn discard(&mut self, place: u32)
         ensures discarded { Linked self.old self.new (next_at self.old) (previous_at self.old)
@@ -163,7 +163,6 @@ impl<L: Drop, E: Drop, A: Allocator> Links<L, E, A> {
         }
     }
 
-    // Writes what is the place after a place.
     #[inline(always)]
     fn set_next(&mut self, place: u32, next: u32)
         requires stands { HasNode self.old place }
@@ -178,7 +177,6 @@ impl<L: Drop, E: Drop, A: Allocator> Links<L, E, A> {
         self.nodes[place as usize].set_next(next);
     }
 
-    // Writes what is the place before a place.
     #[inline(always)]
     fn set_previous(&mut self, place: u32, previous: u32)
         requires stands { HasNode self.old place }
@@ -193,9 +191,6 @@ impl<L: Drop, E: Drop, A: Allocator> Links<L, E, A> {
         self.nodes[place as usize].set_previous(previous);
     }
 
-    // Puts an element into the free node, or where none is free into one more, with the places
-    // before and after it, and returns its place. With no memory for one more, or where its place
-    // would be `END`, the element comes back, and nothing changes.
     #[inline(always)]
     fn put(
         &mut self,
@@ -230,8 +225,8 @@ impl<L: Drop, E: Drop, A: Allocator> Links<L, E, A> {
         Ok(place as u32)
     }
 
-    /// Puts an element before a place, into the free node, or where none is free into one more, and
-    /// returns its place. With no memory for one more, or where its place would be `END`, the
+    /// Puts an element before a place, into the free node, or if none is free into one more, and
+    /// returns its place. If there is no memory for one more, or its place would be `END`, the
     /// element comes back, and nothing changes.
     #[inline(always)]
     pub fn link_before(&mut self, next: u32, element: Labelled<L, E>) -> Result<u32, Labelled<L, E>>
@@ -308,7 +303,7 @@ impl<L: Drop, E: Drop, A: Allocator> Links<L, E, A> {
     }
 
     /// Takes the first element out of its node, makes the place after it the first one, and frees
-    /// the node. `None` where no place is the first, and then nothing changes.
+    /// the node. `None` if no place is the first, and then nothing changes.
     #[inline(always)]
     pub fn take_first(&mut self) -> Option<Labelled<L, E>>
         requires first { HasNode self.old self.old.first }

@@ -11,7 +11,7 @@ use std::mem::size_of;
 
 /// A node: free, or of an element, its label and its value. That of an element has the places
 /// before and after it. `next` of a free one is the place of the next free one, and its `previous`
-/// says nothing. The label lies beside these: with a label of 4 bytes, the node of a value of 8
+/// says nothing. The label is next to these: with a label of 4 bytes, the node of a value of 8
 /// bytes takes 24.
 #[derive(Drop)]
 pub(super) enum Node<L, E> {
@@ -80,7 +80,7 @@ impl<L, E> Node<L, E> {
         }
     }
 
-    /// The value, where it has one.
+    /// The value, if it has one.
     #[inline(always)]
     pub fn value(&self) -> Option<&E>
         ensures value { option_copied result ≡ option_map (λ e. e.value) (element_of self.now) }
@@ -91,7 +91,7 @@ impl<L, E> Node<L, E> {
         }
     }
 
-    /// The label, where it has one.
+    /// The label, if it has one.
     #[inline(always)]
     pub fn label(&self) -> Option<&L>
         ensures label { option_copied result ≡ option_map (λ e. e.label) (element_of self.now) }
@@ -118,7 +118,7 @@ impl<L, E> Node<L, E> {
 }
 
 impl<L: Drop, E: Drop> Node<L, E> {
-    /// Writes the label, where it has one.
+    /// Writes the label, if it has one.
     #[inline(always)]
     pub fn set_label(&mut self, new: L)
         ensures next { next_of self.new ≡ next_of self.old }
@@ -131,7 +131,7 @@ impl<L: Drop, E: Drop> Node<L, E> {
         }
     }
 
-    /// Takes the element out, where it has one, and leaves the places before and after it.
+    /// Takes the element out, if it has one, and leaves the places before and after it.
     #[inline(always)]
     pub fn take(&mut self) -> Option<Labelled<L, E>>
         ensures element { result ≡ element_of self.old }
@@ -149,7 +149,7 @@ impl<L: Drop, E: Drop> Node<L, E> {
         }
     }
 
-    /// Drops the element, where it has one, and leaves the places before and after it.
+    /// Drops the element, if it has one, and leaves the places before and after it.
     #[inline(always)]
     pub fn discard(&mut self)
         ensures discarded { element_of self.new ≡ None }

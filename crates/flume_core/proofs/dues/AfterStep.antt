@@ -1,4 +1,4 @@
--- Who is due after what each step leaves.
+-- Which tickets are due after what each step leaves.
 use Rattle.std.proofs.Common.{◌≡◌, ℕ, ◌+◌, ◌≤◌, min, arith, Bool, true, false, not, ◌&&◌, eqb, eqb-true, eq-eqb, List, ◌∷◌, ◌++◌, []}
 use Rattle.std.proofs.Common.{Option, Some, None, refl, sym, ◌∙◌, ap, subst, ⊎_elim, ◌⊎◌, if◌then◌else◌}
 use Rattle.std.proofs.Math.Bool.{and-false}
@@ -183,7 +183,7 @@ module _ {T S A : Type 0} where
           subst (λ w. ReceiverDue w (entry_of u old.entries) (entry_of u (again t asked))) (sym e)
           (subst (λ y. ReceiverDue false (entry_of u old.entries) y) (sym same) (receiver_kept (entry_of u old.entries)))
 
--- a channel that was closed is, with one end more of a kind that wasn't gone
+-- a channel that was closed is, with one end more of a kind that wasn't dropped
 still_closed : (n m k l : ℕ) → (is_closed k l ≡ true → is_closed n m ≡ true) → (not (is_closed n m) && is_closed k l) ≡ false
 still_closed n m k l closed = by_case (is_closed k l) refl
   where
@@ -246,7 +246,7 @@ module _ {T S A : Type 0} where
             receivers = receiver_at old.entries (λ t. receiver_kept (entry_of t old.entries));
           }
 
-  -- a parked receiver leaves, and passes its wake on where it was woken
+  -- a parked receiver leaves, and passes its wake on if it was woken
   pub passed : (old new : State T S) (step : Step T) (reply : Reply T A) (t : ℕ) → NoneWaits step reply → IsReachable A old
       → new ≡ after_withdrawal t old → BecomesDue old step reply new
   passed old new step reply t idle led is = go (passes_on (entry_of t old.entries)) refl

@@ -1,4 +1,5 @@
--- Who is due of the sends and of the receivers after what a step leaves of them, where the channel isn't closed.
+-- Which tickets are due of the sends and of the receivers after what a step leaves of them, if the
+-- channel isn't closed.
 use Rattle.std.proofs.Common.{◌≡◌, ℕ, false}
 use Rattle.std.proofs.Common.{ne_eqb, List, ◌∷◌, ◌++◌, []}
 use Rattle.std.proofs.Common.{Option, Some, None, refl, sym, ◌∙◌, ap, subst, ⊎_elim}
@@ -19,7 +20,7 @@ use Rattle.flume_core.proofs.dues.ReceiversDue.{entry_without, entry_push}
 use Rattle.flume_core.proofs.dues.ReceiversDue.{round_for_due}
 
 module _ {S : Type 0} where
-  -- who is due of these sends, where the channel isn't closed
+  -- which tickets are due of these sends, if the channel isn't closed
   abbrev pub SendsDue : SendMap S → SendMap S → Type 0
   SendsDue old new = (t : ℕ) → SendDue false (get old t) (get new t)
 
@@ -49,7 +50,7 @@ module _ {S : Type 0} where
       (λ ne. subst (λ y. SendDue false (get m t) y) (sym (get-changed_other m k f t ne)) (send_kept (get m t))) (cases_eq t k)
 
 module _ {T S : Type 0} where
-  -- who is due of these receivers, where none of them waits on or again
+  -- which tickets are due of these receivers, if none of them waits on or again
   abbrev pub ReceiversDue : EntryList T S → EntryList T S → Type 0
   ReceiversDue old new = (t : ℕ) → ReceiverDue false (entry_of t old) (entry_of t new)
 

@@ -63,7 +63,7 @@ module _ {T S : Type 0} where
       by_list [] is = h
       by_list (b ∷ later) is = moves_one old s b later h is
 
-  -- where nothing is queued
+  -- if nothing is queued
   moves_fronted : (old s : State T S) → MovesIn old s → MovesIn old (with_front s)
   moves_fronted old s h = by_queue s.queue
     where
@@ -71,7 +71,7 @@ module _ {T S : Type 0} where
       by_queue [] = moves_admitted old s h
       by_queue (m ∷ rest) = h
 
-  -- where the queue has room
+  -- if the queue has room
   moves_refilled : (old s : State T S) → MovesIn old s → MovesIn old (after_refill s)
   moves_refilled old s h = by_room (not (is_full s.capacity (length s.queue)))
     where

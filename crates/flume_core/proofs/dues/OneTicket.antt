@@ -1,4 +1,4 @@
--- Who is due, of one ticket: how its send or its receiver was, and how it is.
+-- Which tickets are due, of one ticket: how its send or its receiver was, and how it is.
 use Rattle.std.proofs.Common.{◌≡◌, Bool, true, false, not, ◌&&◌, ◌||◌, if◌then◌else◌, Option, Some, None, refl, ap}
 use Rattle.std.specs.Option.{option_map}
 use Rattle.flume_model.specs.declared.entry.Entry.{Entry}

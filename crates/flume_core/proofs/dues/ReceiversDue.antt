@@ -1,4 +1,5 @@
--- Who is due of the parked receivers: wake rounds, closing, and what becomes of one of them.
+-- Which tickets are due of the parked receivers: wake rounds, closing, and what becomes of one of
+-- them.
 use Rattle.std.proofs.Common.{◌≡◌, ℕ, Bool, true, false, eqb, eqb-true, List, [], ◌∷◌, ◌++◌, cond}
 use Rattle.std.proofs.Common.{Some, None, refl, sym, ◌∙◌, ap}
 use Rattle.flume_model.specs.declared.step.Kind.{Kind}
@@ -27,7 +28,7 @@ module _ {T N : Type 0} where
           simp (same, not_it) refl
       by_case false differ rest = simp differ (ap (cond (eqb e.ticket t) (Some e)) rest)
 
-  -- another receiver that stands behind all others
+  -- another receiver that is behind all others
   pub entry_push : (t : ℕ) (x : Entry T N) (es : List (Entry T N)) → eqb x.ticket t ≡ false → entry_of t (es ++ x ∷ []) ≡ entry_of t es
   entry_push t x [] other = simp other refl
   entry_push t x (e ∷ es) other = ap (cond (eqb e.ticket t) (Some e)) (entry_push t x es other)
@@ -64,7 +65,7 @@ module _ {T S : Type 0} where
       by_case true same rest = simp same refl
       by_case false differ rest = simp differ (ap (λ l. e ∷ l) rest)
 
-  -- one whose notice was told isn't due
+  -- one whose notice was named isn't due
   pub noticed_idle : (f : Notice S → Notice S) → ((n : Notice S) → (f n).due ≡ false) → (t : ℕ) (es : EntryList T S)
       → receiver_due_in (entry_of t (noticed_receiver f t es)) ≡ false
   noticed_idle f told t [] = refl
@@ -75,7 +76,7 @@ module _ {T S : Type 0} where
       by_case true same rest = simp same (told e.notice)
       by_case false differ rest = simp differ rest
 
-  -- one that isn't due isn't due either where it waits again
+  -- one that isn't due isn't due either if it waits again
   pub again_idle : (t : ℕ) (es : EntryList T S) → entry_of t (without t es) ≡ None → receiver_due_in (entry_of t es) ≡ false
       → receiver_due_in (entry_of t (again t es)) ≡ false
   again_idle t es alone idle =
@@ -88,7 +89,7 @@ module _ {T S : Type 0} where
       ∙ entry_last (without t es) x (ap (λ k. entry_of k (without t es)) same ∙ alone) in
       ap receiver_due_in last ∙ sym (ap receiver_due_in found) ∙ idle)
 
-  -- who is due after a wake round
+  -- which tickets are due after a wake round
   pub round_due : (t : ℕ) (front : T) (es : EntryList T S) → ReceiverDue false (entry_of t es) (entry_of t (round due_now front es))
   round_due t front [] = refl
   round_due t front (e ∷ es) = by_mark e.kind e.mark (eqb e.ticket t) refl (round_due t front es)
@@ -110,13 +111,13 @@ module _ {T S : Type 0} where
       by_mark k Woken false other rest = simp other rest
       by_mark k (Filled m) false other rest = simp other rest
 
-  -- who is due after a wake round that comes only if something is queued
+  -- which tickets are due after a wake round that comes only if something is queued
   pub round_for_due : (t : ℕ) (queue : List T) (es : EntryList T S)
       → ReceiverDue false (entry_of t es) (entry_of t (round_for due_now queue es))
   round_for_due t [] es = receiver_kept (entry_of t es)
   round_for_due t (front ∷ queue) es = round_due t front es
 
-  -- who is due where all that wait are woken
+  -- which tickets are due if all that wait are woken
   pub all_woken_due : (t : ℕ) (es : EntryList T S) → ReceiverDue false (entry_of t es) (entry_of t (all_woken due_now es))
   all_woken_due t [] = refl
   all_woken_due t (e ∷ es) = by_mark e.mark (eqb e.ticket t) refl (all_woken_due t es)

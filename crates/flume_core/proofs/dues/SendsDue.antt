@@ -1,4 +1,4 @@
--- The live sends' map where messages move in, and where the channel is closed.
+-- The live sends' map if messages move in, and if the channel is closed.
 use Rattle.std.proofs.Common.{◌≡◌, ◌≢◌, ℕ, Bool, true, false, ◌||◌, ◌⊎◌, inl, inr}
 use Rattle.std.proofs.Common.{⊎_elim, if◌then◌else◌, eqb, eqb-true, List, [], ◌∷◌}
 use Rattle.std.proofs.Common.{Option, Some, None, refl, sym, ◌∙◌, ap}
@@ -53,7 +53,7 @@ module _ {S : Type 0} where
           let kept = get-changed_other n k accepted_now t ne in
           ⊎_elim (λ same. inl (kept ∙ same)) (λ both. inr (both.0, kept ∙ both.1)) (moved t)
 
-  -- who is due then
+  -- which tickets are due then
   pub accepts_due : (m n : SendMap S) → Accepts m n → (t : ℕ) → SendDue false (get m t) (get n t)
   accepts_due m n moved t =
       ⊎_elim (λ same. rw same (send_kept (get m t))) (λ both. rw both.1 (send_accepted false (get m t) both.0)) (moved t)

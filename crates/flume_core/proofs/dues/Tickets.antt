@@ -1,4 +1,5 @@
--- What a state that some run led to says of its tickets, as far as who is due depends on it.
+-- What a state that some run led to says of its tickets, as far as which tickets are due depends on
+-- it.
 use Rattle.std.proofs.Common.{◌≡◌, ℕ, Bool, true, false, not, Option, Some, None, refl, sym, ◌∙◌, ap, arith}
 use Rattle.std.specs.List.{All}
 use Rattle.std.specs.Option.{option_map}
@@ -20,7 +21,7 @@ use Rattle.flume_core.proofs.StateFacts.{blocked_live, sends_apart}
 use Rattle.flume_core.proofs.Views.{blocked_is, none_mapped, status, status_is}
 use Rattle.flume_core.proofs.dues.SendsDue.{IsBlocked}
 
--- a send is blocked just where its message is
+-- a send is blocked exactly if its message is
 blocked_bits : {S : Type 0} (x : Option (LiveSend S)) (live waits : Bool) → option_map (λ send. send.accepted) x ≡ status live waits
     → (waits ≡ true → live ≡ true) → blocked_in x ≡ waits
 blocked_bits None true waits e lives = absurd (let none : ⊥ = cc in none)

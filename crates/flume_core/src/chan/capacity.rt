@@ -14,10 +14,10 @@ use std::alloc::Allocator;
 
 impl<T: Drop, S: Drop, A: Allocator + Copy> Chan<T, S, A> {
     /// Sets the capacity of a bounded channel. `Done`: it is `capacity` from now on, and while the
-    /// queue is below it the first blocked message moves in: its ticket is accepted. A queue that
-    /// is longer stays as it is, and no receiver is woken. `Unbounded`: the channel has no capacity
-    /// to set. `Ended`: it has one, and is closed. The last two leave the channel as it was. Takes
-    /// no memory.
+    /// queue is below it the first blocked message moves in: its ticket is accepted. A longer queue
+    /// stays as it is, and no receiver is woken. `Unbounded`: the channel has no capacity to set.
+    /// `Ended`: it has one, and is closed. The last two leave the channel as it was. Doesn't
+    /// allocate.
     ///
     /// ```
     /// let mut chan: Chan<u64, u32> = Chan::new(alloc, Some(0));
@@ -42,7 +42,6 @@ impl<T: Drop, S: Drop, A: Allocator + Copy> Chan<T, S, A> {
         if self.capacity.is_none() {
             return Reply::Unbounded;
         }
-        // Nothing can be offered to a closed channel, so no capacity would mean anything.
         if !self.is_open() {
             return Reply::Ended;
         }
@@ -52,7 +51,6 @@ impl<T: Drop, S: Drop, A: Allocator + Copy> Chan<T, S, A> {
         Reply::Done
     }
 
-    // Keeps this capacity, and the greatest so far.
     fn keep_capacity(&mut self, capacity: usize)
         ensures kept { self.new ≡ record self.old {
           capacity = Some capacity;

@@ -1,4 +1,4 @@
-//! The steps by which ends come and go.
+//! The steps by which ends come and go. None allocates.
 ghost use Rattle.std.specs.Prelude.{not, ◌≤◌, ◌≡◌, ◌+◌, ◌-◌, ◌<◌, ◌↔◌};
 ghost use Rattle.flume_model.specs.Limits.{is_closed, most};
 ghost use Rattle.flume_state.specs.Effects.{after_end_dropped};
@@ -13,7 +13,7 @@ use std::alloc::Allocator;
 
 impl<T: Drop, S: Drop, A: Allocator + Copy> Chan<T, S, A> {
     /// One more sender. `NoEnd`: none is left, and a closed channel never opens again. `CountFull`:
-    /// no more can be counted. Both leave the channel as it was. Takes no memory.
+    /// no more can be counted. Both leave the channel as it was.
     pub fn clone_sender(&mut self) -> Reply<T, A>
         ensures step { Extends self.old Step.CloneSender result self.new }
         ensures dues { IsReachable A self.old
@@ -63,10 +63,9 @@ impl<T: Drop, S: Drop, A: Allocator + Copy> Chan<T, S, A> {
         }
     }
 
-    /// One sender leaves. `NoEnd`: there is none left, and the channel is as it was. Where it was
-    /// the last one, every waiting receiver is woken, and every blocked send is to be told. Once
-    /// both sides have disconnected, the messages left are dropped and every ticket is spent. Takes
-    /// no memory.
+    /// One sender leaves. `NoEnd`: there is none left, and the channel is as it was. If it was the
+    /// last one, every waiting receiver is woken, and every blocked send is due. Once both sides
+    /// have disconnected, the messages left are dropped and every ticket is spent.
     pub fn drop_sender(&mut self) -> Reply<T, A>
         ensures step { Extends self.old Step.DropSender result self.new }
         ensures dues { IsReachable A self.old
@@ -112,8 +111,8 @@ impl<T: Drop, S: Drop, A: Allocator + Copy> Chan<T, S, A> {
         Reply::Done
     }
 
-    // What an end that left leaves behind: nothing once both sides have disconnected; and where it
-    // closed the channel, all that wait are woken, and all blocked sends are to be told.
+    // An end has left: if it closed the channel, all that wait are woken and all blocked sends are
+    // due; once both sides have disconnected, nothing is kept.
     fn settle(&mut self, was_open: bool)
         ensures settled { self.new ≡ after_end_dropped was_open self.old }
     {

@@ -24,12 +24,12 @@ use flume_state::entries::ReceiverStatus;
 use std::alloc::Allocator;
 
 impl<T: Drop, S: Drop, A: Allocator + Copy> Chan<T, S, A> {
-    /// Asks again, as the parked receiver with this ticket. `Got`: the message that filled it, or
-    /// else the front of the line, where it doesn't block or was woken. `Ended`: there is none, and
-    /// the channel is closed. After both the ticket is spent. `Waiting`: it waits on; one that was
-    /// woken goes behind all others, one that waits keeps its place; a signal given here replaces
-    /// the one that it left. `NoTicket`: nobody is parked under this ticket, and nothing changes.
-    /// Takes no memory.
+    /// Asks again, as the parked receiver with this ticket. `Got`: the message that filled it, or,
+    /// if it doesn't block or was woken, the front of the line. `Ended`: there is none, and the
+    /// channel is closed. Both spend the ticket. `Waiting`: it waits on; one that was woken goes
+    /// behind all others, one that waits keeps its place; a signal given here replaces the one that
+    /// it left. `NoTicket`: nobody is parked under this ticket, and nothing changes. Doesn't
+    /// allocate.
     ///
     /// ```
     /// let mut chan: Chan<u64, u32> = Chan::new(alloc, None);
@@ -88,9 +88,9 @@ impl<T: Drop, S: Drop, A: Allocator + Copy> Chan<T, S, A> {
     }
 
     /// Leaves, as the parked receiver with this ticket, which is spent. `Got`: the message that
-    /// filled it, or where it blocks, the front of the line. `Gone`: it leaves with no message; one
-    /// that was woken passes its wake on: a wake round follows where a message is queued.
-    /// `NoTicket`: nobody is parked under this ticket, and nothing changes. Takes no memory.
+    /// filled it, or, if it blocks, the front of the line. `Gone`: it leaves with no message; if it
+    /// was woken, it passes its wake on: a wake round follows if a message is queued. `NoTicket`:
+    /// nobody is parked under this ticket, and nothing changes. Doesn't allocate.
     ///
     /// ```
     /// let mut chan: Chan<u64, u32> = Chan::new(alloc, None);
@@ -145,7 +145,6 @@ impl<T: Drop, S: Drop, A: Allocator + Copy> Chan<T, S, A> {
         }
     }
 
-    // A wake round, and the ticket that it filled, if it filled one.
     #[inline(always)]
     pub(super) fn wake(&mut self) -> Option<u64>
         ensures fills { result ≡ round_for_fills self.old.queue self.old.entries }
@@ -154,7 +153,6 @@ impl<T: Drop, S: Drop, A: Allocator + Copy> Chan<T, S, A> {
         self.entries.wake(&mut self.line)
     }
 
-    // Hands a filled receiver its message.
     fn collect(&mut self, ticket: u64) -> Reply<T, A>
         requires filled { receiver_status ticket self.old.entries ≡ Some Filled }
         ensures got { (message : T) × (held_by (entry_of ticket self.old.entries) ≡ Some message)
@@ -167,7 +165,6 @@ impl<T: Drop, S: Drop, A: Allocator + Copy> Chan<T, S, A> {
         }
     }
 
-    // The receiver, which isn't filled, waits on, or again.
     fn wait_on(&mut self, ticket: u64, signal: Option<S>)
         requires unfilled { held_by (entry_of ticket self.old.entries) ≡ None }
         ensures waits { self.new ≡ with_peak
@@ -177,7 +174,7 @@ impl<T: Drop, S: Drop, A: Allocator + Copy> Chan<T, S, A> {
         self.count_waiting();
     }
 
-    // A receiver that doesn't block leaves, and passes its wake on where it was woken.
+    // A receiver that doesn't block leaves, and passes its wake on if it was woken.
     fn pass_on(&mut self, ticket: u64, woken: bool) -> Reply<T, A>
         requires woken { woken ≡ passes_on (entry_of ticket self.old.entries) }
         ensures gone { result ≡ Reply.Gone (is_closed self.old.senders self.old.receivers)

@@ -1,4 +1,4 @@
-//! The queries, each a step that changes nothing, and what is due.
+//! The queries, each a step that changes nothing, and what is due. None allocates.
 ghost use Rattle.std.specs.Prelude.{◌≡◌, ◌==◌, ◌+◌, min, length, IfNone, IfSome, false};
 ghost use Rattle.std.specs.Option.{option_copied};
 ghost use Rattle.flume_model.specs.Limits.{is_closed, is_full};
@@ -16,7 +16,7 @@ use flume_model::step::{Reply, Step};
 use std::alloc::Allocator;
 
 impl<T: Drop, S: Drop, A: Allocator + Copy> Chan<T, S, A> {
-    /// How many messages are queued, as a `Number`. Takes no memory.
+    /// How many messages are queued, as a `Number`.
     pub fn len(&self) -> Reply<T, A>
         ensures step { Extends self.now Step.Len result self.now }
         ensures dues { BecomesDue self.now Step.Len result self.now }
@@ -26,7 +26,7 @@ impl<T: Drop, S: Drop, A: Allocator + Copy> Chan<T, S, A> {
         Reply::Number(self.line.queued_len())
     }
 
-    /// Whether no message is queued, as a `Truth`. Takes no memory.
+    /// Whether no message is queued, as a `Truth`.
     pub fn is_empty(&self) -> Reply<T, A>
         ensures step { Extends self.now Step.IsEmpty result self.now }
         ensures dues { BecomesDue self.now Step.IsEmpty result self.now }
@@ -36,8 +36,7 @@ impl<T: Drop, S: Drop, A: Allocator + Copy> Chan<T, S, A> {
         Reply::Truth(self.line.queued_len() == 0)
     }
 
-    /// Whether the channel is bounded and its queue at or past its capacity, as a `Truth`. Takes no
-    /// memory.
+    /// Whether the channel is bounded and its queue at or past its capacity, as a `Truth`.
     pub fn is_full(&self) -> Reply<T, A>
         ensures step { Extends self.now Step.IsFull result self.now }
         ensures dues { BecomesDue self.now Step.IsFull result self.now }
@@ -47,7 +46,7 @@ impl<T: Drop, S: Drop, A: Allocator + Copy> Chan<T, S, A> {
         Reply::Truth(!self.has_room())
     }
 
-    /// The capacity, or none of an unbounded channel. Takes no memory.
+    /// The capacity, or `None` if unbounded.
     pub fn capacity(&self) -> Reply<T, A>
         ensures step { Extends self.now Step.Capacity result self.now }
         ensures dues { BecomesDue self.now Step.Capacity result self.now }
@@ -57,7 +56,7 @@ impl<T: Drop, S: Drop, A: Allocator + Copy> Chan<T, S, A> {
         Reply::Capacity(self.capacity)
     }
 
-    /// How many senders live, as a `Number`. Takes no memory.
+    /// How many senders live, as a `Number`.
     pub fn sender_count(&self) -> Reply<T, A>
         ensures step { Extends self.now Step.SenderCount result self.now }
         ensures dues { BecomesDue self.now Step.SenderCount result self.now }
@@ -67,7 +66,7 @@ impl<T: Drop, S: Drop, A: Allocator + Copy> Chan<T, S, A> {
         Reply::Number(self.senders)
     }
 
-    /// How many receivers live, as a `Number`. Takes no memory.
+    /// How many receivers live, as a `Number`.
     pub fn receiver_count(&self) -> Reply<T, A>
         ensures step { Extends self.now Step.ReceiverCount result self.now }
         ensures dues { BecomesDue self.now Step.ReceiverCount result self.now }
@@ -77,7 +76,7 @@ impl<T: Drop, S: Drop, A: Allocator + Copy> Chan<T, S, A> {
         Reply::Number(self.receivers)
     }
 
-    /// Whether all senders or all receivers have been dropped, as a `Truth`. Takes no memory.
+    /// Whether all senders or all receivers have been dropped, as a `Truth`.
     pub fn is_disconnected(&self) -> Reply<T, A>
         ensures step { Extends self.now Step.IsDisconnected result self.now }
         ensures dues { BecomesDue self.now Step.IsDisconnected result self.now }
@@ -87,11 +86,10 @@ impl<T: Drop, S: Drop, A: Allocator + Copy> Chan<T, S, A> {
         Reply::Truth(!self.is_open())
     }
 
-    /// How many more messages can be stored before a send needs memory for one. It is 0 at first. A
-    /// step leaves at least as much room, with one more for each message that left the line, queued
-    /// or blocked, and one less for each that joined it: with the messages that stand, the room is
-    /// never less than before, which each step says as its clause `space`. No step of its own, and
-    /// no memory.
+    /// How many more messages can be stored before a send allocates; 0 at first. The room and the
+    /// messages in the channel together never shrink by a step, which is its clause `space`: a
+    /// message that leaves, queued or blocked, adds at least one to the room, and one that joins
+    /// takes at most one. No step.
     ///
     /// ```
     /// let mut chan: Chan<u64, ()> = Chan::new(alloc, None);
@@ -106,10 +104,10 @@ impl<T: Drop, S: Drop, A: Allocator + Copy> Chan<T, S, A> {
         self.line.room()
     }
 
-    /// How many sends are blocked: each has its message in the channel, behind the queue. One whose
-    /// message moved into the queue isn't, though it hasn't asked since. As the channel closes they
-    /// stay blocked, until they take their messages back; where all ends have been dropped none is.
-    /// It reads a count, changes nothing, is no step, and takes no memory.
+    /// How many sends are blocked: each has its message in the channel, behind the queue. A send
+    /// whose message moved into the queue isn't counted, though it hasn't asked since. Sends stay
+    /// blocked in a closed channel until they take their messages back; once both sides have
+    /// disconnected, none is. Reads a count; no step.
     ///
     /// ```
     /// let mut chan: Chan<u64, ()> = Chan::new(alloc, Some(0));
@@ -124,9 +122,8 @@ impl<T: Drop, S: Drop, A: Allocator + Copy> Chan<T, S, A> {
         self.line.blocked_len()
     }
 
-    /// How many parked receivers wait. One that was woken, or was filled with a message, doesn't,
-    /// though it hasn't asked since. In a closed channel none waits. It reads a count, changes
-    /// nothing, is no step, and takes no memory.
+    /// How many parked receivers wait. One that was woken or filled isn't counted, though it hasn't
+    /// asked since. In a closed channel none waits. Reads a count; no step.
     ///
     /// ```
     /// let mut chan: Chan<u64, ()> = Chan::new(alloc, None);
@@ -141,9 +138,8 @@ impl<T: Drop, S: Drop, A: Allocator + Copy> Chan<T, S, A> {
         self.entries.waiting()
     }
 
-    /// How many messages could be received now without waiting, and at most `most`: those that are
-    /// queued, and those that are blocked. It reads counts, whatever their number. No step of its
-    /// own, and no memory.
+    /// How many messages could be received now without waiting, queued or blocked, and at most
+    /// `most`. Reads counts; no step.
     ///
     /// ```
     /// let mut chan: Chan<u64, u32> = Chan::new(alloc, Some(1));
@@ -160,10 +156,10 @@ impl<T: Drop, S: Drop, A: Allocator + Copy> Chan<T, S, A> {
         queued + self.line.blocked_len().min(most - queued)
     }
 
-    /// A ticket that is due: its send was accepted, or found blocked by the step that closed the
-    /// channel, or its receiver was woken or filled, and it wasn't named since. It isn't due then;
-    /// all else is as it was. `None` exactly where no ticket is due. It costs the same whatever is
-    /// parked. No step of its own, and no memory.
+    /// A ticket that is due, and isn't afterwards; all else is as it was. A ticket is due once its
+    /// send was accepted, or found blocked by the step that closed the channel, or its receiver was
+    /// woken or filled. `None` exactly if no ticket is due. It costs the same whatever is parked.
+    /// No step.
     #[inline(always)]
     pub fn next_due(&mut self) -> Option<u64>
         ensures named { IfSome result (λ ticket. Names self.old self.new ticket) }
@@ -177,7 +173,7 @@ impl<T: Drop, S: Drop, A: Allocator + Copy> Chan<T, S, A> {
         self.entries.next_due()
     }
 
-    /// The signal that the live ticket left last, or `None` where the ticket isn't live. No memory.
+    /// The signal that the live ticket left last, or `None` if the ticket isn't live. No step.
     #[inline(never)]
     pub fn signal(&self, ticket: u64) -> Option<&S>
         ensures signal { option_copied result ≡ signal_of self.now ticket }

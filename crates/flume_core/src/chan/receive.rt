@@ -16,9 +16,9 @@ use flume_model::step::{Kind, Reply, Step};
 use std::alloc::Allocator;
 
 impl<T: Drop, S: Drop, A: Allocator + Copy> Chan<T, S, A> {
-    /// Asks for the message at the front without waiting. `Got`: it is handed out, and while the
-    /// queue is below its capacity the first blocked message moves in: its ticket is accepted.
-    /// `Empty`: there is none. `Ended`: there is none, and the channel is closed. Takes no memory.
+    /// Asks for the message at the front without waiting. `Got`: the message; while the queue is
+    /// below its capacity the first blocked message moves in, and its ticket is accepted. `Empty`:
+    /// there is none. `Ended`: there is none, and the channel is closed. Doesn't allocate.
     ///
     /// ```
     /// let mut chan: Chan<u64, ()> = Chan::new(alloc, None);
@@ -48,11 +48,10 @@ impl<T: Drop, S: Drop, A: Allocator + Copy> Chan<T, S, A> {
         }
     }
 
-    /// Asks for the message at the front as `try_recv` does, and parks in place of `Empty`.
+    /// Asks for the message at the front as `try_recv` does, and parks instead of `Empty`.
     /// `Parked`: the receiver waits behind all others under this ticket, with the signal. `Spent`:
-    /// the greatest ticket was reached. `NoMemory`: there was no room to park. At most
-    /// 4,294,967,295 receivers are parked: past that the answer is `NoMemory` though no allocation
-    /// was refused. The last two leave the channel as it was.
+    /// the greatest ticket was reached. `NoMemory`: there was no room to park. The last two leave
+    /// the channel as it was.
     ///
     /// ```
     /// let mut chan: Chan<u64, u32> = Chan::new(alloc, None);
@@ -96,7 +95,7 @@ impl<T: Drop, S: Drop, A: Allocator + Copy> Chan<T, S, A> {
         Reply::Parked(ticket)
     }
 
-    /// Hands out all queued messages, and then lets blocked ones in, in order, while the queue has
+    /// Takes all queued messages, and then lets blocked ones in, in order, while the queue has
     /// room; their tickets are accepted. `Drained`: the messages, in order. `NoMemory`: some are
     /// queued and there was no room for their list; the channel is as it was.
     ///
@@ -125,8 +124,8 @@ impl<T: Drop, S: Drop, A: Allocator + Copy> Chan<T, S, A> {
         Reply::Drained(list)
     }
 
-    // Hands out the message at the front. It takes no memory: the queue has room for the blocked
-    // messages too. Where none is blocked none can move in.
+    // Takes the message at the front. The queue has room for the blocked messages too, so nothing
+    // is allocated.
     #[inline(always)]
     pub(super) fn take_front(&mut self) -> Option<T>
         ensures some { IfSome result (λ message. (rest : List T)
@@ -141,7 +140,6 @@ impl<T: Drop, S: Drop, A: Allocator + Copy> Chan<T, S, A> {
         self.take_front_and_refill()
     }
 
-    // Hands out the message at the front, also where some are blocked.
     #[cold]
     #[inline(never)]
     fn take_front_and_refill(&mut self) -> Option<T>
@@ -157,7 +155,6 @@ impl<T: Drop, S: Drop, A: Allocator + Copy> Chan<T, S, A> {
         Some(message)
     }
 
-    // Where nothing is queued, the first blocked message is the front.
     #[inline(always)]
     fn bring_to_front(&mut self)
         ensures front { self.new ≡ with_front self.old }
@@ -167,7 +164,6 @@ impl<T: Drop, S: Drop, A: Allocator + Copy> Chan<T, S, A> {
         }
     }
 
-    // Where the queue has room, the first blocked message moves in.
     #[inline(always)]
     fn refill(&mut self)
         ensures refilled { self.new ≡ after_refill self.old }
@@ -177,7 +173,6 @@ impl<T: Drop, S: Drop, A: Allocator + Copy> Chan<T, S, A> {
         }
     }
 
-    // Lets the first blocked message into the queue, and its sender is to be told.
     #[inline(always)]
     fn admit(&mut self)
         ensures admitted { self.new ≡ after_admission self.old }
@@ -185,7 +180,6 @@ impl<T: Drop, S: Drop, A: Allocator + Copy> Chan<T, S, A> {
         self.line.admit();
     }
 
-    // Lets blocked messages into the queue while it has room.
     pub(super) fn fill_up(&mut self)
         ensures filled { self.new ≡ after_admissions self.old }
     {
@@ -197,7 +191,6 @@ impl<T: Drop, S: Drop, A: Allocator + Copy> Chan<T, S, A> {
         }
     }
 
-    // Keeps the most that waited at once.
     pub(super) fn count_waiting(&mut self)
         ensures counted { self.new ≡ with_peak self.old.entries self.old }
     {

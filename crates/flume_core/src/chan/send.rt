@@ -19,14 +19,13 @@ use flume_model::step::{Reply, Step};
 use std::alloc::Allocator;
 
 impl<T: Drop, S: Drop, A: Allocator + Copy> Chan<T, S, A> {
-    /// Offers a message without waiting. `Sent`: it stands at the queue's end, at any capacity
-    /// where a receiver waits, and then a wake round follows: it wakes streams up to the first
-    /// receiver that is none, and wakes that one, or where it blocks hands it the front of the
-    /// queue and names its ticket. `Full`: no receiver waits, and the queue is at its capacity.
-    /// `Closed`: all senders or all receivers have been dropped. `NoMemory`: there was no room for
-    /// the message (`room`), and no memory for more. A channel holds at most 4,294,967,295
-    /// messages, queued and blocked: past that the answer is `NoMemory` though no allocation was
-    /// refused. The last three hand the message back and leave the channel as it was.
+    /// Offers a message without waiting. `Sent`: it is at the queue's end, at any capacity if a
+    /// receiver waits. A wake round follows: it wakes streams up to the first receiver of another
+    /// kind, and wakes that one too; a blocking receiver it hands the front of the queue, and names
+    /// its ticket. `Full`: no receiver waits, and the queue is at its capacity. `Closed`: all
+    /// senders or all receivers have been dropped. `NoMemory`: there was no room for the message
+    /// (`room`), and none could be had. The last three hand the message back and leave the channel
+    /// as it was.
     ///
     /// ```
     /// let mut chan: Chan<u64, ()> = Chan::new(alloc, None);
@@ -65,13 +64,11 @@ impl<T: Drop, S: Drop, A: Allocator + Copy> Chan<T, S, A> {
         Reply::Sent { filled }
     }
 
-    /// Offers a message, and blocks where the queue is at its capacity. `Sent` as `try_send`.
-    /// `Pending`: the message stands behind the queue under this ticket, with the signal. `Closed`
-    /// as `try_send`. `Spent`: the greatest ticket was reached. `NoMemory`: as `try_send`, or no
-    /// room for the ticket of a message that would block. A channel has at most 4,294,967,295 live
-    /// tickets of sends: past that a message that would block is refused so though no allocation
-    /// was. The last three hand the message back and leave the channel as it was.
-    ///
+    /// Offers a message, and blocks if the queue is at its capacity. `Sent`, `Closed` as
+    /// `try_send`. `Pending`: the message is behind the queue under this ticket, with the signal.
+    /// `Spent`: the greatest ticket was reached. `NoMemory`: as `try_send`, or no room for the
+    /// ticket of a message that would block. The last two and `Closed` hand the message back and
+    /// leave the channel as it was.
     /// ```
     /// let mut chan: Chan<u64, u32> = Chan::new(alloc, Some(0));
     /// chan.send(7, 10);                  // Pending(1), with the signal 10
@@ -120,11 +117,11 @@ impl<T: Drop, S: Drop, A: Allocator + Copy> Chan<T, S, A> {
 }
 
 impl<T: Drop, S: Drop, A: Allocator + Copy> Chan<T, S, A> {
-    /// Asks how the blocked send with this ticket stands. `Accepted`: its message was taken in, and
-    /// the ticket is spent. `Waiting`: it is still blocked; a signal given here replaces the one
-    /// that the send left. `Returned`: the channel is closed, the message comes back, and the
-    /// ticket is spent. `NoTicket`: no live send has this ticket, and nothing changes. Takes no
-    /// memory.
+    /// Asks for the state of the blocked send with this ticket. `Accepted`: its message was taken
+    /// in, and the ticket is spent. `Waiting`: it is still blocked; a signal given here replaces
+    /// the one that the send left. `Returned`: the channel is closed, the message comes back, and
+    /// the ticket is spent. `NoTicket`: no live send has this ticket, and nothing changes. Doesn't
+    /// allocate.
     pub fn poll_send(&mut self, ticket: u64, signal: Option<S>) -> Reply<T, A>
         ensures step { Extends self.old (Step.PollSend ticket) result self.new }
         ensures dues { IsReachable A self.old
@@ -158,8 +155,8 @@ impl<T: Drop, S: Drop, A: Allocator + Copy> Chan<T, S, A> {
     }
 
     /// Takes back the message of the blocked send with this ticket. `Returned`: it comes back, with
-    /// whether the channel is closed. `Accepted`: it was taken in before. Either way the ticket is
-    /// spent. `NoTicket`: no live send has this ticket, and nothing changes. Takes no memory.
+    /// whether the channel is closed. `Accepted`: it was taken in before. Both spend the ticket.
+    /// `NoTicket`: no live send has this ticket, and nothing changes. Doesn't allocate.
     pub fn withdraw_send(&mut self, ticket: u64) -> Reply<T, A>
         ensures step { Extends self.old (Step.WithdrawSend ticket) result self.new }
         ensures dues { IsReachable A self.old
@@ -182,7 +179,6 @@ impl<T: Drop, S: Drop, A: Allocator + Copy> Chan<T, S, A> {
         }
     }
 
-    // Tells a sender that its message was taken in.
     fn learn(&mut self, ticket: u64) -> Reply<T, A>
         requires known { accepted_at self.old ticket ≡ Some true }
         ensures accepted { result ≡ Reply.Accepted }
@@ -192,7 +188,6 @@ impl<T: Drop, S: Drop, A: Allocator + Copy> Chan<T, S, A> {
         Reply::Accepted
     }
 
-    // Gives a sender its blocked message back. In each state that a log leads to there is one.
     fn take_back(&mut self, ticket: u64) -> Reply<T, A>
         ensures returned { (message : T) (closed : Bool) → result ≡ Reply.Returned message closed
             → Returns self.old self.new ticket message closed }

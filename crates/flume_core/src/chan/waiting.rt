@@ -1,4 +1,5 @@
-//! Whether a call would have to wait, were its step made now. Each looks, and is no step.
+//! Whether a call would have to wait if its step were made now. None of these is a step: the
+//! channel stays as it is, and nothing is allocated.
 ghost use Rattle.std.specs.Prelude.{IsTrue, ◌↔◌};
 ghost use Rattle.flume_core.specs.Waiting.{FindsNothing, FindsNoRoom, IsHeldBack};
 
@@ -8,7 +9,7 @@ use std::alloc::Allocator;
 impl<T: Drop, S: Drop, A: Allocator + Copy> Chan<T, S, A> {
     /// Whether a receive would find nothing: no message is queued or blocked, and the channel is
     /// open. `try_recv` answers `Empty` then, `recv` parks, and a parked receiver that doesn't
-    /// block waits on. It changes nothing, is no step, and takes no memory.
+    /// block waits on.
     ///
     /// ```
     /// let mut chan: Chan<u64, u32> = Chan::new(alloc, None);
@@ -24,8 +25,7 @@ impl<T: Drop, S: Drop, A: Allocator + Copy> Chan<T, S, A> {
     }
 
     /// Whether an offer would find no room: the channel is open, no receiver waits, and the queue
-    /// is at its capacity. `try_send` answers `Full` then, and `send` blocks. It changes nothing,
-    /// is no step, and takes no memory.
+    /// is at its capacity. `try_send` answers `Full` then, and `send` blocks.
     ///
     /// ```
     /// let mut chan: Chan<u64, u32> = Chan::new(alloc, Some(1));
@@ -41,7 +41,7 @@ impl<T: Drop, S: Drop, A: Allocator + Copy> Chan<T, S, A> {
     }
 
     /// Whether the send with this ticket is blocked, in an open channel: `poll_send` answers
-    /// `Waiting` then. It changes nothing, is no step, and takes no memory.
+    /// `Waiting` then.
     ///
     /// ```
     /// let mut chan: Chan<u64, u32> = Chan::new(alloc, Some(0));

@@ -9,10 +9,11 @@ use flume_state::entries::ReceiverStatus;
 use std::alloc::Allocator;
 
 impl<T: Drop, S: Drop, A: Allocator + Copy> Chan<T, S, A> {
-    /// Whether a channel that stands as this one may answer the step with `NoMemory`. True for an
-    /// offer that is taken in or blocks, a receiver that parks, a drain of some message, and where
-    /// a message is blocked, for a receive too: a channel may need memory to let that one into the
-    /// queue, though a `Chan` never does. It changes nothing, is no step, and takes no memory.
+    /// Whether an abstract channel in this state may answer the step with `NoMemory`. True for an
+    /// offer that is taken in or blocks, a receiver that parks, a drain of some message, and, if a
+    /// message is blocked, for a receive too: a channel may need memory to let that one into the
+    /// queue, though a `Chan` never does. No step; the channel stays as it is, and nothing is
+    /// allocated.
     ///
     /// ```
     /// let mut chan: Chan<u64, u32> = Chan::new(alloc, Some(0));
@@ -36,7 +37,7 @@ impl<T: Drop, S: Drop, A: Allocator + Copy> Chan<T, S, A> {
         }
     }
 
-    // Whether the parked receiver with this ticket, which doesn't block, would look at the line.
+    // Whether the parked receiver with this ticket, which doesn't block, would look for a message.
     fn looks_anew(&self, ticket: u64) -> bool
         ensures leaves { IsTrue result
             ↔ (only_leaves (receiver_status ticket self.now.entries) ≡ true) }

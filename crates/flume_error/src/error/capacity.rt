@@ -16,7 +16,6 @@ pub enum CapacityError {
 }
 
 impl CapacityError {
-    // What `{}` writes of it.
     pub(crate) fn text(&self) -> &'static str
         ensures text { result.now ≡ capacity_text self.now }
     {

@@ -1,10 +1,10 @@
-//! Conversions to the errors of std, which `?` makes: so a `main` that answers `io::Result<()>` can
-//! use `?` on each call of a channel, and one that answers `Result<(), AllocError>` on each that
-//! fails by memory alone. The io error has the text of the error that it was made of. A message
-//! that wasn't sent is dropped. A crate that uses them lists `flume_error` among its libraries,
-//! beside `flume`: the orphan rule has each of them here, the compiler finds an implementation on a
-//! type of std only in a library that the crate lists, and `flume` can't give one again
-//! ("error[unsupported-impl-name]: an import of an `impl` block is not supported yet").
+//! Conversions to std's errors, which `?` makes: so a `main` that answers `io::Result<()>` can use
+//! `?` on each call of a channel, and one that answers `Result<(), AllocError>` on each that fails
+//! by memory alone. The io error has the text of the error that it was made of. A message that
+//! wasn't sent is dropped. A crate that uses them lists `flume_error` among its libraries, in
+//! addition to `flume`: the orphan rule puts each of them here, the compiler finds an
+//! implementation on a type of std only in a library that the crate lists, and `flume` can't
+//! re-export it.
 //!
 //! The kinds are those of a pipe: a closed channel is `BrokenPipe` to a send and `UnexpectedEof` to
 //! a receive. Only `NoMemory` becomes an `AllocError`, since each other error may say something
@@ -26,7 +26,7 @@ use std::alloc::AllocError;
 use std::io;
 use std::io::ErrorKind;
 
-/// The one `AllocError`.
+/// `NoMemory` as std's `AllocError`.
 impl From<NoMemory> for AllocError {
     ghost from_gives = { λ _ error. error ≡ alloc_error };
 
@@ -35,7 +35,7 @@ impl From<NoMemory> for AllocError {
     }
 }
 
-/// Of the kind `OutOfMemory`.
+/// `OutOfMemory`.
 impl From<NoMemory> for io::Error {
     ghost from_gives = { λ _ error. error_kind error ≡ OutOfMemory };
 
@@ -44,7 +44,7 @@ impl From<NoMemory> for io::Error {
     }
 }
 
-/// Of the kind `BrokenPipe` where the channel is closed, and `OutOfMemory` where there was none.
+/// `BrokenPipe` if the channel is closed, `OutOfMemory` if memory ran out.
 impl<T: Drop> From<SendError<T>> for io::Error {
     ghost from_gives = { λ e error. error_kind error ≡ send_kind e };
 
@@ -57,8 +57,8 @@ impl<T: Drop> From<SendError<T>> for io::Error {
     }
 }
 
-/// Of the kind `WouldBlock` where the channel is full, `BrokenPipe` where it is closed, and
-/// `OutOfMemory` where there was none.
+/// `WouldBlock` if the channel is full, `BrokenPipe` if it is closed, `OutOfMemory` if memory ran
+/// out.
 impl<T: Drop> From<TrySendError<T>> for io::Error {
     ghost from_gives = { λ e error. error_kind error ≡ try_send_kind e };
 
@@ -72,8 +72,8 @@ impl<T: Drop> From<TrySendError<T>> for io::Error {
     }
 }
 
-/// Of the kind `TimedOut` where the deadline was reached, `BrokenPipe` where the channel is closed,
-/// and `OutOfMemory` where there was none.
+/// `TimedOut` if the deadline was reached, `BrokenPipe` if the channel is closed, `OutOfMemory` if
+/// memory ran out.
 impl<T: Drop> From<SendTimeoutError<T>> for io::Error {
     ghost from_gives = { λ e error. error_kind error ≡ send_timeout_kind e };
 
@@ -87,8 +87,7 @@ impl<T: Drop> From<SendTimeoutError<T>> for io::Error {
     }
 }
 
-/// Of the kind `UnexpectedEof` where the channel is closed and empty, and `OutOfMemory` where there
-/// was none.
+/// `UnexpectedEof` if the channel is closed and empty, `OutOfMemory` if memory ran out.
 impl From<RecvError> for io::Error {
     ghost from_gives = { λ e error. error_kind error ≡ receive_kind e };
 
@@ -101,8 +100,8 @@ impl From<RecvError> for io::Error {
     }
 }
 
-/// Of the kind `WouldBlock` where the channel is empty, `UnexpectedEof` where it is closed too, and
-/// `OutOfMemory` where there was none.
+/// `WouldBlock` if the channel is empty, `UnexpectedEof` if it is closed too, `OutOfMemory` if
+/// memory ran out.
 impl From<TryRecvError> for io::Error {
     ghost from_gives = { λ e error. error_kind error ≡ try_receive_kind e };
 
@@ -116,8 +115,8 @@ impl From<TryRecvError> for io::Error {
     }
 }
 
-/// Of the kind `TimedOut` where the deadline was reached, `UnexpectedEof` where the channel is
-/// closed and empty, and `OutOfMemory` where there was none.
+/// `TimedOut` if the deadline was reached, `UnexpectedEof` if the channel is closed and empty,
+/// `OutOfMemory` if memory ran out.
 impl From<RecvTimeoutError> for io::Error {
     ghost from_gives = { λ e error. error_kind error ≡ receive_timeout_kind e };
 
@@ -131,7 +130,7 @@ impl From<RecvTimeoutError> for io::Error {
     }
 }
 
-/// Of the kind `TimedOut` where the deadline was reached, and `OutOfMemory` where there was none.
+/// `TimedOut` if the deadline was reached, `OutOfMemory` if memory ran out.
 impl From<SelectError> for io::Error {
     ghost from_gives = { λ e error. error_kind error ≡ select_kind e };
 
@@ -144,7 +143,7 @@ impl From<SelectError> for io::Error {
     }
 }
 
-/// Of the kind `Unsupported` where the channel is unbounded, and `BrokenPipe` where it is closed.
+/// `Unsupported` if the channel is unbounded, `BrokenPipe` if it is closed.
 impl From<CapacityError> for io::Error {
     ghost from_gives = { λ e error. error_kind error ≡ capacity_kind e };
 

@@ -12,7 +12,7 @@ use std::fmt;
 pub enum RecvError {
     /// The channel is closed, and no message is left.
     Disconnected,
-    /// The receive was to wait, and there was no memory for that.
+    /// The receive had to wait, and there was no memory for that.
     NoMemory,
 }
 
@@ -23,7 +23,7 @@ pub enum TryRecvError {
     Empty,
     /// The channel is closed, and no message is left.
     Disconnected,
-    /// A `RecvError` of this case was converted: a receive that doesn't wait takes no memory.
+    /// Comes only of a converted `RecvError`: a receive that doesn't wait never allocates.
     NoMemory,
 }
 
@@ -34,7 +34,7 @@ pub enum RecvTimeoutError {
     Timeout,
     /// The channel is closed, and no message is left.
     Disconnected,
-    /// The receive was to wait, and there was no memory for that.
+    /// The receive had to wait, and there was no memory for that.
     NoMemory,
 }
 
@@ -63,7 +63,6 @@ impl From<RecvError> for RecvTimeoutError {
 }
 
 impl RecvError {
-    // What `{}` writes of it.
     pub(crate) fn text(&self) -> &'static str
         ensures text { result.now ≡ receive_text self.now }
     {
@@ -86,7 +85,6 @@ impl fmt::Display for RecvError {
 }
 
 impl TryRecvError {
-    // What `{}` writes of it.
     pub(crate) fn text(&self) -> &'static str
         ensures text { result.now ≡ try_receive_text self.now }
     {
@@ -110,7 +108,6 @@ impl fmt::Display for TryRecvError {
 }
 
 impl RecvTimeoutError {
-    // What `{}` writes of it.
     pub(crate) fn text(&self) -> &'static str
         ensures text { result.now ≡ receive_timeout_text self.now }
     {

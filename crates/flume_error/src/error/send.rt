@@ -15,7 +15,7 @@ use std::fmt;
 pub enum SendError<T> {
     /// The channel is closed.
     Disconnected(T),
-    /// Memory was wanted, to queue the message or to wait, and there was none.
+    /// Out of memory, to queue the message or to wait.
     NoMemory(T),
 }
 
@@ -26,7 +26,7 @@ pub enum TrySendError<T> {
     Full(T),
     /// The channel is closed.
     Disconnected(T),
-    /// Memory was wanted, to queue the message, and there was none.
+    /// Out of memory, to queue the message.
     NoMemory(T),
 }
 
@@ -37,12 +37,12 @@ pub enum SendTimeoutError<T> {
     Timeout(T),
     /// The channel is closed.
     Disconnected(T),
-    /// Memory was wanted, to queue the message or to wait, and there was none.
+    /// Out of memory, to queue the message or to wait.
     NoMemory(T),
 }
 
 impl<T> SendError<T> {
-    /// The message that wasn't sent, whatever the reason. Takes no memory.
+    /// The message that wasn't sent, whatever the reason. Doesn't allocate.
     ///
     /// ```
     /// SendError::Disconnected(7).into_inner(); // 7
@@ -56,7 +56,6 @@ impl<T> SendError<T> {
         }
     }
 
-    // What `{}` writes of it.
     pub(crate) fn text(&self) -> &'static str
         ensures text { result.now ≡ send_text self.now }
     {
@@ -68,7 +67,7 @@ impl<T> SendError<T> {
 }
 
 impl<T> TrySendError<T> {
-    /// The message that wasn't sent, whatever the reason. Takes no memory.
+    /// The message that wasn't sent, whatever the reason. Doesn't allocate.
     ///
     /// ```
     /// TrySendError::Full(7).into_inner(); // 7
@@ -83,7 +82,6 @@ impl<T> TrySendError<T> {
         }
     }
 
-    // What `{}` writes of it.
     pub(crate) fn text(&self) -> &'static str
         ensures text { result.now ≡ try_send_text self.now }
     {
@@ -96,7 +94,7 @@ impl<T> TrySendError<T> {
 }
 
 impl<T> SendTimeoutError<T> {
-    /// The message that wasn't sent, whatever the reason. Takes no memory.
+    /// The message that wasn't sent, whatever the reason. Doesn't allocate.
     ///
     /// ```
     /// SendTimeoutError::Timeout(7).into_inner(); // 7
@@ -111,7 +109,6 @@ impl<T> SendTimeoutError<T> {
         }
     }
 
-    // What `{}` writes of it.
     pub(crate) fn text(&self) -> &'static str
         ensures text { result.now ≡ send_timeout_text self.now }
     {
@@ -180,7 +177,7 @@ impl<T> fmt::Display for SendTimeoutError<T> {
     }
 }
 
-/// `"SendError(..)"`, quotation marks included, of each case: the message needn't be `Debug`.
+/// `"SendError(..)"` for each case, with the quotation marks: the message needn't be `Debug`.
 impl<T> fmt::Debug for SendError<T> {
     ghost debug_output = { λ _. Some send_debug_text };
 
@@ -189,7 +186,7 @@ impl<T> fmt::Debug for SendError<T> {
     }
 }
 
-/// The name of the case and `(..)` in quotation marks: the message needn't be `Debug`.
+/// The case's name and `(..)` in quotation marks: the message needn't be `Debug`.
 impl<T> fmt::Debug for TrySendError<T> {
     ghost debug_output = { λ e. Some (try_send_debug_text e) };
 
@@ -203,7 +200,7 @@ impl<T> fmt::Debug for TrySendError<T> {
     }
 }
 
-/// `"SendTimeoutError(..)"`, quotation marks included, of each case: the message needn't be
+/// `"SendTimeoutError(..)"` for each case, with the quotation marks: the message needn't be
 /// `Debug`.
 impl<T> fmt::Debug for SendTimeoutError<T> {
     ghost debug_output = { λ _. Some send_timeout_debug_text };

@@ -16,7 +16,7 @@ use std::alloc::{AllocError, Allocator};
 pub(crate) enum History<'s, A: Allocator> {
     /// Every line is right.
     Right {
-        /// How many messages the channel is to hold: none of an unbounded one.
+        /// The capacity, or `None` if unbounded.
         capacity: Option<usize>,
         /// The steps with what was said of their replies, in the order of their lines.
         pairs: Vec<(Step<u64>, &'s [u8]), A>,
@@ -28,7 +28,7 @@ pub(crate) enum History<'s, A: Allocator> {
     },
 }
 
-// What stands before the first ` -> `, and what after it; none where another `-` stands before it.
+// The parts before and after the first ` -> `; `None` if another `-` is before it.
 fn parts_of(line: &[u8]) -> Option<(&[u8], &[u8])>
     ensures parts { IfSome result (λ r. line.now ≡ r.0.now ++ codes " -> " ++ r.1.now) }
     ensures first { IfSome result (λ r. All (λ x. (x == 45) ≡ false) r.0.now) }
@@ -41,7 +41,6 @@ fn parts_of(line: &[u8]) -> Option<(&[u8], &[u8])>
     Some((text, said))
 }
 
-// The step of a line, and what was said of its reply.
 fn pair_of(line: &[u8]) -> Option<(Step<u64>, &[u8])>
     ensures value { MatchOption result (IsNoPair line.now)
         (λ pair. IsPairLine line.now (pair.0, pair.1.now)) }
@@ -51,7 +50,7 @@ fn pair_of(line: &[u8]) -> Option<(Step<u64>, &[u8])>
     Some((step, said))
 }
 
-// The pairs of the lines, or how many stand before the first line that is none.
+// The pairs of the lines, or how many are before the first line that is none.
 fn read_pairs<A: Allocator + Copy>(
     alloc: A,
     mut rest: &[u8],
@@ -72,8 +71,8 @@ fn read_pairs<A: Allocator + Copy>(
     Ok(Ok(pairs))
 }
 
-/// Reads a history, up to its first wrong line. `NoMemory`: the pairs found no room. Linear in the
-/// length of the input.
+/// Reads a history, up to its first wrong line. `NoMemory`: the pairs couldn't be allocated. The
+/// time is linear in the length of the input.
 pub(crate) fn read_history<A: Allocator + Copy>(
     alloc: A,
     input: &[u8],

@@ -53,7 +53,7 @@ module _ {T : Type 0} where
   woken_holds : (mark : Mark T) → is_woken mark ≡ true → held_in mark ≡ None
   woken_holds mark e = grind (arith, common_steps)
 
-  -- where an end leaves, a filled entry keeps its message
+  -- if an end leaves, a filled entry keeps its message
   held_close : (closes : Bool) (t : ℕ) (m : T) (es : List (LogEntry T)) → IsHeld t m es
       → IsHeld t m (if closes then all_woken same_notice es else es)
   held_close closes t m es h = grind (arith, common_steps, held_woken same_notice t m es)
@@ -133,7 +133,7 @@ module _ {T : Type 0} where
       )) (sym h.1 ∙ is)
   filled_holds c closes _ t h apart is = absurd (let none : ⊥ = cc in none)
 
-  -- the entry that a change fills stood before it
+  -- the entry that a change fills was before it
   pub filled_stood : (c : Channel T) (done : Change T) (t : ℕ) → Fits c done → fills done ≡ Some t
       → (e : LogEntry T) × (entry_of t c.entries ≡ Some e)
   filled_stood c done t h is = by_found (entry_of t c.entries) refl

@@ -25,7 +25,7 @@ module _ {T : Type 0} where
   shown_fills_none (m ∷ list) zero t e = (let none : ⊥ = cc in none)
   shown_fills_none (m ∷ list) (suc k) t e = shown_fills_none list k t e
 
-  -- where a receiver is filled, nobody else is
+  -- if a receiver is filled, nobody else is
   fill_is : (filled : Option ℕ) (k t : ℕ) → slice_get (fill {T = T} filled) k ≡ Some (FilledIn t) → (filled ≡ Some t) × (k ≡ 0)
   fill_is filled k t e = grind (arith, common_steps)
 
@@ -33,19 +33,20 @@ module _ {T : Type 0} where
   fill_at : (done : Change T) (k t : ℕ) → slice_get (handed done) k ≡ Some (FilledIn t) → (fills done ≡ Some t) × (k ≡ 0)
   fill_at done k t e = grind (arith, common_steps, fill_is, shown_fills_none)
 
-  -- where the message was shown, the hand-out is of it
+  -- if the message was shown, the hand-out is of it
   by_shown : (over : Bool) (got held : Option T) (x m : T) → got ≡ Some x → x ≡ m → FillIs over got held m
   by_shown over got held x m is same = rw is same
 
-  -- where a message was shown, the fill is of it
+  -- if a message was shown, the fill is of it
   shown_is : (over : Bool) (got held : Option T) (x m : T) → got ≡ Some x → FillIs over got held m → x ≡ m
   shown_is over got held x m is h = rw is at h
 
-  -- where nothing was shown, what an entry holds is of it, or the channel is over
+  -- if nothing was shown, what an entry holds is of it, or the channel is over
   by_held : (over : Bool) (got held : Option T) (m : T) → got ≡ None → (over ≡ false → held ≡ Some m) → FillIs over got held m
   by_held over got held m is holds = grind (arith, common_steps)
 
-  -- where nothing was shown, and the channel isn't over, an entry holds the message that the fill is of
+  -- if nothing was shown, and the channel isn't over, an entry holds the message that the fill is
+  -- of
   held_is : (over : Bool) (got held : Option T) (m : T) → got ≡ None → over ≡ false → FillIs over got held m → held ≡ Some m
   held_is over got held m is open_ h = grind (arith, common_steps)
 

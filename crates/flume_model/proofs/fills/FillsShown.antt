@@ -1,4 +1,5 @@
--- What the replies of a run show to parked receivers: none while its entry stands, and the message that it holds as it leaves.
+-- What the replies of a run show to parked receivers: none while its entry is there, and the
+-- message that it holds as it leaves.
 use Rattle.flume_model.proofs.Common.{◌≡◌, ℕ, ◌≤◌, Bool, true, false, not, ◌&&◌, if◌then◌else◌, eqb, [], ◌∷◌, Option, Some, None, refl, sym}
 use Rattle.flume_model.proofs.Common.{◌∙◌, ap, arith, inl, inr, ◌⊎◌, eqb-true, eq-eqb, subst, cond-false, IsPolledMark, IsPolled}
 use Rattle.flume_model.proofs.Common.{IsGoneMark, IsGone, Channel, channel, is_over, entry_of, without, held_in, held_by, or_else, shows_to}
@@ -12,7 +13,7 @@ use Rattle.flume_model.proofs.Fits.{Fits}
 use Rattle.flume_model.proofs.waits.WaitingSteps.{nobody_once_over}
 
 module _ {T : Type 0} where
-  -- the ticket and the message of one that got a message, where it was shown to this ticket
+  -- the ticket and the message of one that got a message, if it was shown to this ticket
   got_is : (u t : ℕ) (m x : T) → (if eqb u t then Some m else None) ≡ Some x → (u ≡ t) × (m ≡ x)
   got_is u t m x e = grind (arith, common_steps)
 
@@ -49,7 +50,7 @@ module _ {T : Type 0} where
   gone_held A c t None y m h holds = absurd h
   gone_held A c t (Some e) y m h holds = withdraw_held A c t e.kind e.mark y m h holds
 
-  -- of two messages, where the first isn't there nor the second, there is none
+  -- of two messages, if the first isn't there nor the second, there is none
   pub neither : (first second : Option T) → ((x : T) → first ≡ Some x → ⊥) → second ≡ None → or_else first second ≡ None
   neither first second none e = grind (arith, common_steps)
 
@@ -85,7 +86,7 @@ module _ {T A : Type 0} where
       sym is.1 ∙ gone_held A c u (entry_of u c.entries) y m h (ap (λ v. held_by (entry_of v c.entries)) is.0 ∙ held)
   shows_held c _ _ t x m h shows held = absurd (let none : ⊥ = cc in none)
 
-  -- the entry of one that is shown a message stood before
+  -- the entry of one that is shown a message was before
   pub shows_stood : (o : Opening) (past : Log T A) (p : Step T × Reply T A) (t : ℕ) (x : T) → IsRun o (p ∷ past)
       → shows_to t p.0 p.1 ≡ Some x → (e : LogEntry T) × (entry_of t (entries o past) ≡ Some e)
   shows_stood o past p t x run shows = by_change (shows_leaves past p.0 p.1 t x shows)
@@ -95,7 +96,7 @@ module _ {T A : Type 0} where
       by_change (inl is) = let fit = subst (Fits (channel o past)) is (fits_run o past p run) in (fit.0, fit.2)
       by_change (inr is) = let fit = subst (Fits (channel o past)) is (fits_run o past p run) in (fit.1.entry, fit.1.found)
 
-  -- the entry of one that is shown a message is gone after
+  -- the entry of one that is shown a message has been dropped after
   shows_goes : (o : Opening) (past : Log T A) (p : Step T × Reply T A) (t : ℕ) (x : T) (closes : Bool) → IsRun o (p ∷ past)
       → shows_to t p.0 p.1 ≡ Some x → entry_of t (entries_after (queue o past) closes (entries o past) (change past p.0 p.1)) ≡ None
   shows_goes o past p t x closes run shows = by_change (shows_leaves past p.0 p.1 t x shows)

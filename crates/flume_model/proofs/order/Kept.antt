@@ -73,21 +73,21 @@ module _ {T A : Type 0} where
   pub kept_same : (past : Log T A) → filter (λ offer. not (withdrawn past offer)) (offers past ++ []) ≡ kept past
   kept_same past = ap (filter (λ offer. not (withdrawn past offer))) (append-nil (offers past))
 
-  -- one more offer stands last in the line
+  -- one more offer comes last in the line
   pub line_more : (past : Log T A) (x : Offer T) → withdrawn past x ≡ false → hand_outs past ≤ length (kept past)
       → drop (length (handed_out past ++ [])) (filter (λ offer. not (withdrawn past offer)) (offers past ++ x ∷ []))
       ≡ open_line past ++ x ∷ []
   line_more past x e within =
       rw (append-nil (handed_out past), kept_more past x e) (drop-append-le (hand_outs past) (kept past) (x ∷ []) within)
 
-  -- what a change hands out leaves the front of what stood there
+  -- what a change hands out leaves the front of what was there
   line_moved : (past : Log T A) (done : Change T)
       → line_by past done ≡ drop (length (handed done)) (drop (hand_outs past) (kept_by past done))
   line_moved past done =
       ap (λ n. drop n (kept_by past done)) (length-append (handed_out past) (handed done))
       ∙ sym (drop-drop (length (handed done)) (hand_outs past) (kept_by past done))
 
-  -- one more offer stands last, and the front one goes where a receiver is filled
+  -- one more offer comes last, and the front one goes if a receiver is filled
   pub line_queued : (past : Log T A) (m : T) (filled : Option ℕ) → hand_outs past ≤ length (kept past)
       → line_by past (Queues m filled) ≡ drop (how_many filled) (open_line past ++ record { message = m; ticket = None } ∷ [])
   line_queued past m filled within =
@@ -97,7 +97,7 @@ module _ {T A : Type 0} where
       ∙ ap (drop (length (fill {T = T} filled))) (drop-append-le (hand_outs past) (kept past) (x ∷ []) within)
       ∙ ap (λ n. drop n (open_line past ++ x ∷ [])) (length_fill T filled)
 
-  -- a receiver leaves, and the front offer goes where another one is filled
+  -- a receiver leaves, and the front offer goes if another one is filled
   pub line_after_leave : (past : Log T A) (t : ℕ) (filled : Option ℕ)
       → line_by past (Leaves t filled) ≡ drop (how_many filled) (open_line past)
   line_after_leave past t filled =

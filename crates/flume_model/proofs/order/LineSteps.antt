@@ -21,7 +21,7 @@ module _ {T A : Type 0} where
   kept_enough : (o : Opening) (past : Log T A) → IsRun o past → hand_outs past ≤ length (kept past)
   kept_enough o past run = given_within (kept past) (handed_out past) (shape_of o past run).parts
 
-  -- whether both ends are gone after a change
+  -- whether both sides have disconnected after a change
   abbrev pub over_by : Log T A → Change T → Bool
   over_by past done = eqb (senders_after (senders past) done + receivers_after (receivers past) done) 0
 
@@ -30,7 +30,7 @@ module _ {T A : Type 0} where
       → over_by past done ≡ is_over past → is_over past ≡ false → is_over (p ∷ past) ≡ false
   over_as_before past p done e same open_ = ap (over_by past) e ∙ same ∙ open_
 
-  -- a queued message stands last, and the front goes where a receiver is filled
+  -- a queued message comes last, and the front goes if a receiver is filled
   pub line_queues : (o : Opening) (past : Log T A) (p : Step T × Reply T A) (m : T) (filled : Option ℕ) → IsRun o past
       → change past p.0 p.1 ≡ Queues m filled → is_over past ≡ false
       → line (p ∷ past) ≡ drop (how_many filled) (line past ++ record { message = m; ticket = None } ∷ [])
@@ -40,7 +40,7 @@ module _ {T A : Type 0} where
       ∙ line_queued past m filled (kept_enough o past run)
       ∙ ap (λ l. drop (how_many filled) (l ++ x ∷ [])) (sym (line_is_open past open_))
 
-  -- a blocked message stands last, under the next ticket
+  -- a blocked message comes last, under the next ticket
   pub line_blocks : (o : Opening) (past : Log T A) (p : Step T × Reply T A) (m : T) (t : ℕ) → IsRun o past
       → change past p.0 p.1 ≡ Blocks m t → t ≡ next_ticket o past → is_over past ≡ false
       → line (p ∷ past) ≡ line past ++ record { message = m; ticket = Some t } ∷ []
@@ -67,7 +67,7 @@ module _ {T A : Type 0} where
       ∙ line_drained past list ∙ ap (drop (length list)) (sym (line_is_open past open_) ∙ at)
       ∙ drop_at front rest (length list) long
 
-  -- a receiver leaves, and the front goes where another one is filled
+  -- a receiver leaves, and the front goes if another one is filled
   pub line_leaves : (o : Opening) (past : Log T A) (p : Step T × Reply T A) (t : ℕ) (filled : Option ℕ) → IsRun o past
       → change past p.0 p.1 ≡ Leaves t filled → is_over past ≡ false → line (p ∷ past) ≡ drop (how_many filled) (line past)
   line_leaves o past p t filled run e open_ =

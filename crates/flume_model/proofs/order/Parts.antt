@@ -7,7 +7,7 @@ use Rattle.flume_model.proofs.Common.{HandOut, Shown, FilledIn, withdrawn, kept,
 use Rattle.flume_model.proofs.Fits.{fills_none}
 use Rattle.flume_model.proofs.order.Kept.{open_line, line_is_open}
 
--- the hand-out is of this message where its reply shows one; of a fill nothing is said here
+-- the hand-out is of this message if its reply shows one; of a fill nothing is said here
 abbrev pub ShownIs : {T : Type 0} → HandOut T → T → Type 0
 ShownIs (Shown given) message = given ≡ message
 ShownIs (FilledIn ticket) message = Unit {0}
@@ -29,7 +29,7 @@ pub record Shape {T A : Type 0} (o : Opening) (log : Log T A) : Type 0 where
   pub waits : some_wait (entries o log) ≡ true → boundary o log ≡ length (line log)
   pub unissued : (t : ℕ) (m : T) → next_ticket o log ≤ t → withdrawn log (record { message = m; ticket = Some t }) ≡ false
 
--- an offer to be withdrawn stands behind these, which are at least what is queued, and before those
+-- an offer to be withdrawn is behind these, which are at least what is queued, and before those
 pub record Withdrawal {T A : Type 0} (o : Opening) (past : Log T A) (t : ℕ) (m : T) (rest : List (Offer T)) : Type 0 where
   pub front : List (Offer T)
   pub later : List (Offer T)
@@ -48,28 +48,28 @@ module _ {T : Type 0} where
       let sum : length all ≡ length parts.gone + length parts.rest = ap length parts.kept_are ∙ length-append parts.gone parts.rest in
       omega arith
 
-  -- as many offers are gone as messages were handed out
+  -- as many offers have been dropped as messages were handed out
   pub rest_is : (all : List (Offer T)) (given : List (HandOut T)) (parts : Parts all given) → drop (length given) all ≡ parts.rest
   rest_is all given parts =
       let long : length parts.gone ≡ length given = AllZip-long _ given parts.gone parts.given_are in
       ap (drop (length given)) parts.kept_are ∙ drop_at parts.gone parts.rest (length given) long
 
 module _ {T A : Type 0} where
-  -- where the line isn't empty, the channel isn't over
+  -- if the line isn't empty, the channel isn't over
   pub open_at : (log : Log T A) (xs ys : List (Offer T)) (x : Offer T) → line log ≡ xs ++ x ∷ ys → is_over log ≡ false
   open_at log xs ys x e =
       elim (is_over log) as (λ b. cond b [] (open_line log) ≡ xs ++ x ∷ ys → b ≡ false)
       [ true ↦ λ e. absurd (omega (arith, ap length e, length-append xs (x ∷ ys))) | false ↦ λ e. refl ] e
 
 module _ {T : Type 0} where
-  -- where these have a message in front, the first offer has that
+  -- if these have a message in front, the first offer has that
   pub front_at : (some : List (Offer T)) (m : T) (later : List T) → messages some ≡ m ∷ later
       → (x : Offer T) × (rest : List (Offer T)) × (some ≡ x ∷ rest) × (x.message ≡ m)
   front_at [] m later e = absurd (let none : ⊥ = cc in none)
   front_at (x ∷ rest) m later e = (x, rest, refl, cc)
 
 module _ {T A : Type 0} where
-  -- where a blocked send stands in the line
+  -- if a blocked send is in the line
   pub blocked_at : (o : Opening) (log : Log T A) (t : ℕ) (m : T) → boundary o log ≤ length (line log) → IsBlocked (channel o log) t m
       → (front : List (Offer T)) × (later : List (Offer T)) × (line log ≡ front ++ record { message = m; ticket = Some t } ∷ later)
       × (boundary o log ≤ length front)
@@ -86,7 +86,7 @@ module _ {T A : Type 0} where
   pub line_is_rest : (log : Log T A) (parts : Parts (kept log) (handed_out log)) → is_over log ≡ false → line log ≡ parts.rest
   line_is_rest log parts open_ = line_is_open log open_ ∙ rest_is (kept log) (handed_out log) parts
 
-  -- where the offer that is withdrawn stands in the rest
+  -- if the offer that is withdrawn is in the rest
   pub withdrawn_at : (o : Opening) (past : Log T A) (t : ℕ) (m : T) (shape : Shape o past) → IsBlocked (channel o past) t m
       → Withdrawal o past t m shape.parts.rest
   withdrawn_at o past t m shape h =
@@ -94,7 +94,7 @@ module _ {T A : Type 0} where
       let open_ = open_at past place.0 place.1 _ place.2 in
       record { front = place.0; later = place.1; rest_are = sym (line_is_rest past shape.parts open_) ∙ place.2; queued = place.3 }
 
-  -- where one that leaves fills another, the line isn't empty
+  -- if one that leaves fills another, the line isn't empty
   pub leave_within : (o : Opening) (past : Log T A) (t : ℕ) → how_many (leave_fills t (queue o past) (entries o past)) ≤ length (line past)
   leave_within o past t = by_case (line past) refl
     where

@@ -9,7 +9,7 @@ use Rattle.flume_model.proofs.order.Kept.{kept_by, handed_by, open_line, not_wit
 use Rattle.flume_model.proofs.order.Parts.{ShownIs, Parts, Shape, at_most, front_at, open_at, line_is_rest, withdrawn_at, leave_within}
 
 module _ {T : Type 0} where
-  -- one more offer stands among the rest
+  -- one more offer is among the rest
   offer_more : (all : List (Offer T)) (given : List (HandOut T)) (x : Offer T) → Parts all given → Parts (all ++ x ∷ []) given
   offer_more all given x parts = record {
     gone = parts.gone;
@@ -29,7 +29,7 @@ module _ {T : Type 0} where
     given_are = all_zipped_more _ given gone hand_out x zip of;
   }
 
-  -- where a receiver is filled, the rest isn't empty, and its first offer goes
+  -- if a receiver is filled, the rest isn't empty, and its first offer goes
   fill_more : (all : List (Offer T)) (given : List (HandOut T)) (filled : Option ℕ) (gone rest : List (Offer T)) → all ≡ gone ++ rest
       → AllZip (λ hand_out offer. ShownIs hand_out offer.message) given gone → how_many filled ≤ length rest
       → Parts all (given ++ fill filled)
@@ -69,7 +69,7 @@ module _ {T A : Type 0} where
   line_within : (past : Log T A) (parts : Parts (kept past) (handed_out past)) → length (line past) ≤ length parts.rest
   line_within past parts = grind (arith, common_steps, line_is_rest past parts, cond-true)
 
-  -- what is queued stands in front of the rest
+  -- what is queued is in front of the rest
   queued_at : (o : Opening) (past : Log T A) (parts : Parts (kept past) (handed_out past))
       → (front : List (Offer T)) × (later : List (Offer T)) × (parts.rest ≡ front ++ later) × (queue o past ≡ messages front)
   queued_at o past parts = by_case (is_over past) refl

@@ -41,7 +41,7 @@ module _ {T A : Type 0} where
       let same : line_by past done ≡ line past = line_same past done keeps ∙ sym (line_is_open past open_) in
       rw same (record { in_line = shape.within; at_capacity = shape.full })
 
-  -- how long the line is where one more message is queued
+  -- how long the line is if one more message is queued
   pub long_queued : (o : Opening) (past : Log T A) (m : T) (filled : Option ℕ) → Shape o past → is_over past ≡ false
       → length (line_by past (Queues m filled)) ≡ length (line past) + 1 - how_many filled
   long_queued o past m filled shape open_ =
@@ -50,21 +50,21 @@ module _ {T A : Type 0} where
       ap length (line_queued past m filled given ∙ ap (λ l. drop (how_many filled) (l ++ x ∷ [])) (sym (line_is_open past open_)))
       ∙ length-drop (how_many filled) (line past ++ x ∷ []) ∙ ap (λ n. n - how_many filled) (length_push (line past) x)
 
-  -- how long it is where a receiver leaves
+  -- how long it is if a receiver leaves
   pub long_left : (past : Log T A) (t : ℕ) (filled : Option ℕ) → is_over past ≡ false
       → length (line_by past (Leaves t filled)) ≡ length (line past) - how_many filled
   long_left past t filled open_ =
       ap length (line_after_leave past t filled ∙ ap (drop (how_many filled)) (sym (line_is_open past open_)))
       ∙ length-drop (how_many filled) (line past)
 
-  -- how long it is where so many messages are drained
+  -- how long it is if this many messages are drained
   pub long_drained : (past : Log T A) (list : List T) → is_over past ≡ false
       → length (line_by past (Drains list)) ≡ length (line past) - length list
   long_drained past list open_ =
       ap length (line_drained past list ∙ ap (drop (length list)) (sym (line_is_open past open_)))
       ∙ length-drop (length list) (line past)
 
-  -- the line is one shorter where its front is taken
+  -- the line is one shorter if its front is taken
   pub long_taken : (o : Opening) (past : Log T A) (m : T) (receiver : Option ℕ) → Shape o past → IsFront (channel o past) m
       → is_over past ≡ false → length (line past) ≡ suc (length (line_by past (Takes m receiver)))
   long_taken o past m receiver shape h open_ =
@@ -72,7 +72,7 @@ module _ {T A : Type 0} where
       let rest : open_line past ≡ front.0 ∷ front.1 = sym (line_is_open past open_) ∙ front.2 in
       ap length front.2 ∙ sym (ap (λ l. suc (length l)) (line_front past m receiver front.0 front.1 rest))
 
-  -- where one that leaves fills another, one waits, so no sender is blocked
+  -- if one that leaves fills another, one waits, so no sender is blocked
   full_left : (o : Opening) (past : Log T A) (t : ℕ) (filled : Option ℕ) → Shape o past
       → filled ≡ leave_fills t (queue o past) (entries o past) → boundary o past < length (line past)
       → IsAtCapacity (capacity o past) (boundary o past - how_many filled)

@@ -95,7 +95,7 @@ module _ {T : Type 0} where
   matched (g ∷ given) (o ∷ gone) rest zip (suc j) x e = matched given gone rest zip.1 j x e
 
 module _ {T A : Type 0} where
-  -- at the place of each hand-out is a kept offer, whose message it is where its reply shows one
+  -- at the place of each hand-out is a kept offer, whose message it is if its reply shows one
   pub placed : (o : Opening) (log : Log T A) → IsRun o log → (j : ℕ) (given : HandOut T) → slice_get (handed_out log) j ≡ Some given
       → (offer : Offer T) × (slice_get (kept log) j ≡ Some offer) × ShownIs given offer.message
   placed o log run j given at_j =
@@ -106,7 +106,7 @@ module _ {T A : Type 0} where
   pub tickets_rise : (o : Opening) (log : Log T A) → IsRun o log → TicketsRise o log
   tickets_rise o log run = (shape_of o log run).rising
 
-  -- a sender is blocked only where the queue is at capacity
+  -- a sender is blocked only if the queue is at capacity
   pub blocked_at_capacity : (o : Opening) (log : Log T A) → IsRun o log → BlockedAtCapacity o log
   blocked_at_capacity o log run = (shape_of o log run).full
 

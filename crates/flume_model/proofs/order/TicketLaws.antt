@@ -115,7 +115,7 @@ module _ {T : Type 0} where
   below_later n [] ys zs t u m k h = All-at_seam (λ later. IsEarlier (Some t) later.ticket) ys _ zs h.1
   below_later n (x ∷ xs) ys zs t u m k h = below_later n xs ys zs t u m k h.2
 
-  -- a ticket of these is below one of those, where together they rise
+  -- a ticket of these is below one of those, if together they rise
   below_across : (n : ℕ) (xs ys : List (Offer T)) (t u : ℕ) → Rising n (xs ++ ys) → has_ticket t xs ≡ true → has_ticket u ys ≡ true → t < u
   below_across n xs ys t u h of_t of_u =
       let a = ticket_place t xs of_t in

@@ -12,7 +12,7 @@ use Rattle.flume_model.proofs.order.Kept.{line_same, keeps_line}
 use Rattle.flume_model.proofs.order.Parts.{Shape, blocked_at}
 use Rattle.flume_model.proofs.order.RoomAfter.{long_queued, long_left, long_drained, long_taken}
 
--- where the queue was the whole line and one was taken, it is that again
+-- if the queue was the whole line and one was taken, it is that again
 taken_whole : (capacity : Option ℕ) (n long : ℕ) → n ≡ long → max n (capped capacity long) ≡ long
 taken_whole capacity n long e = grind (arith, common_steps)
 
@@ -21,13 +21,13 @@ capped_none : (capacity : Option ℕ) → capped capacity 0 ≡ 0
 capped_none capacity = grind (arith, common_steps)
 
 module _ {T : Type 0} where
-  -- where one waits after an end left, one waited before
+  -- if one waits after an end left, one waited before
   wait_closing : (closes : Bool) (es : List (LogEntry T)) → some_wait (if closes then all_woken same_notice es else es) ≡ true
       → some_wait es ≡ true
   wait_closing closes es some = grind (arith, common_steps, wait_woken same_notice es)
 
 module _ {T A : Type 0} where
-  -- where the entries stay and so does the line, the queue is the whole line as before
+  -- if the entries stay and so does the line, the queue is the whole line as before
   waits_same : (o : Opening) (past : Log T A) (done : Change T) → Shape o past → is_over past ≡ false → keeps_line done ≡ true
       → some_wait (entries o past) ≡ true → boundary o past ≡ length (line_by past done)
   waits_same o past done shape open_ keeps some =

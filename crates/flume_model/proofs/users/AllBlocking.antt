@@ -1,4 +1,4 @@
--- Where all receivers block, no more is queued than the greatest capacity so far.
+-- If all receivers block, no more is queued than the greatest capacity so far.
 use Rattle.flume_model.proofs.Common.{◌≡◌, ℕ, ◌+◌, ◌-◌, ◌≤◌, Bool, true, false, not, ◌&&◌, [], ◌∷◌, Option, Some, None, refl, sym, arith, max}
 use Rattle.flume_model.proofs.Common.{subst, cond-true, cond-false, All-head, All-tail, parks_blocking, OnlyBlockingReceivers}
 use Rattle.flume_model.proofs.Common.{IsAtMostCapacity, Channel, channel, is_over, some_wait, round_fills, HasRoom, boundary, greater, greatest}
@@ -13,15 +13,15 @@ use Rattle.flume_model.proofs.users.BlockEntries.{AllBlock, round_fills_one, non
 less_within : (g c : Option ℕ) (n m : ℕ) → n ≤ m → IsAtMostCapacity g m → IsAtMostCapacity (greater g c) n
 less_within g c n m le h = grind (arith, common_steps)
 
--- where there is room for one more, it is within the capacity
+-- if there is room for one more, it is within the capacity
 room_within : (g c : Option ℕ) (n m : ℕ) → m ≤ n + 1 → HasRoom c n → IsAtMostCapacity (greater g c) m
 room_within g c n m le h = grind (arith, common_steps)
 
--- what is queued where one was taken
+-- what is queued if one was taken
 taken_within : (g c : Option ℕ) (n long : ℕ) → IsAtMostCapacity g n → IsAtMostCapacity (greater g c) (max (n - 1) (capped c long))
 taken_within g c n long h = grind (arith, common_steps)
 
--- what is queued where the capacity was set
+-- what is queued if the capacity was set
 resized_within : (g : Option ℕ) (new n long : ℕ) → IsAtMostCapacity g n
     → IsAtMostCapacity (greater g (Some new)) (max n (capped (Some new) long))
 resized_within None new n long h = tt
@@ -36,7 +36,7 @@ none_within : (c : Option ℕ) (n : ℕ) → n ≡ 0 → IsAtMostCapacity c n
 none_within c n e = grind (arith, common_steps)
 
 module _ {T : Type 0} where
-  -- where a message joins the queue
+  -- if a message joins the queue
   queues_within : (g : Option ℕ) (c : Channel T) (m : T) → (some_wait c.entries ≡ true → c.boundary ≡ 0) → AllBlock c.entries
       → (some_wait c.entries ≡ false → HasRoom c.capacity c.boundary)
       → IsAtMostCapacity (greater g c.capacity) (c.boundary + 1 - how_many (round_fills c.entries))
@@ -116,7 +116,7 @@ module _ {T A : Type 0} where
       let others = All-tail (λ q. parks_blocking q.0 ≡ true) p past only in
       within_more o past p run others (within_capacity o past run.1 others)
 
-  -- where the capacity was never above 0 nothing is queued
+  -- if the capacity was never above 0 nothing is queued
   pub rendezvous : (o : Opening) (log : Log T A) → IsRun o log → OnlyBlockingReceivers log → greatest o log ≡ Some 0 → boundary o log ≡ 0
   rendezvous o log run only none =
       let Within : Option ℕ → Type 0 = λ c. IsAtMostCapacity c (boundary o log) in

@@ -1,4 +1,5 @@
--- What one more pair of a run offers, and what stood there before it, weighs as much as what it gives out and leaves.
+-- What one more pair of a run offers, and what was there before it, weighs as much as what it gives
+-- out and leaves.
 use Rattle.flume_model.proofs.Common.{◌≡◌, ℕ, ◌+◌, ◌≤◌, Bool, true, false, if◌then◌else◌, List, [], ◌∷◌, ◌++◌, Some, None, refl, sym, ◌∙◌}
 use Rattle.flume_model.proofs.Common.{ap, arith, inl, inr, drop, take, length, sum_by, length-take-le, cases_lt, take-append-drop}
 use Rattle.flume_model.proofs.Common.{map-append, drop-map, take_all, length-map, sum_by-cons, sum_by-append, sum_by_push, channel, held}
@@ -39,12 +40,12 @@ module _ {T : Type 0} where
   woken_weighs : (weight : T → ℕ) (m : Mark T) → is_woken m ≡ true → mark_weighs weight m ≡ 0
   woken_weighs weight m e = grind (arith, common_steps)
 
-  -- where an end leaves
+  -- if an end leaves
   balanced_close : (weight : T → ℕ) (closes : Bool) (es : List (LogEntry T))
       → sum_by weight (held es) ≡ 0 + sum_by weight (held (if closes then all_woken same_notice es else es))
   balanced_close weight closes es = grind (arith, common_steps, held_woken same_notice es)
 
-  -- where one that asks waits again, or keeps its place
+  -- if one that asks waits again, or keeps its place
   balanced_again : (weight : T → ℕ) (t : ℕ) (es : List (LogEntry T)) → sum_by weight (held es) ≡ 0 + sum_by weight (held (again t es))
   balanced_again weight t es =
       again_cases (λ after. sum_by weight (held es) ≡ 0 + sum_by weight (held after)) t es (omega arith)
@@ -61,7 +62,7 @@ module _ {T A : Type 0} where
       weighs weight more + weighs weight (line past) + sum_by weight (held (entries o past))
       ≡ sum_by weight given + weighs weight (line (p ∷ past)) + sum_by weight (held after)
 
-  -- where a message is taken in at once, all of the line is queued
+  -- if a message is taken in at once, all of the line is queued
   queue_whole : (o : Opening) (past : Log T A) → IsRun o past
       → (some_wait (entries o past) ≡ false → HasRoom (capacity o past) (boundary o past)) → queue o past ≡ messages (line past)
   queue_whole o past run room = ap messages (take_all (boundary o past) (line past) (by_case (some_wait (entries o past)) refl))
@@ -74,13 +75,13 @@ module _ {T A : Type 0} where
             | inr le ↦ le
           ]
 
-  -- what isn't queued stands behind the queue
+  -- what isn't queued is behind the queue
   queue_behind : (o : Opening) (past : Log T A) → messages (line past) ≡ queue o past ++ messages (drop (boundary o past) (line past))
   queue_behind o past =
       ap messages (sym (take-append-drop (boundary o past) (line past)))
       ∙ map-append (λ offer. offer.message) (take (boundary o past) (line past)) (drop (boundary o past) (line past))
 
-  -- where the line stays
+  -- if the line stays
   balanced_same : (weight : T → ℕ) (o : Opening) (past : Log T A) (p : Step T × Reply T A) (closes : Bool) (done : Change T)
       → change past p.0 p.1 ≡ done → keeps_line done ≡ true → IsRun o past → is_over past ≡ false → is_over (p ∷ past) ≡ false
       → (given : List T) → sum_by weight (held (entries o past))
@@ -90,7 +91,7 @@ module _ {T A : Type 0} where
       let stays = ap (weighs weight) (line_stays o past p run (ap keeps_line e ∙ keeps) open_ still) in
       omega arith
 
-  -- where one that leaves passes its wake on, or doesn't
+  -- if one that leaves passes its wake on, or doesn't
   balanced_left : (weight : T → ℕ) (o : Opening) (past : Log T A) (t : ℕ) (e : LogEntry T) → entry_of t (entries o past) ≡ Some e
       → is_filled e.mark ≡ false
       → sum_by weight (drop (how_many (leave_fills t (queue o past) (entries o past))) (messages (line past)))

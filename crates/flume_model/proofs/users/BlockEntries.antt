@@ -40,12 +40,12 @@ module _ {T N : Type 0} where
   block_found t e [] h found = absurd (let none : ⊥ = cc in none)
   block_found t e (x ∷ es) h found = grind (arith, common_steps, block_found t e es)
 
-  -- where one of them waits, a round fills one
+  -- if one of them waits, a round fills one
   pub round_fills_one : (es : List (Entry T N)) → AllBlock es → some_wait es ≡ true → how_many (round_fills es) ≡ 1
   round_fills_one [] h some = absurd (let none : ⊥ = cc in none)
   round_fills_one (x ∷ es) h some = grind (arith, common_steps, round_fills_one es)
 
-  -- where none that blocks stands woken, none does
+  -- if none that blocks is woken, none does
   pub none_woken : (es : List (Entry T N)) → AllBlock es → block_woken es ≡ false → woken_count es ≡ 0
   none_woken [] h none = refl
   none_woken (x ∷ es) h none = grind (arith, common_steps, none_woken es)
@@ -56,7 +56,7 @@ module _ {T : Type 0} where
   parks_block (Parks t kind) = is_block kind
   parks_block _ = true
 
-  -- where an end leaves
+  -- if an end leaves
   block_closes : (closes : Bool) (es : List (LogEntry T)) → AllBlock es → AllBlock (if closes then all_woken same_notice es else es)
   block_closes closes es h = grind (arith, common_steps, block_all_woken same_notice es)
 

@@ -14,7 +14,7 @@ use Rattle.flume_model.proofs.users.Giving.{GivesOut, gives_out}
 use Rattle.flume_model.proofs.users.Balances.{weighs, weighs-append, balanced_by}
 
 module _ {T A : Type 0} where
-  -- once both ends are gone, a change that fits gives out nothing
+  -- once both sides have disconnected, a change that fits gives out nothing
   open_gives : (o : Opening) (past : Log T A) → IsRun o past → (done : Change T) → Fits (channel o past) done → (given : List T)
       → GivesOut (channel o past) done given → is_over past ≡ true → given ≡ []
   open_gives o past run (Withdraws t) h given g over =
@@ -37,7 +37,7 @@ module _ {T A : Type 0} where
       absurd (let none : ⊥ = cc in none)
   open_gives o past run _ h given g over = g
 
-  -- a step that leaves both ends gone gives out no message
+  -- a step that leaves both sides disconnected gives out no message
   over_gives : (o : Opening) (past : Log T A) → IsRun o past → (done : Change T) → Fits (channel o past) done → (given : List T)
       → GivesOut (channel o past) done given → over_by past done ≡ true → given ≡ []
   over_gives o past run SenderJoins h given g over = g

@@ -9,7 +9,7 @@ module _ {X : Type 0} where
   filter_place keeps (x ∷ xs) zero = if keeps x then 0 else suc (filter_place keeps xs zero)
   filter_place keeps (x ∷ xs) (suc j) = suc (filter_place keeps xs (if keeps x then j else suc j))
 
-  -- the j-th element that the filter keeps stands there
+  -- the j-th element that the filter keeps is there
   pub at_filter_place : (keeps : X → Bool) (xs : List X) (j : ℕ) (x : X) → slice_get (filter keeps xs) j ≡ Some x
       → slice_get xs (filter_place keeps xs j) ≡ Some x
   at_filter_place keeps [] j x e = absurd (let none : ⊥ = cc in none)
@@ -24,7 +24,7 @@ module _ {X : Type 0} where
   filter_places_rise keeps (y ∷ ys) (suc j) (suc k) lt =
       grind (arith, common_steps, filter_places_rise keeps ys j k, filter_places_rise keeps ys (suc j) (suc k))
 
-  -- an element that the filter keeps, before one of the places, stands at an earlier one of them
+  -- an element that the filter keeps, before one of the places, is at an earlier one of them
   pub place_of_kept : (keeps : X → Bool) (xs : List X) (i k : ℕ) (x : X) → i < filter_place keeps xs k → slice_get xs i ≡ Some x
       → keeps x ≡ true → (j : ℕ) × (j < k) × (filter_place keeps xs j ≡ i)
   place_of_kept keeps [] i k x lt e is = absurd (let none : ⊥ = cc in none)

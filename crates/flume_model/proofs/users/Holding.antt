@@ -58,7 +58,7 @@ module _ {T N : Type 0} where
       ≡ sum_by weight (front ∷ rest) + sum_by weight (held es)
   round_front weight tell front rest es = grind (arith, common_steps, held_round weight tell front es, sum_by-cons)
 
-  -- what a round hands to a receiver, where one more message was queued, it takes from the queue
+  -- what a round hands to a receiver, if one more message was queued, it takes from the queue
   pub queued_weighs : (weight : T → ℕ) (tell : N → N) (queue_ : List T) (m : T) (es : List (Entry T N))
       → sum_by weight (drop (how_many (round_fills es)) (queue_ ++ m ∷ [])) + sum_by weight (held (round_for tell (queue_ ++ m ∷ []) es))
       ≡ sum_by weight (queue_ ++ m ∷ []) + sum_by weight (held es)

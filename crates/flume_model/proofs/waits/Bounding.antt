@@ -1,4 +1,5 @@
--- What is queued and who waits are together at most the greater of the greatest capacity and the most that waited at once.
+-- Queued messages and waiting receivers are together at most the greater of the greatest capacity
+-- and the most that waited at once.
 use Rattle.flume_model.proofs.Common.{◌≡◌, ℕ, ◌+◌, ◌-◌, ◌≤◌, Bool, true, false, if◌then◌else◌, List, [], ◌∷◌, length, Option, Some, None}
 use Rattle.flume_model.proofs.Common.{refl, sym, ◌∙◌, ap, arith, max, subst, subst₂, cond-true, Channel, channel, is_over, is_woken}
 use Rattle.flume_model.proofs.Common.{some_wait, waiting_count, round, round_fills, all_woken, entry_of, without, HasRoom, boundary, capacity}
@@ -12,7 +13,7 @@ use Rattle.flume_model.proofs.EntryLists.{round_for_push, again_cases, leave_cas
 use Rattle.flume_model.proofs.EntryCounts.{round_counts, without_counts, counted_none}
 use Rattle.flume_model.proofs.waits.WaitingSteps.{Stood, Long, stepped, nobody_once_over}
 
--- how many are queued and how many wait after a change, where both together were so many before
+-- how many are queued and how many wait after a change, if both together were this many before
 data LeavesWithin (capacity : Option ℕ) (was queued waits : ℕ) : Type 0 where
   -- no more of both together than before
   NoMore : queued + waits ≤ was → LeavesWithin capacity was queued waits
@@ -21,7 +22,7 @@ data LeavesWithin (capacity : Option ℕ) (was queued waits : ℕ) : Type 0 wher
   -- nobody waits, and no more is queued than the capacity, or than before
   NoneWaits : waits ≡ 0 → IsWithin capacity was queued → LeavesWithin capacity was queued waits
 
--- what is queued and who waits, left within the bound so, are within it
+-- queued messages and waiting receivers, left within the bound so, are within it
 within_after : (most capacity : Option ℕ) (highest was queued waits : ℕ) → IsWithin most highest was
     → LeavesWithin capacity was queued waits → IsWithin (greater most capacity) (max highest waits) (queued + waits)
 within_after None capacity highest was queued waits before leaves = tt
@@ -30,24 +31,24 @@ within_after (Some n) (Some c) highest was queued waits before (NoMore le) = ome
 within_after (Some n) (Some c) highest was queued waits before (OnlyWaits none) = omega arith
 within_after (Some n) (Some c) highest was queued waits before (NoneWaits none le) = omega arith
 
--- where the queue has room, one more is within the capacity
+-- if the queue has room, one more is within the capacity
 room_within : (capacity : Option ℕ) (was n : ℕ) → HasRoom capacity n → IsWithin capacity was (n + 1)
 room_within capacity was n room = grind (arith, common_steps)
 
--- where one was taken, what is queued is within the capacity, or was queued before
+-- if one was taken, what is queued is within the capacity, or was queued before
 taken_within : (capacity : Option ℕ) (long n was : ℕ) → n ≤ was → IsWithin capacity was (max (n - 1) (capped capacity long))
 taken_within capacity long n was le = grind (arith, common_steps)
 
--- where the capacity was set, what is queued is within it, or was queued before
+-- if the capacity was set, what is queued is within it, or was queued before
 resized_within : (new long n was : ℕ) → n ≤ was → IsWithin (Some new) was (max n (capped (Some new) long))
 resized_within new long n was le = omega arith
 
--- where all that was queued was drained, what is queued then is within the capacity
+-- if all that was queued was drained, what is queued then is within the capacity
 drained_within : (capacity : Option ℕ) (long was : ℕ) → IsWithin capacity was (capped capacity long)
 drained_within capacity long was = grind (arith, common_steps)
 
 module _ {T : Type 0} where
-  -- where none waits a round fills none
+  -- if none waits a round fills none
   fills_nobody : (es : List (LogEntry T)) → some_wait es ≡ false → how_many (round_fills es) ≡ 0
   fills_nobody es none = grind (arith, common_steps, fills_waiting es)
 
@@ -55,18 +56,19 @@ module _ {T : Type 0} where
   woken_uncounted : (es : List (LogEntry T)) → waiting_count (all_woken same_notice es) ≡ 0
   woken_uncounted es = counted_none (all_woken same_notice es) (wait_woken same_notice es)
 
-  -- where an entry leaves, no more wait
+  -- if an entry leaves, no more wait
   fewer_without : (t : ℕ) (e : LogEntry T) (es : List (LogEntry T)) → entry_of t es ≡ Some e
       → waiting_count (without t es) ≤ waiting_count es
   fewer_without t e es found = let counts = without_counts t e es found in let waiting = counts.waiting in omega arith
 
-  -- where an end leaves
+  -- if an end leaves
   leaves_close : (c : Channel T) (closes : Bool) → LeavesWithin c.capacity (c.boundary + waiting_count c.entries) c.boundary
       (waiting_count (if closes then all_woken same_notice c.entries else c.entries))
   leaves_close c true = NoMore (let none = woken_uncounted c.entries in omega arith)
   leaves_close c false = NoMore (omega arith)
 
-  -- where nobody more waits, and no more is queued than the capacity and, while a receiver waits, than before
+  -- if nobody more waits, and no more is queued than the capacity and, while a receiver waits, than
+  -- before
   leaves_fewer : (c : Channel T) (queued waits : ℕ) → waits ≤ waiting_count c.entries → (some_wait c.entries ≡ true → queued ≤ c.boundary)
       → IsWithin c.capacity (c.boundary + waiting_count c.entries) queued
       → LeavesWithin c.capacity (c.boundary + waiting_count c.entries) queued waits
@@ -76,7 +78,7 @@ module _ {T : Type 0} where
       by_case true e = let le = some e in NoMore (omega arith)
       by_case false e = let none = counted_none c.entries e in NoneWaits (omega arith) within
 
-  -- where a message joined the queue
+  -- if a message joined the queue
   leaves_queued : (c : Channel T) (front : T) → (some_wait c.entries ≡ false → HasRoom c.capacity c.boundary)
       → LeavesWithin c.capacity (c.boundary + waiting_count c.entries) (c.boundary + 1 - how_many (round_fills c.entries))
       (waiting_count (round same_notice front c.entries))
@@ -164,7 +166,8 @@ module _ {T A : Type 0} where
           (waiting_count (entries o (p ∷ past))) before
           (subst₂ LeftBy (sym s.boundary_is) (sym (ap waiting_count s.entries_are)) leaves)
 
-  -- what is queued and who waits are together at most the greater of the greatest capacity and the most that waited at once
+  -- queued messages and waiting receivers are together at most the greater of the greatest capacity
+  -- and the most that waited at once
   pub bounded : (o : Opening) (log : Log T A) → IsRun o log → Bounded o log
   bounded o [] run = none_within o.capacity _ _ (omega arith)
   bounded o (p ∷ past) run = bounded_more o past p run (bounded o past run.1)

@@ -1,4 +1,4 @@
--- While a receiver waits, at least as many stand woken as messages are queued.
+-- While a receiver waits, at least as many are woken as messages are queued.
 use Rattle.flume_model.proofs.Common.{◌≡◌, ℕ, ◌+◌, ◌-◌, ◌≤◌, Bool, true, false, if◌then◌else◌, [], ◌∷◌, length, Some, None, refl, sym, ◌∙◌}
 use Rattle.flume_model.proofs.Common.{◌⊎◌, inl, inr, ap, arith, Channel, channel, is_over, is_woken, some_wait, woken_count, round}
 use Rattle.flume_model.proofs.Common.{round_fills, all_woken, entry_of, without, passes_on, after_leave, leave_fills, boundary}
@@ -24,7 +24,7 @@ module _ {T : Type 0} where
   woken_is : (m : Mark T) → (is_woken m ≡ true) ⊎ (woken_one m ≡ 0)
   woken_is m = grind (arith, common_steps)
 
-  -- one that leaves with no wake to pass on, where nothing is queued if it was woken
+  -- one that leaves with no wake to pass on, if nothing is queued if it was woken
   covered_left : (c : Channel T) (t : ℕ) (e : LogEntry T) → Stood c → entry_of t c.entries ≡ Some e
       → (passes_on (entry_of t c.entries) ≡ true → c.queue ≡ []) → c.boundary ≤ woken_count c.entries
       → c.boundary ≤ woken_count (without t c.entries)
@@ -49,7 +49,7 @@ module _ {T : Type 0} where
       let fewer = rounded.fewer (wait_round same_notice front (without t c.entries) some) in
       omega arith
 
-  -- where an end leaves
+  -- if an end leaves
   covered_close : (c : Channel T) (closes : Bool) → (some_wait c.entries ≡ true → c.boundary ≤ woken_count c.entries)
       → some_wait (if closes then all_woken same_notice c.entries else c.entries) ≡ true
       → c.boundary ≤ woken_count (if closes then all_woken same_notice c.entries else c.entries)
@@ -129,7 +129,7 @@ module _ {T A : Type 0} where
           let woken = ap woken_count s.entries_are in
           omega arith
 
-  -- while a receiver waits, at least as many stand woken as messages are queued
+  -- while a receiver waits, at least as many are woken as messages are queued
   pub covered : (o : Opening) (log : Log T A) → IsRun o log → Covered o log
   covered o [] run some = absurd (let none : ⊥ = cc in none)
   covered o (p ∷ past) run some = covered_more o past p run (covered o past run.1) some

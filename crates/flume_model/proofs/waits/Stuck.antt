@@ -1,4 +1,4 @@
--- Nobody is stuck: where nobody stands woken, nobody waits for a message or for room that is there.
+-- Nobody is stuck: if nobody is woken, nobody waits for a message or for room that is there.
 use Rattle.flume_model.proofs.Common.{◌≡◌, ◌<◌, Bool, true, false, List, [], ◌∷◌, length, refl, arith}
 use Rattle.flume_model.proofs.Common.{some_wait, woken_count, line, boundary, Log, Opening, entries, IsRun}
 use Rattle.flume_model.specs.WaitLaws.{NobodyStuck}

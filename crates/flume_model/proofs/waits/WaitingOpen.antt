@@ -1,4 +1,5 @@
--- A receiver waits only in an open channel, and only while no sender is blocked; once both ends are gone nothing is left.
+-- A receiver waits only in an open channel, and only while no sender is blocked; once both sides
+-- have disconnected nothing is left.
 use Rattle.flume_model.proofs.Common.{◌≡◌, ℕ, ◌≤◌, Bool, true, false, not, ◌&&◌, if◌then◌else◌, List, [], ◌∷◌, length, Some, refl, sym, ◌∙◌}
 use Rattle.flume_model.proofs.Common.{ap, arith, drop, eqb-false, length-drop, drop_all, Channel, channel, senders, receivers}
 use Rattle.flume_model.proofs.Common.{senders_after, receivers_after, is_over, is_woken, some_wait, all_woken, IsOpen, is_closed, line}
@@ -13,12 +14,12 @@ use Rattle.flume_model.proofs.order.LineSteps.{line_over}
 use Rattle.flume_model.proofs.waits.WaitingSteps.{stepped, nobody_once_over}
 
 module _ {X : Type 0} where
-  -- where nothing is left behind a front, it is the whole list
+  -- if nothing is left behind a front, it is the whole list
   pub whole_by : (n : ℕ) (xs : List X) → drop n xs ≡ [] → length xs ≤ n
   whole_by n xs e = let long = sym (length-drop n xs) ∙ ap length e in omega arith
 
 module _ {T A : Type 0} where
-  -- where the queue is the whole line no sender is blocked
+  -- if the queue is the whole line no sender is blocked
   pub none_blocked_by : (o : Opening) (log : Log T A) → length (line log) ≤ boundary o log → blocked o log ≡ []
   none_blocked_by o log le = drop_all (boundary o log) (line log) le
 
@@ -27,7 +28,7 @@ open_still : (s r s2 r2 : ℕ) → IsOpen s r → (not (is_closed s r) && is_clo
 open_still s r s2 r2 is_open e = grind (arith, common_steps, eqb-false)
 
 module _ {T : Type 0} where
-  -- where an end leaves
+  -- if an end leaves
   open_close : (c : Channel T) (s2 r2 : ℕ) (closes : Bool) → closes ≡ (not (is_closed c.senders c.receivers) && is_closed s2 r2)
       → (some_wait c.entries ≡ true → IsOpen c.senders c.receivers)
       → some_wait (if closes then all_woken same_notice c.entries else c.entries) ≡ true → IsOpen s2 r2
@@ -82,11 +83,11 @@ module _ {T A : Type 0} where
       let whole = waits_whole o log run some in
       (waits_open o log run some, none_blocked_by o log (omega arith))
 
-  -- once both ends are gone, no ticket is live
+  -- once both sides have disconnected, no ticket is live
   none_live_once_over : (log : Log T A) → is_over log ≡ true → (t : ℕ) → is_live log t ≡ false
   none_live_once_over [] over t = refl
   none_live_once_over (p ∷ past) over t = rw over refl
 
-  -- once both ends are gone, nothing is left
+  -- once both sides have disconnected, nothing is left
   pub nothing_once_over : (o : Opening) (log : Log T A) → IsRun o log → NothingOnceOver o log
   nothing_once_over o log run over = (line_over log over, nobody_once_over o log over, none_live_once_over log over)

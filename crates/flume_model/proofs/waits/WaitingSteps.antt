@@ -1,4 +1,5 @@
--- What stands before a step of a run, and how long the line is after it: numbers alone, for the laws of parked receivers.
+-- What is before a step of a run, and how long the line is after it: numbers alone, for the laws of
+-- parked receivers.
 use Rattle.flume_model.proofs.Common.{◌≡◌, ℕ, ◌+◌, ◌-◌, ◌≤◌, Bool, true, false, not, ◌&&◌, [], ◌∷◌, ◌++◌, length, drop, take, Some, None}
 use Rattle.flume_model.proofs.Common.{refl, sym, ◌∙◌, ap, arith, length-append, length-take-le, cond-true, cond-false, take-append-drop}
 use Rattle.flume_model.proofs.Common.{length-drop, length-map, length_push, Channel, channel, is_over, some_wait, line, boundary}
@@ -104,7 +105,7 @@ module _ {T A : Type 0} where
       omega arith
   long_after o past p done e run h open_ still = long_same o past p done e refl run open_ still
 
-  -- what stands after one more pair of a run, while the channel isn't over
+  -- what is after one more pair of a run, while the channel isn't over
   pub record Stepped (o : Opening) (past : Log T A) (p : Step T × Reply T A) : Type 0 where
     pub stood : Stood (channel o past)
     pub fit : Fits (channel o past) (change past p.0 p.1)

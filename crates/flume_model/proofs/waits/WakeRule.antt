@@ -9,7 +9,7 @@ module _ {T N : Type 0} where
   abbrev stands_as : Entry T N → Kind → Mark T → Entry T N
   stands_as e k mark = record e { kind = k; mark = mark }
 
-  -- a round that goes past an entry follows its rule, where the round over those behind it does
+  -- a round that goes past an entry follows its rule, if the round over those behind it does
   goes_past : (tell : N → N) (front : T) (e : Entry T N) (old new : List (Entry T N)) (filled : Option ℕ)
       → IsPassed e → IsWakeRound tell front old new filled
       → IsWakeRound tell front (e ∷ old) ((if is_waiting e.mark then marked tell Woken e else e) ∷ new) filled

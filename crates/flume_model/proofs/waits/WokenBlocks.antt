@@ -1,4 +1,4 @@
--- A receiver that blocks stands woken only in a closed channel, and only where no sender is blocked.
+-- A receiver that blocks is woken only in a closed channel, and only if no sender is blocked.
 use Rattle.flume_model.proofs.Common.{◌≡◌, ℕ, ◌≤◌, Bool, true, false, not, ◌&&◌, if◌then◌else◌, List, [], ◌∷◌, ◌++◌, length, Some, refl}
 use Rattle.flume_model.proofs.Common.{sym, ◌∙◌, ◌⊎◌, inl, inr, ap, arith, min, eqb-true, and_parts, list_any-append, Channel}
 use Rattle.flume_model.proofs.Common.{channel, senders, receivers, senders_after, receivers_after, is_over, is_woken, some_wait, all_woken}
@@ -11,7 +11,7 @@ use Rattle.flume_model.proofs.EntryLists.{round_for_push, again_cases, leave_cas
 use Rattle.flume_model.proofs.waits.WaitingSteps.{Stood, Long, stepped, nobody_once_over, line_long}
 use Rattle.flume_model.proofs.waits.WaitingOpen.{whole_by, none_blocked_by}
 
--- what is shown of a channel that has so many ends: it is closed, and the queue is the whole line
+-- what is shown of a channel that has this many ends: it is closed, and the queue is the whole line
 abbrev ClosedWhole : ℕ → ℕ → ℕ → ℕ → Type 0
 ClosedWhole s r long n = IsClosed s r × (long ≤ n)
 
@@ -31,12 +31,12 @@ module _ {T : Type 0} where
       → block_woken es ≡ true
   block_push es x e h = grind (arith, common_steps, list_any-append)
 
-  -- where all that wait are woken, one that blocks stood woken or one waited
+  -- if all that wait are woken, one that blocks was woken or one waited
   block_closes : (es : List (LogEntry T)) → block_woken (all_woken same_notice es) ≡ true → (block_woken es ≡ true) ⊎ (some_wait es ≡ true)
   block_closes [] h = inl h
   block_closes (x ∷ es) h = grind (arith, common_steps, block_closes es)
 
-  -- where an end leaves
+  -- if an end leaves
   closed_close : (c : Channel T) (s2 r2 n : ℕ) (closes : Bool) → Stood c → n ≡ length c.line
       → closes ≡ (not (is_closed c.senders c.receivers) && is_closed s2 r2) → (IsClosed c.senders c.receivers → IsClosed s2 r2)
       → (block_woken c.entries ≡ true → ClosedWhole c.senders c.receivers (length c.line) c.boundary)
@@ -126,7 +126,7 @@ module _ {T A : Type 0} where
           let le = main.1 in
           (main.0, none_blocked_by o (p ∷ past) (omega arith))
 
-  -- a receiver that blocks stands woken only in a closed channel, and only where no sender is blocked
+  -- a receiver that blocks is woken only in a closed channel, and only if no sender is blocked
   pub woken_block_while_closed : (o : Opening) (log : Log T A) → IsRun o log → WokenBlockWhileClosed o log
   woken_block_while_closed o [] run some = absurd (let none : ⊥ = cc in none)
   woken_block_while_closed o (p ∷ past) run some = closed_more o past p run (woken_block_while_closed o past run.1) some

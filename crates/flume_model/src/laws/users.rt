@@ -17,14 +17,14 @@ pub fn messages_are_conserved<T, A: Allocator>()
         → IsRun opening log → Conserved opening log }
 {}
 
-/// Of each run, the hand-outs are of offers in the order in which these were made, and leave none
-/// behind that wasn't withdrawn: so too of the offers of one producer.
+/// Of each run, messages are handed out in the order in which they were offered, and none that
+/// wasn't withdrawn is left behind: so too of the offers of one producer.
 pub fn each_producers_offers_keep_their_order<T, A: Allocator>()
     ensures law { (opening : Opening) (log : Log T A) → IsRun opening log → HandedOutInOrder log }
 {}
 
-/// Of each run whose receivers all block, no more messages are queued than the greatest capacity
-/// so far; so where the capacity was never above 0, none is ever queued.
+/// Of each run whose receivers all block, no more messages are queued than the greatest capacity so
+/// far; so if the capacity was never above 0, none is ever queued.
 pub fn blocking_receivers_keep_the_queue_within_capacity<T, A: Allocator>()
     ensures law { (opening : Opening) (log : Log T A) → IsRun opening log
         → OnlyBlockingReceivers log

@@ -14,7 +14,7 @@ use std::alloc::Allocator;
 
 /// A wake round, over any entries and with any front, follows its rule, and nothing else does: the
 /// waiting entries before the first waiting one that is no stream are woken; that one is filled
-/// with the front where it blocks, and else woken; all others stay as they are.
+/// with the front if it blocks, and else woken; all others stay as they are.
 pub fn wake_rounds_follow_their_rule<T, N>()
     ensures law { (tell : N → N) (front : T) (entries : List (Entry T N))
         → IsWakeRound tell front entries (round tell front entries) (round_fills entries) }
@@ -23,7 +23,7 @@ pub fn wake_rounds_follow_their_rule<T, N>()
         → (new ≡ round tell front old) × (filled ≡ round_fills old) }
 {}
 
-/// Of each run, while a receiver waits, at least as many receivers stand woken as messages are
+/// Of each run, while a receiver waits, at least as many receivers are woken as messages are
 /// queued.
 pub fn waiting_receivers_are_covered<T, A: Allocator>()
     ensures law { (opening : Opening) (log : Log T A) → IsRun opening log → Covered opening log }
@@ -49,8 +49,8 @@ pub fn nobody_is_stuck<T, A: Allocator>()
         → woken_count (entries opening log) ≡ 0 → NobodyStuck opening log }
 {}
 
-/// Of each run, a receiver that blocks stands woken, with no message, only where the channel is
-/// closed and no sender is blocked.
+/// Of each run, a receiver that blocks is woken, with no message, only if the channel is closed and
+/// no sender is blocked.
 pub fn blocking_receivers_are_woken_only_by_closing<T, A: Allocator>()
     ensures law { (opening : Opening) (log : Log T A)
         → IsRun opening log → WokenBlockWhileClosed opening log }
@@ -65,7 +65,7 @@ pub fn tickets_of_receivers_are_apart<T, A: Allocator>()
         → IsRun opening log → SidesApart opening log }
 {}
 
-/// Of each run, a parked receiver holds a message just where some reply named it as filled.
+/// Of each run, a parked receiver holds a message exactly if some reply named it as filled.
 pub fn receivers_are_filled_just_where_told<T, A: Allocator>()
     ensures law { (opening : Opening) (log : Log T A) → IsRun opening log → ToldFilled opening log }
 {}

@@ -23,7 +23,7 @@ module _ {T N : Type 0} where
   first_waiting [] = None
   first_waiting (e ∷ entries) = if is_waiting e.mark then Some e else first_waiting entries
 
-  -- the entries with another mark of the first that waits, which is told of it
+  -- the entries with another mark of the first that waits, whose notice says so
   abbrev pub with_first_marked : (N → N) → Mark T → List (Entry T N) → List (Entry T N)
   with_first_marked tell mark [] = []
   with_first_marked tell mark (e ∷ entries) =

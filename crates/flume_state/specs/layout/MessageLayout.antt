@@ -8,21 +8,21 @@ use Rattle.flume_chain.specs.declared.labelled.Labelled.{Labelled}
 abbrev pub Message : Type 0 → Type 0
 Message T = Labelled (Option ℕ) T
 
--- a blocked message: the place where it stands, and that of its send
+-- a blocked message: its place, and that of its send
 pub record BlockedAt (T : Type 0) : Type 0 where
   pub place : ℕ
   pub owner : ℕ
   pub message : T
 
 -- what a contract sees of the chain: the queued messages, and behind them the blocked ones; and how
--- many messages may stand before more memory is needed, those that stand included
+-- many messages fit before one needs an allocation, those that are there included
 pub record MessageList (T : Type 0) : Type 0 where
   pub queued : List T
   pub blocked : List (BlockedAt T)
   pub space : ℕ
 
 module _ {T : Type 0} where
-  -- how many messages stand, queued and blocked
+  -- how many messages there are, queued and blocked
   abbrev pub message_count : MessageList T → ℕ
   message_count list = length list.queued + length list.blocked
 
@@ -46,7 +46,7 @@ module _ {T : Type 0} where
     pub same : new.queued ≡ old.queued
     pub same_space : new.space ≡ old.space
 
-  -- a message without an owner ahead of others; nothing more where it has one
+  -- a message without an owner ahead of others; nothing more if it has one
   abbrev pub queued_ahead : Option ℕ → T → List T → List T
   queued_ahead None message queued = message ∷ queued
   queued_ahead (Some owner) message queued = queued
@@ -68,7 +68,7 @@ module _ {T : Type 0} where
   blocked_of (x ∷ items) =
       blocked_ahead x.place x.element.label x.element.value (blocked_of items)
 
-  -- the messages of these elements, where so many may stand
+  -- the messages of these elements, if this many fit
   abbrev pub messages_of : List (Placed (Message T)) → ℕ → MessageList T
   messages_of items space = record {
     queued = queued_of items;
@@ -76,7 +76,7 @@ module _ {T : Type 0} where
     space = space;
   }
 
-  -- how many elements may stand: those that do, and as many as there is room for
+  -- how many elements fit: those that are there, and as many as there is room for
   abbrev pub space_of : Chained (Message T) → ℕ
   space_of chain = chain.room + length chain.items
 

@@ -27,7 +27,7 @@ pub record Link : Type 0 where
 abbrev pub at_message : ℕ → Link → Link
 at_message message l = record l { message = message }
 
--- the link of a send whose message is accepted from now on, where this is true
+-- the link of a send whose message is accepted from now on, if this is true
 abbrev pub accepting : Bool → Link → Link
 accepting accepts l = record l { accepted = accepts || l.accepted }
 
@@ -47,7 +47,7 @@ module _ {S : Type 0} where
   abbrev pub live_sends : SendList S → SendMap S
   live_sends items = by_ticket (sends_in items)
 
-  -- the ticket of the send at a place, or 0 where none stands there
+  -- the ticket of the send at a place, or 0 if there is none there
   abbrev pub ticket_at : SendList S → ℕ → ℕ
   ticket_at items k = option_map_or (λ send. send.label) (found items k) 0
 

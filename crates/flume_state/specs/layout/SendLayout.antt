@@ -19,7 +19,7 @@ abbrev pub Element : Type 0 → Type 0
 Element S = Placed (Ticketed (LiveSend S))
 
 module _ {S : Type 0} where
-  -- a send that becomes due, and is accepted where this is true
+  -- a send that becomes due, and is accepted if this is true
   abbrev pub due_accepting : Bool → LiveSend S → LiveSend S
   due_accepting accepts s = record { accepted = accepts || s.accepted; notice = due_now s.notice }
 

@@ -21,8 +21,8 @@ module _ {E : Type 0} where
   place_of t [] = None
   place_of t (x ∷ items) = if x.element.label == t then Some x.place else place_of t items
 
-  -- the elements with one more: ahead of that at a place, or behind all others where no place is
-  -- given or none stands there
+  -- the elements with one more: ahead of that at a place, or behind all others if no place is given
+  -- or there is none there
   abbrev pub put_ahead : List (Placed E) → Option ℕ → Placed E → List (Placed E)
   put_ahead items None x = items ++ x ∷ []
   put_ahead items (Some k) x = put_before items k x

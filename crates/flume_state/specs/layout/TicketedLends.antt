@@ -1,5 +1,4 @@
--- For this crate alone: what a `TicketChain` ends as, where a `&mut` to one of its values is
--- returned.
+-- For this crate alone: what a `TicketChain` ends as, if a `&mut` to one of its values is returned.
 use Rattle.std.specs.Prelude.{ℕ, Option}
 use Rattle.std.specs.Borrow.{LendsIf, Fml, RattleType, MutBor}
 use Rattle.std.specs.declared.alloc.Allocator.{Ghosts}
@@ -10,7 +9,7 @@ use Rattle.flume_state.specs.contracts.ticketed.TicketChain.{the_row}
 
 module _ (E A : RattleType) (alloc : Ghosts A.Denot)
     (s : MutBor (Chained (Ticketed E.Denot))) (place : ℕ) where
-  -- once the borrow r ends, its last value stands at the place; at `None` nothing changed
+  -- once the borrow r ends, its last value is at the place; at `None` nothing changed
   abbrev pub lends_value : Option (MutBor E.Denot) → Fml
   lends_value r =
       LendsIf (the_row E A alloc) E s r

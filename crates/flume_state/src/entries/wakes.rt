@@ -1,4 +1,4 @@
-//! Wake rounds, and who of the parked receivers is due.
+//! Wake rounds, and which parked receivers are due.
 ghost use Rattle.std.specs.Prelude.{◌≡◌, ◌≢◌, length, false, IfSome, IfNone};
 ghost use Rattle.std.specs.Option.{option_map};
 ghost use Rattle.flume_model.specs.Entries.{is_waiting, all_woken};
@@ -14,10 +14,10 @@ use flume_model::step::Kind;
 use std::alloc::Allocator;
 
 impl<T: Drop, S: Drop, A: Allocator + Copy> Entries<T, S, A> {
-    /// A wake round: the waiting receivers are woken in order, up to the first that isn't a stream,
-    /// and this one, if it blocks, is handed the front of the queue. All that were met are due. The
-    /// ticket that was filled, if one was. Nothing changes where nothing is queued or nobody waits,
-    /// and then it only reads two counts. Takes no memory.
+    /// A wake round: the waiting receivers are woken in order, up to the first that isn't a stream;
+    /// this one, if it blocks, is handed the front of the queue. All that were met are due. Answers
+    /// the ticket that was filled, if one was. If nothing is queued or nobody waits, nothing
+    /// changes, and only two counts are read.
     #[inline(always)]
     pub fn wake(&mut self, line: &mut Line<T, S, A>) -> Option<u64>
         ensures fills { result ≡ round_for_fills line.old.queued self.old }
@@ -33,7 +33,6 @@ impl<T: Drop, S: Drop, A: Allocator + Copy> Entries<T, S, A> {
         self.wake_round(line)
     }
 
-    // The round, where a message is queued.
     #[cold]
     #[inline(never)]
     fn wake_round(&mut self, line: &mut Line<T, S, A>) -> Option<u64>
@@ -62,7 +61,6 @@ impl<T: Drop, S: Drop, A: Allocator + Copy> Entries<T, S, A> {
         None
     }
 
-    // The ticket and the kind of the first that waits.
     #[inline(always)]
     fn next_waiting(&self) -> Option<(u64, Kind)>
         ensures first { result ≡ option_map (λ e. (e.ticket, e.kind)) (first_waiting self.now) }
@@ -73,7 +71,6 @@ impl<T: Drop, S: Drop, A: Allocator + Copy> Entries<T, S, A> {
         Some((ticket, parked.kind))
     }
 
-    // The first that waits has this mark from now on, and is due.
     #[inline(always)]
     fn wake_next(&mut self, mark: Mark<T>)
         requires awake { is_waiting mark ≡ false }
@@ -92,7 +89,7 @@ impl<T: Drop, S: Drop, A: Allocator + Copy> Entries<T, S, A> {
         self.waiting -= 1;
     }
 
-    /// Wakes all that wait, and makes them due. Filled ones keep their message. Takes no memory.
+    /// Wakes all that wait, and makes them due. Filled ones keep their message.
     pub fn wake_all(&mut self)
         ensures woken { self.new ≡ all_woken due_now self.old }
     {
@@ -101,9 +98,8 @@ impl<T: Drop, S: Drop, A: Allocator + Copy> Entries<T, S, A> {
         }
     }
 
-    /// The ticket of a receiver that was due, and now isn't: it is named once. `None` where none is
-    /// due, and then nothing changes, and it only reads two places. It looks at no other receiver.
-    /// Takes no memory.
+    /// The ticket of a receiver that was due, and isn't afterwards. `None` if none is due: then
+    /// nothing changes, and only two places are read. It looks at no other receiver.
     #[inline(always)]
     pub fn next_due(&mut self) -> Option<u64>
         ensures told { IfSome result (λ ticket. NamesReceiver self.old self.new ticket) }
@@ -116,8 +112,8 @@ impl<T: Drop, S: Drop, A: Allocator + Copy> Entries<T, S, A> {
         self.tell_first()
     }
 
-    // What `next_due` does where the two places differ, out of line. It compares them again, so that
-    // its contract needs no premise.
+    // The out-of-line part of `next_due`. It compares the two places again, so that its contract
+    // needs no premise.
     #[cold]
     #[inline(never)]
     fn tell_first(&mut self) -> Option<u64>

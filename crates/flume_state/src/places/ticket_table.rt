@@ -11,10 +11,10 @@ use std::marker::Model;
 
 type Table<A> = HashMap<u64, u32, BuildHasherDefault<TicketHasher>, A>;
 
-/// The place of each of some tickets, found by the ticket's hash. Where none ever came it has no
-/// table: so a channel on which nobody parks beside another is as small as one without. A channel
-/// has two of these. A table in place of the pointer takes some 85 bytes more, which a channel that
-/// is made, used once and dropped pays for in time.
+/// The place of each of some tickets, found by the ticket's hash. The table is allocated when the
+/// first ticket comes: a channel on which nobody parks while another is parked has none. A channel
+/// has two of these, and a table in place of the pointer takes some 85 bytes more, which costs time
+/// if a channel is made, used once and dropped. Only `insert` allocates.
 #[derive(Drop)]
 pub(super) struct TicketTable<A: Allocator> {
     made: Option<Box<Table<A>, A>>,
@@ -35,7 +35,7 @@ impl<A: Allocator> Model for TicketTable<A> {
 }
 
 impl<A: Allocator + Copy> TicketTable<A> {
-    /// No ticket has a place. Takes no memory.
+    /// No ticket has a place.
     ///
     /// ```
     /// let mut places = TicketTable::new(alloc);
@@ -50,7 +50,7 @@ impl<A: Allocator + Copy> TicketTable<A> {
         TicketTable { made: None, alloc }
     }
 
-    /// Whether no ticket has a place. It reads a count, whatever the length.
+    /// Whether no ticket has a place. Reads a count.
     #[inline(always)]
     pub fn is_empty(&self) -> bool
         ensures empty { result ≡ true ↔ self.now ≡ empty }
@@ -61,7 +61,7 @@ impl<A: Allocator + Copy> TicketTable<A> {
         }
     }
 
-    /// The place of `ticket`, and `None` where it has none.
+    /// The place of `ticket`, and `None` if it has none.
     #[tactic(auto, using(crate::proofs::TableLemmas::nothing_found))]
     #[inline(always)]
     pub fn get(&self, ticket: u64) -> Option<u32>
@@ -73,8 +73,8 @@ impl<A: Allocator + Copy> TicketTable<A> {
         }
     }
 
-    /// Gives `ticket` a place. One that it had is replaced, which needs no memory. With no memory
-    /// left, nothing changes.
+    /// Gives `ticket` a place, instead of the one that it had, if any; replacing one doesn't
+    /// allocate. If memory runs out, nothing changes.
     #[tactic(auto, using(crate::proofs::TableLemmas::nothing_found))]
     #[inline(never)]
     pub fn insert(&mut self, ticket: u64, place: u32) -> Result<(), AllocError>
@@ -94,7 +94,7 @@ impl<A: Allocator + Copy> TicketTable<A> {
         Ok(())
     }
 
-    /// The ticket has no place any more. Nothing changes where it had none. Takes no memory.
+    /// The ticket has no place any more.
     #[tactic(auto, using(crate::proofs::TableLemmas::nothing_removed))]
     #[inline(always)]
     pub fn remove(&mut self, ticket: u64)
@@ -105,7 +105,7 @@ impl<A: Allocator + Copy> TicketTable<A> {
         }
     }
 
-    /// No ticket has a place any more. Takes no memory.
+    /// No ticket has a place any more.
     pub fn clear(&mut self)
         ensures empty { self.new ≡ empty }
     {
@@ -115,7 +115,7 @@ impl<A: Allocator + Copy> TicketTable<A> {
     }
 }
 
-// What is done in a table that is made stands out of line: most channels have none.
+// Out of line, since most channels have no table.
 
 #[tactic(auto, using(crate::proofs::TableLemmas::get_of_table))]
 #[inline(never)]

@@ -1,4 +1,4 @@
--- The lesser of a number that isn't above the one before it, and the end where one is past it.
+-- The lesser of a number that isn't above the one before it, and the end if one is past it.
 use Rattle.std.proofs.Common.{◌≡◌, ◌≤◌, ℕ, Any, Some, None, refl, le_of_eq, sym}
 use Rattle.std.proofs.lemmas.Bool.{false≢true}
 use Rattle.flume_audit.specs.Settled.{NotAbove}

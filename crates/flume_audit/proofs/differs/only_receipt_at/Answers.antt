@@ -7,7 +7,7 @@ use Rattle.flume_audit.proofs.Tellings.{none_here, first_here, another_here, onl
 use Rattle.flume_audit.proofs.differs.only_receipt_at.Goals as goal
 use Rattle.flume_audit.proofs.differs.only_receipt_at.Goals.{in-Some+else-is_some, in_default}
 
--- there is a reference where there is what it points to
+-- there is a reference if there is what it points to
 is_some_now : {X : Type 0} (found : Option (Bor X))
     → is_some found ≡ is_some (option_map (λ (one : Bor X). one.now) found)
 is_some_now None = refl

@@ -1,4 +1,4 @@
--- Item by item: the explanation that is told grows as the items are followed.
+-- Item by item: the recorded explanation grows as the items are followed.
 use Rattle.std.proofs.Common.{◌≡◌, ◌+◌, refl, sym, ap, subst, take, reverse, [], ◌∷◌, rules}
 use Rattle.std.proofs.lemmas.List.{take_all}
 use Rattle.std.specs.BTreeMap.{is_at}

@@ -1,4 +1,5 @@
--- A want is lawful where the channel says so; every other reply is what the channel answers itself.
+-- `NoMemory` is lawful if the channel says so; every other reply is what the channel answers
+-- itself.
 use Rattle.std.proofs.Common.{◌≡◌, false, ◌∷◌, sym, ◌∙◌, subst}
 use Rattle.flume_core.specs.Represents.{Represents}
 use Rattle.flume_history.specs.Equal.{equal_replies, Equals}

@@ -1,4 +1,5 @@
--- A want is lawful where the state says that memory may be wanted, and with the message that the step hands in.
+-- `NoMemory` is lawful if the state says that memory may be needed, and with the message that the
+-- step hands in.
 use Rattle.std.proofs.Common.{◌≡◌, ◌∷◌, false, refl, sym, ◌∙◌, ap, subst}
 use Rattle.flume_model.specs.declared.step.Reply.TheVariants.{NoMemory}
 use Rattle.flume_core.specs.Represents.{Represents}

@@ -5,7 +5,7 @@ use Rattle.flume_history.specs.Equal.{Equals}
 use Rattle.flume_history.specs.Histories.{IsSaidOf}
 use Rattle.flume_history.proofs.check.check_history.Given as goal
 
--- the channel stands for a run of the steps so far, whose replies equal those that were told
+-- the channel represents a run of the steps so far, whose replies equal those that were recorded
 abbrev pub invariant-loop-place : goal.invariant-loop-place
 invariant-loop-place g l = record {
   followed : (log : Log g.row.T.Denot g.row.A.Denot) × Represents (opens l.fn.capacity 1) log l.chan

@@ -1,4 +1,5 @@
--- A want is lawful where the channel says so; every other reply is what the channel answers itself.
+-- `NoMemory` is lawful if the channel says so; every other reply is what the channel answers
+-- itself.
 use Rattle.std.proofs.Common.{◌≡◌, true, false, refl, sym, ◌∙◌, ap, subst}
 use Rattle.flume_model.specs.declared.step.Reply.{Reply}
 use Rattle.flume_model.specs.declared.step.Reply.TheVariants.{NoMemory}
@@ -12,7 +13,7 @@ use Rattle.flume_history.proofs.Wanting.{want_allowed}
 use Rattle.flume_history.proofs.check.follows.Given as given
 use Rattle.flume_history.proofs.check.follows.Goals as goal
 
--- where memory may be wanted, the told reply was compared with the want
+-- if memory may be needed, the recorded reply was compared with `NoMemory`
 compared : (g : given.Over) (c : goal.Joined-this g)
     → c.eq.result ≡ equal_replies g.T.PartialEq.eq c.args.told.now (NoMemory (handed_in c.args.step.now))
 compared g c =

@@ -6,7 +6,7 @@ use Rattle.flume_history.specs.HistoryText.{Says}
 use Rattle.flume_history.specs.HistoryReading.{pairs_of}
 use Rattle.flume_history.proofs.script.judge.Given as goal
 
--- the channel stands for a run of the steps so far, with the replies that were said
+-- the channel represents a run of the steps so far, with the replies that were said
 abbrev pub invariant-loop-place : goal.invariant-loop-place
 invariant-loop-place g l = record {
   followed : (log : Log ℕ g.row.A.Denot) × Represents (opens l.fn.capacity 1) log l.chan

@@ -1,4 +1,5 @@
--- A want is lawful where the channel says so; every other reply is what the channel answers itself.
+-- `NoMemory` is lawful if the channel says so; every other reply is what the channel answers
+-- itself.
 use Rattle.std.proofs.Common.{◌≡◌, refl, ◌∙◌, ap, rules, ◌++◌, codes}
 use Rattle.flume_model.specs.declared.step.Reply.{Reply}
 use Rattle.flume_model.specs.declared.step.Reply.TheVariants.{NoMemory}
@@ -35,7 +36,7 @@ returns-then-not-wants g c = record {
       (λ e. search rules);
 }
 
--- a want that was said where memory may be wanted was found before
+-- a recorded `NoMemory`, if memory may be needed was found before
 unwanted : (g : given.Over) (c : goal.After-drop-want-2 g) → c.in_ok-want.want.items ≡ c.args.said.now → ⊥
 unwanted g c e = elim c.else-wants.branch [
   | else-wants-via-then-wants+else-eq w ↦ search rules

@@ -1,4 +1,4 @@
--- One more message stands behind the others.
+-- One more message is behind the others.
 use Rattle.std.proofs.Common.{◌∷◌, ◌∙◌, ap, ◌++◌, string_bytes, get_or, take, sym, rules}
 use Rattle.std.specs.Fmt.{decimal}
 use Rattle.std.proofs.lemmas.List.{append_assoc}

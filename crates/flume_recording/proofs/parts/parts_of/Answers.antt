@@ -1,4 +1,4 @@
--- A line is cut at its first space, and what stands before that at its first colon.
+-- A line is cut at its first space, and what is before that at its first colon.
 use Rattle.std.proofs.Common.{◌≡◌, ◌<◌, length, Some, None, codes, rules}
 use Rattle.std.proofs.lemmas.Bool.Decides.{Decides-eqb}
 use Rattle.std.proofs.lemmas.Slice.Eq.{strip_prefix_is}

@@ -6,7 +6,7 @@ use Rattle.std.proofs.lemmas.Slice.Eq.{slice_eq-Decides}
 use Rattle.flume_recording.proofs.ThreadNames.{name_at}
 use Rattle.flume_recording.proofs.threads.place_of.Goals as goal
 
--- what a reference is where there is none
+-- what a reference is if there is none
 no_name : Bor (List ℕ)
 no_name = record { ref_ptr = (0, 0); now = [] }
 

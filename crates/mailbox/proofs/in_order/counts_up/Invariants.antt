@@ -3,7 +3,7 @@ use Rattle.std.specs.List.{range_with_len}
 use Rattle.mailbox.specs.InOrder.{numbers_of, one_to_hundred}
 use Rattle.mailbox.proofs.in_order.counts_up.Given as goal
 
--- the numbers from here on are the ones that still lack, just where all are those that are wanted
+-- the numbers from here on are the ones that still lack, exactly if all are those that are wanted
 abbrev pub invariant-loop-sender : goal.invariant-loop-sender
 invariant-loop-sender l = record {
   at_most : l.next ≤ 101;

@@ -1,5 +1,5 @@
 -- The runtime outlives the borrow of the stream.
-use Rattle.flume.proofs.Outlives.{static_outlives}
+use Rattle.flume.proofs.OutlivesLemmas.{static_outlives}
 use Rattle.uses.proofs.chained.double_large.Goals as goal
 
 pub block_on-requires-lives-F-Future-3 : goal.block_on-requires-lives-F-Future-3

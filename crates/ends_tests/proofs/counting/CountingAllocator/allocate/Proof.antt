@@ -1,4 +1,4 @@
--- It answers `Err` where it refuses, and else what the inner allocator answers. Assumes `Logic`.
+-- It answers `Err` if it refuses, and else what the inner allocator answers. Assumes `Logic`.
 use Rattle.std.proofs.Common.{◌≡◌, ℕ, ◌+◌, ◌^◌, ◌<◌, true, false, List, [], ◌∷◌, Ok, Err, refl, w64, Bor}
 use mathlib.Core.Bool.{Bool}
 use seplogic.Ra.Ura.{Ura}

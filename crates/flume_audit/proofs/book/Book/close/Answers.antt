@@ -3,7 +3,7 @@ use Rattle.flume_audit.proofs.Closings.{this_differs, not_settled, none_differs,
 use Rattle.flume_audit.proofs.book.Book.close.Goals.{in-Some, in-None}
 use Rattle.flume_audit.proofs.book.Book.close.Goals as goal
 
--- as `differs` answers, where all seats are there
+-- as `differs` answers, if all seats are there
 pub returns-clause-differs : goal.returns-clause-differs
 returns-clause-differs g c number =
     let all : vec_len c.args.seats ≡ g.L.Ledger.parts = search rules in

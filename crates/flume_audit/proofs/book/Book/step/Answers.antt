@@ -30,7 +30,7 @@ copied-answer-requires-clause-room g c =
     c.self.invariant.0 c.step-reply.ensures.step c.step-reply.ensures.comes
     c.drained_by-drained.ensures.drain c.in_ok-more.ensures.capacity
 
--- the entry stands at the end of the history, and its weight is in the total
+-- the entry is at the end of the history, and its weight is in the total
 pub invariant_of-self-2 : goal.invariant_of-self-2
 invariant_of-self-2 g c =
     let grows = pushed (c.args.step, c.step-reply.result) c.try_reserve.ensures.items

@@ -7,7 +7,7 @@ use Rattle.flume_chain.proofs.Puts.{insert_holds, free_stands, put_room, not_ful
 use Rattle.flume_chain.proofs.ChainLaws.{length-put_before}
 use Rattle.flume_chain.proofs.chain.Chain.insert_before.Goals as goal
 
--- where none stands at the place the element stands behind all others
+-- if there is none at the place the element is behind all others
 pub returns-in_default-clause-inserted : goal.returns-in_default-clause-inserted
 returns-in_default-clause-inserted g c =
     let k = c.self.invariant in
@@ -69,7 +69,7 @@ invariant_of-self-2 g c =
           omega arith;
     }
 
--- it stands ahead of the element at the place
+-- it is ahead of the element at the place
 pub returns-clause-inserted : goal.returns-clause-inserted
 returns-clause-inserted g c =
     let k = c.self.invariant in

@@ -1,4 +1,4 @@
--- How a send stands, as it is answered.
+-- The state of a send, as it is answered.
 use Rattle.std.proofs.Common.{refl, ◌∙◌, rules, eq-eqb}
 use Rattle.flume_model.specs.Limits.{IsClosed}
 use Rattle.flume_state.specs.Notices.{with_signal}

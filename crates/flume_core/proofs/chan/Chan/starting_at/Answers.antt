@@ -1,4 +1,4 @@
--- A new channel stands for the empty log.
+-- A new channel represents the empty log.
 use Rattle.std.proofs.Common.{rules}
 use Rattle.flume_core.proofs.Start.{stands_at_start}
 use Rattle.flume_core.proofs.chan.Chan.starting_at.Goals as goal

@@ -1,4 +1,4 @@
--- The front of the queue is taken where no message is blocked.
+-- The front of the queue is taken if no message is blocked.
 use Rattle.std.proofs.Common.{sym, ◌∙◌}
 use Rattle.flume_core.proofs.Unblocked.{takes_alone}
 use Rattle.flume_core.proofs.chan.Chan.take_front.Goals as goal

@@ -1,4 +1,4 @@
--- How a send stands that takes its message back.
+-- The state of a send that takes its message back.
 use Rattle.std.proofs.Common.{refl, ◌∙◌, rules}
 use Rattle.flume_core.proofs.Keeping.{still}
 use Rattle.flume_core.proofs.Moves.{accepts}

@@ -1,4 +1,4 @@
--- A line is a pair only if what stands before its arrow is a step.
+-- A line is a pair only if what is before its arrow is a step.
 use Rattle.std.proofs.Common.{sym, subst, ◌∙◌}
 use Rattle.flume_script.specs.Script.{IsStepLine}
 use Rattle.flume_history.proofs.PairLines.{one_arrow, step_plain}

@@ -1,4 +1,4 @@
--- The arrow is at the first hyphen: where no space stands before that, or no `> ` after it, there is none.
+-- The arrow is at the first hyphen: if no space is before that, or no `> ` after it, there is none.
 use Rattle.std.proofs.Common.{None, Some, codes, ◌++◌, ◌∷◌, sym, ◌∙◌, ap}
 use Rattle.std.proofs.lemmas.Bool.Decides.{Decides-eqb}
 use Rattle.std.proofs.lemmas.Slice.Eq.{strip_prefix_is, strip_suffix_is}

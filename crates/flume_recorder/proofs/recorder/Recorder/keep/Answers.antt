@@ -1,4 +1,4 @@
--- Where an event found no room, nothing more is said of what the recorder has.
+-- If an event found no room, nothing more is said of what the recorder has.
 use Rattle.std.proofs.Common.{[]}
 use Rattle.flume_recorder.proofs.recorder.Recorder.keep.Goals as goal
 

@@ -12,7 +12,7 @@ returns-in_err-owner-clause-none_blocked g c =
     let both : Some r.owner ≡ None = sym r.is_first ∙ sym c.in_err-owner.ensures.owner in
     absurd (let no : ⊥ = cc in no)
 
--- what stands once the first blocked one has no owner
+-- what is there once the first blocked one has no owner
 owner_leaves : (g : Over) (c : goal.After-self-2-1 g) → c.set_label.new.self.items ≡ with_label_at c.in_ok-place.place c.self.inside.chain.items None
 owner_leaves g c = c.set_label.ensures.labelled ∙ ap (with_label_at c.in_ok-place.place c.self.inside.chain.items) c.none.ensures.none
 

@@ -12,7 +12,7 @@ loop-next-init g c =
     walk_begins c.self.inside.chain.items c.self.inside.blocked c.self.inside.blocked_len _ c.args.self.now c.args.sends.now
     c.self.invariant c.self.view_is c.requires.owned
 
--- where the walk is, one more is marked
+-- if the walk is, one more is marked
 stepped : (g : Over) (c : goal.After-next-next g)
     → Stepped c.self.inside.chain.items c.in-Some.place c.args.sends.now c.loop-next.sends
     (with_all_due (under_tickets c.args.sends.now c.args.self.now.blocked) (live_sends c.args.sends.now))

@@ -1,4 +1,4 @@
--- Whether a job stands under a number, and whether its place is empty.
+-- Whether a job is under a number, and whether its place is empty.
 use Rattle.std.proofs.Common.{◌<◌, length, sym, ◌∙◌, arith}
 use Rattle.std.proofs.lemmas.List.{length-map}
 use Rattle.parallel_map.specs.Worked.{NoJob, NotEmpty}
