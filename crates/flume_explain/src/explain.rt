@@ -81,10 +81,11 @@ pub fn explain<T: Copy + Eq + Drop, A: Allocator + Copy>(
 
 /// Finds how many events are explained, the oldest first, on a channel that was opened with this
 /// capacity, or with none. The search for an explanation of all of them enters at most so many
-/// configurations after the first one. If there is none, each search for one of fewer events enters
-/// at most a tenth of that. If the first 100,000 configurations lead to none, patterns are looked for
-/// by which the events aren't explained; if there is no such pattern, the search begins anew. Before
-/// each search comes a guess, which leaves much out, and enters no more configurations than it may.
+/// configurations after the first one. If there is none, each search for one of fewer events
+/// enters at most a tenth of that. If the first 100,000 configurations lead to none, patterns are
+/// looked for by which the events aren't explained; if there is no such pattern, the search begins
+/// anew. Before each search comes a guess, which leaves much out, and enters no more
+/// configurations than it may.
 pub fn check_calls<T: Copy + Eq + Drop, A: Allocator + Copy>(
     alloc: A,
     capacity: Option<usize>,

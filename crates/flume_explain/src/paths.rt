@@ -20,9 +20,9 @@ const GUESSED: usize = 10;
 
 const GUESSED_AT_LEAST: usize = 10_000;
 
-/// Looks for choices that lead past all the events, on a channel that was opened with this capacity,
-/// or with none. A guess comes first, and enters at most so many configurations. If it finds none,
-/// the search that leaves nothing out enters at most so many after the first one.
+/// Looks for choices that lead past all the events, on a channel that was opened with this
+/// capacity, or with none. A guess comes first, and enters at most so many configurations. If it
+/// finds none, the search that leaves nothing out enters at most so many after the first one.
 pub fn find_choices<T: Copy + Eq + Drop, A: Allocator + Copy>(
     alloc: A,
     capacity: Option<usize>,
