@@ -16,7 +16,7 @@ import sys
 import time
 
 sys.dont_write_bytecode = True
-from workspace import ROOT, libraries, with_below  # noqa: E402
+from workspace import ROOT, crates, with_below  # noqa: E402
 
 # How many seconds the proof of a crate takes from scratch, on four cores that do nothing else.
 SECONDS = {"flume_model": 45, "flume_chain": 50, "flume_state": 105, "flume_error": 25, "flume_core": 135}
@@ -88,11 +88,11 @@ class Pace:
 
 def prove(name, hint, crate, command, given=None):
     """Runs a command of rt in the folder of a crate, and tells how far it is: its status, and what it printed."""
-    uses = libraries()
+    uses = crates()
     pace = Pace(name, unproved(crate, uses))
     if pace.todo:
-        crates = "1 crate is" if pace.of == 1 else f"{pace.of} crates are"
-        said = f"{crates} proved first, once: some {spoken(pace.left())} on four cores"
+        count = "1 crate is" if pace.of == 1 else f"{pace.of} crates are"
+        said = f"{count} proved first, once: some {spoken(pace.left())} on four cores"
         pace.say(said + (f"; {hint}" if hint else ""))
     pipe = {"stdout": subprocess.PIPE, "stderr": subprocess.STDOUT, "errors": "replace", "start_new_session": True}
     lines = []
@@ -113,7 +113,7 @@ def prove(name, hint, crate, command, given=None):
 def main():
     name, hint, crate, *command = sys.argv[1:]
     if not command:
-        pace = Pace(name, unproved(crate, libraries()))
+        pace = Pace(name, unproved(crate, crates()))
         print(f"some {spoken(pace.left())} on four cores" if pace.todo else "")
         return
     try:

@@ -1,12 +1,21 @@
-"""The crates of this repository, and copies of it, for a program that isn't one of them."""
+"""The crates of this repository, and repositories in temporary folders, for a program that isn't one of these crates."""
 
 import contextlib
 import pathlib
+import re
 import shutil
 import subprocess
+import sys
 import tempfile
 
 ROOT = pathlib.Path(__file__).resolve().parent.parent
+
+
+def usage(doc, is_right):
+    """Prints what a tool says of itself, and ends, unless it was called rightly."""
+    if not is_right:
+        print(doc.strip())
+        sys.exit(0 if {"-h", "--help"} & set(sys.argv) else 2)
 
 
 def uses_by(lines):
@@ -15,8 +24,8 @@ def uses_by(lines):
     return {pair[0].split()[0]: pair[1].split() for pair in pairs if len(pair) == 2 and pair[0].split()}
 
 
-def libraries():
-    """For each crate of this repository the libraries that it stands on."""
+def crates():
+    """For each crate of this repository the libraries that it uses."""
     return uses_by((ROOT / "crates.txt").read_text())
 
 
@@ -26,31 +35,62 @@ def edits(crate):
 
 
 def with_below(crate, uses):
-    """A crate behind those of this repository that it stands on, the lowest first."""
+    """A crate behind those of this repository that it uses, the lowest first."""
     found = []
     for it in uses.get(crate, []):
         found += [one for one in (with_below(it, uses) if it in uses else []) if one not in found]
     return [*found, crate]
 
 
-@contextlib.contextmanager
-def copy_with(crate, libraries, sources):
-    """A copy of the repository, with one more crate, which stands on these libraries and has these files in src/, a text
-    or a path by each name. Gives the folder of that crate. At the end the copy goes."""
-    with tempfile.TemporaryDirectory(prefix=f"{crate}-") as room:
-        copy = pathlib.Path(room)
-        shutil.copytree(ROOT / "crates", copy / "crates", ignore=shutil.ignore_patterns("out", "must-fail"))
-        (copy / "crates.txt").write_text(f"{(ROOT / 'crates.txt').read_text()}{crate}: {libraries}\n")
-        shutil.copy(ROOT / "HANDLES", copy)
+class Workspace:
+    """A crate of a repository in a folder, and the files of which its sources are copies."""
+
+    def __init__(self, room, crate, libraries, sources, copied=None, ignored=()):
+        """Makes a repository of a folder, with copies of these crates of this one (of all, if none are named) but for what
+        is ignored, and one crate, which uses these libraries and has these files in src/, a text or a path by each name."""
+        uses = crates()
+        uses = uses if copied is None else {it: uses[it] for it in copied}
+        for it in uses:
+            unread = shutil.ignore_patterns("out", "must-fail", *ignored)
+            shutil.copytree(ROOT / "crates" / it, room / "crates" / it, ignore=unread)
+        self.folder = room / "crates" / crate
+        # For each source the file with which it begins, and how many lines that has.
+        self.files = {}
+        shutil.rmtree(self.folder / "src", ignore_errors=True)
         for name, source in sources.items():
-            file = copy / "crates" / crate / "src" / name
+            file = self.folder / "src" / name
             file.parent.mkdir(parents=True, exist_ok=True)
             file.write_text(source if isinstance(source, str) else source.read_text())
-        subprocess.run(["git", "init", "-q", "."], cwd=copy, check=True)
-        yield copy / "crates" / crate
+            if not isinstance(source, str):
+                self.begins(f"src/{name}", source)
+        lines = {**uses, crate: libraries.split()}
+        (room / "crates.txt").write_text("".join(f"{it}: {' '.join(lines[it])}\n" for it in lines))
+        shutil.copy(ROOT / "HANDLES", room)
+
+    def begins(self, source, file):
+        """Notes that a source of the crate begins with the text of this file, line by line."""
+        self.files[source] = (file.relative_to(ROOT), len(file.read_text().splitlines()))
+
+    def named(self, text):
+        """A text of rt, in which a line of a source that is one of a file has the name of that file."""
+
+        def place(found):
+            file, lines = self.files.get(found[1], (None, 0))
+            return f"{file}:{found[2]}" if int(found[2]) <= lines else found[0]
+
+        return re.sub(r"(?<![\w/])(src/[\w/]+\.rt):(\d+)", place, text)
+
+    def ran(self, *words):
+        """A run of rt with these words in the folder of the crate, which reads nothing."""
+        given = {"stdin": subprocess.DEVNULL, "capture_output": True, "text": True}
+        ran = subprocess.run(["rt", *words], cwd=self.folder, **given)
+        ran.stdout, ran.stderr = self.named(ran.stdout), self.named(ran.stderr)
+        return ran
 
 
-def tried(crate, *words):
-    """A run of `rt try` with these words in the folder of a crate, which reads nothing."""
-    command = ["rt", "try", *words]
-    return subprocess.run(command, cwd=crate, stdin=subprocess.DEVNULL, capture_output=True, text=True)
+@contextlib.contextmanager
+def workspace(crate, libraries, sources, copied=None, ignored=()):
+    """Such a repository in a temporary folder, which is removed at the end."""
+    with tempfile.TemporaryDirectory(prefix=f"{crate}-") as room:
+        subprocess.run(["git", "init", "-q", room], check=True)
+        yield Workspace(pathlib.Path(room), crate, libraries, sources, copied, ignored)

@@ -4,12 +4,12 @@
 use flume::{Receiver, Runtime, Sender, Waits};
 use std::{io, thread};
 
-/// What the owner of the account is asked to do. It sends its answer into `reply`.
+/// A request to the owner of the account, who sends the answer into `reply`.
 #[derive(Drop)]
 enum Request<R: Waits> {
-    /// Adds so much. The answer is the balance.
+    /// Adds this much. The answer is the balance.
     PayIn { amount: u64, reply: Sender<u64, R> },
-    /// Takes so much away, if there is so much. The answer says whether there was.
+    /// Takes this much away, if there is as much. The answer says whether there was.
     PayOut { amount: u64, reply: Sender<bool, R> },
 }
 
@@ -21,19 +21,16 @@ struct Account<R: Waits> {
 }
 
 impl<R: Runtime> Account<R> {
-    /// Adds so much, and answers the balance.
     fn pay_in(&self, amount: u64) -> io::Result<u64> {
         let (reply, answer) = flume::on(self.rt).bounded(1)?;
         self.ask(Request::PayIn { amount, reply }, &answer)
     }
 
-    /// Takes so much away, and answers whether there was so much. If not, all stays as it was.
     fn pay_out(&self, amount: u64) -> io::Result<bool> {
         let (reply, answer) = flume::on(self.rt).bounded(1)?;
         self.ask(Request::PayOut { amount, reply }, &answer)
     }
 
-    /// Sends the request to the owner, and waits for its answer.
     fn ask<T: Drop>(&self, request: Request<R>, answer: &Receiver<T, R>) -> io::Result<T> {
         self.requests.send(request)?;
         Ok(answer.recv()?)
@@ -49,7 +46,6 @@ fn main(rt: HostRuntime) -> io::Result<()> {
     println!(rt; "two saved 10 each: {} left", owner.join(&rt)?)
 }
 
-/// Pays in and out, and prints the answers.
 fn visit<R: Runtime + Print>(rt: &R, account: &Account<R>) -> io::Result<()> {
     println!(rt; "100 in: now {}", account.pay_in(100)?)?;
     println!(rt; "70 out: {}", account.pay_out(70)?)?;
@@ -66,7 +62,6 @@ fn save_twice<R: Runtime>(account: Account<R>) -> io::Result<()> {
     saving.join(&rt)
 }
 
-/// Pays in ten times 1.
 fn save<R: Runtime>(account: &Account<R>) -> io::Result<()> {
     for _ in 0..10 {
         account.pay_in(1)?;
@@ -85,13 +80,12 @@ fn own<R: Waits>(received: &Receiver<Request<R>, R>) -> io::Result<u64> {
     Ok(balance)
 }
 
-/// Answers a request, and gives the balance after it.
+/// Answers a request, and returns the balance after it.
 fn answer<R: Waits>(balance: u64, request: Request<R>) -> u64 {
     match request {
         Request::PayIn { amount, reply } => {
             let balance = balance.saturating_add(amount);
-            // The caller may have dropped its receiver. The account stays as it is, so the error is
-            // ignored.
+            // An error means that the caller has dropped its receiver.
             let _ = reply.send(balance);
             balance
         }

@@ -1,10 +1,9 @@
-//! Books of two seats, by scripts: the seats make the steps in turn, each on a line with what it
-//! answers. The last step of a script is refused memory, growth by growth: one for which there is no
-//! room is refused as a whole, and one that the channel refuses is written with that answer.
+//! Scripts of books of two seats, which make the steps in turn. The last step is refused memory,
+//! growth by growth: it is refused as a whole, or the channel refuses it and the book has that
+//! answer.
 ghost use Rattle.std.specs.Prelude.{◌≡◌};
 
-use crate::fixtures::{Heap, had, holds};
-use ends_tests::counting::Counting;
+use crate::fixtures::{Heap, holds, unwrap};
 use flume_audit::book::Book;
 use flume_audit::closed::Closed;
 use flume_audit::seat::Seat;
@@ -16,8 +15,9 @@ use std::alloc::Global;
 use std::marker::Brand;
 use std::process::Abort;
 use std::sync::ledger::{Blank, Ledger};
+use test_support::counting::Counting;
 
-// Behind a bar is the answer of a step that the channel refuses.
+// Behind a bar is the answer if the channel refuses the step.
 const SCRIPTS: &str = "
 = one seat receives what the other sends
 unbounded
@@ -55,20 +55,19 @@ set_capacity 1 -> done
 // More growths than a step has.
 const MOST: u64 = 1000;
 
-// A title, the line that opens the channel, and the lines of steps. It is a struct since a call that
-// picks its ledger can't be handed a `&str`.
+// A title, an opening and lines of steps. A call that names its ledger can't be handed a `&str`.
 #[derive(Drop)]
-struct Script<'s>(&'s str);
+struct BookScript<'s>(&'s str);
 
 // Which growths of a step are refused: from the first to the last, counted from 1.
-type Window = (u64, u64);
+type RefusedGrowths = (u64, u64);
 
-const NONE: Window = (1, 0);
+const NONE: RefusedGrowths = (1, 0);
 
 // Whether a step was refused as a whole, and whether a growth of it was refused.
-type Refused = (bool, bool);
+type Refusal = (bool, bool);
 
-type Audited<'h, L> = Book<u64, L, Ones, Heap<'h>>;
+type TestBook<'h, L> = Book<u64, L, Ones, Heap<'h>>;
 
 type Seats<'h, L> = Vec<Seat<u64, L, Ones, Heap<'h>>, Heap<'h>>;
 
@@ -80,48 +79,53 @@ fn line_of<'s>(rt: &impl Abort, line: &'s str) -> (Step<u64>, &'s str, &'s str) 
     (step, answer, refusal)
 }
 
-fn says<'h>(rt: &impl Abort, heap: Heap<'h>, reply: &Reply<u64, Heap<'h>>, wanted: &str) -> bool {
+fn reply_is<'h>(
+    rt: &impl Abort,
+    heap: Heap<'h>,
+    reply: &Reply<u64, Heap<'h>>,
+    wanted: &str,
+) -> bool {
     let mut text = String::new(heap);
-    had(rt, write_reply(&mut text, reply));
+    unwrap(rt, write_reply(&mut text, reply));
     text.as_str().trim_end() == wanted
 }
 
-// Makes the step of a line by the seat whose turn it is. These growths of it are refused. It answers
-// as it should, and a refused one leaves the room that there was.
-fn made<'h, L: Ledger>(
+// Makes the step of a line by the next seat, with these growths refused. It answers as it should,
+// and a refused one leaves the channel's room as it was.
+fn make_step<'h, L: Ledger>(
     rt: &impl Abort,
     (title, heap): (&str, Heap<'h>),
-    (book, seats): (&mut Audited<'h, L>, &mut Seats<'h, L>),
-    (line, window): (&str, Window),
-) -> Refused {
+    (book, seats): (&mut TestBook<'h, L>, &mut Seats<'h, L>),
+    (line, growths): (&str, RefusedGrowths),
+) -> Refusal {
     let (step, answer, refusal) = line_of(rt, line);
     let room = book.channel().room();
     seats.reverse();
     let seat = seats.last_mut().expect(rt, "there are seats");
-    heap.refuse_between(window.0, window.1);
-    let told = book.step(seat, step);
+    heap.refuse_between(growths.0, growths.1);
+    let outcome = book.step(seat, step);
     heap.refuse(false);
     let is_refused = heap.refusals() > 0;
     let wanted = if is_refused { refusal } else { answer };
-    let (is_whole, is_so) = match told {
-        Ok(reply) => (false, says(rt, heap, &reply, wanted)),
+    let (is_whole, is_right) = match outcome {
+        Ok(reply) => (false, reply_is(rt, heap, &reply, wanted)),
         Err(_) => (true, is_refused),
     };
-    holds(rt, (title, "another answer"), is_so);
+    holds(rt, (title, "another answer"), is_right);
     let is_same = !is_refused || book.channel().room() == room;
     holds(rt, (title, "another room"), is_same);
     (is_whole, is_refused)
 }
 
-// Makes the steps of a script on a new book. Of the last one these growths are refused, and if one
-// was, it is made once more with memory. The book agrees with its receipts.
-fn played<L: Ledger, R: Abort>(
+// Makes the steps of a script on a new book; the last one with these growths refused, and if one
+// was, once more with memory. The book settles.
+fn play<L: Ledger, R: Abort>(
     rt: &R,
     heap: Heap<'_>,
     blank: Blank,
-    script: &Script<'_>,
-    window: Window,
-) -> Refused
+    script: &BookScript<'_>,
+    growths: RefusedGrowths,
+) -> Refusal
     requires name { blank.name ≡ L.name }
     requires parts { blank.parts ≡ L.parts }
     requires one_each { blank.parts ≡ 2 }
@@ -130,29 +134,29 @@ fn played<L: Ledger, R: Abort>(
     let (opening, lines) = lines.split_once("\n").expect(rt, "there are steps");
     let capacity = opening_of(opening.as_bytes()).expect(rt, "there is an opening");
     let opened = Book::<u64, L, Ones, Heap<'_>>::new(heap, blank, capacity, 2);
-    let (mut book, mut seats) = had(rt, opened);
+    let (mut book, mut seats) = unwrap(rt, opened);
     let (before, last) = lines.rsplit_once("\n").unwrap_or(("", lines));
     let here = (title, heap);
     for line in before.lines() {
-        made(rt, here, (&mut book, &mut seats), (line, NONE));
+        make_step(rt, here, (&mut book, &mut seats), (line, NONE));
     }
-    let refused = made(rt, here, (&mut book, &mut seats), (last, window));
+    let refused = make_step(rt, here, (&mut book, &mut seats), (last, growths));
     if refused.1 {
-        made(rt, here, (&mut book, &mut seats), (last, NONE));
+        make_step(rt, here, (&mut book, &mut seats), (last, NONE));
     }
     let is_settled = matches!(book.close(seats), Closed::Settled);
     holds(rt, (title, "the book doesn't settle"), is_settled);
     refused
 }
 
-// Plays a script once for each growth of its last step. It is refused as a whole, and by the
-// channel if the script says so.
+// Plays a script once for each growth of its last step. Some are refused as a whole, and some by
+// the channel if the script says so.
 fn each_growth<R: Abort>(rt: &R, alloc: Global, block: &str, is_one: bool) {
-    let (heap, script) = (Counting::new(alloc), Script(block));
+    let (heap, script) = (Counting::new(alloc), BookScript(block));
     let (mut whole, mut by_channel) = (0u64, false);
     for first in 1..MOST {
-        let window = (first, if is_one { first } else { u64::MAX });
-        match played::<Brand, _>(rt, &heap, Blank::new(2), &script, window) {
+        let growths = (first, if is_one { first } else { u64::MAX });
+        match play::<Brand, _>(rt, &heap, Blank::new(2), &script, growths) {
             (_, false) => break,
             (true, _) => whole = whole.wrapping_add(1),
             (false, _) => by_channel = true,

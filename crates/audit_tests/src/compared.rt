@@ -1,14 +1,14 @@
 //! Histories and lists of receipts, and the least number at which they disagree.
-use crate::fixtures::had;
+use crate::fixtures::unwrap;
 use flume_audit::differs::differs;
 use flume_audit::receipt::Receipt;
 use flume_model::step::{Reply, Step};
 use std::alloc::Global;
 use std::process::Abort;
 
-// How long the history is, and lists of receipts, each a number and the letter of what it tells:
-// the least number at which they disagree, or none. The history are the first of `a`, `b` and `c`.
-// `d` is `c` with another reply, and `e` is `b` with another step.
+// The length of a history, lists of receipts, and the least number at which they disagree, or none.
+// A receipt is a number and the letter of its entry. The history has the first entries of `a`, `b`
+// and `c`; `d` is `c` with another reply, and `e` is `b` with another step.
 const ROWS: &str = "
 0: -> none
 0: 0=d -> 0
@@ -42,13 +42,13 @@ fn entry(letter: &str) -> (Step<u64>, Reply<u64>) {
     }
 }
 
-fn listed(rt: &impl Abort, alloc: Global, told: &str) -> Vec<Receipt<u64>> {
+fn receipts_of(rt: &impl Abort, alloc: Global, text: &str) -> Vec<Receipt<u64>> {
     let mut list = Vec::new(alloc);
-    for receipt in told.split_whitespace() {
+    for receipt in text.split_whitespace() {
         let (number, letter) = receipt.split_once("=").expect(rt, "a receipt");
         let (step, reply) = entry(letter);
         let number = number.parse().expect(rt, "a number");
-        had(
+        unwrap(
             rt,
             list.push(Receipt {
                 number,
@@ -60,23 +60,22 @@ fn listed(rt: &impl Abort, alloc: Global, told: &str) -> Vec<Receipt<u64>> {
     list
 }
 
-// Whether a row is answered so.
-fn is_so(rt: &impl Abort, alloc: Global, row: &str) -> bool {
+fn row_is_right(rt: &impl Abort, alloc: Global, row: &str) -> bool {
     let (length, row) = row.split_once(":").expect(rt, "a length");
-    let (told, wanted) = row.split_once(" -> ").expect(rt, "an arrow");
+    let (text, wanted) = row.split_once(" -> ").expect(rt, "an arrow");
     let length = length.parse().expect(rt, "a length");
     let mut history = Vec::new(alloc);
     for &letter in ["a", "b", "c"].iter().take(length) {
-        had(rt, history.push(entry(letter)));
+        unwrap(rt, history.push(entry(letter)));
     }
-    let lists = lists_of(rt, alloc, told);
+    let lists = lists_of(rt, alloc, text);
     differs(&history, &lists) == wanted.parse().ok()
 }
 
-fn lists_of(rt: &impl Abort, alloc: Global, told: &str) -> Vec<Vec<Receipt<u64>>> {
+fn lists_of(rt: &impl Abort, alloc: Global, text: &str) -> Vec<Vec<Receipt<u64>>> {
     let mut lists = Vec::new(alloc);
-    for list in told.split(",") {
-        had(rt, lists.push(listed(rt, alloc, list)));
+    for list in text.split(",") {
+        unwrap(rt, lists.push(receipts_of(rt, alloc, list)));
     }
     lists
 }
@@ -84,6 +83,6 @@ fn lists_of(rt: &impl Abort, alloc: Global, told: &str) -> Vec<Vec<Receipt<u64>>
 #[test]
 fn the_least_number_of_a_disagreement_is_answered(rt: HostRuntime) {
     for row in ROWS.trim().split("\n") {
-        assert!(rt; is_so(&rt, rt.alloc(), row), "{row}");
+        assert!(rt; row_is_right(&rt, rt.alloc(), row), "{row}");
     }
 }

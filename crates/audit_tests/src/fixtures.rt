@@ -1,24 +1,19 @@
-//! What several tests use: answers compared in one place. What can't be had fails the test here: a
-//! `?` in a test costs the prover a second, and an abort none.
-use ends_tests::counting::Counting;
+//! What several tests use. What can't be had fails the test here: a `?` in a test costs the prover
+//! a second, and an abort none.
 use std::alloc::Global;
 use std::fmt::Debug;
 use std::process::Abort;
+use test_support::counting::Counting;
 
-/// The allocator of a book, lent.
+/// The allocator of a book.
 pub(crate) type Heap<'h> = &'h Counting<Global>;
 
-/// The answer is the expected one.
-pub(crate) fn is<T: Debug + PartialEq + Drop>(rt: &impl Abort, answer: T, wanted: T) {
-    assert_eq!(rt; answer, wanted);
-}
-
 /// The result of a call that fails for memory alone.
-pub(crate) fn had<T, E: Debug + Drop>(rt: &impl Abort, answer: Result<T, E>) -> T {
+pub(crate) fn unwrap<T, E: Debug + Drop>(rt: &impl Abort, answer: Result<T, E>) -> T {
     answer.expect(rt, "there is memory")
 }
 
-/// It holds; if not, this name fails the test.
-pub(crate) fn holds(rt: &impl Abort, (title, fault): (&str, &str), is_so: bool) {
-    assert!(rt; is_so, "{title}: {fault}");
+/// It holds; if not, the test fails with this title and fault.
+pub(crate) fn holds(rt: &impl Abort, (title, fault): (&str, &str), truth: bool) {
+    assert!(rt; truth, "{title}: {fault}");
 }

@@ -1,5 +1,4 @@
-//! Tests of `flume_audit`: seats in one thread and in several, receipts that disagree with a
-//! history, and refused memory.
+//! Tests of `flume_audit`: seats in one thread and in several, wrong receipts, and refused memory.
 #![tactic(auto)]
 
 #[cfg(test)]

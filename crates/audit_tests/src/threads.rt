@@ -1,9 +1,9 @@
-//! Threads on one audited channel, each with a seat of its own: whatever the schedule, receipts and
-//! history agree, and the history is a run.
+//! Threads on one audited channel: whatever the schedule, receipts and history agree, and the
+//! history is a run.
 ghost use Rattle.std.specs.Prelude.{◌≡◌, ◌<◌};
 
-use crate::fixtures::{had, holds};
-use core_tests::draws::Draws;
+use crate::fixtures::{holds, unwrap};
+use core_tests::random_steps::RandomSteps;
 use flume_audit::audit::Audit;
 use flume_audit::book::Book;
 use flume_audit::closed::Closed;
@@ -19,24 +19,22 @@ use std::sync::{Mutex, Wait};
 use std::thread;
 use std::thread::Threads;
 
-// The capacities of the channels on which two threads draw.
 const CAPACITIES: &[Option<usize>] = &[Some(0), Some(1), Some(3), None];
 
 const SEEDS: &[u64] = &[20_261_129, 20_261_131, 20_261_133, 20_261_135];
 
-// How many drawn steps each of two threads makes.
-const DRAWN: usize = 400;
+const STEPS: usize = 400;
 
-// Steps ask for one of this many tickets.
-const NEAR: u64 = 8;
+// Steps ask for one of this many last tickets.
+const RECENT: u64 = 8;
 
 // More tickets than two threads are issued.
-const TICKETS: usize = 2 * DRAWN;
+const TICKETS: usize = 2 * STEPS;
 
 // How many steps follow those of the threads.
-const LAST: usize = 2 * TICKETS + 11;
+const LAST_STEPS: usize = 2 * TICKETS + 11;
 
-// What the replies to drawn steps begin with, and how often each comes at the least, of all.
+// How often replies to random steps begin so at least.
 const LEAST: &[(&str, u64)] = &[
     ("sent", 100),
     ("sent filled ", 100),
@@ -57,11 +55,10 @@ const LEAST: &[(&str, u64)] = &[
     ("unbounded", 20),
 ];
 
-// The seats that threads hand back, in the order in which they end.
-type Handed<L> = Mutex<Vec<Seat<u64, L>>>;
+type ReturnedSeats<L> = Mutex<Vec<Seat<u64, L>>>;
 
-// What the threads do on a channel of which capacity: how many steps each makes, and the seed from
-// which they are drawn; from 0 each thread sends and tries to receive, in turn.
+// What threads do on a channel. With the seed 0 each sends and tries to receive in turn; with
+// another it makes random steps.
 #[derive(Clone, Copy, Drop)]
 struct Plan {
     capacity: Option<usize>,
@@ -69,62 +66,62 @@ struct Plan {
     seed: u64,
 }
 
-// The step of this number. Of drawn ones each eighth sets a capacity from 0 to 4, three withdraw,
-// and none counts an end.
-fn step_of(plan: Plan, draws: &mut Draws, number: usize) -> Step<u64> {
-    let last = draws.issued;
+// The step of this number. Of eight random ones one sets a capacity from 0 to 4, and three
+// withdraw.
+fn step_of(plan: Plan, random_steps: &mut RandomSteps, number: usize) -> Step<u64> {
+    let last = random_steps.last_ticket;
     match (plan.seed, number % 8) {
         (0, number) if number % 2 == 0 => Step::TrySend(number as u64),
         (0, _) => Step::TryRecv,
         (_, 3) => Step::SetCapacity(number / 8 % 5),
-        (_, 1 | 5) => Step::Withdraw(last.saturating_sub(number as u64 / 8 % NEAR)),
-        (_, 7) => Step::WithdrawSend(last.saturating_sub(number as u64 / 8 % NEAR)),
-        _ => match draws.step() {
+        (_, 1 | 5) => Step::Withdraw(last.saturating_sub(number as u64 / 8 % RECENT)),
+        (_, 7) => Step::WithdrawSend(last.saturating_sub(number as u64 / 8 % RECENT)),
+        _ => match random_steps.step() {
             Step::Recv(_) if plan.seed % 4 == 3 => Step::Send(number as u64),
-            step => near(step, last),
+            step => with_recent_ticket(step, last),
         },
     }
 }
 
-// The same step, of one of the last tickets, and one that counts no end.
-fn near(step: Step<u64>, last: u64) -> Step<u64> {
+// The same step, of a recent ticket; no clone or drop of an end.
+fn with_recent_ticket(step: Step<u64>, last: u64) -> Step<u64> {
     match step {
-        Step::Poll(ticket) => Step::Poll(last.saturating_sub(ticket % NEAR)),
-        Step::Withdraw(ticket) => Step::Withdraw(last.saturating_sub(ticket % NEAR)),
-        Step::PollSend(ticket) => Step::PollSend(last.saturating_sub(ticket % NEAR)),
-        Step::WithdrawSend(ticket) => Step::WithdrawSend(last.saturating_sub(ticket % NEAR)),
+        Step::Poll(ticket) => Step::Poll(last.saturating_sub(ticket % RECENT)),
+        Step::Withdraw(ticket) => Step::Withdraw(last.saturating_sub(ticket % RECENT)),
+        Step::PollSend(ticket) => Step::PollSend(last.saturating_sub(ticket % RECENT)),
+        Step::WithdrawSend(ticket) => Step::WithdrawSend(last.saturating_sub(ticket % RECENT)),
         Step::CloneSender | Step::DropSender => Step::Drain,
         Step::CloneReceiver | Step::DropReceiver => Step::TryRecv,
         step => step,
     }
 }
 
-// Makes all steps of a thread, and hands its seat back. A seat that was refused a step isn't handed
-// back, and is found missing at the end.
-fn work<L: Ledger, R: Wait + Copy>(
+// Makes all steps of a thread, and returns its seat. One that was refused a step is missing at the
+// end.
+fn make_steps<L: Ledger, R: Wait + Copy>(
     rt: R,
     audit: &Audit<u64, L, R>,
     mut seat: Seat<u64, L>,
-    (plan, mut draws): (Plan, Draws),
-    handed: &Handed<L>,
+    (plan, mut random_steps): (Plan, RandomSteps),
+    returned: &ReturnedSeats<L>,
 ) {
     for number in 0..plan.steps {
-        match audit.step(&mut seat, step_of(plan, &mut draws, number)) {
-            Ok(Reply::Pending(ticket) | Reply::Parked(ticket)) => draws.issued = ticket,
+        match audit.step(&mut seat, step_of(plan, &mut random_steps, number)) {
+            Ok(Reply::Pending(ticket) | Reply::Parked(ticket)) => random_steps.last_ticket = ticket,
             Ok(_) => {}
             Err(_) => return,
         }
     }
-    let _ = handed.lock(&rt).push(seat);
+    let _ = returned.lock(&rt).push(seat);
 }
 
-// A thread for each seat, with draws from a seed of its own. False: there can be none.
-fn all_work<L, R>(
+// Runs a thread for each seat, with a seed of its own. False: one can't be started.
+fn run_threads<L, R>(
     rt: R,
     audit: &Audit<u64, L, R>,
     seats: Vec<Seat<u64, L>>,
     plan: Plan,
-    handed: &Handed<L>,
+    returned: &ReturnedSeats<L>,
 ) -> bool
 where
     L: Ledger + Send + Sync,
@@ -134,9 +131,9 @@ where
         let mut state = plan.seed;
         for seat in seats {
             state = state.wrapping_add(1);
-            let draws = Draws::seeded(state);
-            let works = move || work(rt, audit, seat, (plan, draws), handed);
-            if scope.spawn(works).is_err() {
+            let random_steps = RandomSteps::from_seed(state);
+            let thread = move || make_steps(rt, audit, seat, (plan, random_steps), returned);
+            if scope.spawn(thread).is_err() {
                 return false;
             }
         }
@@ -144,9 +141,9 @@ where
     })
 }
 
-// The step of this number after the threads, if the last ticket is this. All that waits leaves;
-// then a woken receiver passes its wake on, and a blocked message comes back from a closed channel.
-fn last_step_of(number: usize, last: u64) -> Step<u64> {
+// The step of this number after the threads. All that waits is withdrawn; then a woken receiver
+// passes its wake on, and a blocked message comes back from a closed channel.
+fn last_step(number: usize, last: u64) -> Step<u64> {
     if number < TICKETS {
         return Step::Withdraw(number as u64);
     }
@@ -169,8 +166,8 @@ fn last_step_of(number: usize, last: u64) -> Step<u64> {
     }
 }
 
-// Makes the last steps with the first seat. Whether none was refused.
-fn ask_at_last<L: Ledger, R: Wait + Copy>(
+// Makes the last steps with the first seat. False: one was refused.
+fn make_last_steps<L: Ledger, R: Wait + Copy>(
     audit: &Audit<u64, L, R>,
     seats: &mut Vec<Seat<u64, L>>,
 ) -> bool {
@@ -178,8 +175,8 @@ fn ask_at_last<L: Ledger, R: Wait + Copy>(
         return false;
     };
     let mut last = 0;
-    for number in 0..LAST {
-        match audit.step(seat, last_step_of(number, last)) {
+    for number in 0..LAST_STEPS {
+        match audit.step(seat, last_step(number, last)) {
             Ok(Reply::Pending(ticket) | Reply::Parked(ticket)) => last = ticket,
             Ok(_) => {}
             Err(_) => return false,
@@ -188,7 +185,6 @@ fn ask_at_last<L: Ledger, R: Wait + Copy>(
     true
 }
 
-// The history of the book has this many entries, and is a run. With none the channel is empty.
 fn is_right<L: Ledger>(rt: &impl Abort, alloc: Global, book: &Book<u64, L>, entries: usize) {
     let is_whole = book.history().len() == entries;
     holds(rt, ("an audit", "steps are missing"), is_whole);
@@ -199,9 +195,9 @@ fn is_right<L: Ledger>(rt: &impl Abort, alloc: Global, book: &Book<u64, L>, entr
     holds(rt, ("an audit", "it isn't empty"), is_empty || entries > 0);
 }
 
-// This many threads carry the plan out on a new channel. The audit settles, each step is written,
-// and the history is a run. Its replies are added to the text.
-fn are_audited<L, R>(rt: R, blank: Blank, threads: usize, plan: Plan, text: &mut String)
+// This many threads carry out the plan. The audit settles, each step is written, and the history is
+// a run. Adds its replies to the text.
+fn audit_threads<L, R>(rt: R, blank: Blank, threads: usize, plan: Plan, text: &mut String)
 where
     L: Ledger + Send + Sync,
     R: Wait + Threads + Abort + AllocGlobal + Copy + Send + Sync,
@@ -212,15 +208,15 @@ where
 {
     let alloc = rt.alloc();
     let audit = Audit::<u64, L, R>::new(rt, alloc, blank, plan.capacity, threads);
-    let (audit, seats) = had(&rt, audit);
-    let handed = Mutex::new(Vec::new(alloc));
-    let is_done = all_work(rt, &audit, seats, plan, &handed);
+    let (audit, seats) = unwrap(&rt, audit);
+    let returned = Mutex::new(Vec::new(alloc));
+    let is_done = run_threads(rt, &audit, seats, plan, &returned);
     holds(&rt, ("an audit", "a thread can't be started"), is_done);
-    let mut handed = handed.into_inner();
-    let last = if plan.seed == 0 { 0 } else { LAST };
-    let is_asked = last == 0 || ask_at_last(&audit, &mut handed);
+    let mut returned = returned.into_inner();
+    let last = if plan.seed == 0 { 0 } else { LAST_STEPS };
+    let is_asked = last == 0 || make_last_steps(&audit, &mut returned);
     holds(&rt, ("an audit", "a step is refused"), is_asked);
-    let (closed, book) = audit.close(handed);
+    let (closed, book) = audit.close(returned);
     let is_settled = matches!(closed, Closed::Settled);
     holds(&rt, ("an audit", "it doesn't settle"), is_settled);
     let entries = threads.saturating_mul(plan.steps).saturating_add(last);
@@ -228,7 +224,7 @@ where
     holds(&rt, ("an audit", "its capacity is another"), is_opened);
     is_right(&rt, alloc, &book, entries);
     for (_, reply) in book.history() {
-        had(&rt, write_reply(text, reply));
+        unwrap(&rt, write_reply(text, reply));
     }
 }
 
@@ -251,7 +247,7 @@ fn an_audit_with_no_step_settles_with_its_capacity(rt: HostRuntime) {
         seed,
     };
     let mut text = String::new(rt.alloc());
-    are_audited::<Brand, _>(rt, Blank::new(1), 1, plan, &mut text);
+    audit_threads::<Brand, _>(rt, Blank::new(1), 1, plan, &mut text);
 }
 
 #[test]
@@ -263,21 +259,21 @@ fn four_threads_make_eight_thousand_entries_and_settle(rt: HostRuntime) {
         seed,
     };
     let mut text = String::new(rt.alloc());
-    are_audited::<Brand, _>(rt, Blank::new(4), 4, plan, &mut text);
+    audit_threads::<Brand, _>(rt, Blank::new(4), 4, plan, &mut text);
 }
 
 #[test]
-fn drawn_steps_of_two_threads_are_a_run(rt: HostRuntime) {
+fn random_steps_of_two_threads_are_a_run(rt: HostRuntime) {
     let mut text = String::new(rt.alloc());
     for &capacity in CAPACITIES {
         for &seed in SEEDS {
-            let steps = DRAWN;
+            let steps = STEPS;
             let plan = Plan {
                 capacity,
                 steps,
                 seed,
             };
-            are_audited::<Brand, _>(rt, Blank::new(2), 2, plan, &mut text);
+            audit_threads::<Brand, _>(rt, Blank::new(2), 2, plan, &mut text);
         }
     }
     for &(start, least) in LEAST {

@@ -19,11 +19,9 @@ const PATIENCE: u64 = 20;
 /// Why a batch ended.
 #[derive(Drop)]
 enum End {
-    /// It has as many messages as it waits for, or more.
+    /// It has `SIZE` messages, or more.
     Full,
-    /// Its time was over.
     Late,
-    /// The channel is closed.
     Closed,
 }
 
@@ -66,7 +64,6 @@ fn send_all<R: Waits>(
     Ok(sent.send(())?)
 }
 
-/// Sends these numbers.
 fn send_some<R: Waits>(tx: &Sender<u64, R>, first: u64, last: u64) -> io::Result<()> {
     for number in first..=last {
         tx.send(number)?;
@@ -111,7 +108,6 @@ fn drain<R: Waits>(from: &Receiver<u64, R>, messages: &mut Vec<u64>) -> io::Resu
     Ok(())
 }
 
-/// Prints the messages of a batch, and why it ended.
 fn print<R: Print>(rt: &R, batch: Batch) -> io::Result<()> {
     let messages = &batch.messages;
     match batch.end {

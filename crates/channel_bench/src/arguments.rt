@@ -28,23 +28,20 @@ pub enum Shape {
     SelectSeq,
     SelectRx,
     CrowdPoll,
-    CrowdDraw,
+    CrowdRandom,
     CrowdWithdraw,
     CrowdCancel,
     CrowdSend,
     CrowdFutures,
 }
 
-// At which capacities a shape can be had without waiting for ever.
+// The capacities at which a shape doesn't wait for ever.
 #[derive(Clone, Copy)]
 enum At {
-    // At each.
     Any,
-    // At each but 0.
     NotZero,
-    // Unbounded.
     Unbounded,
-    // At a number above 0: of messages, or of those that stand in a crowd.
+    // A number above 0: of messages, or of a crowd.
     AboveZero,
 }
 
@@ -73,7 +70,7 @@ const SHAPES: &[(&str, Shape, At)] = &[
     ("select_seq", Shape::SelectSeq, At::NotZero),
     ("select_rx", Shape::SelectRx, At::Any),
     ("crowd_poll", Shape::CrowdPoll, At::AboveZero),
-    ("crowd_draw", Shape::CrowdDraw, At::AboveZero),
+    ("crowd_random", Shape::CrowdRandom, At::AboveZero),
     ("crowd_withdraw", Shape::CrowdWithdraw, At::AboveZero),
     ("crowd_cancel", Shape::CrowdCancel, At::AboveZero),
     ("crowd_send", Shape::CrowdSend, At::AboveZero),
@@ -135,7 +132,6 @@ fn capacity_of(word: &str) -> Option<Option<usize>> {
     }
 }
 
-// The shape of this name, and where it can be had.
 fn shape_named(word: &str) -> Option<(Shape, At)> {
     for (name, shape, at) in SHAPES.iter() {
         if *name == word {

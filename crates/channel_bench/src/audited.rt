@@ -35,7 +35,6 @@ impl<R: Waits> Bench<R> {
         self.audit_pair_under::<Brand>(Blank::new(1))
     }
 
-    // The same of a channel under this ledger.
     fn audit_pair_under<L: Ledger>(&self, blank: Blank) -> Result<usize, Fault>
         requires name { blank.name ≡ L.name }
         requires parts { blank.parts ≡ L.parts }

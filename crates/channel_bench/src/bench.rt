@@ -40,41 +40,41 @@ impl<R: Waits> Bench<R> {
     }
 }
 
-/// How long the run took that the arguments ask for. The task is for the shapes polled by hand.
+/// Times a run. The task is for the shapes polled by hand.
 pub fn time<R: Runtime + RandomSource>(
     rt: R,
     alloc: Global,
     task: &MockTask,
-    asked: &Arguments,
+    arguments: &Arguments,
 ) -> Result<Duration, Fault> {
     let bench = Bench {
         rt,
         alloc,
-        capacity: asked.capacity,
-        messages: asked.messages,
+        capacity: arguments.capacity,
+        messages: arguments.messages,
     };
     let Ok(mut start) = Instant::now(&rt) else {
         return Err(Fault::NoClock);
     };
-    let sum = bench.run(asked.shape, task, &mut start)?;
+    let sum = bench.run(arguments.shape, task, &mut start)?;
     let Ok(time) = start.elapsed(&rt) else {
         return Err(Fault::NoClock);
     };
-    if sum == sum_sent(asked.shape, asked.messages) {
+    if sum == sum_sent(arguments.shape, arguments.messages) {
         Ok(time)
     } else {
         Err(Fault::WrongMessages)
     }
 }
 
-/// Sets the start to now. If the clock can't be read it stays.
+/// Sets the start to now, if the clock can be read.
 pub fn begin_anew<R: Clock>(rt: &R, start: &mut Instant) {
     if let Ok(now) = Instant::now(rt) {
         *start = now;
     }
 }
 
-/// The sum of what is sent: each sender sends 0, 1, 2 and so on.
+/// The sum of all messages: each sender sends 0, 1, 2 and so on.
 fn sum_sent(shape: Shape, messages: usize) -> usize {
     let senders = match shape {
         Shape::Mpsc | Shape::Mpmc | Shape::MpmcMany | Shape::SelectRx => 4,
@@ -89,7 +89,7 @@ fn sum_sent(shape: Shape, messages: usize) -> usize {
 }
 
 impl<R: Runtime + RandomSource> Bench<R> {
-    // The sum of what is received. Sets the start anew if something is made ready first.
+    // The sum of what is received. Restarts the time after a preparation.
     fn run(&self, shape: Shape, task: &MockTask, start: &mut Instant) -> Result<usize, Fault> {
         match shape {
             Shape::Spsc => self.in_threads(Crew::of(1)),
@@ -117,7 +117,7 @@ impl<R: Runtime + RandomSource> Bench<R> {
 }
 
 impl<R: Waits> Bench<R> {
-    // The same of the shapes in one thread, without an executor.
+    // The same for one thread without an executor.
     fn in_one_thread(
         &self,
         shape: Shape,
@@ -130,7 +130,7 @@ impl<R: Waits> Bench<R> {
             Shape::CheckPair => Ok(self.check_pair(start)),
             Shape::SelectSeq => Ok(self.select_seq()),
             Shape::CrowdPoll
-            | Shape::CrowdDraw
+            | Shape::CrowdRandom
             | Shape::CrowdWithdraw
             | Shape::CrowdCancel
             | Shape::CrowdSend => Ok(self.crowd(shape, start)),
@@ -138,7 +138,7 @@ impl<R: Waits> Bench<R> {
         }
     }
 
-    // The same of those over one channel.
+    // The same for one channel.
     fn pass(
         &self,
         shape: Shape,

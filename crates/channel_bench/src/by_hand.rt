@@ -1,5 +1,4 @@
-//! The shapes polled by hand. All polls of a run lie in one poll of a task, and are handed its
-//! context: so no executor is in the time of a message.
+//! The shapes polled by hand, all in one poll of a task: no executor is in the time of a message.
 use crate::arguments::Shape;
 use crate::bench::{Bench, Ends, begin_anew};
 use crate::one_thread::send_each;
@@ -33,7 +32,7 @@ impl<R: Waits> Bench<R> {
         }
     }
 
-    // The polls of a shape for which this many receives wait already. These polls aren't timed.
+    // The polls of a shape with this many receives that wait already, which isn't timed.
     fn over_parked(
         &self,
         shape: Shape,
@@ -53,7 +52,7 @@ impl<R: Waits> Bench<R> {
         sum
     }
 
-    // This many receives, each of which was polled once and waits; fewer if there is no memory.
+    // This many receives that wait; fewer if memory runs out.
     fn park_each<'a>(
         &self,
         standing: usize,
@@ -68,7 +67,6 @@ impl<R: Waits> Bench<R> {
     }
 }
 
-/// Adds a receive, which is polled once, and waits.
 fn park<'a, R: Waits>(
     receives: &mut Vec<RecvFut<'a, usize, R>>,
     rx: &'a Receiver<usize, R>,
@@ -105,8 +103,7 @@ fn park_sends<R: Waits>(ends: &Ends<R>, messages: usize, cx: &mut Context<'_>) -
     sum
 }
 
-/// For each message the receive that waits longest takes it; if they are renewed another begins to
-/// wait, so that as many wait all along.
+/// The receive that waits longest takes each message; if they are renewed, another begins to wait.
 fn fill_each<'a, R: Waits>(
     ends: &'a Ends<R>,
     receives: &mut Vec<RecvFut<'a, usize, R>>,
@@ -127,8 +124,7 @@ fn fill_each<'a, R: Waits>(
     sum
 }
 
-/// What the receive takes, which waits, after this message was sent; 0 if it takes none. If it is
-/// renewed another begins to wait in its place.
+/// Sends a message, and answers what the waiting receive takes, 0 for nothing.
 #[inline(always)]
 fn fill<'a, R: Waits>(
     ends: &'a Ends<R>,
@@ -149,7 +145,6 @@ fn fill<'a, R: Waits>(
     }
 }
 
-/// Each receive that waits dropped, the newest first.
 fn drop_each<R: Waits>(receives: &mut Vec<RecvFut<'_, usize, R>>) -> usize {
     let mut sum = 0usize;
     for message in 0..receives.len() {

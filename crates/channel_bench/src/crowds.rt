@@ -1,6 +1,5 @@
-//! The shapes of a bare channel on which a crowd stands: this many parked receivers, or this many
-//! blocked sends, whose tickets follow one another from 1. Each operation leaves as many as there
-//! were.
+//! The shapes of a bare channel with a crowd of parked receivers, or of blocked sends, whose
+//! tickets begin at 1. Each operation leaves as many as there were.
 use crate::arguments::Shape;
 use crate::bench::{Bench, begin_anew};
 use flume::Waits;
@@ -18,7 +17,7 @@ impl<R: Waits> Bench<R> {
         sum
     }
 
-    // The same on this channel. Gathering the crowd isn't timed.
+    // Gathering the crowd isn't timed.
     fn operate_on(&self, chan: &mut Chan<usize, ()>, shape: Shape, start: &mut Instant) -> usize {
         let standing = self.capacity.unwrap_or(0);
         gather(chan, shape, standing);
@@ -27,14 +26,13 @@ impl<R: Waits> Bench<R> {
     }
 }
 
-/// This many come, one after the other.
 fn gather(chan: &mut Chan<usize, ()>, shape: Shape, standing: usize) {
     for number in 0..standing {
         let _ = joins(chan, shape, number);
     }
 }
 
-/// The sum of the numbers of this many operations, of each that was answered as it is to be.
+/// The sum of the numbers of the operations that were answered correctly.
 fn operate(chan: &mut Chan<usize, ()>, shape: Shape, standing: usize, operations: usize) -> usize {
     let mut sum = 0usize;
     for number in 0..operations {
@@ -45,8 +43,6 @@ fn operate(chan: &mut Chan<usize, ()>, shape: Shape, standing: usize, operations
     sum
 }
 
-/// One more comes, behind all others: a send with this number that blocks, or a receiver that
-/// blocks. Whether it stands there now.
 fn joins(chan: &mut Chan<usize, ()>, shape: Shape, number: usize) -> bool {
     let reply = match shape {
         Shape::CrowdCancel => chan.send(number, ()),
@@ -55,11 +51,10 @@ fn joins(chan: &mut Chan<usize, ()>, shape: Shape, number: usize) -> bool {
     matches!(reply, Reply::Pending(_) | Reply::Parked(_))
 }
 
-/// The operation with this number. Whether it was answered as it is to be.
 fn is_done(chan: &mut Chan<usize, ()>, shape: Shape, standing: usize, number: usize) -> bool {
     match shape {
         Shape::CrowdPoll => waits_on(chan, middle(standing)),
-        Shape::CrowdDraw => waits_on(chan, drawn(standing, number)),
+        Shape::CrowdRandom => waits_on(chan, random_ticket(standing, number)),
         Shape::CrowdSend => passes(chan, number) && joins(chan, shape, number),
         _ => {
             let ticket = middle(standing).wrapping_add(number as u64);
@@ -68,19 +63,18 @@ fn is_done(chan: &mut Chan<usize, ()>, shape: Shape, standing: usize, number: us
     }
 }
 
-/// The ticket of the one in the middle of this many. As those in the middle leave and others come,
-/// the front half stays, and behind it they leave in the order in which they came.
+/// The ticket in the middle of this many. If those there leave and others come, the front half
+/// stays.
 fn middle(standing: usize) -> u64 {
     (standing / 2).wrapping_add(1) as u64
 }
 
-/// A ticket for each number, now here and now there in the crowd.
-fn drawn(standing: usize, number: usize) -> u64 {
+/// A ticket of the crowd, picked by the number.
+fn random_ticket(standing: usize, number: usize) -> u64 {
     let spread = number.wrapping_mul(0x9E37_79B9_7F4A_7C15) >> 32;
     (spread.wrapping_mul(standing) >> 32).wrapping_add(1) as u64
 }
 
-/// The parked receiver asks again. Whether it waits on.
 fn waits_on(chan: &mut Chan<usize, ()>, ticket: u64) -> bool {
     matches!(chan.poll(ticket, None), Reply::Waiting)
 }
@@ -94,8 +88,7 @@ fn leaves(chan: &mut Chan<usize, ()>, shape: Shape, ticket: u64) -> bool {
     matches!(reply, Reply::Returned { .. } | Reply::Gone { .. })
 }
 
-/// A message is sent, and the receiver that it fills is told, and asks for it. Whether it gets
-/// this message.
+/// Sends a message, and polls the receiver that it fills. Whether that gets it.
 fn passes(chan: &mut Chan<usize, ()>, message: usize) -> bool {
     let Reply::Sent { filled: Some(_) } = chan.try_send(message) else {
         return false;

@@ -11,11 +11,11 @@ use futures::{Future, ready};
 /// Which calls a loop makes.
 #[derive(Clone, Copy)]
 pub struct Calls {
-    // The first one sends.
+    // The first call sends.
     sends: bool,
-    // After one that sends comes one that receives, and the other way round.
+    // Sends and receives alternate.
     alternates: bool,
-    // The number that is sent is by this many greater than the last one that was sent or received.
+    // What is added to the last message to make the next.
     adds: usize,
 }
 
@@ -54,7 +54,6 @@ enum Call<'a, R: Waits> {
 }
 
 impl<'a, R: Waits> Call<'a, R> {
-    // Sends this message, or receives one.
     #[inline(always)]
     fn new(ends: &'a Ends<R>, sends: bool, message: usize) -> Self {
         if sends {
@@ -64,8 +63,7 @@ impl<'a, R: Waits> Call<'a, R> {
         }
     }
 
-    // This message, if it was sent, or the one that was received. `None`: the channel is
-    // disconnected, or there is no memory.
+    // The message that was sent or received. `None`: disconnected, or out of memory.
     #[inline(always)]
     fn poll(&mut self, message: usize, cx: &mut Context<'_>) -> Poll<Option<usize>>
         ensures armed { OnPending result (IsArmed cx.new) }
@@ -87,11 +85,8 @@ pub struct Loop<'a, R: Waits> {
     ends: &'a Ends<R>,
     calls: Calls,
     call: Call<'a, R>,
-    // Whether the call sends.
     sends: bool,
-    // The message that is sent, or was sent last.
     message: usize,
-    // How many calls are left.
     left: usize,
     sum: usize,
 }

@@ -60,7 +60,7 @@ select_rx       four threads send, each into a channel of its own, and one recei
 SHAPE of a crowd: CAPACITY is a number above 0, and says how many stand on one channel all along;
 MESSAGES says how many operations are timed, and gathering the crowd isn't
 crowd_poll      a parked receiver in the middle asks again, and waits on
-crowd_draw      a parked receiver asks again, and waits on: now one here, now one there
+crowd_random    a parked receiver asks again, and waits on: another one each time
 crowd_withdraw  a parked receiver in the middle leaves, and another parks
 crowd_cancel    a blocked send in the middle is withdrawn, and another blocks
 crowd_send      a message is sent, the receiver that it fills is told and takes it, and another
@@ -69,17 +69,20 @@ crowd_futures   a message is sent, the receive that waited longest is polled and
                 another receive is polled, which waits";
 
 fn main(rt: HostRuntime) -> io::Result<ExitCode> {
-    match asked(&rt)? {
-        Ok(asked) => {
+    match read_arguments(&rt)? {
+        Ok(arguments) => {
             let task = MockTask::new(&rt)?;
-            print(&rt, asked.messages, time(rt, rt.alloc(), &task, &asked))
+            print(
+                &rt,
+                arguments.messages,
+                time(rt, rt.alloc(), &task, &arguments),
+            )
         }
         Err(fault) => print(&rt, 0, Err(fault)),
     }
 }
 
-/// What the words of the call ask for.
-fn asked(rt: &HostRuntime) -> io::Result<Result<Arguments, Fault>> {
+fn read_arguments(rt: &HostRuntime) -> io::Result<Result<Arguments, Fault>> {
     let words: Vec<String> = env::args(rt)?.skip(1).collect(rt.alloc())?;
     Ok(Arguments::read(&words))
 }

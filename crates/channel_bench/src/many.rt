@@ -3,7 +3,6 @@ use crate::bench::Ends;
 use flume::{Receiver, Sender, Waits};
 use std::alloc::{AllocError, Global};
 
-// How many messages a block has, if this many are left.
 const BLOCK: usize = 64;
 
 /// Sends 0, 1, 2 and so on, a block at a time.
@@ -19,7 +18,6 @@ pub fn send_blocks<R: Waits>(alloc: Global, tx: &Sender<usize, R>, messages: usi
     }
 }
 
-// The messages from the first on, up to that behind the last.
 fn block_of(alloc: Global, first: usize, behind: usize) -> Result<Vec<usize>, AllocError> {
     let mut block = Vec::with_capacity(alloc, BLOCK)?;
     for message in first..behind {
@@ -28,7 +26,7 @@ fn block_of(alloc: Global, first: usize, behind: usize) -> Result<Vec<usize>, Al
     Ok(block)
 }
 
-/// The sum of this many messages, or of those that come, a block at a time.
+/// The sum of up to this many messages, a block at a time.
 pub fn receive_blocks<R: Waits>(alloc: Global, rx: &Receiver<usize, R>, messages: usize) -> usize {
     let mut block = Vec::new(alloc);
     let (mut sum, mut left) = (0usize, messages);

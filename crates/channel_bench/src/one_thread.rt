@@ -12,7 +12,7 @@ pub fn send_each<R: Waits>(tx: &Sender<usize, R>, messages: usize) {
     }
 }
 
-/// The sum of this many messages, or of those that come.
+/// The sum of up to this many messages.
 pub fn receive_each<R: Waits>(rx: &Receiver<usize, R>, messages: usize) -> usize {
     let mut sum = 0usize;
     for _ in 0..messages {
@@ -72,14 +72,13 @@ impl<R: Waits> Bench<R> {
     }
 }
 
-/// A loop as a user writes it, with `?` and an error of the user's: this many messages sent and
-/// received in turn, and then this many sent and taken. The sum of all.
+/// A loop as a user writes it, with `?` and an error of its own: this many messages sent and
+/// received in turn, and then this many sent and taken.
 pub fn plain<R: Waits>(ends: &Ends<R>, messages: usize) -> Result<usize, Fault> {
     let one_by_one = in_turn(ends, messages)?;
     Ok(one_by_one.wrapping_add(at_once(ends, messages)?))
 }
 
-/// Each message sent, and received before the next.
 fn in_turn<R: Waits>(ends: &Ends<R>, messages: usize) -> Result<usize, Fault> {
     let mut sum = 0usize;
     for message in 0..messages {
@@ -89,7 +88,6 @@ fn in_turn<R: Waits>(ends: &Ends<R>, messages: usize) -> Result<usize, Fault> {
     Ok(sum)
 }
 
-/// All sent, and then all taken that are there.
 fn at_once<R: Waits>(ends: &Ends<R>, messages: usize) -> Result<usize, Fault> {
     for message in 0..messages {
         ends.tx.send(message)?;
@@ -97,7 +95,6 @@ fn at_once<R: Waits>(ends: &Ends<R>, messages: usize) -> Result<usize, Fault> {
     Ok(take_each(&ends.rx))
 }
 
-/// The sum of the messages that are there.
 fn take_each<R: Waits>(rx: &Receiver<usize, R>) -> usize {
     let mut sum = 0usize;
     for message in rx.try_iter() {

@@ -37,7 +37,7 @@ impl<R: Runtime + RandomSource> Bench<R> {
         let mut threads = Vec::new(self.alloc);
         self.start(&mut threads, Work::Echoes(there), each)?;
         let sum = to_and_fro(&self.rt, here, SENDS_FIRST, each)?;
-        Ok(sum.wrapping_add(self.joined(threads)))
+        Ok(sum.wrapping_add(self.join_all(threads)))
     }
 }
 
@@ -54,7 +54,6 @@ pub fn to_and_fro<R: Runtime + RandomSource>(
     }
 }
 
-/// What the second of two futures in one task gives.
 fn second_of<R, A, B>(rt: &R, first: A, second: B) -> Result<usize, Fault>
 where
     R: Runtime + RandomSource,

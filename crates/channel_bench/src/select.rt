@@ -12,7 +12,7 @@ const FOUR: usize = 4;
 
 impl<R: Runtime + RandomSource> Bench<R> {
     /// Four threads send, each into a channel of its own, and this one receives all by selections.
-    /// Making the channels and the threads is in the time. No channel closes before.
+    /// Making the channels and the threads is in the time.
     pub fn select_rx(&self) -> Result<usize, Fault> {
         let each = self.messages / FOUR;
         let channels = self.open_four();
@@ -21,7 +21,7 @@ impl<R: Runtime + RandomSource> Bench<R> {
             self.start_each(&mut threads, ends, Crew::of(1), each)?;
         }
         let sum = select_each(&channels, each.saturating_mul(FOUR));
-        Ok(sum.wrapping_add(self.joined(threads)))
+        Ok(sum.wrapping_add(self.join_all(threads)))
     }
 }
 
@@ -31,7 +31,7 @@ impl<R: Waits> Bench<R> {
         select_in_turn(&self.open_four(), self.messages)
     }
 
-    // Four channels; fewer if there is no memory for them.
+    // Fewer if memory runs out.
     fn open_four(&self) -> Vec<Ends<R>> {
         let mut channels = Vec::new(self.alloc);
         for _ in 0..FOUR {
@@ -59,7 +59,6 @@ fn select_in_turn<R: Waits>(channels: &[Ends<R>], messages: usize) -> usize {
     sum
 }
 
-/// The sum of what this many selections receive.
 fn select_each<R: Waits>(channels: &[Ends<R>], messages: usize) -> usize {
     let mut sum = 0usize;
     for _ in 0..messages {
@@ -68,7 +67,6 @@ fn select_each<R: Waits>(channels: &[Ends<R>], messages: usize) -> usize {
     sum
 }
 
-/// What one selection over the four channels receives, 0 if that is nothing.
 fn select<R: Waits>(channels: &[Ends<R>]) -> usize {
     match channels {
         [one, two, three, four] => {
@@ -79,10 +77,10 @@ fn select<R: Waits>(channels: &[Ends<R>]) -> usize {
     }
 }
 
-/// Receivers that a selector gets more, an arm each. It is proved once for each list of arms, in
-/// whose last one only that it is an arm is known: the whole type takes the prover far longer.
+/// Receivers that are added to a selector, an arm each. Of the last arm only that it is one is
+/// known: the whole type takes the prover far longer.
 trait MoreArms<'a> {
-    /// What the selection receives then, 0 if that is nothing.
+    /// What the selection receives, or 0.
     fn select<L: Arms<usize, Global> + Drop, C: Arm<usize, Global> + Drop>(
         self,
         selector: Selector<'a, usize, (L, C)>,
@@ -110,7 +108,6 @@ impl<'a, R: Waits, M: MoreArms<'a>> MoreArms<'a> for (&'a Receiver<usize, R>, M)
     }
 }
 
-/// The message, 0 if there is none.
 fn message_or_none(answer: Result<usize, RecvError>) -> usize {
     answer.unwrap_or(0)
 }

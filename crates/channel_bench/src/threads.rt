@@ -13,20 +13,16 @@ use std::thread::JoinHandle;
 /// What a thread does with the ends that it has.
 #[derive(Drop)]
 pub enum Work<R: Waits> {
-    /// It sends.
     Sends(Sender<usize, R>),
-    /// It receives.
     Receives(Receiver<usize, R>),
-    /// It sends, many messages a call.
     SendsMany(Sender<usize, R>),
-    /// It receives, many messages a call.
     ReceivesMany(Receiver<usize, R>),
     /// It sends back what it receives, in a task.
     Echoes(Ends<R>),
 }
 
 impl<R: Runtime + RandomSource> Work<R> {
-    // The sum of this many messages that were received: 0 if they were sent.
+    // The sum of the messages that were received.
     fn pass_each(&self, rt: &R, messages: usize) -> usize {
         match self {
             Work::Sends(tx) => {
@@ -81,7 +77,7 @@ impl<R: Runtime + RandomSource> Bench<R> {
         } else {
             receive_each(&rx, left)
         };
-        Ok(sum.wrapping_add(self.joined(threads)))
+        Ok(sum.wrapping_add(self.join_all(threads)))
     }
 
     /// Starts the threads that send this many messages each; if several receive, as many more.
@@ -101,7 +97,7 @@ impl<R: Runtime + RandomSource> Bench<R> {
         Ok(())
     }
 
-    // Starts a thread that sends, or receives, this many messages; many a call, or one.
+    // Starts a thread that sends or receives this many messages.
     fn start_clone(
         &self,
         threads: &mut Vec<JoinHandle<usize>>,
@@ -143,7 +139,7 @@ impl<R: Runtime + RandomSource> Bench<R> {
     }
 
     /// The sum of what the threads received.
-    pub fn joined(&self, threads: Vec<JoinHandle<usize>>) -> usize {
+    pub fn join_all(&self, threads: Vec<JoinHandle<usize>>) -> usize {
         let mut sum = 0usize;
         for thread in threads {
             sum = sum.wrapping_add(thread.join(&self.rt));

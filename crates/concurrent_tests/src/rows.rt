@@ -1,6 +1,6 @@
-//! Explanations, each worked by hand from the tables of `specs/` and of `docs/MODEL.md`. Behind a
-//! `! ` is the first item that may not come; without one the text is an explanation.
-use crate::fixtures::each_is_judged;
+//! Explanations, each worked by hand from the tables of `specs/` and of `docs/MODEL.md`. Behind `!
+//! ` is the first item that is wrong.
+use crate::fixtures::check_each;
 
 const ORDERS: &str = "
 = of two sends that overlap the one that began first takes effect first
@@ -120,8 +120,8 @@ a: send 1
 a | try_send 1 -> sent
 a -> sent
 b: len
-! b | len -> number 2
-b -> number 2
+! b | len -> 2
+b -> 2
 = a list is drained in its order
 unbounded
 a: send 1
@@ -256,7 +256,7 @@ b | try_recv -> got 1
 b -> got 1
 a | withdraw_send 1 -> accepted
 ! a -> timeout
-= a receive times out where nothing comes
+= a receive times out if nothing comes
 bounded 0
 b: recv_timeout
 b | try_recv -> empty
@@ -296,7 +296,7 @@ unbounded
 a: send 1
 a | try_send 1 -> sent
 ! a -> dropped
-= where a call can't make what it would wait on, memory is refused
+= a call that can't allocate what it would wait on is refused memory
 bounded 0
 a: send 1
 a | try_send 1 -> full 1
@@ -325,20 +325,20 @@ a: len
 = a call that is not open makes no step
 unbounded
 a: len
-a | len -> number 0
-a -> number 0
-! a | len -> number 0
+a | len -> 0
+a -> 0
+! a | len -> 0
 = nor does it return
 unbounded
 a: len
-a | len -> number 0
-a -> number 0
-! a -> number 0
+a | len -> 0
+a -> 0
+! a -> 0
 = a call makes one step if it doesn't wait
 unbounded
 a: len
-a | len -> number 0
-! a | len -> number 0
+a | len -> 0
+! a | len -> 0
 = it makes its own step
 unbounded
 a: len
@@ -369,25 +369,25 @@ a | try_recv -> empty
 
 #[test]
 fn calls_take_effect_between_their_events(rt: HostRuntime) {
-    each_is_judged(&rt, rt.alloc(), ORDERS);
+    check_each(&rt, rt.alloc(), ORDERS);
 }
 
 #[test]
 fn each_message_is_received_once_and_in_its_place(rt: HostRuntime) {
-    each_is_judged(&rt, rt.alloc(), MESSAGES);
+    check_each(&rt, rt.alloc(), MESSAGES);
 }
 
 #[test]
-fn a_send_and_a_receive_meet_where_they_overlap(rt: HostRuntime) {
-    each_is_judged(&rt, rt.alloc(), MEETINGS);
+fn a_send_and_a_receive_meet_if_they_overlap(rt: HostRuntime) {
+    check_each(&rt, rt.alloc(), MEETINGS);
 }
 
 #[test]
 fn calls_that_wait_end_as_they_may(rt: HostRuntime) {
-    each_is_judged(&rt, rt.alloc(), WAITS);
+    check_each(&rt, rt.alloc(), WAITS);
 }
 
 #[test]
 fn each_thread_makes_the_steps_of_its_own_call(rt: HostRuntime) {
-    each_is_judged(&rt, rt.alloc(), THREADS);
+    check_each(&rt, rt.alloc(), THREADS);
 }

@@ -1,4 +1,4 @@
-//! A slow list, kept from the replies of one script alone, that says whether they can be.
+//! A list that is kept from the replies of a script alone, and says whether they can be right.
 use flume_model::step::{Reply, Step};
 use std::alloc::{AllocError, Global};
 
@@ -7,24 +7,22 @@ struct Offer {
     message: u64,
     ticket: Option<u64>,
     returned: bool,
-    // Whether its sender learned what became of it, and asks no more.
+    // Whether its sender has learned what became of it.
     is_spent: bool,
-    // Whether its sender was named as due; and whether that was since the channel was closed, so
-    // that it is named once more if it is accepted.
-    is_named: bool,
+    // Whether its sender was due; if it was before the channel closed, it is once more.
+    was_due: bool,
     was_blocked_at_closing: bool,
 }
 
-// A message that was handed out. The one that filled a parked receiver is known once it was got.
+// A message that was handed out. One that filled a parked receiver is known once that asks.
 #[derive(Drop)]
 struct HandOut {
     message: Option<u64>,
     filled: Option<u64>,
 }
 
-// The state of a receiver's ticket.
 #[derive(Clone, Copy, PartialEq, Drop)]
-enum Stands {
+enum TicketState {
     Parked,
     Filled,
     Spent,
@@ -33,19 +31,19 @@ enum Stands {
 #[derive(Drop)]
 struct Ticket {
     number: u64,
-    stands: Stands,
-    // Whether it was named as due since it began to wait.
-    is_named: bool,
+    state: TicketState,
+    // Whether it was due since it began to wait.
+    was_due: bool,
 }
 
-/// What the replies of one script say, and how many of them can't be.
+/// What the replies of a script say, and how many of them can't be right.
 #[derive(Drop)]
-pub struct Told {
+pub struct Judge {
     offers: Vec<Offer>,
     hand_outs: Vec<HandOut>,
     tickets: Vec<Ticket>,
-    /// How many tickets were issued.
-    pub issued: u64,
+    /// The last ticket that was issued.
+    pub last_ticket: u64,
     /// How many receivers were filled.
     pub fills: u64,
     faults: u64,
@@ -53,14 +51,14 @@ pub struct Told {
     receivers: usize,
 }
 
-impl Told {
-    /// Of a new channel nothing is known.
-    pub fn nothing(alloc: Global) -> Told {
-        Told {
+impl Judge {
+    /// The judge of a new channel.
+    pub fn new(alloc: Global) -> Judge {
+        Judge {
             offers: Vec::new(alloc),
             hand_outs: Vec::new(alloc),
             tickets: Vec::new(alloc),
-            issued: 0,
+            last_ticket: 0,
             fills: 0,
             faults: 0,
             senders: 1,
@@ -68,15 +66,19 @@ impl Told {
         }
     }
 
-    /// Keeps what the reply to this step says.
+    /// Adds the reply to a step.
     pub fn add(&mut self, step: &Step<u64>, reply: &Reply<u64>) -> Result<(), AllocError> {
         match step {
-            Step::TrySend(message) | Step::Send(message) => self.offered(*message, reply)?,
-            Step::PollSend(ticket) | Step::WithdrawSend(ticket) => self.asked(*ticket, reply),
-            Step::TryRecv | Step::Recv(_) => self.received(reply)?,
-            Step::Poll(ticket) | Step::Withdraw(ticket) => self.answered(*ticket, reply)?,
-            Step::Drain => self.drained(reply)?,
-            _ => self.counted(step, reply),
+            Step::TrySend(message) | Step::Send(message) => self.add_offer(*message, reply)?,
+            Step::PollSend(ticket) | Step::WithdrawSend(ticket) => self.add_send_answer(
+                *ticket, reply,
+            ),
+            Step::TryRecv | Step::Recv(_) => self.add_receive(reply)?,
+            Step::Poll(ticket) | Step::Withdraw(ticket) => self.add_receiver_answer(
+                *ticket, reply,
+            )?,
+            Step::Drain => self.add_drain(reply)?,
+            _ => self.add_count(step, reply),
         }
         Ok(())
     }
@@ -85,7 +87,7 @@ impl Told {
         self.faults = self.faults.saturating_add(1);
     }
 
-    fn offered(&mut self, message: u64, reply: &Reply<u64>) -> Result<(), AllocError> {
+    fn add_offer(&mut self, message: u64, reply: &Reply<u64>) -> Result<(), AllocError> {
         let (ticket, filled) = match reply {
             Reply::Sent { filled } => (None, *filled),
             Reply::Pending(ticket) => (Some(*ticket), None),
@@ -104,23 +106,21 @@ impl Told {
             ticket,
             returned,
             is_spent: false,
-            is_named: false,
+            was_due: false,
             was_blocked_at_closing: false,
         })?;
         self.fill(filled)
     }
 
-    // Tickets are issued from 1 on, each once.
     fn issue(&mut self, ticket: u64) {
-        self.issued = self.issued.saturating_add(1);
-        if ticket != self.issued {
+        self.last_ticket = self.last_ticket.saturating_add(1);
+        if ticket != self.last_ticket {
             self.fault();
         }
     }
 
-    // A blocked send was asked about, or withdrawn. Each answer but that it waits is its last, and
-    // a message that comes back is its own.
-    fn asked(&mut self, ticket: u64, reply: &Reply<u64>) {
+    // Of a blocked send. Each reply but `Waiting` is its last, and only its own message comes back.
+    fn add_send_answer(&mut self, ticket: u64, reply: &Reply<u64>) {
         let is_over = self.is_over();
         let mut is_right = matches!(reply, Reply::NoTicket);
         for offer in &mut self.offers {
@@ -140,22 +140,22 @@ impl Told {
         }
     }
 
-    /// The last step made this ticket due. It was issued to a call that waits, and wasn't named
-    /// since that began to wait, but for a send that was blocked at the closing.
-    pub fn named(&mut self, ticket: u64) {
+    /// Adds that the last step made this ticket due: its call waits, and wasn't due before; but a
+    /// send that was blocked as the channel closed may be due twice.
+    pub fn add_due(&mut self, ticket: u64) {
         let is_closed = self.senders == 0 || self.receivers == 0;
         let mut is_right = false;
         for offer in &mut self.offers {
             if offer.ticket == Some(ticket) && !offer.is_spent {
-                is_right = !offer.is_named || offer.was_blocked_at_closing;
-                offer.was_blocked_at_closing = !offer.is_named && is_closed;
-                offer.is_named = true;
+                is_right = !offer.was_due || offer.was_blocked_at_closing;
+                offer.was_blocked_at_closing = !offer.was_due && is_closed;
+                offer.was_due = true;
             }
         }
         for entry in &mut self.tickets {
-            if entry.number == ticket && entry.stands != Stands::Spent {
-                is_right = !entry.is_named;
-                entry.is_named = true;
+            if entry.number == ticket && entry.state != TicketState::Spent {
+                is_right = !entry.was_due;
+                entry.was_due = true;
             }
         }
         if !is_right || self.is_over() {
@@ -163,40 +163,39 @@ impl Told {
         }
     }
 
-    /// All that the last step made due were named: each receiver that is filled, and in a closed
-    /// channel each call that waits.
-    pub fn all_named(&mut self) {
+    /// Checks that all were added that the last step made due: each receiver that is filled, and in
+    /// a closed channel each call that waits.
+    pub fn check_all_due(&mut self) {
         let is_closed = self.senders == 0 || self.receivers == 0;
         let mut is_right = true;
         for offer in &self.offers {
             let waits = offer.ticket.is_some() && !offer.is_spent;
-            is_right = is_right && (offer.is_named || !waits || !is_closed);
+            is_right = is_right && (offer.was_due || !waits || !is_closed);
         }
         for entry in &self.tickets {
-            let is_due = match entry.stands {
-                Stands::Parked => is_closed,
-                Stands::Filled => true,
-                Stands::Spent => false,
+            let is_due = match entry.state {
+                TicketState::Parked => is_closed,
+                TicketState::Filled => true,
+                TicketState::Spent => false,
             };
-            is_right = is_right && (entry.is_named || !is_due);
+            is_right = is_right && (entry.was_due || !is_due);
         }
         if !is_right && !self.is_over() {
             self.fault();
         }
     }
 
-    // A receive that has no ticket yet.
-    fn received(&mut self, reply: &Reply<u64>) -> Result<(), AllocError> {
+    fn add_receive(&mut self, reply: &Reply<u64>) -> Result<(), AllocError> {
         match reply {
-            Reply::Got(message) => self.shown(*message)?,
+            Reply::Got(message) => self.add_hand_out(*message)?,
             Reply::Parked(ticket) => {
                 self.issue(*ticket);
-                let (number, stands) = (*ticket, Stands::Parked);
-                let is_named = false;
+                let (number, state) = (*ticket, TicketState::Parked);
+                let was_due = false;
                 self.tickets.push(Ticket {
                     number,
-                    stands,
-                    is_named,
+                    state,
+                    was_due,
                 })?;
             }
             Reply::Empty | Reply::Ended => {}
@@ -205,24 +204,23 @@ impl Told {
         Ok(())
     }
 
-    // The ticket has this state from now on. One that waits again can be named again. Its state
-    // before, if it was issued to a receiver.
-    fn replace(&mut self, number: u64, stands: Stands) -> Stands {
-        let mut before = Stands::Spent;
+    // Sets the state of a receiver's ticket, and answers the one before. One that waits again may
+    // be due again.
+    fn set_state(&mut self, number: u64, state: TicketState) -> TicketState {
+        let mut before = TicketState::Spent;
         for ticket in &mut self.tickets {
             if ticket.number == number {
-                before = ticket.stands;
-                ticket.stands = stands;
-                ticket.is_named = ticket.is_named && stands != Stands::Parked;
+                before = ticket.state;
+                ticket.state = state;
+                ticket.was_due = ticket.was_due && state != TicketState::Parked;
             }
         }
         before
     }
 
-    // A receiver that waits is filled, once.
     fn fill(&mut self, filled: Option<u64>) -> Result<(), AllocError> {
         if let Some(ticket) = filled {
-            if self.replace(ticket, Stands::Filled) != Stands::Parked {
+            if self.set_state(ticket, TicketState::Filled) != TicketState::Parked {
                 self.fault();
             }
             self.fills = self.fills.saturating_add(1);
@@ -232,7 +230,7 @@ impl Told {
         Ok(())
     }
 
-    fn shown(&mut self, message: u64) -> Result<(), AllocError> {
+    fn add_hand_out(&mut self, message: u64) -> Result<(), AllocError> {
         self.hand_outs.push(HandOut {
             message: Some(message),
             filled: None,
@@ -240,35 +238,34 @@ impl Told {
         Ok(())
     }
 
-    // A parked receiver asked, or left. One that was filled gets its message, and no other answer.
-    fn answered(&mut self, ticket: u64, reply: &Reply<u64>) -> Result<(), AllocError> {
-        let (after, is_right) = match (self.replace(ticket, Stands::Spent), reply) {
-            (Stands::Parked, Reply::Got(message)) => {
-                self.shown(*message)?;
-                (Stands::Spent, true)
+    // Of a parked receiver. One that was filled gets its message, and no other reply.
+    fn add_receiver_answer(&mut self, ticket: u64, reply: &Reply<u64>) -> Result<(), AllocError> {
+        let (after, is_right) = match (self.set_state(ticket, TicketState::Spent), reply) {
+            (TicketState::Parked, Reply::Got(message)) => {
+                self.add_hand_out(*message)?;
+                (TicketState::Spent, true)
             }
-            (Stands::Filled, Reply::Got(message)) => {
-                self.collected(ticket, *message);
-                (Stands::Spent, true)
+            (TicketState::Filled, Reply::Got(message)) => {
+                self.set_hand_out(ticket, *message);
+                (TicketState::Spent, true)
             }
-            (Stands::Parked, Reply::Waiting) => (Stands::Parked, true),
-            (Stands::Parked, Reply::Ended) => (Stands::Spent, true),
-            (Stands::Parked, Reply::Gone { filled, .. }) => {
+            (TicketState::Parked, Reply::Waiting) => (TicketState::Parked, true),
+            (TicketState::Parked, Reply::Ended) => (TicketState::Spent, true),
+            (TicketState::Parked, Reply::Gone { filled, .. }) => {
                 self.fill(*filled)?;
-                (Stands::Spent, true)
+                (TicketState::Spent, true)
             }
-            (Stands::Spent, Reply::NoTicket) => (Stands::Spent, true),
+            (TicketState::Spent, Reply::NoTicket) => (TicketState::Spent, true),
             (before, _) => (before, false),
         };
-        self.replace(ticket, after);
+        self.set_state(ticket, after);
         if !is_right {
             self.fault();
         }
         Ok(())
     }
 
-    // The message that filled this receiver is this one.
-    fn collected(&mut self, ticket: u64, message: u64) {
+    fn set_hand_out(&mut self, ticket: u64, message: u64) {
         for hand_out in &mut self.hand_outs {
             if hand_out.filled == Some(ticket) {
                 hand_out.message = Some(message);
@@ -276,11 +273,11 @@ impl Told {
         }
     }
 
-    fn drained(&mut self, reply: &Reply<u64>) -> Result<(), AllocError> {
+    fn add_drain(&mut self, reply: &Reply<u64>) -> Result<(), AllocError> {
         match reply {
             Reply::Drained(list) => {
                 for message in list {
-                    self.shown(*message)?;
+                    self.add_hand_out(*message)?;
                 }
             }
             _ => self.fault(),
@@ -288,8 +285,8 @@ impl Told {
         Ok(())
     }
 
-    // Ends come and go, and are counted. Once both have been dropped no ticket is left.
-    fn counted(&mut self, step: &Step<u64>, reply: &Reply<u64>) {
+    // Of the ends. Once all have been dropped no ticket is left.
+    fn add_count(&mut self, step: &Step<u64>, reply: &Reply<u64>) {
         match (step, reply) {
             (Step::CloneSender, Reply::Done) => self.senders = self.senders.saturating_add(1),
             (Step::CloneReceiver, Reply::Done) => self.receivers = self.receivers.saturating_add(1),
@@ -303,7 +300,7 @@ impl Told {
         }
         if self.is_over() {
             for ticket in &mut self.tickets {
-                ticket.stands = Stands::Spent;
+                ticket.state = TicketState::Spent;
             }
         }
     }
@@ -312,29 +309,29 @@ impl Told {
         self.senders == 0 && self.receivers == 0
     }
 
-    // The messages that were offered and did not come back, in order.
-    fn kept(&self, alloc: Global) -> Result<Vec<u64>, AllocError> {
-        let mut kept = Vec::new(alloc);
+    // The messages that did not come back, in the order of their offers.
+    fn kept_messages(&self, alloc: Global) -> Result<Vec<u64>, AllocError> {
+        let mut kept_messages = Vec::new(alloc);
         for offer in &self.offers {
             if !offer.returned {
-                kept.push(offer.message)?;
+                kept_messages.push(offer.message)?;
             }
         }
-        Ok(kept)
+        Ok(kept_messages)
     }
 
-    /// Each reply can be; the j-th hand-out is the j-th offer that was kept; and unless both sides
-    /// have disconnected, none is left, and each that filled a receiver was collected.
+    /// Whether each reply can be right; the j-th hand-out is the j-th offer that was kept; and
+    /// unless both sides have disconnected, no message is left, in the queue or with a receiver.
     pub fn is_right(&self, alloc: Global) -> Result<bool, AllocError> {
-        let kept = self.kept(alloc)?;
-        if self.faults > 0 || !self.is_over() && self.hand_outs.len() != kept.len() {
+        let kept_messages = self.kept_messages(alloc)?;
+        if self.faults > 0 || !self.is_over() && self.hand_outs.len() != kept_messages.len() {
             return Ok(false);
         }
-        let mut next = kept.iter();
+        let mut next = kept_messages.iter();
         for hand_out in &self.hand_outs {
             let right = match (next.next(), hand_out.message) {
                 (None, _) => false,
-                (Some(kept), Some(message)) => *kept == message,
+                (Some(kept_messages), Some(message)) => *kept_messages == message,
                 (Some(_), None) => self.is_over(),
             };
             if !right {

@@ -1,22 +1,21 @@
-//! Each message and each signal that a channel was handed in drawn scripts is dropped once.
-use crate::answers::is_so;
-use crate::draws::Draws;
+//! A channel drops each message and each signal of a random script once.
+use crate::fixtures::is_titled;
+use crate::random_steps::RandomSteps;
 use flume_core::chan::Chan;
 use flume_model::step::{Reply, Step};
 use std::alloc::Global;
 use std::process::Abort;
 use std::sync::atomic::{AtomicU64, Ordering};
 
-// How many values were made, how many of them were dropped, and the sum of the numbers of those
-// that weren't.
 #[derive(Drop)]
 struct Counts {
     made: AtomicU64,
     dropped: AtomicU64,
+    // Of the numbers of the values that weren't dropped.
     sum: AtomicU64,
 }
 
-// A value that counts as dropped once it is. Its number is how many were made by then.
+// A value that counts its drop. The first one has the number 1.
 struct Counted<'a> {
     number: u64,
     counts: &'a Counts,
@@ -55,42 +54,40 @@ impl Counts {
         made.wrapping_sub(self.dropped.load(Ordering::SeqCst))
     }
 
-    // None was made, or each was dropped once.
     fn all_dropped(&self) -> bool {
         self.left() == 0 && self.sum.load(Ordering::SeqCst) == 0
     }
 }
 
-// A channel whose messages and signals are counted.
 #[derive(Drop)]
-struct Stage<'a> {
+struct CountedChannel<'a> {
     chan: Chan<Counted<'a>, Counted<'a>>,
     messages: &'a Counts,
     signals: &'a Counts,
-    // A call that asks leaves a new signal.
-    renews: bool,
-    // Which tickets are due is named after each step.
-    names: bool,
-    issued: u64,
+    // Polls hand in a new signal.
+    replaces_signals: bool,
+    // A ticket that is due is asked for after each step.
+    asks_due: bool,
+    last_ticket: u64,
 }
 
-impl<'a> Stage<'a> {
-    fn renewed(&self) -> Option<Counted<'a>> {
-        self.renews.then(|| self.signals.make())
+impl<'a> CountedChannel<'a> {
+    fn new_signal(&self) -> Option<Counted<'a>> {
+        self.replaces_signals.then(|| self.signals.make())
     }
 
-    // The reply to this step, with a message and a signal of its own.
+    // Makes the step with a message and a signal of its own.
     fn reply(&mut self, step: &Step<u64>) -> Reply<Counted<'a>> {
-        let renewed = self.renewed();
+        let new_signal = self.new_signal();
         let chan = &mut self.chan;
         match *step {
             Step::TrySend(_) => chan.try_send(self.messages.make()),
             Step::Send(_) => chan.send(self.messages.make(), self.signals.make()),
-            Step::PollSend(ticket) => chan.poll_send(ticket, renewed),
+            Step::PollSend(ticket) => chan.poll_send(ticket, new_signal),
             Step::WithdrawSend(ticket) => chan.withdraw_send(ticket),
             Step::TryRecv => chan.try_recv(),
             Step::Recv(kind) => chan.recv(kind, self.signals.make()),
-            Step::Poll(ticket) => chan.poll(ticket, renewed),
+            Step::Poll(ticket) => chan.poll(ticket, new_signal),
             Step::Withdraw(ticket) => chan.withdraw(ticket),
             Step::Drain => chan.drain(),
             Step::CloneSender => chan.clone_sender(),
@@ -102,13 +99,13 @@ impl<'a> Stage<'a> {
         }
     }
 
-    // Makes the step, and drops what it hands out.
+    // Makes the step, and drops its reply.
     fn make(&mut self, step: &Step<u64>) {
         let reply = self.reply(step);
         if matches!(reply, Reply::Pending(_) | Reply::Parked(_)) {
-            self.issued = self.issued.saturating_add(1);
+            self.last_ticket = self.last_ticket.saturating_add(1);
         }
-        if self.names {
+        if self.asks_due {
             self.chan.next_due();
         }
     }
@@ -118,33 +115,32 @@ const SCRIPTS: u64 = 1_000;
 
 const STEPS: u64 = 30;
 
-// One drawn script. How many signals were made.
-fn replay_drawn<R: Abort>(rt: &R, alloc: Global, draws: &mut Draws, script: u64) -> u64 {
+fn run_random<R: Abort>(rt: &R, alloc: Global, random_steps: &mut RandomSteps, script: u64) -> u64 {
     let (messages, signals) = (Counts::new(), Counts::new());
-    let mut stage = Stage {
-        chan: Chan::new(alloc, draws.capacity()),
+    let mut channel = CountedChannel {
+        chan: Chan::new(alloc, random_steps.capacity()),
         messages: &messages,
         signals: &signals,
-        renews: script & 1 == 0,
-        names: script & 2 == 0,
-        issued: 0,
+        replaces_signals: script & 1 == 0,
+        asks_due: script & 2 == 0,
+        last_ticket: 0,
     };
     for _ in 0..STEPS {
-        draws.issued = stage.issued;
-        stage.make(&draws.step());
+        random_steps.last_ticket = channel.last_ticket;
+        channel.make(&random_steps.step());
     }
-    drop(stage);
+    drop(channel);
     let dropped = (messages.all_dropped(), signals.all_dropped());
-    is_so(rt, "a drawn script", dropped, (true, true));
+    is_titled(rt, "a random script", dropped, (true, true));
     signals.made.load(Ordering::SeqCst)
 }
 
 #[test]
-fn a_drawn_script_drops_each_message_and_signal_once(rt: HostRuntime) {
-    let mut draws = Draws::seeded(20_261_123);
+fn a_random_script_drops_each_message_and_signal_once(rt: HostRuntime) {
+    let mut random_steps = RandomSteps::from_seed(20_261_123);
     let mut made = 0u64;
     for script in 0..SCRIPTS {
-        made = made.saturating_add(replay_drawn(&rt, rt.alloc(), &mut draws, script));
+        made = made.saturating_add(run_random(&rt, rt.alloc(), &mut random_steps, script));
     }
     assert!(rt; made >= 5_000, "{made} signals were made");
 }

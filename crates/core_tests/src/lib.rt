@@ -1,13 +1,11 @@
-//! Tests of what is below the ends and can't be said by a script: drawn scripts, lists of steps at
-//! other messages than numbers, and the errors. What one thread does to a bare channel is in the
-//! scripts of `core_scripts`.
+//! Tests of `flume_core` that a script can't say: random scripts, messages that aren't numbers, and
+//! texts of errors. What one thread does to a bare channel is in `core_scripts`.
 #![tactic(auto)]
 
 #[cfg(test)]
-mod answers;
-pub mod draws;
-#[cfg(test)]
 mod errors;
+#[cfg(test)]
+mod fixtures;
 pub mod judge;
 #[cfg(test)]
 mod leaks;
@@ -15,3 +13,4 @@ mod leaks;
 mod lists;
 #[cfg(test)]
 mod random_scripts;
+pub mod random_steps;

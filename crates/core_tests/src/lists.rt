@@ -1,5 +1,5 @@
-//! Lists of steps whose messages are texts, or can't be copied, with their replies.
-use crate::answers::had;
+//! Lists of steps whose messages are texts, or can't be copied.
+use crate::fixtures::unwrap;
 use flume_core::chan::Chan;
 use flume_core::run::run;
 use flume_model::step::Step;
@@ -13,7 +13,7 @@ use std::process::Abort;
 #[derive(Debug, Drop)]
 struct Parcel(u64);
 
-// The replies to the steps on a new channel of this capacity, with this first ticket, are these.
+// On a new channel of this capacity, whose first ticket is this, the steps have these replies.
 fn replies_are<T: Debug + Drop>(
     (rt, alloc): (&impl Abort, Global),
     (capacity, ticket): (usize, u64),
@@ -24,8 +24,8 @@ fn replies_are<T: Debug + Drop>(
     let replies = run(alloc, &mut chan, steps)
         .ok()
         .expect(rt, "there is memory");
-    let shown = had(rt, format!(in alloc; "{replies:?}"));
-    assert_eq!(rt; shown.as_str(), wanted);
+    let text = unwrap(rt, format!(in alloc; "{replies:?}"));
+    assert_eq!(rt; text.as_str(), wanted);
 }
 
 #[test]
@@ -40,7 +40,7 @@ fn messages_need_not_be_copied(rt: HostRuntime) {
         TryRecv,
     ];
     let wanted = "[Sent { filled: None }, Full(Parcel(2)), Got(Parcel(1)), Empty, Done, Ended]";
-    replies_are((&rt, a), (1, 1), had(&rt, steps), wanted);
+    replies_are((&rt, a), (1, 1), unwrap(&rt, steps), wanted);
     let steps = vec![in a;
         Send(Parcel(1)),
         Send(Parcel(2)),
@@ -50,15 +50,18 @@ fn messages_need_not_be_copied(rt: HostRuntime) {
     ];
     let wanted = "[Sent { filled: None }, Pending(1), Done, \
         Returned { message: Parcel(2), closed: true }, Truth(true)]";
-    replies_are((&rt, a), (1, 1), had(&rt, steps), wanted);
+    replies_are((&rt, a), (1, 1), unwrap(&rt, steps), wanted);
 }
 
 #[test]
 fn a_refused_text_comes_back(rt: HostRuntime) {
     let a = rt.alloc();
-    let (one, two) = (had(&rt, "one".to_string(a)), had(&rt, "two".to_string(a)));
-    let three = had(&rt, "three".to_string(a));
+    let (one, two) = (
+        unwrap(&rt, "one".to_string(a)),
+        unwrap(&rt, "two".to_string(a)),
+    );
+    let three = unwrap(&rt, "three".to_string(a));
     let steps = vec![in a; Send(one), TrySend(two), DropReceiver, Send(three)];
     let wanted = "[Spent(Some(\"one\")), Full(\"two\"), Done, Closed(\"three\")]";
-    replies_are((&rt, a), (0, u64::MAX), had(&rt, steps), wanted);
+    replies_are((&rt, a), (0, u64::MAX), unwrap(&rt, steps), wanted);
 }

@@ -1,23 +1,68 @@
-//! What several tests use: answers compared in one place, and a late time. What can't be had fails
-//! the test here: a `?` in a test costs the prover a second, and an abort none. Other crates of
-//! tests have their own, since no library may abort.
-use crate::ends::long;
+//! What several tests use. What can't be had fails the test here: a `?` in a test costs the prover
+//! a second, and an abort none.
+use flume::{Receiver, Sender, Waits};
+use std::alloc::{Allocator, Global};
 use std::fmt::Debug;
 use std::process::Abort;
+use std::thread;
+use std::thread::{JoinHandle, Threads};
 use std::time::{Clock, Instant};
+use test_support::ends::{one_hour, open};
+use test_support::watchdog::{Watchdog, start_watchdog_with};
+use test_support::work::Work;
 
-/// The answer is the expected one.
 pub(crate) fn is<T: Debug + PartialEq + Drop>(rt: &impl Abort, answer: T, wanted: T) {
     assert_eq!(rt; answer, wanted);
 }
 
 /// The result of a call that fails for memory alone.
-pub(crate) fn had<T, E: Debug + Drop>(rt: &impl Abort, answer: Result<T, E>) -> T {
+pub(crate) fn unwrap<T, E: Debug + Drop>(rt: &impl Abort, answer: Result<T, E>) -> T {
     answer.expect(rt, "there is memory")
 }
 
-/// So late that no test waits for it.
-pub(crate) fn later<R: Clock + Abort>(rt: &R) -> Instant {
+/// The ends of a new channel of this capacity: `None` is unbounded.
+pub(crate) fn channel<T: Drop, R: Waits, A: Allocator + Copy>(
+    host: &impl Abort,
+    (rt, alloc): (R, A),
+    capacity: Option<usize>,
+) -> (Sender<T, R, A>, Receiver<T, R, A>) {
+    unwrap(host, open(rt, alloc, capacity))
+}
+
+pub(crate) fn spawn<R: Threads + Abort, W: Work + Send + Drop + 'static>(
+    rt: &R,
+    work: W,
+) -> JoinHandle<W::Answer>
+where
+    W::Answer: Send + Drop + 'static,
+{
+    thread::spawn(rt, move || work.work()).expect(rt, "a thread can be started")
+}
+
+#[derive(Drop)]
+struct Stuck<R: Waits + Abort>(R);
+
+impl<R: Waits + Abort> Work for Stuck<R> {
+    type Answer = ();
+
+    fn work(self) {
+        panic!(self.0; "a wake is lost: nothing happened for too long")
+    }
+}
+
+/// Starts the watchdog of a test.
+pub(crate) fn start_watchdog<R: Waits + Threads + Abort + Send + Sync + 'static>(
+    rt: R,
+    alloc: Global,
+) -> Watchdog {
+    match start_watchdog_with(rt, alloc, Stuck(rt)) {
+        Ok(watchdog) => watchdog,
+        Err(_) => panic!(rt; "a watchdog can be started"),
+    }
+}
+
+/// An hour from now.
+pub(crate) fn far_deadline<R: Clock + Abort>(rt: &R) -> Instant {
     let now = Instant::now(rt).expect(rt, "the clock can be read");
-    now.checked_add(long()).expect(rt, "an hour has a sum")
+    now.checked_add(one_hour()).expect(rt, "an hour has a sum")
 }

@@ -1,18 +1,15 @@
-//! Tests of the ends of `flume`: calls, their errors, clocks, memory, and what is dropped.
+//! Tests of the ends of `flume`: builders, clocks that can't be read, messages that hold an end,
+//! and which types go into a thread. What ends do to channels of numbers is text: `end_scripts`,
+//! and with threads `thread_scripts`.
 #![tactic(auto)]
 
 #[cfg(test)]
 mod builder;
-pub mod changes;
 #[cfg(test)]
 mod clocks;
-pub mod counting;
-pub mod ends;
 #[cfg(test)]
 mod fixtures;
-pub mod noted;
-pub mod ticking;
+#[cfg(test)]
+mod nested;
 #[cfg(test)]
 mod types;
-pub mod watch;
-pub mod works;

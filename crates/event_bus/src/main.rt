@@ -1,5 +1,4 @@
-//! A bus of events: each subscriber has a bounded channel of its own, and none of them is waited
-//! for.
+//! A bus of events: each subscriber has a bounded channel of its own, and the bus waits for none.
 //!
 //! One thread publishes and reads, so what is printed depends on no schedule.
 #![tactic(auto)]
@@ -11,7 +10,6 @@ use std::io;
 /// What a subscriber finds in its channel.
 #[derive(Drop)]
 enum Notice {
-    /// The event with this number.
     Event(u64),
     /// This many events came while the channel was full.
     Missed(u64),
@@ -21,15 +19,15 @@ enum Notice {
 #[derive(Drop)]
 struct Subscriber<R: Waits> {
     notices: Sender<Notice, R>,
-    // How many events it missed and no notice has counted yet.
+    // How many missed events no notice has counted yet.
     missed: u64,
-    gone: bool,
+    is_disconnected: bool,
 }
 
 impl<R: Waits> Subscriber<R> {
     /// Sends it an event, after a count of those that it missed. An event that finds no room counts
     /// as missed.
-    fn tell(&mut self, event: u64) -> Result<(), NoMemory> {
+    fn notify(&mut self, event: u64) -> Result<(), NoMemory> {
         if self.missed > 0 && self.offer(Notice::Missed(self.missed))? {
             self.missed = 0;
         }
@@ -46,7 +44,7 @@ impl<R: Waits> Subscriber<R> {
             Ok(()) => Ok(true),
             Err(TrySendError::Full(_)) => Ok(false),
             Err(TrySendError::Disconnected(_)) => {
-                self.gone = true;
+                self.is_disconnected = true;
                 Ok(false)
             }
             Err(TrySendError::NoMemory(_)) => Err(NoMemory),
@@ -54,7 +52,6 @@ impl<R: Waits> Subscriber<R> {
     }
 }
 
-/// All subscribers, in the order in which they came.
 #[derive(Drop)]
 struct Bus<R: Waits> {
     rt: R,
@@ -69,7 +66,7 @@ impl<R: Runtime> Bus<R> {
         self.subscribers.push(Subscriber {
             notices,
             missed: 0,
-            gone: false,
+            is_disconnected: false,
         })?;
         Ok(received)
     }
@@ -77,9 +74,10 @@ impl<R: Runtime> Bus<R> {
     /// Sends each subscriber the event, and removes those that have been dropped from the list.
     fn publish(&mut self, event: u64) -> io::Result<()> {
         for subscriber in &mut self.subscribers {
-            subscriber.tell(event)?;
+            subscriber.notify(event)?;
         }
-        self.subscribers.retain(|subscriber| !subscriber.gone);
+        self.subscribers
+            .retain(|subscriber| !subscriber.is_disconnected);
         Ok(())
     }
 }
@@ -98,8 +96,7 @@ fn main(rt: HostRuntime) -> io::Result<()> {
     read(&rt, "slow", &slow)?;
     bus.publish(6)?;
     read(&rt, "slow", &slow)?;
-    // The only receiver of this channel is dropped, so it closes. The bus sees that when it
-    // publishes.
+    // With its only receiver the channel closes. The bus notices when it publishes.
     drop(quick);
     bus.publish(7)?;
     println!(rt; "subscribers: {}", bus.subscribers.len())?;

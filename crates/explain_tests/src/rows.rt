@@ -1,10 +1,9 @@
-//! Recordings, each with the events that a correct channel can explain.
-
+//! Recordings, each with what a search for an explanation answers.
 use flume_concurrent::call::{Answer, Call};
 use flume_concurrent::event::Event;
 use flume_explain::explain::{Checked, check_calls};
 use std::alloc::Global;
-use std::test::Fail;
+use std::process::Abort;
 
 fn begins(thread: usize, call: Call<u64>) -> Event<u64> {
     Event::Begins { thread, call }
@@ -14,57 +13,67 @@ fn returns(thread: usize, answer: Answer<u64>) -> Event<u64> {
     Event::Returns { thread, answer }
 }
 
+// What a search over this many configurations answers.
+fn is(
+    (rt, alloc): (&impl Abort, Global),
+    (capacity, limit): (Option<usize>, usize),
+    events: &[Event<u64>],
+    wanted: Checked,
+) {
+    assert_eq!(rt; check_calls(alloc, capacity, events, limit), wanted);
+}
+
 #[test]
-fn one_message_is_sent_and_received(rt: HostRuntime) -> Result<(), Fail> {
+fn one_message_is_sent_and_received(rt: HostRuntime) {
     let events = [
         begins(0, Call::Send(5)),
         returns(0, Answer::Sent),
         begins(1, Call::Recv),
         returns(1, Answer::Got(5)),
     ];
-    let checked = check_calls(rt.alloc(), None, &events, 100);
-    assert_eq!(rt; checked, Checked::Explained);
-    Ok(())
+    is((&rt, rt.alloc()), (None, 100), &events, Checked::Explained);
 }
 
 #[test]
-fn another_message_is_received(rt: HostRuntime) -> Result<(), Fail> {
+fn another_message_is_received(rt: HostRuntime) {
     let events = [
         begins(0, Call::Send(5)),
         returns(0, Answer::Sent),
         begins(1, Call::Recv),
         returns(1, Answer::Got(6)),
     ];
-    let checked = check_calls(rt.alloc(), None, &events, 100);
-    assert_eq!(rt; checked, Checked::Breaks(3));
-    Ok(())
+    is((&rt, rt.alloc()), (None, 100), &events, Checked::Breaks(3));
 }
 
 #[test]
-fn a_send_and_a_receive_that_overlap_meet_at_capacity_0(rt: HostRuntime) -> Result<(), Fail> {
+fn a_send_and_a_receive_that_overlap_meet_at_capacity_0(rt: HostRuntime) {
     let events = [
         begins(0, Call::Send(5)),
         begins(1, Call::Recv),
         returns(0, Answer::Sent),
         returns(1, Answer::Got(5)),
     ];
-    let checked = check_calls(rt.alloc(), Some(0), &events, 100);
-    assert_eq!(rt; checked, Checked::Explained);
-    Ok(())
+    is(
+        (&rt, rt.alloc()),
+        (Some(0), 100),
+        &events,
+        Checked::Explained,
+    );
 }
 
 #[test]
-fn a_send_alone_is_not_sent_at_capacity_0(rt: HostRuntime) -> Result<(), Fail> {
+fn a_send_alone_is_not_sent_at_capacity_0(rt: HostRuntime) {
     let events = [begins(0, Call::Send(5)), returns(0, Answer::Sent)];
-    let checked = check_calls(rt.alloc(), Some(0), &events, 1000);
-    assert_eq!(rt; checked, Checked::Breaks(1));
-    Ok(())
+    is(
+        (&rt, rt.alloc()),
+        (Some(0), 1000),
+        &events,
+        Checked::Breaks(1),
+    );
 }
 
 #[test]
-fn calls_time_out_and_futures_are_dropped_and_a_receive_is_refused_memory(
-    rt: HostRuntime,
-) -> Result<(), Fail> {
+fn calls_time_out_and_futures_are_dropped_and_a_receive_is_refused_memory(rt: HostRuntime) {
     let events = [
         begins(0, Call::SendTimeout(5)),
         returns(0, Answer::Timeout),
@@ -79,13 +88,16 @@ fn calls_time_out_and_futures_are_dropped_and_a_receive_is_refused_memory(
         begins(3, Call::RecvTimeout),
         returns(3, Answer::NoMemory),
     ];
-    let checked = check_calls(rt.alloc(), Some(0), &events, 10000);
-    assert_eq!(rt; checked, Checked::Explained);
-    Ok(())
+    is(
+        (&rt, rt.alloc()),
+        (Some(0), 10000),
+        &events,
+        Checked::Explained,
+    );
 }
 
 #[test]
-fn a_channel_that_is_closed_has_no_message_left(rt: HostRuntime) -> Result<(), Fail> {
+fn a_channel_that_is_closed_has_no_message_left(rt: HostRuntime) {
     let events = [
         begins(0, Call::Recv),
         begins(3, Call::Send(1)),
@@ -106,13 +118,16 @@ fn a_channel_that_is_closed_has_no_message_left(rt: HostRuntime) -> Result<(), F
         begins(0, Call::Len),
         returns(0, Answer::Number(1)),
     ];
-    let checked = check_calls(rt.alloc(), Some(2), &events, 10000);
-    assert_eq!(rt; checked, Checked::Breaks(17));
-    Ok(())
+    is(
+        (&rt, rt.alloc()),
+        (Some(2), 10000),
+        &events,
+        Checked::Breaks(17),
+    );
 }
 
 #[test]
-fn sends_and_receives_that_overlap_take_effect_in_any_order(rt: HostRuntime) -> Result<(), Fail> {
+fn sends_and_receives_that_overlap_take_effect_in_any_order(rt: HostRuntime) {
     let events = [
         begins(0, Call::Send(1)),
         begins(1, Call::Send(2)),
@@ -127,27 +142,25 @@ fn sends_and_receives_that_overlap_take_effect_in_any_order(rt: HostRuntime) -> 
         returns(1, Answer::Sent),
         returns(2, Answer::Sent),
     ];
-    let checked = check_calls(rt.alloc(), Some(1), &events, 100000);
-    assert_eq!(rt; checked, Checked::Explained);
-    Ok(())
+    is(
+        (&rt, rt.alloc()),
+        (Some(1), 100000),
+        &events,
+        Checked::Explained,
+    );
 }
 
+// The first configuration is before the return of the send, and is free. Each step leads to one
+// more, and from there events are taken up to the next return of a call that hasn't its answer.
 #[test]
-fn two_calls_that_make_a_step_each_take_two_configurations(rt: HostRuntime) -> Result<(), Fail> {
+fn two_calls_that_make_a_step_each_take_two_configurations(rt: HostRuntime) {
     let events = [
         begins(0, Call::Send(5)),
         returns(0, Answer::Sent),
         begins(1, Call::Recv),
         returns(1, Answer::Got(5)),
     ];
-    // The first configuration stands before the return of the send, and is free. Each step leads to
-    // one more, and from there the events are taken up to the next return of a call without its
-    // answer.
-    let checked = check_calls(rt.alloc(), None, &events, 0);
-    assert_eq!(rt; checked, Checked::GaveUp(1));
-    let checked = check_calls(rt.alloc(), None, &events, 1);
-    assert_eq!(rt; checked, Checked::GaveUp(3));
-    let checked = check_calls(rt.alloc(), None, &events, 2);
-    assert_eq!(rt; checked, Checked::Explained);
-    Ok(())
+    is((&rt, rt.alloc()), (None, 0), &events, Checked::GaveUp(1));
+    is((&rt, rt.alloc()), (None, 1), &events, Checked::GaveUp(3));
+    is((&rt, rt.alloc()), (None, 2), &events, Checked::Explained);
 }

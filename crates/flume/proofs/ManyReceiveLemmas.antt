@@ -16,7 +16,7 @@ use Rattle.flume_model.specs.declared.step.Step.TheVariants.{Recv}
 use Rattle.flume_model.specs.declared.step.Kind.TheVariants.{Block}
 use Rattle.flume_calls.specs.ReceiveTurns as turn
 use Rattle.flume_calls.specs.ReceiveGates as gate
-use Rattle.flume_calls.specs.ManyReceives.{Gives, given, with_more, IsWithin, FirstManyTable, Some, None, NoRoom}
+use Rattle.flume_calls.specs.ManyReceives.{Gives, given_by, with_more, IsAtMost, FirstManyTable, Some, None, NoRoom}
 use Rattle.flume.specs.CallSteps.{try_receive_as_turn, receive_as_timed}
 use Rattle.flume.specs.ManyReceiveCalls.{Appends, GrowsBy, AnswersMany, IsntDone}
 use Rattle.flume.specs.ManyReceiveSteps.{LacksRoom, ReceivesBatch, MakesMany, FindsNone, ReceivesMany}
@@ -36,7 +36,7 @@ module _ {T : Type 0} where
       → Gives before more first taken after next → GrowsBy most before after next
   turn_grows most more before after taken first next is gives = subst (λ n. GrowsBy most before after n) (sym gives.next_is) (go first gives)
     where
-      same : (first : RecvNext T) → given first ≡ [] → Gives before more first taken after next → after ≡ before
+      same : (first : RecvNext T) → given_by first ≡ [] → Gives before more first taken after next → after ≡ before
       same first none gives = gives.items ∙ ap (λ l. before ++ (l ++ taken)) none ∙ ap (λ l. before ++ l) (gives.only_behind_one none) ∙ append-nil before
 
       go : (first : RecvNext T) → Gives before more first taken after next → GrowsBy most before after (with_more (length taken) first)
@@ -57,7 +57,7 @@ module _ {T : Type 0} where
   from_list most a b after next e grows = subst (λ b. GrowsBy most b after next) e grows
 
   -- a turn that gave no message leaves the list as it was
-  none_grows : (most : ℕ) (before after : List T) (first : RecvNext T) → turn.IsNone first → after ≡ before → GrowsBy most before after (with_more 0 first)
+  none_grows : (most : ℕ) (before after : List T) (first : RecvNext T) → turn.GivesNone first → after ≡ before → GrowsBy most before after (with_more 0 first)
   none_grows most before after (Done (Ok m)) none same = absurd none
   none_grows most before after (Done (Err e)) none same = same
   none_grows most before after NeedSignal none same = same
@@ -66,9 +66,9 @@ module _ {T : Type 0} where
 
   -- what a first receive of many leaves of the list
   pub first_grows : {A : Type 0} {made : List (Step T × Reply T A)} (most : ℕ) (before after : List T) (next : RecvNext ℕ)
-      → FirstManyTable before made after next → IsWithin most next → GrowsBy most before after next
+      → FirstManyTable before made after next → IsAtMost most next → GrowsBy most before after next
   first_grows most before after next (Some count took is) within =
-      let within : IsWithin most (Done (Ok count)) = subst (λ n. IsWithin most n) is within in
+      let within : IsAtMost most (Done (Ok count)) = subst (λ n. IsAtMost most n) is within in
       subst (λ n. GrowsBy most before after n) (sym is) (record {
         messages = took.taken;
         items = took.items;
@@ -133,7 +133,7 @@ module _ {T : Type 0} where
       (again_more t late is.more is.first is.answered.0, served_more is.more is.first is.answered.1)
 
   -- a turn that gave a message ended the call
-  pub none_given : (n : ℕ) (first : RecvNext T) → IsntDone (with_more n first) → given first ≡ []
+  pub none_given : (n : ℕ) (first : RecvNext T) → IsntDone (with_more n first) → given_by first ≡ []
   none_given n (Done (Ok m)) is = absurd is
   none_given n (Done (Err e)) is = absurd is
   none_given n NeedSignal is = refl
@@ -197,7 +197,7 @@ module _ {G T A : Type 0} (deadline : G → Deadline) (most : G → ℕ) (into :
   pub whole_grows : {old new : G} {result : Result ℕ RecvTimeoutError} → gate.WholeReceive Firsts MakesWaiter Parks Agains Waits old new result
       → GrowsBy (most old) (items old) (items new) (Done result)
   whole_grows (gate.AtFirst f) = f.3
-  whole_grows {old} {new} (gate.Unarmed f a e) = subst (λ r. GrowsBy (most old) (items old) (items new) (Done r)) (sym e) (a.2 ∙ f.3)
+  whole_grows {old} {new} (gate.NoWaiter f a e) = subst (λ r. GrowsBy (most old) (items old) (items new) (Done r)) (sym e) (a.2 ∙ f.3)
   whole_grows {old} {new} {result} (gate.AtPark f a p) = from_equal _ (most old) _ (items old) (items new) (Done result) (a.1 ∙ f.1) (a.2 ∙ f.3) p.3
   whole_grows {old} {new} {result} (gate.Parked f a p rest) = from_equal _ (most old) _ (items old) (items new) (Done result) (p.1 ∙ a.1 ∙ f.1) (p.3 ∙ a.2 ∙ f.3) (parked_grows rest)
 
@@ -213,7 +213,7 @@ module _ {G T A : Type 0} (deadline : G → Deadline) (most : G → ℕ) (into :
   pub whole_in_time : {old new : G} {result : Result ℕ RecvTimeoutError} → gate.WholeReceive Firsts MakesWaiter Parks Agains Waits old new result
       → deadline old ≡ Never → result ≢ Err Timeout
   whole_in_time (gate.AtFirst f) never late = subst (λ r. turn.IsFirst (Done r)) late f.2
-  whole_in_time (gate.Unarmed f a e) never late = absurd (let none : ⊥ = cc in none)
+  whole_in_time (gate.NoWaiter f a e) never late = absurd (let none : ⊥ = cc in none)
   whole_in_time (gate.AtPark f a p) never late = subst (λ r. turn.IsParking (Done r)) late p.2
   whole_in_time (gate.Parked f a p rest) never late = parked_in_time rest (p.0 ∙ a.0 ∙ f.0 ∙ never) late
 
@@ -230,7 +230,7 @@ module _ {G T A : Type 0} (deadline : G → Deadline) (most : G → ℕ) (into :
   pub whole_made : {old new : G} {result : Result ℕ RecvTimeoutError} → gate.WholeReceive Firsts MakesWaiter Parks Agains Waits old new result
       → ReceivesMany A (items old) (items new) result
   whole_made (gate.AtFirst f) = steps.AtFirst f.4
-  whole_made (gate.Unarmed f a e) = steps.Unarmed (first_none f.4) e
+  whole_made (gate.NoWaiter f a e) = steps.NoWaiter (first_none f.4) e
   whole_made (gate.AtPark f a p) = steps.AtPark (first_none f.4) p.4
   whole_made (gate.Parked f a p rest) = let last = parked_made rest in steps.AtAgain (first_none f.4) last.0 last.1 last.2
 
@@ -239,6 +239,6 @@ module _ {G T A : Type 0} (deadline : G → Deadline) (most : G → ℕ) (into :
       → result ≡ Err NoMemory
       → (vec_capacity (into old) < vec_len (into old) + most old) ⊎ FindsNone T A
   whole_room {old} (gate.AtFirst f) said = inl (subst (λ r. LacksRoom (into old) (most old) (Done r)) said f.5)
-  whole_room (gate.Unarmed f a e) said = inr (first_none f.4)
+  whole_room (gate.NoWaiter f a e) said = inr (first_none f.4)
   whole_room (gate.AtPark f a p) said = inr (first_none f.4)
   whole_room (gate.Parked f a p rest) said = inr (first_none f.4)

@@ -12,7 +12,7 @@ use Rattle.flume_calls.specs.declared.calls.receive.RecvNext.{RecvNext}
 use Rattle.flume_calls.specs.declared.calls.receive.RecvNext.TheVariants.{Done, NeedSignal, Park, Refused}
 use Rattle.flume_calls.specs.declared.calls.receive_many.ManyNext.{ManyNext}
 use Rattle.flume_calls.specs.Turns.{Turned}
-use Rattle.flume_calls.specs.Batches.{StepsBetween, NoSteps, FirstStep, IsBatch, goes_on}
+use Rattle.flume_calls.specs.Batches.{StepsBetween, NoSteps, FirstStep, IsBatch, log_after}
 use Rattle.flume_calls.specs.ReceiveTurns as turn
 use Rattle.flume_calls.specs.ManyReceives.{with_more, FirstManyTable, Some, None, NoRoom, FirstManyOutcome}
 use Rattle.flume.specs.LockedTurns.{HasDone}
@@ -23,7 +23,7 @@ use Rattle.flume.proofs.StepLemmas.{step_made}
 module _ {T S A : Type 0} where
   -- the steps of a batch are steps that a run goes on with
   pub steps_run : (opening : Opening) (log : Log T A) {old new : State T S} {made : List (Step T × Reply T A)} → Represents opening log old
-      → StepsBetween old made new → IsRun opening (goes_on log made)
+      → StepsBetween old made new → IsRun opening (log_after log made)
   steps_run opening log represents NoSteps = represents.run
   steps_run opening log represents (FirstStep {step = step} {reply = reply} stepped later) =
       steps_run opening ((step, reply) ∷ log) (stepped.extends opening log represents) later
@@ -38,7 +38,7 @@ module _ {T S A : Type 0} where
         opening = done.opening;
         log = done.log;
         made = batch.made;
-        run = steps_run done.opening done.log done.represents batch.led;
+        run = steps_run done.opening done.log done.represents batch.reachable;
         answered = batch.answered;
       }
 
@@ -79,14 +79,14 @@ module _ {T A : Type 0} where
   first_none {before} {after} is = go is.made NeedSignal is.answered refl is.run
     where
       go : (made : List (Step T × Reply T A)) (next : RecvNext ℕ) → FirstManyTable before made after next → next ≡ NeedSignal
-          → IsRun is.opening (goes_on is.log made) → FindsNone T A
+          → IsRun is.opening (log_after is.log made) → FindsNone T A
       go made next (Some count took done) same run = absurd (let none : ⊥ = cc in none)
       go made next (NoRoom none kept done) same run = absurd (let none : ⊥ = cc in none)
       go made next (None reply first made_is answered none kept done) same run = record {
         opening = is.opening;
         log = is.log;
         reply = reply;
-        run = subst (λ m. IsRun is.opening (goes_on is.log m)) made_is run;
+        run = subst (λ m. IsRun is.opening (log_after is.log m)) made_is run;
         answered = subst (λ n. turn.after_try_recv reply n) (needs first (sym done ∙ same)) answered;
       }
 

@@ -13,7 +13,7 @@ use Rattle.flume_core.specs.declared.error.TrySendError.{TrySendError}
 use Rattle.flume_core.specs.declared.error.TrySendError.TheVariants.{Full, Disconnected, NoMemory}
 use Rattle.flume_core.specs.declared.error.SendTimeoutError.{SendTimeoutError}
 use Rattle.flume_calls.specs.declared.calls.send.SendNext.TheVariants.{NeedSignal}
-use Rattle.flume_calls.specs.Batches.{IsBatch, goes_on}
+use Rattle.flume_calls.specs.Batches.{IsBatch, log_after}
 use Rattle.flume_calls.specs.ManySends.{SendsMany, NoneLeft, TakenIn as MoreTakenIn, IsFull, IsClosed, IsRefused, IsRest, LeavesRest}
 use Rattle.flume_calls.specs.SendTurns.{after_try_send}
 use Rattle.flume_deadline.specs.declared.Deadline.{Deadline}
@@ -36,7 +36,7 @@ module _ {T S A : Type 0} where
           opening = done.opening;
           log = done.log;
           made = turn.made;
-          run = steps_run done.opening done.log done.represents turn.led;
+          run = steps_run done.opening done.log done.represents turn.reachable;
           answered = turn.answered;
         };
         answer_is = is;
@@ -46,7 +46,7 @@ module _ {T A : Type 0} where
   -- the last step of a batch that found the channel full offered the first message of those that it left
   full_offer : (opening : Opening) (log : Log T A) (messages : List T) (made : List (Step T × Reply T A))
       (batch : Result (Unit {0}) (TrySendError (VecDeque T A))) (left : VecDeque T A) (first : T) (behind : List T)
-      → SendsMany messages made batch → batch ≡ Err (Full left) → left.items ≡ first ∷ behind → IsRun opening (goes_on log made)
+      → SendsMany messages made batch → batch ≡ Err (Full left) → left.items ≡ first ∷ behind → IsRun opening (log_after log made)
       → HasMade {A = A} (TrySend first) after_try_send (NeedSignal first)
   full_offer opening log messages made batch left first behind NoneLeft over is run = absurd (let none : ⊥ = cc in none)
   full_offer opening log messages made batch left first behind (MoreTakenIn {message = message} {rest = rest} {made = more} filled others) over is run =
@@ -66,7 +66,7 @@ module _ {T S A : Type 0} where
   batch_full {items} {outcome} {left} done first behind is =
       let turn = done.turn.0 in
       full_offer done.opening done.log items turn.made (Err (Full left)) left first behind turn.answered refl is
-      (steps_run done.opening done.log done.represents turn.led)
+      (steps_run done.opening done.log done.represents turn.reachable)
 
 module _ {T : Type 0} where
   -- what the list of a batch's error has

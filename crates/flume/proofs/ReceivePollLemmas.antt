@@ -9,9 +9,9 @@ use Rattle.flume_calls.specs.declared.calls.receive.RecvNext.{RecvNext}
 use Rattle.flume_calls.specs.declared.calls.receive.RecvNext.TheVariants.{Done, NeedSignal, Park, Refused}
 use Rattle.flume_calls.specs.declared.polled.receive.PolledReceive.{PolledReceive}
 use Rattle.flume_calls.specs.ReceiveTurns.{IsFirst, IsParking, IsLater, IsntRefused}
-use Rattle.flume_calls.specs.PolledReceives.{waiting_answer, settles_receive, ReceivePoll, Tries, Parks, Unsignalled, Asks}
+use Rattle.flume_calls.specs.PolledReceives.{waiting_answer, finishes_receive, ReceivePoll, Tries, Parks, Unsignalled, Asks}
 use Rattle.flume.specs.ManyReceiveCalls.{Appends}
-use Rattle.flume.specs.ReceivePolls.{LeavesCall, HasPolledReceive, WithMore, HasPolledMany}
+use Rattle.flume.specs.ReceivePolls.{LeavesCall, HasPolledReceive, AddsMore, HasPolledMany}
 
 -- no ticket is none
 no_ticket : (after : Option ℕ) → IsSome {T = ℕ} None → after ≡ None
@@ -32,7 +32,7 @@ module _ {T : Type 0} where
 
   -- a receive that wasn't parked, and had no signal
   first_leaves : (next : RecvNext T) (after : Option ℕ) (answer : Option (Result T RecvError)) → IsFirst next → IsntRefused next
-      → settles_receive false next after answer → Leaves None after answer
+      → finishes_receive false next after answer → Leaves None after answer
   first_leaves (Done (Ok m)) after answer first served is = with_answer None after (Some (Ok m)) is.1 is.0
   first_leaves (Done (Err timed.Disconnected)) after answer first served is = with_answer None after (Some (Err Disconnected)) is.1 is.0
   first_leaves (Done (Err timed.NoMemory)) after answer first served is = with_answer None after (Some (Err NoMemory)) is.1 is.0
@@ -43,7 +43,7 @@ module _ {T : Type 0} where
 
   -- a receive that wasn't parked, and had a signal
   parking_leaves : (next : RecvNext T) (after : Option ℕ) (answer : Option (Result T RecvError)) → IsParking next
-      → settles_receive true next after answer → Leaves None after answer
+      → finishes_receive true next after answer → Leaves None after answer
   parking_leaves (Done (Ok m)) after answer parking is = with_answer None after (Some (Ok m)) is.1 is.0
   parking_leaves (Done (Err timed.Disconnected)) after answer parking is = with_answer None after (Some (Err Disconnected)) is.1 is.0
   parking_leaves (Done (Err timed.NoMemory)) after answer parking is = with_answer None after (Some (Err NoMemory)) is.1 is.0
@@ -62,7 +62,7 @@ module _ {T : Type 0} where
 
   -- a parked receive
   later_leaves : (t : ℕ) (signalled : Bool) (next : RecvNext T) (after : Option ℕ) (answer : Option (Result T RecvError)) → IsLater t next
-      → IsntRefused next → settles_receive signalled next after answer → Leaves (Some t) after answer
+      → IsntRefused next → finishes_receive signalled next after answer → Leaves (Some t) after answer
   later_leaves t signalled (Done (Ok m)) after answer later served is = with_answer (Some t) after (Some (Ok m)) is.1 is.0
   later_leaves t signalled (Done (Err timed.Disconnected)) after answer later served is = with_answer (Some t) after (Some (Err Disconnected)) is.1 is.0
   later_leaves t signalled (Done (Err timed.NoMemory)) after answer later served is = absurd later
@@ -101,7 +101,7 @@ module _ {T A : Type 0} {old new : PolledReceive} where
 module _ {T : Type 0} (most : ℕ) (before after : List T) where
   -- what came by a poll of many, by what its receive answered
   more_came : {answer : Option (Result ℕ RecvError)} (first : Option (Result T RecvError)) (result : Result ℕ RecvError) → answer ≡ Some result
-      → WithMore most before first after answer → IfOk result (Appends most before after)
+      → AddsMore most before first after answer → IfOk result (Appends most before after)
   more_came (Some (Ok message)) (Ok count) said is =
       let same : length is.0 + 1 ≡ count = cc in
       let number : length (message ∷ is.0) ≡ count = omega arith in
@@ -114,5 +114,5 @@ module _ {T : Type 0} (most : ℕ) (before after : List T) where
   pub many_came : {A : Type 0} {n : ℕ} {start : List T} {old new : PolledReceive} {answer : Option (Result ℕ RecvError)} (result : Result ℕ RecvError)
       → n ≡ most → start ≡ before → answer ≡ Some result → HasPolledMany A n start old after new answer → IfOk result (Appends most before after)
   many_came {n = n} {answer = answer} result number items said is =
-      let by_items : WithMore n before is.first after answer = subst (λ l. WithMore n l is.first after answer) items is.more in
-      more_came is.first result said (subst (λ m. WithMore m before is.first after answer) number by_items)
+      let by_items : AddsMore n before is.first after answer = subst (λ l. AddsMore n l is.first after answer) items is.more in
+      more_came is.first result said (subst (λ m. AddsMore m before is.first after answer) number by_items)

@@ -10,7 +10,7 @@ use Rattle.flume_calls.specs.declared.calls.send.SendNext.TheVariants.{Done, Nee
 use Rattle.flume_calls.specs.declared.polled.send.PolledSend.{PolledSend}
 use Rattle.flume_calls.specs.declared.polled.send.PolledSend.TheVariants.{Unsent, Parked, Finished}
 use Rattle.flume_calls.specs.SendTurns.{IsFirst, IsParking, IsAgain}
-use Rattle.flume_calls.specs.PolledSends.{settles_send, SendPoll, Over, Tries, Parks, Asks}
+use Rattle.flume_calls.specs.PolledSends.{finishes_send, SendPoll, AlreadyFinished, Tries, Parks, Asks}
 
 -- what a poll answers
 abbrev pub Answer : Type 0 → Type 0
@@ -28,7 +28,7 @@ module _ {T : Type 0} where
   back_of (NoMemory back) = back
 
   -- a send whose poll is ready is finished
-  ready_finishes : (next : SendNext T) (after : PolledSend T) (answer : Answer T) → settles_send next after answer
+  ready_finishes : (next : SendNext T) (after : PolledSend T) (answer : Answer T) → finishes_send next after answer
       → (result : Result (Unit {0}) (SendError T)) → answer ≡ Some result → after ≡ Finished
   ready_finishes (Done (Ok sent)) after answer is result ready = is.0
   ready_finishes (Done (Err (timed.Disconnected back))) after answer is result ready = is.0
@@ -39,7 +39,7 @@ module _ {T : Type 0} where
       let waits : answer ≡ None = is.1 in absurd (let none : ⊥ = cc in none)
 
   -- a send whose poll is pending is parked, by its turn
-  pending_parks : (next : SendNext T) (after : PolledSend T) (answer : Answer T) → settles_send next after answer → answer ≡ None
+  pending_parks : (next : SendNext T) (after : PolledSend T) (answer : Answer T) → finishes_send next after answer → answer ≡ None
       → (ticket : ℕ) × (next ≡ Park ticket) × (after ≡ Parked ticket)
   pending_parks (Done (Ok sent)) after answer is none =
       let ready : answer ≡ Some (Ok tt) = is.1 in absurd (let no : ⊥ = cc in no)
@@ -55,7 +55,7 @@ module _ {T : Type 0} where
 
   -- what comes back by a first turn
   first_back : (message : T) (next : SendNext T) → IsFirst message next → (after : PolledSend T) (answer : Answer T)
-      → settles_send next after answer → (error : SendError T) → answer ≡ Some (Err error) → back_of error ≡ message
+      → finishes_send next after answer → (error : SendError T) → answer ≡ Some (Err error) → back_of error ≡ message
   first_back message (Done (Ok sent)) first after answer is error ready =
       let ended : answer ≡ Some (Ok tt) = is.1 in absurd (let none : ⊥ = cc in none)
   first_back message (Done (Err (timed.Disconnected back))) first after answer is error ready =
@@ -72,7 +72,7 @@ module _ {T : Type 0} where
 
   -- what comes back by a turn that may park
   parking_back : (message : T) (next : SendNext T) → IsParking message next → (after : PolledSend T) (answer : Answer T)
-      → settles_send next after answer → (error : SendError T) → answer ≡ Some (Err error) → back_of error ≡ message
+      → finishes_send next after answer → (error : SendError T) → answer ≡ Some (Err error) → back_of error ≡ message
   parking_back message (Done result) parking after answer is error ready =
       first_back message (Done result) parking after answer is error ready
   parking_back message (NeedSignal back) parking after answer is error ready = absurd parking
@@ -83,7 +83,7 @@ module _ {T S A : Type 0} {send after : PolledSend T} {signal : Option S} {old n
   -- a send whose poll is ready is finished
   pub poll_finishes : SendPoll A send signal old new after answer → (result : Result (Unit {0}) (SendError T)) → answer ≡ Some result
       → after ≡ Finished
-  poll_finishes (Over is same finished ok) result ready = finished
+  poll_finishes (AlreadyFinished is same finished ok) result ready = finished
   poll_finishes (Tries message next is none turned first outcome settles) result ready = ready_finishes next after answer settles result ready
   poll_finishes (Parks message next given is some turned parking outcome settles) result ready =
       ready_finishes next after answer settles result ready
@@ -92,7 +92,7 @@ module _ {T S A : Type 0} {send after : PolledSend T} {signal : Option S} {old n
 
   -- a send whose poll is pending is parked
   pub is_parked : SendPoll A send signal old new after answer → answer ≡ None → (ticket : ℕ) × (after ≡ Parked ticket)
-  is_parked (Over is same finished ok) none = absurd (let no : ⊥ = cc in no)
+  is_parked (AlreadyFinished is same finished ok) none = absurd (let no : ⊥ = cc in no)
   is_parked (Tries message next is given turned first outcome settles) none =
       let parked = pending_parks next after answer settles none in (parked.0, parked.2)
   is_parked (Parks message next given is some turned parking outcome settles) none =
@@ -102,7 +102,7 @@ module _ {T S A : Type 0} {send after : PolledSend T} {signal : Option S} {old n
 
   -- one that was parked waits on under its ticket
   pub keeps_ticket : SendPoll A send signal old new after answer → (ticket : ℕ) → send ≡ Parked ticket → answer ≡ None → after ≡ Parked ticket
-  keeps_ticket (Over is same finished ok) ticket parked none = absurd (let no : ⊥ = cc in no)
+  keeps_ticket (AlreadyFinished is same finished ok) ticket parked none = absurd (let no : ⊥ = cc in no)
   keeps_ticket (Tries message next is given turned first outcome settles) ticket parked none = absurd (let no : ⊥ = cc in no)
   keeps_ticket (Parks message next given is some turned parking outcome settles) ticket parked none = absurd (let no : ⊥ = cc in no)
   keeps_ticket (Asks late t next is held signalled turned again outcome settles) ticket parked none =
@@ -113,7 +113,7 @@ module _ {T S A : Type 0} {send after : PolledSend T} {signal : Option S} {old n
 
   -- a send that has ended answers that it is sent
   pub finished_is_ok : SendPoll A send signal old new after answer → send ≡ Finished → answer ≡ Some (Ok tt)
-  finished_is_ok (Over is same finished ok) over = ok
+  finished_is_ok (AlreadyFinished is same finished ok) over = ok
   finished_is_ok (Tries message next is none turned first outcome settles) over = absurd (let none : ⊥ = cc in none)
   finished_is_ok (Parks message next given is some turned parking outcome settles) over = absurd (let none : ⊥ = cc in none)
   finished_is_ok (Asks late ticket next is held signalled turned again outcome settles) over = absurd (let none : ⊥ = cc in none)
@@ -121,7 +121,7 @@ module _ {T S A : Type 0} {send after : PolledSend T} {signal : Option S} {old n
   -- what comes back of one that wasn't sent is its message
   pub error_holds_message : SendPoll A send signal old new after answer → (message : T) → send ≡ Unsent message
       → (error : SendError T) → answer ≡ Some (Err error) → back_of error ≡ message
-  error_holds_message (Over is same finished ok) message unsent error ready = absurd (let none : ⊥ = cc in none)
+  error_holds_message (AlreadyFinished is same finished ok) message unsent error ready = absurd (let none : ⊥ = cc in none)
   error_holds_message (Tries m next is none turned first outcome settles) message unsent error ready =
       let same : m ≡ message = cc in first_back m next first after answer settles error ready ∙ same
   error_holds_message (Parks m next given is some turned parking outcome settles) message unsent error ready =

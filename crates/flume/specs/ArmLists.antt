@@ -2,8 +2,8 @@
 use Rattle.std.specs.Prelude.{◌≡◌, ◌<◌, ◌≤◌, ◌-◌, ◌+◌, ℕ, min, List, Some, None}
 use Rattle.std.specs.Prelude.{slice_get, slice_set}
 
--- of the arm with this number, if it is among those before, of which there are so many, the first
--- holds, and else the second, of its place in the list
+-- one of these holds of the arm with this number: the first if it is among so many before a list,
+-- and else the second, of its place in the list
 pub record ByPlace (count : ℕ) (before listed : ℕ → Type 0) (arm : ℕ) : Type 0 where
   pub is_before : arm < count → before arm
   pub is_listed : count ≤ arm → listed (arm - count)
@@ -13,14 +13,13 @@ abbrev pub count_with : (before listed : ℕ) → ℕ
 count_with before listed = min (before + listed) 18446744073709551615
 
 module _ {C : Type 0} where
-  -- this holds of the arm at this place of the list
+  -- this holds of the arm at this place
   pub record HoldsAt (holds : C → Type 0) (arms : List C) (place : ℕ) : Type 0 where
     pub arm : C
     pub found : slice_get arms place ≡ Some arm
     pub holding : holds arm
 
-  -- from a list of arms to the list after: the arm at this place changes so, and the others don't;
-  -- if there is none, the second holds, and nothing changes
+  -- the arm at this place changes so, and nothing else; if there is none, `absent` holds
   pub record ChangesAt (changes : C → C → Type 0) (absent : Type 0) (old : List C) (place : ℕ)
       (new : List C) : Type 0 where
     pub found : (arm : C) → slice_get old place ≡ Some arm

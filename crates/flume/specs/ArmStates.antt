@@ -16,13 +16,13 @@ use Rattle.flume.specs.declared.select.receive.ReceiveState.{ReceiveState}
 use Rattle.flume.specs.declared.select.receive.ReceiveState.TheVariants as receiving
 
 module _ {T : Type 0} where
-  -- how a send arm completes: the message was taken in, or comes back since the channel is closed
+  -- how a send arm completes
   abbrev pub CompletesSend : Result (Unit {0}) (SendError T) → Type 0
   CompletesSend (Ok sent) = Unit {0}
   CompletesSend (Err (send.Disconnected back)) = Unit {0}
   CompletesSend (Err (send.NoMemory back)) = ⊥
 
-  -- how a receive arm completes: with a message, or since the channel is closed
+  -- how a receive arm completes
   abbrev pub CompletesReceive : Result T RecvError → Type 0
   CompletesReceive (Ok message) = Unit {0}
   CompletesReceive (Err receive.Disconnected) = Unit {0}
@@ -40,12 +40,12 @@ module _ {T : Type 0} where
   receive_result (receiving.Completed None) = Some (Err receive.Disconnected)
   receive_result _ = None
 
-  -- a turn of a send arm: it is never too late
+  -- a turn of a send arm is never too late
   abbrev pub IsArmSend : SendNext T → Type 0
   IsArmSend (SendNext.Done (Err (SendTimeoutError.Timeout back))) = ⊥
   IsArmSend _ = Unit {0}
 
-  -- a turn of a receive arm: it is never too late, and isn't refused memory once it is parked
+  -- a turn of a receive arm is never too late, and doesn't run out of memory once it is parked
   abbrev pub IsArmReceive : RecvNext T → Type 0
   IsArmReceive (RecvNext.Done (Err RecvTimeoutError.Timeout)) = ⊥
   IsArmReceive (RecvNext.Refused ticket) = ⊥
@@ -62,7 +62,7 @@ module _ {T : Type 0} where
       new ≡ sending.Finished
   IsAfterSend _ _ _ = ⊥
 
-  -- the same of a receive arm
+  -- what a turn leads a receive arm to, and its state after
   abbrev pub IsAfterReceive : RecvNext T → ArmNext → ReceiveState T → Type 0
   IsAfterReceive (RecvNext.Park ticket) next.Waits new = new ≡ receiving.Parked ticket
   IsAfterReceive RecvNext.NeedSignal next.Waits new = new ≡ receiving.Unstarted

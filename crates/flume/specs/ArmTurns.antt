@@ -1,5 +1,4 @@
--- The turns of a selector's arms, and their withdrawals: each answers as one step of a channel does
--- (`HasMade`).
+-- The turns of a selector's arms, and their withdrawals.
 use Rattle.std.specs.Prelude.{◌≡◌, ◌⊎◌, ℕ, Bool, false, true}
 use Rattle.flume_model.specs.declared.step.Kind.TheVariants.{Arm}
 use Rattle.flume_model.specs.declared.step.Step.{Step}
@@ -33,20 +32,19 @@ HasWithdrawnReceive T A ticket = (turn : RecvNext T)
     × HasMade (step_of_parked_receive ticket true) (after_parked_receive {A = A} ticket true) turn
 
 module _ {T : Type 0} (A : Type 0) where
-  -- one step of some channel was made, and the turn answered as it may: what that leads a send arm
-  -- to, and its state after
+  -- one step of some channel was made, and led a send arm to this, and to this state
   abbrev pub MakesSend : Step T → (Reply T A → SendNext T → Type 0) → (SendNext T → Type 0)
       → ArmNext → SendState T → Type 0
   MakesSend step table answers answer new =
       (turn : SendNext T) × HasMade step table turn × answers turn × IsAfterSend turn answer new
 
-  -- a send arm starts by one step, or there was no memory for a start
+  -- a send arm starts, or there was no memory for that
   abbrev pub StartsSend : T → ArmNext → SendState T → Type 0
   StartsSend message answer new =
       MakesSend (Send message) after_send (send_turn.IsParking message) answer new
       ⊎ ((answer ≡ next.NoMemory) × (new ≡ sending.Finished))
 
-  -- a send arm is tried, by one step, and isn't parked
+  -- a send arm is tried, and isn't parked
   abbrev pub TriesSend : T → ArmNext → SendState T → Type 0
   TriesSend message =
       MakesSend (TrySend message) after_try_send (send_turn.IsFirst message)
@@ -56,13 +54,12 @@ module _ {T : Type 0} (A : Type 0) where
   BeginsSend true message answer new = StartsSend message answer new
   BeginsSend false message answer new = TriesSend message answer new
 
-  -- a parked send arm is polled, by one step
+  -- a parked send arm is polled
   abbrev pub PollsSend : ℕ → ArmNext → SendState T → Type 0
   PollsSend ticket = MakesSend (step_of_parked_send ticket false) (after_parked_send ticket false)
       (send_turn.IsAgain ticket false)
 
-  -- a turn of a send arm, by whether it may park: its state, what the turn leads to, and the state
-  -- after
+  -- a turn of a send arm, by whether it may park
   abbrev pub SendTurn : Bool → SendState T → ArmNext → SendState T → Type 0
   SendTurn parks (sending.Unstarted message) answer new = BeginsSend parks message answer new
   SendTurn parks (sending.Parked ticket) answer new = PollsSend ticket answer new
@@ -71,25 +68,25 @@ module _ {T : Type 0} (A : Type 0) where
   SendTurn parks sending.Finished answer new =
       (answer ≡ next.NoMemory) × (new ≡ sending.Finished)
 
-  -- a withdrawal of a send arm, which changes only one that is parked
+  -- a withdrawal of a send arm
   abbrev pub WithdrawsSend : SendState T → SendState T → Type 0
   WithdrawsSend (sending.Parked ticket) new =
       (new ≡ sending.Finished) × HasWithdrawnSend T A ticket
   WithdrawsSend old new = new ≡ old
 
-  -- the same of a receive arm
+  -- one step of some channel was made, and led a receive arm to this, and to this state
   abbrev pub MakesReceive : Step T → (Reply T A → RecvNext T → Type 0) → (RecvNext T → Type 0)
       → ArmNext → ReceiveState T → Type 0
   MakesReceive step table answers answer new =
       (turn : RecvNext T) × HasMade step table turn × answers turn × IsAfterReceive turn answer new
 
-  -- a receive arm starts by one step, or there was no memory for a start
+  -- a receive arm starts, or there was no memory for that
   abbrev pub StartsReceive : ArmNext → ReceiveState T → Type 0
   StartsReceive answer new =
       MakesReceive (Recv Arm) after_recv receive_turn.IsParking answer new
       ⊎ ((answer ≡ next.NoMemory) × (new ≡ receiving.Finished))
 
-  -- a receive arm is tried, by one step, and isn't parked
+  -- a receive arm is tried, and isn't parked
   abbrev pub TriesReceive : ArmNext → ReceiveState T → Type 0
   TriesReceive = MakesReceive TryRecv after_try_recv receive_turn.IsFirst
 
@@ -98,12 +95,12 @@ module _ {T : Type 0} (A : Type 0) where
   BeginsReceive true answer new = StartsReceive answer new
   BeginsReceive false answer new = TriesReceive answer new
 
-  -- a parked receive arm is polled, by one step
+  -- a parked receive arm is polled
   abbrev pub PollsReceive : ℕ → ArmNext → ReceiveState T → Type 0
   PollsReceive ticket = MakesReceive (step_of_parked_receive ticket false)
       (after_parked_receive ticket false) (receive_turn.IsAgain ticket false)
 
-  -- a turn of a receive arm
+  -- a turn of a receive arm, by whether it may park
   abbrev pub ReceiveTurn : Bool → ReceiveState T → ArmNext → ReceiveState T → Type 0
   ReceiveTurn parks receiving.Unstarted answer new = BeginsReceive parks answer new
   ReceiveTurn parks (receiving.Parked ticket) answer new = PollsReceive ticket answer new

@@ -1,5 +1,4 @@
--- The answer of a call as that of a turn, or of a call with a deadline, that it comes from; and the
--- replies that some answers stand for.
+-- The answers of calls as those of turns, and as replies.
 use Rattle.std.specs.Prelude.{◌≡◌, ◌⊎◌, ℕ, Bool, true, false, Option, Some, None, Result, Ok, Err}
 use Rattle.flume_model.specs.declared.step.Step.{Step}
 use Rattle.flume_model.specs.declared.step.Step.TheVariants.{IsDisconnected, IsEmpty}
@@ -28,13 +27,13 @@ module _ {T A : Type 0} where
   abbrev pub HasReplied : Step T → Reply T A → Type 0
   HasReplied step reply = HasMade step (λ given expected. given ≡ expected) reply
 
-  -- what a channel replies to one more sender, by what an upgrade answers
+  -- the reply to which an upgrade answers so
   abbrev pub upgrade_reply : Option ℕ → Reply T A
   upgrade_reply (Some sender) = IsDone
   upgrade_reply None = NoEnd
 
 module _ (T A : Type 0) where
-  -- whether no more will come, by a channel's replies to two steps: if both are true
+  -- whether no more will come, by a channel's replies to two steps
   abbrev pub IsTerminated : Bool → Type 0
   IsTerminated true = HasReplied {T = T} {A = A} IsDisconnected (Truth true)
       × HasReplied {T = T} {A = A} IsEmpty (Truth true)
@@ -64,14 +63,14 @@ module _ {T : Type 0} where
   try_receive_as_turn (Err try_recv.Disconnected) = recv_next.Done (Err recv_timeout.Disconnected)
   try_receive_as_turn (Err try_recv.NoMemory) = recv_next.Done (Err recv_timeout.NoMemory)
 
-  -- the result of a send that may have a deadline, by that of one that has none
+  -- the result of a send as one of a send with a deadline
   abbrev pub send_as_timed : Result (Unit {0}) (SendError T)
       → Result (Unit {0}) (SendTimeoutError T)
   send_as_timed (Ok sent) = Ok tt
   send_as_timed (Err (send.Disconnected back)) = Err (send_timeout.Disconnected back)
   send_as_timed (Err (send.NoMemory back)) = Err (send_timeout.NoMemory back)
 
-  -- the same of a receive
+  -- the result of a receive as one of a receive with a deadline
   abbrev pub receive_as_timed : Result T RecvError → Result T RecvTimeoutError
   receive_as_timed (Ok message) = Ok message
   receive_as_timed (Err recv.Disconnected) = Err recv_timeout.Disconnected

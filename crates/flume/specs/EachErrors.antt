@@ -1,4 +1,4 @@
--- The text of the error of a list of arms, and the kind of std's io error that it is converted to.
+-- The text of the error of a list of arms, and its kind as an io error.
 use Rattle.std.specs.Prelude.{ℕ, List, codes}
 use Rattle.std.specs.declared.io.ErrorKind.{ErrorKind}
 use Rattle.std.specs.declared.io.ErrorKind.TheVariants as kind

@@ -1,5 +1,4 @@
--- The gates of the ends, turn by turn, and the calls that go through them. Each turn answers as one
--- step of some channel does (`HasMade`).
+-- The gates of the ends, turn by turn, and the calls that go through them.
 use Rattle.std.specs.Prelude.{◌≡◌, ◌≢◌, ℕ, Bool, true, false, Result}
 use Rattle.flume_model.specs.declared.step.Kind.TheVariants.{Block}
 use Rattle.flume_model.specs.declared.step.Step.TheVariants.{TrySend, Send, TryRecv, Recv}
@@ -16,11 +15,11 @@ use Rattle.flume_deadline.specs.declared.Deadline.TheVariants.{Never}
 use Rattle.flume_deadline.specs.Deadlines.{CanBeAhead}
 use Rattle.flume.specs.LockedTurns.{HasMade}
 
--- what a call waits on was made, or couldn't be: the gate stays the same
+-- the waiter was made, or couldn't be
 abbrev pub MakesWaiter : Deadline → Deadline → Bool → Type 0
 MakesWaiter old new made = new ≡ old
 
--- a wait: it says that the deadline is reached, or the clock showed a time before it
+-- a wait, by whether the deadline is reached
 pub record WaitsUpTo (old new : Deadline) (late : Bool) : Type 0 where
   pub same : new ≡ old
   pub reached : late ≡ true → old ≢ Never
@@ -49,7 +48,7 @@ module _ {T : Type 0} (A : Type 0) where
     pub made : HasMade {A = A} (send.step_of_parked_send ticket late)
         (send.after_parked_send ticket late) next
 
-  -- a send of this message up to this deadline, with this result: its turns and its waits
+  -- a send of this message up to this deadline, with this result
   abbrev pub Sends : Deadline → T → Result (Unit {0}) (SendTimeoutError T) → Type 0
   Sends deadline message result = (end : Deadline)
       × WholeSend SendFirst MakesWaiter SendPark SendAgain WaitsUpTo deadline message end result
@@ -58,7 +57,7 @@ module _ {T : Type 0} (A : Type 0) where
   pub record ReceiveFirst (old new : Deadline) (next : RecvNext T) : Type 0 where
     pub same : new ≡ old
     pub answers : receive.IsFirst next
-    pub served : receive.IsntRefused next
+    pub not_refused : receive.IsntRefused next
     pub made : HasMade {A = A} TryRecv receive.after_try_recv next
 
   -- the turn that may park it makes a `recv` of the kind that blocks
@@ -72,11 +71,11 @@ module _ {T : Type 0} (A : Type 0) where
       (next : RecvNext T) : Type 0 where
     pub same : new ≡ old
     pub answers : receive.IsAgain ticket late next
-    pub served : receive.IsntRefused next
+    pub not_refused : receive.IsntRefused next
     pub made : HasMade {A = A} (receive.step_of_parked_receive ticket late)
         (receive.after_parked_receive ticket late) next
 
-  -- a receive up to this deadline, with this result: its turns and its waits
+  -- a receive up to this deadline, with this result
   abbrev pub Receives : Deadline → Result T RecvTimeoutError → Type 0
   Receives deadline result = (end : Deadline)
       × WholeReceive ReceiveFirst MakesWaiter ReceivePark ReceiveAgain WaitsUpTo deadline end result

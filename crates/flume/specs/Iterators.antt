@@ -19,7 +19,6 @@ use Rattle.flume.specs.GateSteps.{Receives}
 pub record IterValue : Type 0 where
   -- the number of its channel
   pub channel : ℕ
-  -- whether the last `next` ended because memory ran out
   pub fault : Bool
   -- how often `next` may still be called; no run uses that up
   pub left : ℕ
@@ -28,19 +27,17 @@ pub record IterValue : Type 0 where
 abbrev pub new_iter : ℕ → IterValue
 new_iter channel = record { channel = channel; fault = false; left = 2 ^ 64 - 1 }
 
--- one `next`, which gave this
+-- one `next`
 pub record IsNext {T : Type 0} (old : IterValue) (item : Option T) (new : IterValue) : Type 0 where
   pub channel : new.channel ≡ old.channel
   pub left : old.left ≡ new.left + 1
-  -- memory ran out only if it gave nothing
   pub fault : new.fault ≡ true → item ≡ None
 
--- the same of an iterator that ends at a deadline
+-- what a contract sees of an iterator that ends at a deadline
 pub record DeadlineIterValue : Type 0 where
-  -- the number of its channel
   pub channel : ℕ
   pub deadline : Deadline
-  -- why the last `next` gave nothing, if so
+  -- why the last `next` gave nothing
   pub end : Option RecvTimeoutError
   pub left : ℕ
 
@@ -49,19 +46,15 @@ abbrev pub new_deadline_iter : ℕ → Deadline → DeadlineIterValue
 new_deadline_iter channel deadline =
     record { channel = channel; deadline = deadline; end = None; left = 2 ^ 64 - 1 }
 
--- one `next` of it, which gave this
+-- one `next` of it
 pub record IsNextInTime {T : Type 0} (A : Type 0) (old : DeadlineIterValue) (item : Option T)
     (new : DeadlineIterValue) : Type 0 where
   pub channel : new.channel ≡ old.channel
   pub deadline : new.deadline ≡ old.deadline
   pub left : old.left ≡ new.left + 1
-  -- there is a reason exactly if it gave nothing
   pub end : IsSome new.end ↔ IsNone item
-  -- one without a deadline is never late
   pub late : new.end ≡ Some timeout.Timeout → old.deadline ≢ Never
-  -- unless it ended at the deadline, the clock showed a time before it
   pub ahead : new.end ≢ Some timeout.Timeout → CanBeAhead old.deadline
-  -- and a receive answered so
   pub made : new.end ≢ Some timeout.Timeout → (answer : Result T RecvTimeoutError)
       × Receives A old.deadline answer × (item ≡ result_ok answer) × (new.end ≡ result_err answer)
 
@@ -72,7 +65,7 @@ module _ {T : Type 0} where
   is_refused _ = false
 
 module _ {T A : Type 0} where
-  -- the answer of a drain to its step's reply: the list that the step took
+  -- the answer of a drain to its step's reply
   abbrev pub after_drain : Reply T A → Result (List T) NoMemory → Type 0
   after_drain (Drained list) answer = answer ≡ Ok list.items
   after_drain (reply.NoMemory back) answer = answer ≡ Err (record {})

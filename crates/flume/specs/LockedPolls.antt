@@ -8,8 +8,8 @@ use Rattle.futures.specs.Task.{Wakes}
 use Rattle.flume_state.specs.State.{State}
 use Rattle.flume_core.specs.Represents.{IsReachable}
 
--- from one context to the next: the slot has a waker of the task that polls, or the executor
--- couldn't make one, and polls the task again without it
+-- the slot has a waker of the task that polls, or the executor couldn't make one, and polls the
+-- task again without it
 abbrev pub LeavesWaker : Context → Context → Option Waker → Type 0
 LeavesWaker old new slot =
     (new.lacks_waker ≡ true) ⊎ IsSomeAnd slot (λ waker. Wakes waker old)
@@ -21,8 +21,7 @@ answer_of Pending = None
 
 module _ {T S C N : Type 0} (A : Type 0)
     (polls : C → Option S → State T S → State T S → C → Option N → Type 0) where
-  -- one poll of the call was made, of some channel that a run led to, and with some signal: from
-  -- the call before to the call after and its answer
+  -- one poll of the call was made, of some channel that a run led to
   pub record HasPolled (old new : C) (answer : Option N) : Type 0 where
     pub signal : Option S
     pub before : State T S

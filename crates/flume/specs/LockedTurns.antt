@@ -8,8 +8,7 @@ use Rattle.flume_state.specs.State.{State}
 use Rattle.flume_core.specs.Represents.{Represents}
 
 module _ {T A N : Type 0} where
-  -- the answer is the table's to a reply that some channel gives this step: its run goes on with
-  -- the two
+  -- some channel's run goes on with this step and a reply, to which the table has this answer
   pub record HasMade (step : Step T) (table : Reply T A → N → Type 0) (answer : N) : Type 0 where
     pub opening : Opening
     pub log : Log T A
@@ -18,9 +17,8 @@ module _ {T A N : Type 0} where
     pub answered : table reply answer
 
 module _ {T S N : Type 0} (A : Type 0) where
-  -- Some channel that a run led to did this, with this answer: from the state before to the state
-  -- after. Which channel stood behind the lock no clause can say; that it was the caller's own is
-  -- what tests show.
+  -- Some channel that a run led to did this, with this answer. No clause can say which channel is
+  -- behind a lock; tests show that it is the caller's own.
   pub record HasDone (does : State T S → State T S → N → Type 0) (answer : N) : Type 0 where
     pub opening : Opening
     pub log : Log T A

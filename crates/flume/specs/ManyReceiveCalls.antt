@@ -5,8 +5,7 @@ use Rattle.flume_calls.specs.declared.calls.receive.RecvNext.TheVariants.{Done}
 use Rattle.flume_calls.specs.ManyReceives.{with_more}
 
 module _ {T : Type 0} where
-  -- So many messages came, at most this many, and stand behind what the list held before. None came
-  -- only if none was to come.
+  -- so many messages came, and are behind what the list held before
   pub record Appends (most : ℕ) (before after : List T) (count : ℕ) : Type 0 where
     pub messages : List T
     pub items : after ≡ before ++ messages
@@ -14,13 +13,12 @@ module _ {T : Type 0} where
     pub at_most : count ≤ most
     pub some : count ≡ 0 → most ≡ 0
 
-  -- what a turn leaves of the list, by its answer: messages came only if it ended with them
+  -- what the list holds after a turn, by its answer
   abbrev pub GrowsBy : ℕ → List T → List T → RecvNext ℕ → Type 0
   GrowsBy most before after (Done (Ok count)) = Appends most before after count
   GrowsBy most before after _ = after ≡ before
 
-  -- what a turn of a call that waits answers: as a turn of this kind, and if it got a message with
-  -- how many came
+  -- the answer is one of a turn of this kind, but for how many came
   pub record AnswersMany (answers : RecvNext T → Type 0) (next : RecvNext ℕ) : Type 0 where
     pub first : RecvNext T
     pub more : ℕ

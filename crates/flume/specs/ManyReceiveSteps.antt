@@ -1,5 +1,4 @@
--- Receives of many messages: the steps of their turns, of some channel, and the room of the list if
--- a turn finds no memory.
+-- Receives of many messages: the steps of their turns, and the room of the list.
 use Rattle.std.specs.Prelude.{◌≡◌, ℕ, ◌+◌, ◌<◌, Bool, List, Result, Err, Vec, vec_len}
 use Rattle.std.specs.Prelude.{vec_capacity}
 use Rattle.flume_model.specs.declared.step.Kind.TheVariants.{Block}
@@ -12,7 +11,7 @@ use Rattle.flume_core.specs.declared.error.RecvTimeoutError.{RecvTimeoutError}
 use Rattle.flume_core.specs.declared.error.RecvTimeoutError.TheVariants.{NoMemory}
 use Rattle.flume_calls.specs.declared.calls.receive.RecvNext.{RecvNext}
 use Rattle.flume_calls.specs.declared.calls.receive.RecvNext.TheVariants.{Done, NeedSignal}
-use Rattle.flume_calls.specs.Batches.{goes_on}
+use Rattle.flume_calls.specs.Batches.{log_after}
 use Rattle.flume_calls.specs.ReceiveTurns.{after_try_recv, after_recv, after_parked_receive}
 use Rattle.flume_calls.specs.ReceiveTurns.{step_of_parked_receive}
 use Rattle.flume_calls.specs.ManyReceives.{FirstManyTable}
@@ -20,13 +19,13 @@ use Rattle.flume.specs.LockedTurns.{HasMade}
 use Rattle.flume.specs.ManyReceiveCalls.{AnswersMany}
 
 module _ {T A N : Type 0} where
-  -- some channel's run goes on with these steps and replies, and the answer is the table's to them
+  -- some channel's run goes on with some steps and replies, to which the table has this answer
   pub record HasMadeAll (table : List (Step T × Reply T A) → N → Type 0) (answer : N)
       : Type 0 where
     pub opening : Opening
     pub log : Log T A
     pub made : List (Step T × Reply T A)
-    pub run : IsRun opening (goes_on log made)
+    pub run : IsRun opening (log_after log made)
     pub answered : table made answer
 
 module _ {T A : Type 0} where
@@ -35,7 +34,7 @@ module _ {T A : Type 0} where
   LacksRoom into most (Done (Err NoMemory)) = vec_capacity into < vec_len into + most
   LacksRoom into most _ = Unit {0}
 
--- no message was there, as a first turn's step says
+-- no message was there
 abbrev pub FindsNone : (T A : Type 0) → Type 0
 FindsNone T A = HasMade {T = T} {A = A} TryRecv after_try_recv NeedSignal
 
@@ -45,7 +44,7 @@ module _ {T : Type 0} (A : Type 0) where
   ReceivesBatch before after =
       HasMadeAll {A = A} (λ made next. FirstManyTable before made after next)
 
-  -- one step was made, and its answer is with how many came
+  -- one step was made, and the answer has how many came
   abbrev pub MakesMany : Step T → (Reply T A → RecvNext T → Type 0) → RecvNext ℕ → Type 0
   MakesMany step table = AnswersMany (λ first. HasMade step table first)
 
@@ -54,12 +53,12 @@ module _ {T : Type 0} (A : Type 0) where
       : Type 0 where
     -- the first turn
     AtFirst : ReceivesBatch before after (Done result) → ReceivesMany before after result
-    -- none was there, and what it waits on couldn't be made
-    Unarmed : FindsNone T A → result ≡ Err NoMemory → ReceivesMany before after result
+    -- none was there, and no memory for the waiter
+    NoWaiter : FindsNone T A → result ≡ Err NoMemory → ReceivesMany before after result
     -- none was there, and then the turn that may park it
     AtPark : FindsNone T A → MakesMany (Recv Block) after_recv (Done result)
         → ReceivesMany before after result
-    -- none was there, it parked, and then a turn that asked, or the one at its deadline
+    -- none was there, it parked, and then a later turn
     AtAgain : FindsNone T A → (ticket : ℕ) → (late : Bool)
         → MakesMany (step_of_parked_receive ticket late) (after_parked_receive ticket late)
         (Done result) → ReceivesMany before after result

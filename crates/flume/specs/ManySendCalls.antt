@@ -7,8 +7,7 @@ use Rattle.flume_calls.specs.declared.polled.send.PolledSend.{PolledSend}
 use Rattle.flume_calls.specs.declared.polled.send.PolledSend.TheVariants.{Unsent, Parked, Finished}
 
 module _ {T : Type 0} where
-  -- What is left of these messages after one of them waited: what the channel gave back for it, and
-  -- all behind it.
+  -- what is left of these messages after one of them waited: one that came back, and all behind it
   pub record IsRestAfterWait (messages left : List T) : Type 0 where
     pub sent : List T
     pub first : T
@@ -17,12 +16,12 @@ module _ {T : Type 0} where
     pub left_is : left ≡ back ∷ behind
     pub messages_are : messages ≡ sent ++ first ∷ behind
 
-  -- what is left are the last of these messages, in their order
+  -- the last of these messages are left
   abbrev pub IsEndOf : List T → List T → Type 0
   IsEndOf messages left = (sent : List T) × (messages ≡ sent ++ left)
 
-  -- What a poll that sends these messages leaves of them, by its answer: those behind the one that
-  -- is blocked, if it waits, or comes back, if it fails.
+  -- What a poll leaves of these messages, by its answer: those behind the one that is blocked or
+  -- comes back.
   abbrev pub LeavesList : List T → List T → Option (Result (Unit {0}) (SendError T)) → Type 0
   LeavesList messages left None = (blocked : T) × IsEndOf messages (blocked ∷ left)
   LeavesList messages left (Some (Ok sent)) =
@@ -30,9 +29,8 @@ module _ {T : Type 0} where
   LeavesList messages left (Some (Err (Disconnected back))) = IsEndOf messages (back ∷ left)
   LeavesList messages left (Some (Err (NoMemory back))) = IsEndOf messages (back ∷ left)
 
-  -- The same of a poll that first polls this send, whose message goes before the list. Of one that
-  -- is parked only the channel knows the message: if that one waits on, or comes back, the list is
-  -- as it was.
+  -- What a poll leaves of them that first polls this send. Only the channel knows the message of a
+  -- parked send: if that one waits on, or comes back, the list is as it was.
   abbrev pub PollLeaves : PolledSend T → List T → List T
       → Option (Result (Unit {0}) (SendError T)) → Type 0
   PollLeaves (Unsent message) messages left answer = LeavesList (message ∷ messages) left answer

@@ -1,4 +1,4 @@
--- Sends of many messages: the steps that they make, of some channel, and what they answer.
+-- Sends of many messages: the steps that they make, and what they answer.
 use Rattle.std.specs.Prelude.{◌≡◌, Result, Ok, Err, List, [], ◌∷◌}
 use Rattle.std.specs.VecDeque.{deque_items}
 use Rattle.std.specs.declared.collections.VecDeque.{VecDeque}
@@ -12,7 +12,7 @@ use Rattle.flume.specs.GateSteps.{Sends}
 use Rattle.flume.specs.ManyReceiveSteps.{HasMadeAll}
 
 module _ {L T : Type 0} (listed : L → List T) where
-  -- the result of a `try_send` of many, with the messages that its error has as a list
+  -- the result of a `try_send` of many, with the messages of its error as a list
   abbrev pub try_result_list : Result (Unit {0}) (TrySendError L)
       → Result (Unit {0}) (TrySendError (List T))
   try_result_list (Ok sent) = Ok tt
@@ -20,46 +20,42 @@ module _ {L T : Type 0} (listed : L → List T) where
   try_result_list (Err (try_send.Disconnected left)) = Err (try_send.Disconnected (listed left))
   try_result_list (Err (try_send.NoMemory left)) = Err (try_send.NoMemory (listed left))
 
-  -- the error of a send up to a deadline, with the messages that it has as a list
+  -- the error of a send up to a deadline, with its messages as a list
   abbrev pub error_list : SendTimeoutError L → SendTimeoutError (List T)
   error_list (send_timeout.Timeout left) = send_timeout.Timeout (listed left)
   error_list (send_timeout.Disconnected left) = send_timeout.Disconnected (listed left)
   error_list (send_timeout.NoMemory left) = send_timeout.NoMemory (listed left)
 
-  -- the same of its result
+  -- the result of a send up to a deadline, with the messages of its error as a list
   abbrev pub result_list : Result (Unit {0}) (SendTimeoutError L)
       → Result (Unit {0}) (SendTimeoutError (List T))
   result_list (Ok sent) = Ok tt
   result_list (Err error) = Err (error_list error)
 
 module _ {T : Type 0} (A : Type 0) where
-  -- A batch: some channel's run goes on with a `try_send` of each of these messages, up to the
-  -- first that isn't taken in, and this is the answer.
+  -- some channel's run goes on with a `try_send` of each of these messages, up to the first that is
+  -- refused, and this is the answer
   pub record SendsBatch (messages : List T) (answer : Result (Unit {0}) (TrySendError (List T)))
       : Type 0 where
     pub batch : Result (Unit {0}) (TrySendError (VecDeque T A))
     pub made : HasMadeAll (SendsMany messages) batch
     pub answer_is : answer ≡ try_result_list deque_items batch
 
-  -- The send of the first of these messages, up to the deadline, by itself. The others are left.
+  -- the send of the first of these messages, up to the deadline
   pub data SendsFirst (deadline : Deadline)
       : List T → Result (List T) (SendTimeoutError (List T)) → Type 0 where
-    -- its send ends with `Ok`
     TakenIn : {first : T} {behind : List T} → Sends A deadline first (Ok tt)
         → SendsFirst deadline (first ∷ behind) (Ok behind)
-    -- its send ends with an error, which then has what that has and the others behind it
+    -- the others are behind what the error of its send has
     ComesBack : {first : T} {behind : List T} {error : SendTimeoutError T}
         → Sends A deadline first (Err error) → SendsFirst deadline (first ∷ behind)
         (Err (error_list (λ back. back ∷ behind) error))
 
-  -- A send of these messages up to the deadline, with this result: a batch of them; if that finds
-  -- the channel full, the first that it leaves is sent by itself, and may wait; and so on with
-  -- those behind it.
+  -- A send of these messages up to the deadline. If a batch finds the channel full, the first
+  -- message that it leaves is sent by itself, and may wait; and so on with those behind it.
   pub data SendsManyUpTo (deadline : Deadline)
       : List T → Result (Unit {0}) (SendTimeoutError (List T)) → Type 0 where
-    -- no message is left
     NoneLeft : SendsManyUpTo deadline [] (Ok tt)
-    -- the batch takes all in
     AllTakenIn : {messages : List T} → SendsBatch messages (Ok tt)
         → SendsManyUpTo deadline messages (Ok tt)
     -- the batch finds the channel closed
@@ -69,12 +65,11 @@ module _ {T : Type 0} (A : Type 0) where
     -- the batch finds no memory
     IsRefused : {messages left : List T} → SendsBatch messages (Err (try_send.NoMemory left))
         → SendsManyUpTo deadline messages (Err (send_timeout.NoMemory left))
-    -- the batch finds the channel full, and the send of the next message ends with an error
+    -- the send of the next message ends with an error
     FirstComesBack : {messages left : List T} {error : SendTimeoutError (List T)}
         → SendsBatch messages (Err (try_send.Full left)) → SendsFirst deadline left (Err error)
         → SendsManyUpTo deadline messages (Err error)
-    -- the batch finds the channel full, the send of the next message ends with `Ok`, and then the
-    -- others are sent
+    -- the send of the next message ends with `Ok`, and then the others are sent
     GoesOn : {messages left behind : List T}
         {result : Result (Unit {0}) (SendTimeoutError (List T))}
         → SendsBatch messages (Err (try_send.Full left)) → SendsFirst deadline left (Ok behind)

@@ -2,7 +2,7 @@
 use Rattle.flume.specs.declared.polled.owned_or_ref.OwnedOrRef.{OwnedOrRef}
 use Rattle.flume.specs.declared.polled.owned_or_ref.OwnedOrRef.TheVariants.{Owned, Ref}
 
--- the end, whoever owns it
+-- the end
 abbrev pub end_of : {E : Type 0} → OwnedOrRef E → E
 end_of (Owned end) = end
 end_of (Ref end) = end.now

@@ -11,17 +11,14 @@ use Rattle.flume.specs.declared.signal.Signal.{Signal}
 use Rattle.flume.specs.LockedPolls.{HasPolled}
 
 module _ {N : Type 0} where
-  -- What a poll makes of its receive, by its answer: a message, or how many came.
+  -- what a poll makes of its receive, by its answer
   pub record LeavesCall (old new : PolledReceive) (answer : Option (Result N RecvError))
       : Type 0 where
     pub kind : new.kind ≡ old.kind
-    -- it waits only under a ticket
     pub parked : answer ≡ None → IsSome new.call
-    -- one that was parked keeps its ticket
     pub stays : answer ≡ None → IsSome old.call → new.call ≡ old.call
     pub got : (given : N) → answer ≡ Some (Ok given) → new.call ≡ None
     pub disconnected : answer ≡ Some (Err Disconnected) → new.call ≡ None
-    -- it is as it was
     pub no_memory : answer ≡ Some (Err NoMemory) → new.call ≡ old.call
 
 module _ {T : Type 0} where
@@ -33,28 +30,27 @@ module _ {T : Type 0} where
   answer_of_item Pending fault = None
 
 module _ {T : Type 0} (A : Type 0) where
-  -- one poll of a receive was made: from the receive before to the receive after and the answer
+  -- one poll of a receive was made
   abbrev pub HasPolledReceive : PolledReceive → PolledReceive → Option (Result T RecvError) → Type 0
   HasPolledReceive = HasPolled {S = Signal A} A (λ old signal before after new answer.
       (new.kind ≡ old.kind) × ReceivePoll A old.kind old.call signal before after new.call answer)
 
 module _ {T : Type 0} where
-  -- What a poll of many leaves of the list and answers, by what its receive answered. Those that
-  -- were taken after a message stand behind it.
-  abbrev pub WithMore : ℕ → List T → Option (Result T RecvError) → List T
+  -- what a poll of many adds to the list and answers, by what its receive answered
+  abbrev pub AddsMore : ℕ → List T → Option (Result T RecvError) → List T
       → Option (Result ℕ RecvError) → Type 0
-  WithMore most before (Some (Ok message)) after answer = (more : List T)
+  AddsMore most before (Some (Ok message)) after answer = (more : List T)
       × (after ≡ before ++ message ∷ more) × (answer ≡ Some (Ok (length more + 1)))
       × (length more + 1 ≤ most)
-  WithMore most before (Some (Err error)) after answer =
+  AddsMore most before (Some (Err error)) after answer =
       (after ≡ before) × (answer ≡ Some (Err error))
-  WithMore most before None after answer = (after ≡ before) × (answer ≡ None)
+  AddsMore most before None after answer = (after ≡ before) × (answer ≡ None)
 
 module _ {T : Type 0} (A : Type 0) where
   -- one poll of a receive was made, and if it gave a message others came with it, at most so many
-  -- in all: from the list and the receive before to both after and the answer
+  -- in all
   pub record HasPolledMany (most : ℕ) (before : List T) (old : PolledReceive) (after : List T)
       (new : PolledReceive) (answer : Option (Result ℕ RecvError)) : Type 0 where
     pub first : Option (Result T RecvError)
     pub polled : HasPolledReceive A old new first
-    pub more : WithMore most before first after answer
+    pub more : AddsMore most before first after answer

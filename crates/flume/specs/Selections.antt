@@ -1,4 +1,4 @@
--- What the mappers of a selector's arms make of results, and the numbers of the arms.
+-- What the mappers of a selector's arms answer, and the numbers of the arms.
 use Rattle.std.specs.Prelude.{◌≡◌, ◌≢◌, ◌<◌, ◌+◌, if◌then◌else◌, nat_lt, ℕ, min, Option, Some, None}
 
 module _ {F I : Type 0} where
@@ -29,17 +29,17 @@ module _ {F I V : Type 0} where
 abbrev pub count_one_more : ℕ → ℕ
 count_one_more count = min (count + 1) 18446744073709551615
 
--- of the arm with this number: if so many arms are before it, the second holds, and else the first
+-- one of these holds of the arm with this number: the second if so many arms are before it
 pub record ByNumber (count : ℕ) (before : ℕ → Type 0) (last : Type 0) (arm : ℕ) : Type 0 where
   pub is_before : arm ≢ count → before arm
   pub is_last : arm ≡ count → last
 
--- the arm that a round begins with: the one that was drawn, if one was, and else arm 0
+-- the arm that a round begins with: the random one, or else arm 0
 abbrev pub first_arm : (count start : ℕ) → ℕ
 first_arm count start = if nat_lt start count then start else 0
 
 module _ {M V : Type 0} where
-  -- the value is what the mapper of one of so many arms answers to a result of its arm
+  -- the value is what the mapper of one of the arms answers to a result of its arm
   pub record IsValue (count : M → ℕ) (maps : M → ℕ → V → Type 0) (mappers : M) (value : V)
       : Type 0 where
     pub arm : ℕ

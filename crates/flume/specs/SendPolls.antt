@@ -12,23 +12,19 @@ use Rattle.flume.specs.declared.signal.Signal.{Signal}
 use Rattle.flume.specs.LockedPolls.{HasPolled, answer_of}
 
 module _ {T : Type 0} (A : Type 0) where
-  -- one poll of a send was made: from the send before to the send after and the answer
+  -- one poll of a send was made
   abbrev pub HasPolledSend : PolledSend T → PolledSend T
       → Option (Result (Unit {0}) (SendError T)) → Type 0
   HasPolledSend = HasPolled A (SendPoll {S = Signal A} A)
 
-  -- a poll of a future or a sink that has this send: from the send before to the send after and the
-  -- poll's result
+  -- a poll of a future or a sink that has this send
   pub record IsPollOfSend (old new : PolledSend T) (result : Poll (Result (Unit {0}) (SendError T)))
       : Type 0 where
-    -- one that was ready before is ready at once
     pub after_ready : old ≡ Finished → result ≡ Ready (Ok tt)
     pub polled : old ≢ Finished → HasPolledSend old new (answer_of result)
     pub finished : IfReady result (λ _. new ≡ Finished)
     pub parked : OnPending result ((ticket : ℕ) × (new ≡ Parked ticket))
-    -- one that is parked keeps its ticket
     pub stays : (ticket : ℕ) → old ≡ Parked ticket → OnPending result (new ≡ Parked ticket)
-    -- a message that comes back by the first poll is the one that was to be sent
     pub disconnected : (message back : T) → old ≡ Unsent message
         → result ≡ Ready (Err (Disconnected back)) → back ≡ message
     pub no_memory : (message back : T) → old ≡ Unsent message

@@ -1,4 +1,4 @@
-//! What a call answers, by how its turn or its wait ended.
+//! What a call answers, by its turn or its wait.
 ghost use Rattle.std.specs.Prelude.{◌≡◌, ◌≢◌, vec_items, Err};
 ghost use Rattle.std.specs.VecDeque.{deque_items};
 ghost use Rattle.flume_calls.specs.ReceiveTurns as receive;
@@ -31,7 +31,6 @@ pub(crate) fn try_send_answer<T: Drop>(turn: SendNext<T>) -> Result<(), TrySendE
     }
 }
 
-// What is left goes to the front of the list that it was taken from.
 pub(crate) fn try_send_many_answer<T: Drop, A: Allocator>(
     turn: Result<(), TrySendError<VecDeque<T, A>>>,
 ) -> Result<(), TrySendError<Vec<T, A>>>
@@ -60,7 +59,6 @@ pub(crate) fn send_answer<T: Drop>(
     }
 }
 
-// A `T` is a message, or how many came.
 #[inline(always)]
 pub(crate) fn try_receive_answer<T: Drop>(turn: RecvNext<T>) -> Result<T, TryRecvError>
     requires first { receive.IsFirst turn }

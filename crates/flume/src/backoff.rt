@@ -1,18 +1,17 @@
-//! What a call does before it sleeps, for a wake or for the lock: a sleep and the wake from it cost
-//! far more than what it waits for.
+//! What a call does before it sleeps: a sleep and the wake from it cost far more than what it waits
+//! for.
 use crate::signal::YIELDS;
 use std::hint::spin_loop;
 
 // The greatest capacity that counts as small.
 const SPIN_CAPACITY: u64 = 4;
 
-// The capacity of an unbounded channel: no bounded one has more.
 pub(crate) const UNBOUNDED: u64 = u64::MAX;
 
-// How often a call checks for its wake, at the most.
+// How often a call checks for its wake at most.
 const CHECKS: u32 = 220;
 
-// How long a call pauses at a small capacity, and at a greater one.
+// Pauses at a small capacity, and at a greater one.
 const FEW_PAUSES: u32 = 70;
 
 const PAUSES: u32 = 300;
@@ -21,14 +20,14 @@ const PAUSES: u32 = 300;
 pub(crate) struct Backoff {
     // Before it parks.
     pub(crate) pauses: u32,
-    // How often it checks for its wake, once it has parked.
+    // Once it has parked.
     pub(crate) checks: u32,
 }
 
 impl Backoff {
-    // At capacity 0 each call meets another one, so it parks and checks. At a small capacity it
-    // first lets one message come or go; at a greater one it lets them gather, and then only lets
-    // other threads run. On an unbounded channel neither served.
+    // At capacity 0 a call parks and checks. At a small capacity it first lets one message come or
+    // go. At a greater one it lets them gather, and then only lets other threads run. On an
+    // unbounded channel neither helped.
     pub(crate) fn of(capacity_hint: u64) -> Backoff {
         let (pauses, checks) = if capacity_hint == 0 {
             (0, CHECKS)
@@ -46,7 +45,7 @@ impl Backoff {
 // How often a call tries for the lock before it sleeps for it.
 pub(crate) const TRIES: u32 = 8;
 
-// The pauses before the first try; before each next one twice as many.
+// Before the first try; before each next one twice as many.
 pub(crate) const FIRST_PAUSES: u32 = 32;
 
 pub(crate) fn pause(pauses: u32) {

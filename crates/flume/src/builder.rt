@@ -1,4 +1,4 @@
-//! How a channel is opened, if only what isn't usual is said.
+//! How a channel is opened.
 ghost use Rattle.std.specs.Prelude.{◌≡◌, IfOk, ⊤};
 ghost use Rattle.flume.specs.Builders.{BuilderValue};
 
@@ -11,14 +11,14 @@ use std::alloc::{Alloc, AllocError, Allocator};
 use std::fmt;
 use std::marker::Model;
 
-/// How a channel is to be opened: `on` makes one, `number` and `allocator` change one thing each,
-/// `unbounded` and `bounded` open the channel.
+/// How a channel is to be opened: `on` makes one, `number` and `allocator` change it, `unbounded`
+/// and `bounded` open the channel.
 ///
 /// Whatever its capacity, a channel holds at most 4,294,967,295 messages, as many parked receivers
-/// and as many live sends. Past that a call answers `NoMemory`, though no allocation was refused.
+/// and as many live sends. Past that a call answers `NoMemory`, though no allocation failed.
 ///
-/// A copy of it opens another channel with the same number. One that holds a reference, as to an
-/// allocator of one's own, can't be copied, and opens one channel.
+/// A copy opens another channel with the same number. A builder with a reference, as to an
+/// allocator of one's own, can't be copied.
 #[derive(Copy)]
 pub struct Builder<R: Waits, A: Allocator + Copy> {
     rt: R,
@@ -44,8 +44,8 @@ impl<R: Waits, A: Allocator + Copy> Model for Builder<R, A> {
     } };
 }
 
-/// A builder with the allocator that the runtime gives, which is the global one of the host's
-/// runtime, and with the number 0. It takes no memory.
+/// A builder with the number 0 and the runtime's allocator, which is the global one of the host's
+/// runtime. Doesn't allocate.
 ///
 /// ```
 /// let (tx, rx) = flume::on(rt).unbounded()?;
@@ -53,7 +53,7 @@ impl<R: Waits, A: Allocator + Copy> Model for Builder<R, A> {
 /// assert_eq!(rt; rx.recv(), Ok(42));
 /// ```
 ///
-/// A runtime value that gives no allocator stands in a pair with one: `flume::on((rt, alloc))`.
+/// A runtime value that has no allocator is given with one: `flume::on((rt, alloc))`.
 pub fn on<R: Waits + Alloc>(rt: R) -> Builder<R, R::A>
 where
     R::A: Copy,
@@ -68,9 +68,8 @@ where
 }
 
 impl<R: Waits, A: Allocator + Copy> Builder<R, A> {
-    /// Opens the channel under this number. `same_channel` of two ends compares the numbers of
-    /// their channels and nothing else, so channels that are opened with equal numbers count as the
-    /// same.
+    /// Opens the channel with this number. `same_channel` compares the numbers of channels and
+    /// nothing else.
     ///
     /// ```
     /// let (first, _) = flume::on(rt).number(1).unbounded::<u64>()?;
@@ -85,7 +84,7 @@ impl<R: Waits, A: Allocator + Copy> Builder<R, A> {
         Builder { id: number, ..self }
     }
 
-    /// Opens the channel with this allocator, from which it takes all its memory.
+    /// Opens the channel with this allocator, for all its memory.
     ///
     /// ```
     /// let (tx, rx) = flume::on(rt).allocator(rt.alloc()).bounded(16)?;
@@ -104,7 +103,7 @@ impl<R: Waits, A: Allocator + Copy> Builder<R, A> {
         }
     }
 
-    /// Opens a channel without a capacity. `NoMemory`: there was none for what its ends share.
+    /// Opens an unbounded channel. `NoMemory`: it couldn't be allocated.
     pub fn unbounded<T: Drop>(self) -> Result<(Sender<T, R, A>, Receiver<T, R, A>), NoMemory>
         ensures sender { IfOk result (λ ends. ends.0 ≡ self.number) }
         ensures receiver { IfOk result (λ ends. ends.1 ≡ self.number) }
@@ -113,8 +112,8 @@ impl<R: Waits, A: Allocator + Copy> Builder<R, A> {
     }
 
     /// Opens a channel that holds at most `capacity` messages, apart from those sent while a
-    /// receiver waits. At capacity 0, the rendezvous channel, a send waits until a receiver takes
-    /// its message. `NoMemory` as of `unbounded`.
+    /// receiver waits. At capacity 0, a rendezvous, a send waits until a receiver takes its
+    /// message. `NoMemory` as of `unbounded`.
     ///
     /// ```
     /// let (tx, rx) = flume::on(rt).bounded(1)?;

@@ -21,7 +21,7 @@ use std::marker::Model;
 use std::time::{Duration, Instant};
 
 /// The messages of a receiver up to a deadline: `Receiver::iter_deadline` and
-/// `Receiver::iter_timeout`. It waits for each message. After a `None`, `ended` says why.
+/// `Receiver::iter_timeout`. After a `None`, `ended` says why.
 ///
 /// ```
 /// let (tx, rx) = flume::on(rt).unbounded()?;
@@ -39,7 +39,6 @@ pub struct DeadlineIter<'a, T, R: Waits, A: Allocator + Copy = Global> {
     receiver: &'a Receiver<T, R, A>,
     deadline: Deadline,
     progress: Progress,
-    // Why the last `next` gave nothing.
     end: Option<RecvTimeoutError>,
 }
 
@@ -57,9 +56,9 @@ impl<'a, T, R: Waits, A: Allocator + Copy> Model for DeadlineIter<'a, T, R, A> {
 }
 
 impl<T: Drop, R: Waits, A: Allocator + Copy> Receiver<T, R, A> {
-    /// The messages, one after the other, up to the deadline, at which it ends even if messages are
-    /// left: they stay in the channel. It waits for each, and ends too if `recv` is refused. A
-    /// clock that can't be read counts as past each deadline. Takes no memory.
+    /// The messages, one after the other, up to the deadline; then messages that are left stay in
+    /// the channel. It waits for each, and ends too if `recv` fails. A clock that can't be read
+    /// counts as past each deadline. Doesn't allocate.
     ///
     /// ```
     /// let (tx, rx) = flume::on(rt).unbounded()?;
@@ -74,7 +73,7 @@ impl<T: Drop, R: Waits, A: Allocator + Copy> Receiver<T, R, A> {
         DeadlineIter::new(self, Deadline::At(deadline))
     }
 
-    /// As `iter_deadline`, up to so long from now. If the deadline overflows, as `iter`.
+    /// As `iter_deadline`, with a timeout. If the deadline overflows, as `iter`.
     pub fn iter_timeout(&self, timeout: Duration) -> DeadlineIter<'_, T, R, A>
         ensures new { (deadline : Deadline) × IsAfter timeout deadline
             × (result ≡ new_deadline_iter self.now deadline) }
@@ -95,10 +94,9 @@ impl<'a, T: Drop, R: Waits, A: Allocator + Copy> DeadlineIter<'a, T, R, A> {
         }
     }
 
-    /// Why the last `next` gave nothing: `Timeout`, the deadline is reached; `NoMemory`, there was
-    /// none for what a wait needs. `Ok`: no message was there and all senders had been dropped, or
-    /// it gave a message, or there was no `next` yet. Never `Disconnected`. The receiver can be
-    /// used on after each.
+    /// Why the last `next` gave nothing. `Timeout`: the deadline is reached. `NoMemory`: there was
+    /// no memory to wait. `Ok`: all senders had been dropped, or it gave a message, or there was no
+    /// `next` yet. The receiver can be used on after each.
     ///
     /// ```
     /// let (_tx, rx) = flume::on(rt).unbounded::<u64>()?;

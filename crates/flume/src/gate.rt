@@ -1,5 +1,5 @@
-//! The gate of the ends: each turn of a call is made under the channel's lock, and the call waits
-//! on a parker of its own. The loop of a call that waits is written and proved once, over any gate.
+//! The gate of the ends: each turn is made under the channel's lock, and the call waits on a parker
+//! of its own.
 ghost use Rattle.std.specs.Prelude.{◌≡◌, ⊤};
 ghost use Rattle.flume.specs.GateSteps.{MakesWaiter, WaitsUpTo, SendFirst, SendPark, SendAgain};
 ghost use Rattle.flume.specs.GateSteps.{ReceiveFirst, ReceivePark, ReceiveAgain};
@@ -47,7 +47,7 @@ impl<T: Drop, R: Waits, A: Allocator + Copy> SendGate<T> for Gate<'_, T, R, A> {
 
     ghost firsts = { SendFirst A };
 
-    ghost arms = { MakesWaiter };
+    ghost makes = { MakesWaiter };
 
     ghost parks = { SendPark A };
 
@@ -57,11 +57,11 @@ impl<T: Drop, R: Waits, A: Allocator + Copy> SendGate<T> for Gate<'_, T, R, A> {
 
     #[inline(always)]
     fn first(&mut self, message: T) -> SendNext<T> {
-        self.shared.call_once(FirstSend { message })
+        self.shared.call_step(FirstSend { message })
     }
 
     #[inline(always)]
-    fn arm(&mut self) -> Option<(Arc<Parker, A>, Signal<A>)> {
+    fn make_waiter(&mut self) -> Option<(Arc<Parker, A>, Signal<A>)> {
         self.shared.new_parker()
     }
 
@@ -89,7 +89,7 @@ impl<T: Drop, R: Waits, A: Allocator + Copy> RecvGate<T> for Gate<'_, T, R, A> {
 
     ghost firsts = { ReceiveFirst A };
 
-    ghost arms = { MakesWaiter };
+    ghost makes = { MakesWaiter };
 
     ghost parks = { ReceivePark A };
 
@@ -97,15 +97,15 @@ impl<T: Drop, R: Waits, A: Allocator + Copy> RecvGate<T> for Gate<'_, T, R, A> {
 
     ghost waits = { WaitsUpTo };
 
-    ghost is_armed = { λ _. ⊤ };
+    ghost is_ready = { λ _. ⊤ };
 
     #[inline(always)]
     fn first(&mut self) -> RecvNext<T> {
-        self.shared.call_once(FirstReceive)
+        self.shared.call_step(FirstReceive)
     }
 
     #[inline(always)]
-    fn arm(&mut self) -> Option<(Arc<Parker, A>, Signal<A>)> {
+    fn make_waiter(&mut self) -> Option<(Arc<Parker, A>, Signal<A>)> {
         self.shared.new_parker()
     }
 

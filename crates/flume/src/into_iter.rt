@@ -1,4 +1,4 @@
-//! The iterator over received messages that owns its receiver.
+//! The iterator that owns its receiver.
 ghost use Rattle.std.specs.Prelude.{◌≡◌, ◌↔◌, true, IsErr};
 ghost use Rattle.std.specs.Iterator.{at_most};
 ghost use Rattle.flume.specs.Iterators.{new_iter, IsNext};
@@ -43,14 +43,14 @@ impl<T, R: Waits, A: Allocator + Copy> Model for IntoIter<T, R, A> {
 }
 
 impl<T: Drop, R: Waits, A: Allocator + Copy> IntoIter<T, R, A> {
-    /// Whether the last `next` ended because memory ran out, as `Iter::fault`.
+    /// As `Iter::fault`.
     pub fn fault(&self) -> bool
         ensures fault { result ≡ self.now.fault }
     {
         self.progress.fault
     }
 
-    /// An error if `fault` is true, as `Iter::ended`.
+    /// As `Iter::ended`.
     pub fn ended(&self) -> Result<(), NoMemory>
         ensures no_memory { IsErr result ↔ self.now.fault ≡ true }
     {

@@ -1,4 +1,4 @@
-//! Iterators over the messages of a receiver that they borrow.
+//! Iterators that borrow their receiver.
 ghost use Rattle.std.specs.Prelude.{◌≡◌, ◌↔◌, true, false, IsErr};
 ghost use Rattle.std.specs.Iterator.{at_most};
 ghost use Rattle.flume.specs.Iterators.{new_iter, IsNext};
@@ -12,8 +12,8 @@ use std::fmt;
 use std::marker::Model;
 
 /// The messages of a receiver, one after the other; it waits for each. `None`: none is there and
-/// all senders have been dropped, or, if `fault` says so, there was no memory for what a wait
-/// needs. After a `None` there may be more.
+/// all senders have been dropped, or, if `fault` says so, there was no memory to wait: then there
+/// may be more.
 ///
 /// ```
 /// let (tx, rx) = flume::on(rt).unbounded()?;
@@ -53,9 +53,8 @@ impl<'a, T: Drop, R: Waits, A: Allocator + Copy> Iter<'a, T, R, A> {
         }
     }
 
-    /// Whether the last `next` ended because memory ran out, and not because all senders had been
-    /// dropped. The receiver can be used on after it. An adapter owns what it adapts and hides
-    /// this: lend the iterator to it by `by_ref`, as in `messages.by_ref().take(10)`.
+    /// Whether the last `next` ended because memory ran out. The receiver can be used on after it.
+    /// An adapter hides this: lend it the iterator, as in `messages.by_ref().take(10)`.
     ///
     /// ```
     /// let (tx, rx) = flume::on(rt).unbounded::<u64>()?;
@@ -70,7 +69,7 @@ impl<'a, T: Drop, R: Waits, A: Allocator + Copy> Iter<'a, T, R, A> {
         self.progress.fault
     }
 
-    /// An error if `fault` is true, for a program that goes on by `?` after a loop.
+    /// `NoMemory` if `fault` is true, for a `?` after a loop.
     ///
     /// ```
     /// let (tx, rx) = flume::on(rt).unbounded::<u64>()?;
@@ -154,7 +153,7 @@ impl<'a, T: Drop, R: Waits, A: Allocator + Copy> TryIter<'a, T, R, A> {
         }
     }
 
-    /// Never, since it needs no memory. The other iterators have it too.
+    /// Never: it doesn't allocate.
     pub fn fault(&self) -> bool
         ensures never { result ≡ false }
     {

@@ -1,6 +1,6 @@
 //! Channels between threads and tasks: flume 0.12.0, written again with contracts that are proved.
-//! Senders put messages in, and receivers take them out in the same order. Each message goes to one
-//! receiver. Both ends can be cloned, and moved to other threads.
+//! Receivers take the messages out in the order in which senders put them in. Each message goes to
+//! one receiver. Both ends can be cloned, and moved to other threads.
 //!
 //! ```
 //! let (tx, rx) = flume::on(rt).unbounded()?;
@@ -8,18 +8,18 @@
 //! assert_eq!(rt; rx.recv(), Ok(42));
 //! ```
 //!
-//! `rt` is the runtime value that `main` is handed; the ends keep a copy, to wait and to read the
-//! clock. If an allocation fails, a call answers `NoMemory`: nothing aborts.
+//! `rt` is the runtime value that `main` is handed; the ends keep a copy of it. If an allocation
+//! fails, a call answers `NoMemory`: nothing aborts.
 //!
 //! # Unbounded channels
 //!
-//! `flume::on(rt).unbounded()` opens a channel in which `send` never waits. `Builder` says how many
-//! messages a channel holds at the most.
+//! `flume::on(rt).unbounded()` opens a channel in which `send` never waits. [`Builder`] has the
+//! greatest number of messages.
 //!
 //! # Bounded channels
 //!
-//! `flume::on(rt).bounded(n)` opens a channel with room for `n` queued messages. When it is full,
-//! and no receiver waits, `send` waits for room, and `try_send` hands its message back.
+//! `flume::on(rt).bounded(n)` opens a channel with room for `n` queued messages. If it is full and
+//! no receiver waits, `send` waits for room, and `try_send` hands its message back.
 //!
 //! ```
 //! let (tx, _rx) = flume::on(rt).bounded(1)?;
@@ -41,10 +41,10 @@
 //!
 //! # Disconnection
 //!
-//! When the last sender is dropped, receivers still get the queued messages, and then
-//! `Disconnected`. When the last receiver is dropped, a send answers `Disconnected` with its
-//! message. After the last sender's drop, a loop over a receiver ends once no message is left;
-//! `ended` of its iterator says if it ended early because an allocation failed.
+//! After the last sender is dropped, receivers still get the queued messages, and then
+//! `Disconnected`; a loop over a receiver ends there. `ended` of its iterator says if it ended
+//! early because an allocation failed. After the last receiver is dropped, a send answers
+//! `Disconnected` with its message.
 //!
 //! ```
 //! let (tx, rx) = flume::on(rt).unbounded()?;
@@ -115,7 +115,7 @@ pub use flume_core::error::{
 };
 pub use flume_core::{chan, error, facts, run, step};
 pub use flume_history::check::{Checked, check_history};
-pub use flume_script::{Script, run_script};
+pub use flume_script::{ScriptOutput, run_script};
 pub use into_iter::IntoIter;
 pub use iterators::{Iter, TryIter};
 pub use opening::{bounded, unbounded};

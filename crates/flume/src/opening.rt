@@ -8,8 +8,8 @@ use flume_core::error::NoMemory;
 use std::alloc::Allocator;
 use std::sync::Arc;
 
-/// Opens a channel without a capacity, as `flume::on(rt).unbounded()` does. `id` is its number, as
-/// of `Builder::number`. `NoMemory`: there was none for what the ends share.
+/// Opens an unbounded channel, as `flume::on(rt).unbounded()` does. `id` is its number, as of
+/// `Builder::number`. `NoMemory`: it couldn't be allocated.
 ///
 /// ```
 /// let (tx, rx) = unbounded(rt, rt.alloc(), 1)?;
@@ -27,8 +27,7 @@ pub fn unbounded<T: Drop, R: Waits, A: Allocator + Copy>(
     ends(rt, alloc, id, None)
 }
 
-/// Opens a channel as `flume::on(rt).bounded(capacity)` does. `id` and `NoMemory` as of
-/// `unbounded`.
+/// Opens a channel as `flume::on(rt).bounded(capacity)` does. The rest as of `unbounded`.
 ///
 /// ```
 /// let (tx, rx) = bounded(rt, rt.alloc(), 2, 1)?;

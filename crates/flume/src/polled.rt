@@ -1,11 +1,8 @@
-//! Futures, sinks and streams over a channel: each poll makes at most one step of the channel, or
-//! several if it moves many messages. One that has to wait has left its task's waker in the very
-//! step that found nothing, and waits until its own signal is fired: for a message or room for one,
-//! or the closing. Tasks and threads may share a channel.
+//! Futures, sinks and streams over a channel.
 //!
-//! A call that is dropped while it waits takes itself back: a send its message, a receive its place
-//! among those that wait, and a wake that it had goes on to another. One that is forgotten, and
-//! never dropped, does neither.
+//! A poll that has to wait leaves its task's waker in the very step that found nothing. A call that
+//! is dropped while it waits leaves the channel: a send takes its message back, and a receive
+//! passes on a wake that it had. One that is forgotten does neither.
 
 mod many;
 mod owned_or_ref;

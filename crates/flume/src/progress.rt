@@ -11,9 +11,8 @@ use std::sync::Wait;
 
 #[derive(Drop)]
 pub(crate) struct Progress {
-    // How often `next` may still be called: so a loop over the iterator is proved to end.
+    // How often `next` may still be called, so that a loop over the iterator is proved to end.
     left: u64,
-    // Whether the last `next` ended because memory ran out.
     pub(crate) fault: bool,
 }
 
@@ -28,7 +27,7 @@ impl Progress {
         }
     }
 
-    // One call less. If none is left it waits for good; no run comes to that.
+    // If none is left it waits for good; no run comes to that.
     pub(crate) fn count<R: Wait>(&mut self, rt: &R)
         ensures left { self.old.left ≡ self.new.left + 1 }
         ensures fault { self.new.fault ≡ self.old.fault }

@@ -1,4 +1,4 @@
-//! Receives of many messages: each call takes what is there, under one lock.
+//! Receives of many messages, under one lock.
 ghost use Rattle.std.specs.Prelude.{◌≡◌, ◌≢◌, ◌⊎◌, ◌+◌, ◌<◌, true, Ok, Err, IfOk, OnErr};
 ghost use Rattle.std.specs.Prelude.{vec_len, vec_capacity};
 ghost use Rattle.flume_deadline.specs.declared.Deadline.TheVariants.{Never};
@@ -26,13 +26,12 @@ use std::time::{Duration, Instant};
 
 impl<T: Drop, R: Waits, A: Allocator + Copy> Receiver<T, R, A> {
     /// Takes the messages that are there, at most `most`, puts them behind what `into` holds, in
-    /// order, and answers how many. Doesn't wait for a sender. Blocked sends are let in as each
-    /// message leaves, as by so many single receives, so that it may take more than the capacity. A
-    /// `most` of 0 takes nothing and answers 0.
+    /// order, and answers how many. Doesn't wait. Blocked sends are let in as each message leaves,
+    /// so it may take more than the capacity. If `most` is 0, it answers 0.
     ///
     /// `Empty`: none is there. `Disconnected`: none is, and all senders have been dropped.
-    /// `NoMemory`: some are there, and there was no room for them in `into`. Each leaves `into` as
-    /// it was, and takes nothing.
+    /// `NoMemory`: `into` couldn't grow to hold them. Each leaves `into` as it was, and takes
+    /// nothing.
     ///
     /// ```
     /// let (tx, rx) = flume::on(rt).unbounded()?;
@@ -60,18 +59,16 @@ impl<T: Drop, R: Waits, A: Allocator + Copy> Receiver<T, R, A> {
         let list = replace(into, Vec::new(self.shared().alloc));
         let ManyNext { into: list, next } = self
             .shared()
-            .call_all(FirstReceiveMany { into: list, most });
+            .call_many(FirstReceiveMany { into: list, most });
         *into = list;
         try_receive_answer(next)
     }
 
-    /// As `try_recv_many`, but waits while no message is there; once one has come it waits no
-    /// longer. It answers 0 only if `most` is 0, and then it doesn't wait.
+    /// As `try_recv_many`, but waits for the first message. If `most` is 0, it doesn't wait.
     ///
-    /// `Disconnected`: none is there, and all senders have been dropped. `NoMemory`: there was no
-    /// room for what is there, or no memory for what a call waits on with room for one message.
-    /// Each leaves `into` as it was, and takes nothing. If a call that waited finds more messages
-    /// than there is room for, it takes as many as there is room for, one at least.
+    /// `Disconnected`: none is there, and all senders have been dropped. `NoMemory`: `into`
+    /// couldn't grow, or there was no memory to wait. Both leave `into` as it was, and take
+    /// nothing. If `into` can't grow after a wait, it takes as many as there is room for.
     ///
     /// ```
     /// let (tx, rx) = flume::on(rt).unbounded()?;
@@ -95,8 +92,8 @@ impl<T: Drop, R: Waits, A: Allocator + Copy> Receiver<T, R, A> {
         receive_answer(self.recv_many_until(into, most, Deadline::Never))
     }
 
-    /// As `recv_many`, waiting up to the deadline. `Timeout`: it is reached, and no message came;
-    /// `into` is as it was. The clock and a closed channel count as in `recv_deadline`.
+    /// As `recv_many`, waiting up to the deadline, as of `recv_deadline`. `Timeout`: it is reached,
+    /// and no message came; `into` is as it was.
     ///
     /// ```
     /// let (_tx, rx) = flume::on(rt).unbounded::<u64>()?;
@@ -121,7 +118,7 @@ impl<T: Drop, R: Waits, A: Allocator + Copy> Receiver<T, R, A> {
         self.recv_many_until(into, most, Deadline::At(deadline))
     }
 
-    /// As `recv_many_deadline`, up to so long from now. If the deadline overflows, as `recv_many`.
+    /// As `recv_many_deadline`, with a timeout. If the deadline overflows, as `recv_many`.
     pub fn recv_many_timeout(
         &self,
         into: &mut Vec<T, A>,
@@ -180,7 +177,7 @@ struct ManyGate<'a, T, R: Waits, A: Allocator + Copy> {
 }
 
 impl<T: Drop, R: Waits, A: Allocator + Copy> ManyGate<'_, T, R, A> {
-    // The list keeps the room that `arm` made until a message comes.
+    // The list keeps the room that `make_waiter` made until a message comes.
     #[cold]
     #[inline(never)]
     fn receive_and_more<C>(&mut self, turn: C) -> RecvNext<usize>
@@ -196,7 +193,7 @@ impl<T: Drop, R: Waits, A: Allocator + Copy> ManyGate<'_, T, R, A> {
     {
         let into = replace(&mut self.into, Vec::new(self.shared.alloc));
         let more = self.most - 1;
-        let ManyNext { into, next } = self.shared.call_all(ReceiveAndMore { turn, into, more });
+        let ManyNext { into, next } = self.shared.call_many(ReceiveAndMore { turn, into, more });
         self.into = into;
         next
     }
@@ -217,7 +214,7 @@ impl<T: Drop, R: Waits, A: Allocator + Copy> RecvGate<usize> for ManyGate<'_, T,
         × GrowsBy old.most old.into.items new.into.items next
         × ReceivesBatch A old.into.items new.into.items next × LacksRoom old.into old.most next };
 
-    ghost arms = { λ old new _. (new.deadline ≡ old.deadline) × (new.most ≡ old.most)
+    ghost makes = { λ old new _. (new.deadline ≡ old.deadline) × (new.most ≡ old.most)
         × (new.into.items ≡ old.into.items) };
 
     ghost parks = { λ old new next.
@@ -236,20 +233,18 @@ impl<T: Drop, R: Waits, A: Allocator + Copy> RecvGate<usize> for ManyGate<'_, T,
         (new.deadline ≡ old.deadline) × (new.most ≡ old.most)
         × (new.into.items ≡ old.into.items) × (late ≡ true → old.deadline ≢ Never) };
 
-    // There is room for one message.
-    ghost is_armed = { λ gate. vec_len gate.into < vec_capacity gate.into };
+    ghost is_ready = { λ gate. vec_len gate.into < vec_capacity gate.into };
 
     fn first(&mut self) -> RecvNext<usize> {
         let into = replace(&mut self.into, Vec::new(self.shared.alloc));
         let most = self.most;
-        let ManyNext { into, next } = self.shared.call_all(FirstReceiveMany { into, most });
+        let ManyNext { into, next } = self.shared.call_many(FirstReceiveMany { into, most });
         self.into = into;
         next
     }
 
-    // Room for one message is made before the call parks, so that it can always take the message
-    // for which it is woken, or which is handed to it.
-    fn arm(&mut self) -> Option<(Arc<Parker, A>, Signal<A>)> {
+    // With room for one message, so that the parked call can always take what it is woken for.
+    fn make_waiter(&mut self) -> Option<(Arc<Parker, A>, Signal<A>)> {
         self.into.try_reserve(1).ok()?;
         self.shared.new_parker()
     }

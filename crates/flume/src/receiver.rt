@@ -29,9 +29,9 @@ use std::marker::Model;
 use std::sync::Arc;
 use std::time::{Duration, Instant};
 
-/// Receives the messages of a channel. Each message goes to one receiver, even if there are clones
-/// of it. As the last of them goes the channel closes: messages that are queued stay until the last
-/// sender goes too, and senders that are blocked get theirs back.
+/// Receives the messages of a channel. Its clones receive from the same one, and each message goes
+/// to one of them. The channel closes with the last of them: blocked senders get their messages
+/// back, and what is queued stays until the last sender is dropped too.
 pub struct Receiver<T, R: Waits, A: Allocator + Copy = Global> {
     shared: Arc<Shared<T, R, A>, A>,
 }
@@ -43,15 +43,15 @@ impl<T, R: Waits, A: Allocator + Copy> Model for Receiver<T, R, A> {
 }
 
 impl<T: Drop, R: Waits, A: Allocator + Copy> Receiver<T, R, A> {
-    // The receiver is counted already.
+    // Counted already.
     pub(crate) fn from_shared(shared: Arc<Shared<T, R, A>, A>) -> Self
         ensures number { result ≡ shared.value.id }
     {
         Receiver { shared }
     }
 
-    /// Takes the next message, if one is there. Doesn't wait for a sender. `Empty`: none is there.
-    /// `Disconnected`: none is, and all senders have been dropped. Never `NoMemory`.
+    /// Takes the next message, and doesn't wait. `Empty`: none is there. `Disconnected`: none is,
+    /// and all senders have been dropped. Never `NoMemory`.
     ///
     /// ```
     /// let (tx, rx) = flume::on(rt).unbounded()?;
@@ -66,11 +66,11 @@ impl<T: Drop, R: Waits, A: Allocator + Copy> Receiver<T, R, A> {
             (answer.try_receive_as_turn result) }
         ensures never_no_memory { result ≢ Err TryRecvError.NoMemory }
     {
-        try_receive_answer(self.shared.call_once(FirstReceive))
+        try_receive_answer(self.shared.call_step(FirstReceive))
     }
 
     /// Takes the next message, and waits while there is none. `Disconnected`: none is there, and
-    /// all senders have been dropped. `NoMemory`: there was none for what a call waits on.
+    /// all senders have been dropped. `NoMemory`: there was no memory to wait.
     ///
     /// ```
     /// let (tx, rx) = flume::on(rt).unbounded()?;
@@ -82,15 +82,14 @@ impl<T: Drop, R: Waits, A: Allocator + Copy> Receiver<T, R, A> {
     pub fn recv(&self) -> Result<T, RecvError>
         ensures made { Receives A Deadline.Never (answer.receive_as_timed result) }
     {
-        match self.shared.call_once(FirstReceive) {
+        match self.shared.call_step(FirstReceive) {
             RecvNext::Done(result) => receive_answer(result),
             RecvNext::NeedSignal => self.recv_from_empty(),
             RecvNext::Park(_) | RecvNext::Refused(_) => unreachable!(),
         }
     }
 
-    // Goes on with a receive that just found no message. In code of its own, so that a receive that
-    // needn't wait is short.
+    // Out of line, so that a receive that needn't wait is short.
     #[cold]
     #[inline(never)]
     fn recv_from_empty(&self) -> Result<T, RecvError>
@@ -101,10 +100,9 @@ impl<T: Drop, R: Waits, A: Allocator + Copy> Receiver<T, R, A> {
         receive_answer(waiting_receive(&self.shared.rt, &mut gate))
     }
 
-    /// As `recv`, waiting up to the deadline. `Timeout`: it is reached, and no message came. If the
-    /// channel is closed by then the answer is `Disconnected`. A clock that can't be read counts as
-    /// past each deadline. A message that is there is taken, even if the deadline was past before
-    /// the call.
+    /// As `recv`, waiting up to the deadline. `Timeout`: it is reached, the channel is open, and no
+    /// message came. A clock that can't be read counts as past each deadline. A message that is
+    /// there is taken, even if the deadline was past before the call.
     ///
     /// ```
     /// let (_tx, rx) = flume::on(rt).unbounded::<u64>()?;
@@ -118,7 +116,7 @@ impl<T: Drop, R: Waits, A: Allocator + Copy> Receiver<T, R, A> {
         recv_over(&self.shared.rt, &mut gate)
     }
 
-    /// As `recv_deadline`, up to so long from now. If the deadline overflows, as `recv`.
+    /// As `recv_deadline`, with a timeout. If the deadline overflows, as `recv`.
     pub fn recv_timeout(&self, timeout: Duration) -> Result<T, RecvTimeoutError>
         ensures made { (deadline : Deadline) × IsAfter timeout deadline
             × Receives A deadline result }
@@ -128,14 +126,14 @@ impl<T: Drop, R: Waits, A: Allocator + Copy> Receiver<T, R, A> {
         recv_over(&self.shared.rt, &mut gate)
     }
 
-    /// The messages, one after the other. It waits for each, and ends if `recv` is refused.
+    /// The messages, one after the other. It waits for each, and ends if `recv` fails.
     pub fn iter(&self) -> Iter<'_, T, R, A>
         ensures new { result ≡ new_iter self.now }
     {
         Iter::new(self)
     }
 
-    /// The messages that are there, one after the other. It doesn't wait for a sender.
+    /// The messages that are there, one after the other.
     ///
     /// ```
     /// let (tx, rx) = flume::on(rt).unbounded()?;
@@ -152,9 +150,8 @@ impl<T: Drop, R: Waits, A: Allocator + Copy> Receiver<T, R, A> {
         TryIter::new(self)
     }
 
-    /// Takes all messages that are queued, at once and in order. Blocked sends move in behind them,
-    /// and their senders go on. `NoMemory`: some are queued, and there was no room for their list;
-    /// none was taken.
+    /// Takes all messages that are queued, at once and in order. Then blocked sends are let in.
+    /// `NoMemory`: their list couldn't be allocated, and none was taken.
     ///
     /// ```
     /// let (tx, rx) = flume::on(rt).unbounded()?;
@@ -194,7 +191,7 @@ impl<T: Drop, R: Waits, A: Allocator + Copy> Receiver<T, R, A> {
         self.shared.truth(AskTruth::IsEmpty)
     }
 
-    /// Whether the channel is bounded, and as many messages are queued as its capacity.
+    /// Whether a bounded channel's queue is at or past its capacity.
     pub fn is_full(&self) -> bool
         ensures made { HasReplied {T = T} {A = A} Step.IsFull (Reply.Truth result) }
     {
@@ -208,7 +205,7 @@ impl<T: Drop, R: Waits, A: Allocator + Copy> Receiver<T, R, A> {
         self.shared.capacity()
     }
 
-    /// Sets the capacity, as `Sender::set_capacity` does.
+    /// As `Sender::set_capacity`.
     pub fn set_capacity(&self, capacity: usize) -> Result<(), CapacityError>
         ensures made { HasMade {T = T} {A = A} (Step.SetCapacity capacity)
             after_set_capacity result }
@@ -244,9 +241,9 @@ impl<T: Drop, R: Waits, A: Allocator + Copy> Receiver<T, R, A> {
         self.shared.id == other.shared.id
     }
 
-    /// How many sends are blocked in the channel now: calls that wait, polled futures and sinks,
-    /// and arms of selections. One whose message was taken in isn't counted, though it hasn't gone
-    /// on yet; one whose channel closed is, until it has its message back. Takes no memory.
+    /// How many sends are blocked now: calls that wait, polled futures and sinks, and arms of
+    /// selections. One whose message was taken in isn't counted. One whose channel closed is, until
+    /// it has its message back. Doesn't allocate.
     ///
     /// ```
     /// let (tx, rx) = flume::on(rt).bounded::<u64>(0)?;
@@ -265,7 +262,7 @@ impl<T: Drop, R: Waits, A: Allocator + Copy> Receiver<T, R, A> {
         self.shared.blocked_len()
     }
 
-    /// How many receives wait in the channel now, as `Sender::waiting_receivers` counts them.
+    /// As `Sender::waiting_receivers`.
     pub fn waiting_receivers(&self) -> usize {
         self.shared.waiting_len()
     }

@@ -5,10 +5,9 @@ use std::thread::Threads;
 
 /// What a program that passes ends between its threads asks of its runtime value: all of `Waits`,
 /// and that it starts threads, gives the global allocator and borrows nothing. The host's runtime
-/// is one. If nothing opens a channel and nothing starts a thread, `Waits` is enough, as in the
-/// first three of these. A function that prints adds `Print` to its bound, one that runs futures by
-/// `block_on` adds `RandomSource`. For the `?` of an io result a crate lists `flume_error` beside
-/// `flume`.
+/// is one. If nothing opens a channel or starts a thread, `Waits` is enough, as in the first three
+/// of these. A function that prints adds `Print`, one that calls `block_on` adds `RandomSource`.
+/// For the `?` of an io result a crate lists `flume_error` next to `flume`.
 ///
 /// ```
 /// // A function that takes an end.

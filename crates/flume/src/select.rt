@@ -1,4 +1,4 @@
-//! Waiting for the first of several sends and receives, on channels of whatever messages.
+//! Waiting for the first of several sends and receives.
 ghost use Rattle.std.specs.Prelude.{◌≡◌, ◌≢◌, ◌<◌, ℕ, IfOk, IfSome, Err, true};
 ghost use Rattle.flume_core.specs.declared.error.SelectError.{SelectError};
 ghost use Rattle.flume.specs.declared.select.send.SendState.{SendState};
@@ -36,10 +36,9 @@ use std::ops::Range;
 use std::sync::Arc;
 use std::time::{Duration, Instant};
 
-/// Waits for the first of several sends and receives, its arms, and gives what is made of its
-/// result. Arms are added by `send` and `recv`, each with a mapper from the arm's result to a `V`,
-/// which all arms have in common; the type `L` lists the arms. So their number is known when the
-/// selector is compiled, no arm is boxed, and a selector without arms has no method that waits.
+/// Waits for the first of several sends and receives, its *arms*, on channels of any types. Each
+/// arm has a *mapper* from its result to a `V`. The type `L` lists the arms: so none is boxed, and
+/// a selector without arms has no method that waits.
 ///
 /// ```
 /// let (jobs, work) = flume::on(rt).unbounded::<u64>()?;
@@ -54,8 +53,7 @@ use std::time::{Duration, Instant};
 #[derive(Drop)]
 pub struct Selector<'a, V, L = (), A: Allocator + Copy = Global> {
     arms: L,
-    // The arm that each round begins with: 0, unless a generator drew it. So the arms that were
-    // added first are served first, and no answer depends on a generator that nobody handed in.
+    // 0, unless a generator drew it: no answer depends on a generator that nobody handed in.
     start: usize,
     deadline: Deadline,
     value: PhantomData<&'a V>,
@@ -63,7 +61,7 @@ pub struct Selector<'a, V, L = (), A: Allocator + Copy = Global> {
 }
 
 impl<'a, V, A: Allocator + Copy> Selector<'a, V, (), A> {
-    /// A selector without arms. Takes no memory.
+    /// A selector without arms. Doesn't allocate.
     pub fn new() -> Self
         ensures start { result.start ≡ 0 }
     {
@@ -78,9 +76,9 @@ impl<'a, V, A: Allocator + Copy> Selector<'a, V, (), A> {
 }
 
 impl<'a, V, L: Arms<V, A> + Drop, A: Allocator + Copy> Selector<'a, V, L, A> {
-    /// Adds an arm that sends the message. Its mapper gets `Ok`: the message was taken in; or
-    /// `Disconnected` with the message: all receivers have been dropped. If another arm completes
-    /// first the mapper isn't called, and the message is dropped unless it was taken in by then.
+    /// Adds an arm that sends the message. Its mapper gets `Ok`, or `Disconnected` with the message
+    /// if all receivers have been dropped. If another arm completes first, the mapper isn't called,
+    /// and the message is dropped unless it was taken in by then.
     pub fn send<T: Drop, F, R: Waits>(
         self,
         sender: &'a Sender<T, R, A>,
@@ -98,9 +96,9 @@ impl<'a, V, L: Arms<V, A> + Drop, A: Allocator + Copy> Selector<'a, V, L, A> {
         self.with(SendArm::new(sender, message, mapper))
     }
 
-    /// Adds an arm that receives a message. Its mapper gets `Ok` with the message; or
-    /// `Disconnected`: none is there, and all senders have been dropped. If another arm completes
-    /// first the mapper isn't called, and no message was taken.
+    /// Adds an arm that receives a message. Its mapper gets the message, or `Disconnected` if none
+    /// is there and all senders have been dropped. If another arm completes first, the mapper isn't
+    /// called, and no message was taken.
     pub fn recv<T: Drop, F, R: Waits>(
         self,
         receiver: &'a Receiver<T, R, A>,
@@ -132,8 +130,8 @@ impl<'a, V, L: Arms<V, A> + Drop, A: Allocator + Copy> Selector<'a, V, L, A> {
 }
 
 impl<'a, V, L: AtLeastOneArm<V, A> + Drop, A: Allocator + Copy> Selector<'a, V, L, A> {
-    /// Begins with an arm that the generator draws, out of those that were added so far, each as
-    /// likely. Without it arm 0 begins.
+    /// Begins with an arm that the generator draws, out of those added so far, each as likely.
+    /// Without it arm 0 begins.
     pub fn with_rng<G: Rng>(self, rng: &mut G) -> Self
         ensures arms { result.arms ≡ self.entry.arms }
         ensures within { result.start < L.count (L.mappers result.arms) }
@@ -146,9 +144,9 @@ impl<'a, V, L: AtLeastOneArm<V, A> + Drop, A: Allocator + Copy> Selector<'a, V, 
     }
 
     /// Waits until an arm completes, and gives what its mapper makes of its result. The arms are
-    /// tried in the order in which they were added, from the beginning arm on and then from arm 0;
-    /// the first that completes wins, and the others are withdrawn before its mapper is called.
-    /// `NoMemory`: there was no memory to wait, or in an arm; no mapper was called.
+    /// tried in the order in which they were added, from the beginning arm on and then from arm 0.
+    /// The others are withdrawn before the mapper is called. `NoMemory`: out of memory, to wait or
+    /// in an arm; no mapper was called.
     pub fn wait(self) -> Result<V, NoMemory>
         requires can_map { L.can_map (L.mappers self.arms) }
         ensures value { IfOk result (IsValue L.count L.maps (L.mappers self.entry.arms)) }
@@ -160,7 +158,7 @@ impl<'a, V, L: AtLeastOneArm<V, A> + Drop, A: Allocator + Copy> Selector<'a, V, 
         }
     }
 
-    /// As `wait`, up to the deadline. `Timeout`: it is reached, and no arm completes. A clock that
+    /// As `wait`, up to the deadline. `Timeout`: it is reached, and no arm completed. A clock that
     /// can't be read counts as past each deadline.
     pub fn wait_deadline(self, deadline: Instant) -> Result<V, SelectError>
         requires can_map { L.can_map (L.mappers self.arms) }
@@ -169,7 +167,7 @@ impl<'a, V, L: AtLeastOneArm<V, A> + Drop, A: Allocator + Copy> Selector<'a, V, 
         self.select(Deadline::At(deadline))
     }
 
-    /// As `wait_deadline`, up to so long from now. If the deadline overflows, it waits without one.
+    /// As `wait_deadline`, with a timeout. If the deadline overflows, it waits without one.
     pub fn wait_timeout(self, timeout: Duration) -> Result<V, SelectError>
         requires can_map { L.can_map (L.mappers self.arms) }
         ensures value { IfOk result (IsValue L.count L.maps (L.mappers self.entry.arms)) }
@@ -178,14 +176,12 @@ impl<'a, V, L: AtLeastOneArm<V, A> + Drop, A: Allocator + Copy> Selector<'a, V, 
         self.select(deadline)
     }
 
-    /// Tries each arm once, in the order of `wait`, and doesn't wait: what the mapper of the first
-    /// arm that can go on makes of its result. `None`: none can go on; no mapper was called.
-    /// `NoMemory`: there was none for an arm's message; no mapper was called, and the arms behind
-    /// it weren't tried. Nothing is left in a channel, and nothing is made to wait on.
+    /// Tries each arm once, in the order of `wait`, and doesn't wait. `None`: each would have to
+    /// wait. `NoMemory`: out of memory in an arm, and the arms behind it weren't tried. In both
+    /// cases no mapper was called.
     ///
-    /// The message of a send arm that isn't taken in is dropped, as it is if `wait` ends by another
-    /// arm: `Sender::try_send` hands it back. A send arm and a receive arm of one channel don't
-    /// meet each other, since neither waits.
+    /// The message of a send arm that isn't taken in is dropped. A send arm and a receive arm of
+    /// one channel don't meet each other, since neither waits.
     ///
     /// ```
     /// let (jobs, work) = flume::on(rt).unbounded::<u64>()?;
@@ -207,8 +203,8 @@ impl<'a, V, L: AtLeastOneArm<V, A> + Drop, A: Allocator + Copy> Selector<'a, V, 
         }
     }
 
-    // Each arm is tried before the parker is made, so that a selection that is ready at once takes
-    // no memory.
+    // The arms are tried before the parker is made, so that a selection that is ready at once
+    // doesn't allocate.
     fn select(mut self, deadline: Deadline) -> Result<V, SelectError>
         requires can_map { L.can_map (L.mappers self.arms) }
         ensures value { IfOk result (IsValue L.count L.maps (L.mappers self.entry.arms)) }
@@ -233,7 +229,6 @@ impl<'a, V, L: AtLeastOneArm<V, A>, A: Allocator + Copy> SelectGate for Selector
 
     type Kept = (L::Mappers, usize, Deadline);
 
-    // What isn't changed: the mappers, where each round begins, and the deadline.
     ghost kept = { λ selector.
         (L.mappers selector.arms, selector.start, selector.deadline) };
 
@@ -241,7 +236,7 @@ impl<'a, V, L: AtLeastOneArm<V, A>, A: Allocator + Copy> SelectGate for Selector
 
     ghost start = { λ kept. first_arm (L.count kept.0) kept.1 };
 
-    ghost holds = { λ selector. L.has_completed selector.arms };
+    ghost is_done = { λ selector. L.has_completed selector.arms };
 
     ghost makes = { λ old new _. new ≡ old };
 
@@ -263,8 +258,8 @@ impl<'a, V, L: AtLeastOneArm<V, A>, A: Allocator + Copy> SelectGate for Selector
         }
     }
 
-    // One parker for all arms, made before an arm is started: a selection that is refused it has
-    // left nothing in a channel.
+    // One parker for all arms, made before an arm is started: if it fails, nothing is left in a
+    // channel.
     fn make_waiter(&mut self) -> Option<Arc<Parker, A>> {
         let parker = Parker::new(self.arms.checks());
         Arc::new(self.arms.alloc(), parker).ok()
@@ -284,7 +279,6 @@ impl<'a, V, L: AtLeastOneArm<V, A>, A: Allocator + Copy> SelectGate for Selector
 }
 
 impl<V, A: Allocator + Copy> Default for Selector<'_, V, (), A> {
-    // As of `new`.
     ghost is_default = { λ selector. selector.start ≡ 0 };
 
     fn default() -> Self {

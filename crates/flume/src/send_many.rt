@@ -1,4 +1,4 @@
-//! Sends of many messages: as many as the channel takes in are sent under one lock.
+//! Sends of many messages, as many as the channel takes in under one lock.
 ghost use Rattle.std.specs.Prelude.{◌≡◌, ◌≢◌, ◌∷◌, ◌<◌, List, Vec, vec_items, IfOk, IfErr, Ok, Err};
 ghost use Rattle.std.specs.VecDeque.{deque_len};
 ghost use Rattle.flume_deadline.specs.declared.Deadline.{Deadline};
@@ -24,10 +24,8 @@ use std::collections::VecDeque;
 use std::time::{Duration, Instant};
 
 impl<T: Drop, R: Waits, A: Allocator + Copy> Sender<T, R, A> {
-    /// Sends messages in order, as many as the channel takes in at once. Doesn't wait for a
-    /// receiver. An error has all that weren't taken in, in order, in the list that was given: the
-    /// first of them is the one that was refused. The errors are those of `try_send`, and none of
-    /// an empty list.
+    /// Sends messages in order, as many as the channel takes in, and doesn't wait. The errors are
+    /// those of `try_send`. An error has the messages that weren't taken in, in order.
     ///
     /// ```
     /// let (tx, rx) = flume::on(rt).bounded(2)?;
@@ -45,13 +43,12 @@ impl<T: Drop, R: Waits, A: Allocator + Copy> Sender<T, R, A> {
             → IsRest messages.items rest.items }
     {
         let messages = VecDeque::from_vec(messages);
-        try_send_many_answer(self.shared().call_all(SendMany { messages }))
+        try_send_many_answer(self.shared().call_many(SendMany { messages }))
     }
 
-    /// Sends messages in order, and waits while the channel is full: then the next message waits,
-    /// as in `send`, before the others go on. Messages of other senders may come between. An error
-    /// has all that weren't taken in, in order, in the list that was given: one that waited is the
-    /// first. The errors are those of `send`, and none of an empty list.
+    /// Sends messages in order, and waits while the channel is full. Messages of other senders may
+    /// come between. The errors are those of `send`. An error has the messages that weren't taken
+    /// in, in order.
     ///
     /// ```
     /// let (tx, rx) = flume::on(rt).unbounded()?;
@@ -97,7 +94,7 @@ impl<T: Drop, R: Waits, A: Allocator + Copy> Sender<T, R, A> {
         self.send_many_until(messages, Deadline::At(deadline))
     }
 
-    /// As `send_many_deadline`, up to so long from now. If the deadline overflows, as `send_many`.
+    /// As `send_many_deadline`, with a timeout. If the deadline overflows, as `send_many`.
     pub fn send_many_timeout(
         &self,
         messages: Vec<T, A>,
@@ -133,7 +130,7 @@ impl<T: Drop, R: Waits, A: Allocator + Copy> Sender<T, R, A> {
     {
         let mut left = VecDeque::from_vec(messages);
         while !left.is_empty() {
-            left = match self.shared().call_all(SendMany { messages: left }) {
+            left = match self.shared().call_many(SendMany { messages: left }) {
                 Ok(()) => return Ok(()),
                 Err(TrySendError::Full(full)) => match self.send_first_until(full, deadline) {
                     Ok(behind) => behind,
@@ -150,8 +147,7 @@ impl<T: Drop, R: Waits, A: Allocator + Copy> Sender<T, R, A> {
         Ok(())
     }
 
-    // Sends the first of these messages, for which the channel was just full, and answers the
-    // others. It isn't offered once more: it begins with the turn that may park it.
+    // The channel was just full for the first message, so it isn't tried once more.
     fn send_first_until(
         &self,
         mut messages: VecDeque<T, A>,

@@ -25,12 +25,12 @@ use std::marker::Model;
 use std::sync::Arc;
 use std::time::{Duration, Instant};
 
-/// Sends messages into a channel. Its clones send into the same one. As the last of them goes the
-/// channel closes: what is queued is still received.
+/// Sends messages into a channel. Its clones send into the same one. The channel closes with the
+/// last of them: what is queued is still received.
 ///
-/// Once all senders and all receivers have been dropped, the messages that are left are dropped,
-/// while the channel is locked. A message that holds an end of its own channel keeps it from that.
-/// One whose `drop` upgrades a `WeakSender` of its own channel would wait for itself.
+/// After all senders and all receivers, the messages that are left are dropped, under the channel's
+/// lock. One that holds an end of its own channel prevents that. One whose `drop` upgrades a
+/// `WeakSender` of its own channel would wait for itself.
 pub struct Sender<T, R: Waits, A: Allocator + Copy = Global> {
     shared: Arc<Shared<T, R, A>, A>,
 }
@@ -42,16 +42,16 @@ impl<T, R: Waits, A: Allocator + Copy> Model for Sender<T, R, A> {
 }
 
 impl<T: Drop, R: Waits, A: Allocator + Copy> Sender<T, R, A> {
-    // The sender is counted already.
+    // Counted already.
     pub(crate) fn from_shared(shared: Arc<Shared<T, R, A>, A>) -> Self
         ensures number { result ≡ shared.value.id }
     {
         Sender { shared }
     }
 
-    /// Sends a message. Doesn't wait for a receiver. `Full`: the channel is full, and no receiver
-    /// waits. `Disconnected`: all receivers have been dropped. `NoMemory`: there was no room for
-    /// it. Each gives the message back.
+    /// Sends a message, and doesn't wait. `Full`: the channel is full, and no receiver waits.
+    /// `Disconnected`: all receivers have been dropped. `NoMemory`: out of memory. Each gives the
+    /// message back.
     ///
     /// ```
     /// let (tx, rx) = flume::on(rt).bounded(1)?;
@@ -69,12 +69,12 @@ impl<T: Drop, R: Waits, A: Allocator + Copy> Sender<T, R, A> {
         ensures no_memory { (back : T) → result ≡ Err (TrySendError.NoMemory back)
             → back ≡ message }
     {
-        try_send_answer(self.shared.call_once(FirstSend { message }))
+        try_send_answer(self.shared.call_step(FirstSend { message }))
     }
 
     /// Sends a message, and waits while the channel is full. `Disconnected`: all receivers have
-    /// been dropped, and the message wasn't taken in. `NoMemory`: there was no room for it, or for
-    /// what a call waits on. Both give the message back.
+    /// been dropped, and the message wasn't taken in. `NoMemory`: out of memory. Both give the
+    /// message back.
     ///
     /// ```
     /// let (tx, rx) = flume::on(rt).unbounded()?;
@@ -86,17 +86,16 @@ impl<T: Drop, R: Waits, A: Allocator + Copy> Sender<T, R, A> {
         ensures made { Sends A Deadline.Never message (answer.send_as_timed result) }
         ensures no_memory { (back : T) → result ≡ Err (SendError.NoMemory back) → back ≡ message }
     {
-        match self.shared.call_once(FirstSend { message }) {
+        match self.shared.call_step(FirstSend { message }) {
             SendNext::Done(result) => send_answer(result),
             SendNext::NeedSignal(message) => self.send_to_full(message),
             SendNext::Park(_) => unreachable!(),
         }
     }
 
-    /// As `send`, waiting up to the deadline. `Timeout`: it is reached, and the message wasn't
-    /// taken in. If the channel is closed by then the answer is `Disconnected`. A clock that can't
-    /// be read counts as past each deadline. If the channel isn't full the message is sent, even if
-    /// the deadline was past before the call.
+    /// As `send`, waiting up to the deadline. `Timeout`: it is reached, the channel is open, and
+    /// the message wasn't taken in. A clock that can't be read counts as past each deadline. If the
+    /// channel isn't full the message is sent, even if the deadline was past before the call.
     ///
     /// ```
     /// let (tx, _rx) = flume::on(rt).bounded(1)?;
@@ -114,7 +113,7 @@ impl<T: Drop, R: Waits, A: Allocator + Copy> Sender<T, R, A> {
         send_over(&self.shared.rt, &mut gate, message)
     }
 
-    /// As `send_deadline`, up to so long from now. If the deadline overflows, as `send`.
+    /// As `send_deadline`, with a timeout. If the deadline overflows, as `send`.
     pub fn send_timeout(&self, message: T, timeout: Duration) -> Result<(), SendTimeoutError<T>>
         ensures made { (deadline : Deadline) × IsAfter timeout deadline
             × Sends A deadline message result }
@@ -126,8 +125,7 @@ impl<T: Drop, R: Waits, A: Allocator + Copy> Sender<T, R, A> {
         send_over(&self.shared.rt, &mut gate, message)
     }
 
-    // Goes on with a send whose offer was just refused since the channel is full. In code of its own,
-    // so that a send that needn't wait is short.
+    // Out of line, so that a send that needn't wait is short.
     #[cold]
     #[inline(never)]
     fn send_to_full(&self, message: T) -> Result<(), SendError<T>>
@@ -139,8 +137,6 @@ impl<T: Drop, R: Waits, A: Allocator + Copy> Sender<T, R, A> {
         send_answer(self.send_to_full_until(message, Deadline::Never))
     }
 
-    /// Goes on with a send whose offer was just refused since the channel is full, up to the
-    /// deadline.
     pub(crate) fn send_to_full_until(
         &self,
         message: T,
@@ -156,7 +152,6 @@ impl<T: Drop, R: Waits, A: Allocator + Copy> Sender<T, R, A> {
         waiting_send(&self.shared.rt, &mut gate, message)
     }
 
-    /// What it shares with the other ends.
     #[inline(always)]
     pub(crate) fn shared(&self) -> &Shared<T, R, A> {
         &self.shared
@@ -176,7 +171,7 @@ impl<T: Drop, R: Waits, A: Allocator + Copy> Sender<T, R, A> {
         self.shared.truth(AskTruth::IsEmpty)
     }
 
-    /// Whether the channel is bounded, and as many messages are queued as its capacity.
+    /// Whether a bounded channel's queue is at or past its capacity.
     pub fn is_full(&self) -> bool
         ensures made { HasReplied {T = T} {A = A} Step.IsFull (Reply.Truth result) }
     {
@@ -190,13 +185,12 @@ impl<T: Drop, R: Waits, A: Allocator + Copy> Sender<T, R, A> {
         self.shared.capacity()
     }
 
-    /// Sets the capacity. Raised, it lets blocked sends in, as far as there is room, and their
-    /// calls go on. Lowered, it moves nothing: what is queued is still received, and sends wait
-    /// until fewer messages are queued than the capacity. No receiver is woken, and no memory is
-    /// needed. At 0 a send waits for a receiver.
+    /// Sets the capacity. If it is raised, blocked sends are let in as far as there is room. If it
+    /// is lowered, what is queued stays, and sends wait until fewer messages are queued than the
+    /// capacity. At 0 a send waits for a receiver. No receiver is woken. Doesn't allocate.
     ///
-    /// `Unbounded`: the channel has no capacity, and can't be given one. `Disconnected`: all
-    /// receivers, or all senders, have been dropped. Both leave the channel as it was.
+    /// `Unbounded`: the channel has no capacity. `Disconnected`: all receivers, or all senders,
+    /// have been dropped. Both change nothing.
     ///
     /// ```
     /// let (tx, _rx) = flume::on(rt).bounded(1)?;
@@ -233,8 +227,8 @@ impl<T: Drop, R: Waits, A: Allocator + Copy> Sender<T, R, A> {
         self.shared.truth(AskTruth::IsDisconnected)
     }
 
-    /// A sender that doesn't count: the channel may close while it is there. `NoMemory`: there are
-    /// as many ends as can be counted.
+    /// A sender that doesn't keep the channel open. `NoMemory`: there are as many ends as can be
+    /// counted.
     ///
     /// ```
     /// let (tx, _rx) = flume::on(rt).unbounded::<u64>()?;
@@ -256,14 +250,13 @@ impl<T: Drop, R: Waits, A: Allocator + Copy> Sender<T, R, A> {
         self.shared.id == other.shared.id
     }
 
-    /// How many sends are blocked in the channel now, as `Receiver::blocked_senders` counts them.
+    /// As `Receiver::blocked_senders`.
     pub fn blocked_senders(&self) -> usize {
         self.shared.blocked_len()
     }
 
-    /// How many receives wait in the channel now: calls, polled futures and streams, and arms of
-    /// selections. One that was woken, or was handed its message, isn't counted, though it hasn't
-    /// gone on yet. Takes no memory.
+    /// How many receives wait now: calls, polled futures and streams, and arms of selections. One
+    /// that was woken, or was handed its message, isn't counted. Doesn't allocate.
     pub fn waiting_receivers(&self) -> usize {
         self.shared.waiting_len()
     }
@@ -272,8 +265,7 @@ impl<T: Drop, R: Waits, A: Allocator + Copy> Sender<T, R, A> {
 impl<T: Drop, R: Waits, A: Allocator + Copy> Clone for Sender<T, R, A> {
     ghost is_clone = { λ sender copy. copy ≡ sender };
 
-    // Std's signature leaves no choice of the error. `NoMemory` converts into it, so `?` takes
-    // both.
+    // Std's signature leaves no choice of the error.
     fn clone(&self) -> Result<Self, AllocError>
         ensures same { IfOk result (λ copy. copy ≡ self.now) }
         ensures made { IfOk result (λ _. HasReplied {T = T} {A = A} Step.CloneSender Reply.Done) }

@@ -23,7 +23,6 @@ use std::sync::atomic::{AtomicU64, Ordering};
 use std::sync::{Arc, Mutex, MutexGuard, Wait};
 use std::time::Clock;
 
-// docs/DECISIONS.md says why it asks for no more.
 /// What an end's runtime value gives: it waits, and reads a clock. The host's runtime is one.
 /// `Runtime` asks for more, and has the signatures that users write.
 pub trait Waits: Wait + Clock + Copy {}
@@ -50,8 +49,7 @@ pub(crate) struct Shared<T, R: Waits, A: Allocator + Copy = Global> {
     pub(crate) id: u64,
     pub(crate) rt: R,
     pub(crate) alloc: A,
-    // The capacity in force, or `UNBOUNDED`, by which a call spends its first moments. Written
-    // under the lock, and read without.
+    // The capacity, or `UNBOUNDED`. Written under the lock, and read without.
     capacity_hint: AtomicU64,
 }
 
@@ -69,8 +67,7 @@ impl<T: Drop, R: Waits, A: Allocator + Copy> Shared<T, R, A> {
         }
     }
 
-    // What a call waits on, and the copy of it that it leaves as it parks. `None`: there was no
-    // memory for them. They are made outside the lock, and then the call pauses.
+    // `None`: out of memory. It is called outside the lock.
     #[cold]
     #[inline(never)]
     pub(crate) fn new_parker(&self) -> Option<(Arc<Parker, A>, Signal<A>)> {
@@ -94,8 +91,7 @@ impl<T: Drop, R: Waits, A: Allocator + Copy> Shared<T, R, A> {
         ensures made { HasMade {T = T} {A = A} (step.SetCapacity capacity)
             after_set_capacity result }
     {
-        // Both places are written under one lock: of two calls at once the later one's capacity
-        // stays in both.
+        // Under one lock, so that of two calls at once one's capacity stays in both places.
         let mut guard = self.lock();
         let locked = &mut *guard;
         locked.facts();
@@ -106,7 +102,6 @@ impl<T: Drop, R: Waits, A: Allocator + Copy> Shared<T, R, A> {
         answer
     }
 
-    // If nobody has the lock it is taken without a call.
     #[inline(always)]
     pub(crate) fn lock(&self) -> MutexGuard<'_, Locked<T, Signal<A>, A>> {
         match self.state.try_lock() {
@@ -115,8 +110,7 @@ impl<T: Drop, R: Waits, A: Allocator + Copy> Shared<T, R, A> {
         }
     }
 
-    // Each try takes the lock's memory from the thread that has it, so it is let be for longer and
-    // longer.
+    // Each try takes the lock's memory from the thread that has it, so the pauses get longer.
     #[cold]
     #[inline(never)]
     fn wait_for_lock(&self) -> MutexGuard<'_, Locked<T, Signal<A>, A>> {
@@ -131,8 +125,7 @@ impl<T: Drop, R: Waits, A: Allocator + Copy> Shared<T, R, A> {
         self.state.lock(&self.rt)
     }
 
-    // Makes the turn under the lock, and fires what it made due before the lock is let go: whoever
-    // takes the lock finds no ticket due.
+    // The bells ring before the lock is let go: whoever takes it finds no ticket due.
     #[inline(always)]
     pub(crate) fn call<C: Turn<T, Signal<A>, A>>(&self, turn: C) -> C::Answer
         ensures answers { C.answers turn result }
@@ -144,10 +137,10 @@ impl<T: Drop, R: Waits, A: Allocator + Copy> Shared<T, R, A> {
         locked.make(turn, &mut SignalBell { rt: self.rt })
     }
 
-    // If no send is blocked and no receiver waits, nobody is to be told after one step, and the
-    // look for who is isn't begun.
+    // If no send is blocked and no receiver waits, one step makes no ticket due, and none is looked
+    // for.
     #[inline(always)]
-    pub(crate) fn call_once<C: Turn<T, Signal<A>, A>>(&self, turn: C) -> C::Answer
+    pub(crate) fn call_step<C: Turn<T, Signal<A>, A>>(&self, turn: C) -> C::Answer
         requires one_step { (old new : State T (Signal A)) (answer : C.Answer)
             → C.does turn old new answer → AtMostOneStep A old new }
         ensures answers { C.answers turn result }
@@ -175,8 +168,7 @@ impl<T: Drop, R: Waits, A: Allocator + Copy> Shared<T, R, A> {
         self.lock().waiting_len()
     }
 
-    // In code of its own, so that a turn that is seldom made costs the other turns of its caller
-    // nothing.
+    // Out of line, so that a turn that is seldom made costs its caller's other turns nothing.
     #[cold]
     #[inline(never)]
     pub(crate) fn call_cold<C: Turn<T, Signal<A>, A>>(&self, turn: C) -> C::Answer
@@ -187,15 +179,14 @@ impl<T: Drop, R: Waits, A: Allocator + Copy> Shared<T, R, A> {
     }
 
     #[inline(never)]
-    pub(crate) fn call_all<C: Turn<T, Signal<A>, A>>(&self, turn: C) -> C::Answer
+    pub(crate) fn call_many<C: Turn<T, Signal<A>, A>>(&self, turn: C) -> C::Answer
         ensures answers { C.answers turn result }
         ensures made { HasDone A (C.does turn) result }
     {
         self.call(turn)
     }
 
-    // Polls the call under the lock, and fires what that made due. `None`: it waits, and in the
-    // step that found nothing the task's waker was left with the channel.
+    // `None`: it waits, and has left the task's waker with the channel.
     #[inline(always)]
     pub(crate) fn poll<P: Polled<T, Signal<A>, A>>(
         &self,

@@ -13,31 +13,30 @@ use std::sync::{Arc, Condvar, Mutex, Wait};
 use std::thread::yield_now;
 use std::time::{Clock, Instant};
 
-// What a parker's word says: there is no wake that wasn't taken, there is one, or its call sleeps.
+// What a parker's word says: no wake, a wake that wasn't taken, or its call sleeps.
 const IDLE: u64 = 0;
 
 const FIRED: u64 = 1;
 
 const ASLEEP: u64 = 2;
 
-// How many of a parker's last checks let other threads run.
+// So many of a parker's last checks let other threads run.
 pub(crate) const YIELDS: u32 = 20;
 
-/// What one blocking call waits on, and others wake it by. A wake that comes before the wait isn't
-/// lost: the wait takes it, and returns at once. Two wakes before a wait count as one.
+/// What one blocking call waits on, and others wake it by. A wait returns at once if a wake came
+/// before it. Two wakes before a wait count as one.
 #[derive(Drop)]
 pub struct Parker {
     word: AtomicU64,
     checks: u32,
-    // Held by a call from its last look at the word until it sleeps, so that it isn't notified
-    // before.
+    // Locked from a call's last look at the word until it sleeps, so that it isn't notified before.
     falling_asleep: Mutex<()>,
     changed: Condvar,
 }
 
 impl Parker {
-    /// A parker without a wake. A wait on it checks so often for one before it sleeps. Takes no
-    /// memory.
+    /// A parker without a wake. A wait on it checks so often for one before it sleeps. Doesn't
+    /// allocate.
     ///
     /// ```
     /// let parker = Parker::new(0);
@@ -53,8 +52,8 @@ impl Parker {
         }
     }
 
-    /// Wakes the call that waits, or the next one that will. If nobody sleeps it asks nothing of
-    /// the system.
+    /// Wakes the call that waits, or the next one that will. If none sleeps, it makes no system
+    /// call.
     pub fn fire<R: Wait>(&self, rt: &R) {
         if self.word.swap(FIRED, Ordering::SeqCst) == ASLEEP {
             drop(self.falling_asleep.lock(rt));
@@ -79,7 +78,7 @@ impl Parker {
         unreachable!()
     }
 
-    /// Waits for a wake, or up to the deadline. A clock that can't be read counts as past it.
+    /// Waits for a wake, up to the deadline. A clock that can't be read counts as past it.
     ///
     /// ```
     /// parker.wait_until(&rt, Instant::now(&rt)?);    // returns at once
@@ -105,7 +104,7 @@ impl Parker {
         unreachable!()
     }
 
-    // True, at once and without a wait, if the deadline is reached.
+    // True, without a wait, if the deadline is reached.
     #[inline(always)]
     pub(crate) fn wait_up_to<R: Wait + Clock>(&self, rt: &R, deadline: Deadline) -> bool
         ensures late { result ≡ true → deadline ≢ Deadline.Never }
@@ -121,8 +120,8 @@ impl Parker {
         false
     }
 
-    // Between the last checks other threads run: the one that is to wake it may wait for a
-    // processor.
+    // The thread that is to wake it may wait for a processor, so between the last checks others
+    // run.
     fn spin(&self) -> bool {
         for done in 0..self.checks {
             if self.word.load(Ordering::SeqCst) == FIRED {
@@ -153,16 +152,15 @@ impl Parker {
     }
 }
 
-/// What a future, a sink or a stream is woken by: the waker of the task that polled it last. It is
-/// empty from a wake on.
+/// The waker of the task that polled a future, a sink or a stream last. It is empty from a wake on.
 #[derive(Drop)]
 pub struct TaskSignal {
-    // All that touches it does so while the channel is locked, so a `Cell` is enough.
+    // Used only under the channel's lock, so a `Cell` is enough.
     waker: Cell<Option<Waker>>,
 }
 
 impl TaskSignal {
-    /// Wakes the task that polled the call last, if it wasn't woken since.
+    /// Wakes the task, if it wasn't woken since.
     pub fn fire(&self) {
         // A waker wakes its task as it is dropped.
         drop(self.take());
@@ -173,8 +171,7 @@ impl TaskSignal {
     }
 }
 
-/// What an arm of a selector is woken by: the parker that its selector waits on, which all arms
-/// share, and the arm's number.
+/// What an arm of a selector is woken by: its selector's parker, which all arms share.
 #[derive(Drop)]
 pub struct ArmSignal<A: Allocator = Global> {
     parker: Arc<Parker, A>,
@@ -199,7 +196,7 @@ impl<A: Allocator> ArmSignal<A> {
     }
 }
 
-/// What a parked call leaves with the channel, to be woken by.
+/// What a parked call leaves with the channel.
 #[derive(Drop)]
 pub enum Signal<A: Allocator = Global> {
     Parker(Arc<Parker, A>),

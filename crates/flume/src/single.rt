@@ -1,4 +1,4 @@
-//! Calls of one step that nobody waits for.
+//! Calls of one step that never wait.
 ghost use Rattle.flume_core.specs.PossibleReply.{PossibleReply};
 ghost use Rattle.flume_calls.specs.Singles.{step_of, step_for_number, step_for_truth};
 ghost use Rattle.flume.specs.CallSteps.{HasReplied};
@@ -14,7 +14,7 @@ impl<T: Drop, R: Waits, A: Allocator + Copy> Shared<T, R, A> {
         ensures made { HasReplied (step_of step) result }
         ensures possible { PossibleReply {T = T} (step_of step) result }
     {
-        self.call_once(step)
+        self.call_step(step)
     }
 
     #[inline(always)]

@@ -9,9 +9,8 @@ use std::alloc::Allocator;
 
 #[derive(Drop)]
 pub(crate) struct Task {
-    // What the call waits for: that the channel fires its signal. Each call has a source of its
-    // own, a name of no bytes: a contract sees of an end its number alone, so no clause could name
-    // a source that the channel keeps.
+    // A name of no bytes. Each call has its own: a contract sees of an end its number alone, so no
+    // clause could name a source that the channel keeps.
     source: Source,
 }
 
@@ -22,10 +21,8 @@ impl Task {
         }
     }
 
-    // The waker that a poll leaves with the channel, in place of the one that the call left
-    // before: that of the task that polls. If the executor can't make one, it polls the task again
-    // without a wake; then the waker is the one that the call left before, another task's, or
-    // `None` if it had left none.
+    // If the executor can't make a waker, it polls the task again without a wake. Then this is the
+    // one that the call left before.
     #[inline(never)]
     pub(crate) fn waker<A: Allocator>(
         &self,
@@ -37,9 +34,9 @@ impl Task {
         ensures kept { Keeps cx.old cx.new }
         ensures left { LeavesWaker cx.old cx.new result }
     {
-        // A waker can't be cloned, and wakes its task as it is dropped: a fresh one stored over the
-        // old one would have a task wake itself again and again. So the old one is taken out first,
-        // and `register` leaves it where it is of the same task.
+        // A waker wakes its task as it is dropped: a fresh one stored over the old one would have a
+        // task wake itself again and again. `register` leaves the old one if it is of the same
+        // task.
         let mut waker = match parked {
             Some(Signal::Task(signal)) => signal.take(),
             _ => None,

@@ -1,4 +1,4 @@
-//! The senders that don't count.
+//! Senders that don't keep their channel open.
 ghost use Rattle.std.specs.Prelude.{◌≡◌, ◌≢◌, ◌↔◌, ℕ, IfOk, IfSome, IsErr, Ok, Some, None};
 ghost use Rattle.flume.specs.CallSteps.{HasReplied, upgrade_reply};
 
@@ -12,9 +12,8 @@ use std::fmt;
 use std::marker::Model;
 use std::sync::Arc;
 
-/// A sender that doesn't count: the channel closes with its last sender, whether or not such a one
-/// is there. It keeps the memory that the ends share, and no message: those that are left are
-/// dropped with the last end.
+/// A sender that doesn't keep its channel open. It keeps the memory that the ends share, and no
+/// message.
 #[derive(Drop)]
 pub struct WeakSender<T, R: Waits, A: Allocator + Copy = Global> {
     shared: Arc<Shared<T, R, A>, A>,
@@ -34,7 +33,7 @@ impl<T: Drop, R: Waits, A: Allocator + Copy> WeakSender<T, R, A> {
     }
 
     /// A sender, while one lives, even if all receivers have been dropped; `None` once the last has
-    /// been dropped. `NoMemory`: there are as many as can be counted.
+    /// been dropped. `NoMemory`: there are as many ends as can be counted.
     ///
     /// ```
     /// let (tx, rx) = flume::on(rt).unbounded()?;
@@ -55,7 +54,6 @@ impl<T: Drop, R: Waits, A: Allocator + Copy> WeakSender<T, R, A> {
     }
 }
 
-// There is a sender only if the channel counts it.
 fn upgrade_answer<T: Drop, R: Waits, A: Allocator + Copy>(
     reply: Reply<T, A>,
     shared: Arc<Shared<T, R, A>, A>,

@@ -1,3 +1,3 @@
-mod Sums
-mod Rows
-mod Opening
+mod SumLemmas
+mod RowLemmas
+mod OpeningLemmas

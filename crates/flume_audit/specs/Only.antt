@@ -2,7 +2,7 @@
 use Rattle.std.specs.Prelude.{List, [], ◌∷◌, Option, None, Some}
 
 module _ {X : Type 0} where
-  -- the only element of the list, if it has one and no other
+  -- the element of a list of one
   abbrev pub only : List X → Option X
   only (one ∷ []) = Some one
   only _ = None

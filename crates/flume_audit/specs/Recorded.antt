@@ -14,52 +14,50 @@ use Rattle.flume_model.specs.Replies.{SameReply}
 abbrev pub History : Type 0 → Type 0 → Type 0
 History T A = List (Step T × Reply T A)
 
--- what a contract sees of a book: the capacity with which its channel was opened, what was done
--- since, and the channel
+-- what a contract sees of a book
 pub record Recorded (T A : Type 0) : Type 0 where
   pub opening : Option ℕ
   pub history : History T A
   pub channel : State T (Unit {0})
 
 module _ {T A : Type 0} where
-  -- a book in which nothing was written: its channel is new
-  abbrev pub unwritten : Option ℕ → Recorded T A
-  unwritten capacity = record {
+  -- a book of a new channel
+  abbrev pub new_book : Option ℕ → Recorded T A
+  new_book capacity = record {
     opening = capacity;
     history = [];
     channel = new_state (opens capacity 1);
   }
 
-  -- the channel is what the history led to, from a new one of that capacity
+  -- the history led to the channel
   abbrev pub IsChannelOfHistory : Recorded T A → Type 0
   IsChannelOfHistory book =
       Represents {A = A} (opens book.opening 1) (reverse book.history) book.channel
 
-  -- one core step of the channel, with its reply: what `run` says of each of its steps holds of it,
-  -- and every ticket that is due after it was due before, or became due by it
+  -- one core step of the channel, with its reply and the tickets that are due after it
   pub record IsCoreStep (old : State T (Unit {0})) (step : Step T) (reply : Reply T A)
       (new : State T (Unit {0})) : Type 0 where
     pub stepped : IsTransition old step reply new
-    pub dues : BecomesDue old step reply new
+    pub becomes_due : BecomesDue old step reply new
 
-  -- a step through a book by a seat: the channel makes it, and it is with the channel's reply at
-  -- the end of the history, and with its number there in the seat; the seat's copy of the reply and
-  -- the answer are that reply
+  -- A step of a book by a seat. The history gains it with the channel's reply; the receipt and the
+  -- answer have copies of that.
   pub record IsRecorded (old : Recorded T A) (seat : List (Receipt T A)) (step : Step T)
       (answer : Reply T A) (new : Recorded T A) (after : List (Receipt T A)) : Type 0 where
     pub reply : Reply T A
-    pub told : Reply T A
+    pub receipt_reply : Reply T A
     pub channel : IsCoreStep old.channel step reply new.channel
     pub history : new.history ≡ old.history ++ (step, reply) ∷ []
     pub opening : new.opening ≡ old.opening
     pub receipt :
-        after ≡ seat ++ record { number = length old.history; step = step; reply = told } ∷ []
-    pub told_same : SameReply reply told
+        after ≡ seat
+        ++ record { number = length old.history; step = step; reply = receipt_reply } ∷ []
+    pub receipt_same : SameReply reply receipt_reply
     pub answer_same : SameReply reply answer
 
-  -- a seat gained a receipt of the step, and the answer is the same reply as the receipt's
+  -- a seat gained a receipt of the step, with the answered reply
   abbrev pub GainsReceipt : List (Receipt T A) → Step T → Reply T A → List (Receipt T A) → Type 0
   GainsReceipt seat step answer after =
-      (number : ℕ) × (reply : Reply T A) × (told : Reply T A)
-      × SameReply reply told × SameReply reply answer
-      × (after ≡ seat ++ record { number = number; step = step; reply = told } ∷ [])
+      (number : ℕ) × (reply : Reply T A) × (receipt_reply : Reply T A)
+      × SameReply reply receipt_reply × SameReply reply answer
+      × (after ≡ seat ++ record { number = number; step = step; reply = receipt_reply } ∷ [])

@@ -1,4 +1,4 @@
--- When a history and the receipts of those who made it agree.
+-- When a history and receipts agree.
 use Rattle.std.specs.Prelude.{◌≡◌, ℕ, ◌<◌, ◌≤◌, ◌==◌, Bool, true, false}
 use Rattle.std.specs.Prelude.{◌⊎◌, List, [], ◌∷◌, length, filter, flat_map, Some, slice_get}
 use Rattle.std.specs.Prelude.{All, Any, AllPairs}
@@ -9,12 +9,12 @@ use Rattle.flume_audit.specs.Recorded.{History}
 
 module _ {T A : Type 0} where
   -- the step and the reply of a receipt
-  abbrev pub entry_of : Receipt T A → Step T × Reply T A
-  entry_of receipt = (receipt.step, receipt.reply)
+  abbrev pub step_and_reply : Receipt T A → Step T × Reply T A
+  step_and_reply receipt = (receipt.step, receipt.reply)
 
   -- the receipts with this number, of all lists
-  abbrev pub told_at : ℕ → List (List (Receipt T A)) → List (Receipt T A)
-  told_at number lists = flat_map (filter (λ receipt. receipt.number == number)) lists
+  abbrev pub receipts_at : ℕ → List (List (Receipt T A)) → List (Receipt T A)
+  receipts_at number lists = flat_map (filter (λ receipt. receipt.number == number)) lists
 
   -- one of these receipts has this number, and isn't above the one before it
   abbrev pub NotAbove : ℕ → List (Receipt T A) → Type 0
@@ -24,20 +24,19 @@ module _ {T A : Type 0} where
 
   module _ (equal : Step T × Reply T A → Step T × Reply T A → Bool) where
     -- there is one receipt, and it equals the entry
-    abbrev pub is_told_once : Step T × Reply T A → List (Receipt T A) → Bool
-    is_told_once entry (receipt ∷ []) = equal (entry_of receipt) entry
-    is_told_once entry _ = false
+    abbrev pub has_one_receipt : Step T × Reply T A → List (Receipt T A) → Bool
+    has_one_receipt entry (receipt ∷ []) = equal (step_and_reply receipt) entry
+    has_one_receipt entry _ = false
 
-    -- history and receipts agree at a number below the history's length if there is one receipt
-    -- with this number, and it equals the entry
+    -- if the history has an entry with this number, one receipt has it, and equals the entry
     abbrev pub AgreeAt : History T A → List (List (Receipt T A)) → ℕ → Type 0
     AgreeAt history lists number =
         (entry : Step T × Reply T A) → slice_get history number ≡ Some entry
-        → is_told_once entry (told_at number lists) ≡ true
+        → has_one_receipt entry (receipts_at number lists) ≡ true
 
-    -- They disagree at a number if they don't agree as above, if a receipt with this number isn't
-    -- above the one before it in its list, and, if a receipt is past the end, at the history's
-    -- length.
+    -- They disagree at a number if they don't agree as above, or if a receipt with this number
+    -- isn't above the one before it. They disagree at the history's length if a receipt is past the
+    -- end.
     abbrev pub DisagreeAt : History T A → List (List (Receipt T A)) → ℕ → Type 0
     DisagreeAt history lists number =
         (AgreeAt history lists number → ⊥)
@@ -51,8 +50,7 @@ module _ {T A : Type 0} where
         DisagreeAt history lists number
         × ((lower : ℕ) → lower < number → DisagreeAt history lists lower → ⊥)
 
-    -- a history is settled: each number has one receipt over all lists, which equals the entry; the
-    -- numbers of each list rise, and none is past the end
+    -- a history that the receipts agree with
     pub record IsSettled (history : History T A) (lists : List (List (Receipt T A)))
         : Type 0 where
       pub once : (number : ℕ) → AgreeAt history lists number

@@ -19,7 +19,7 @@ module _ {T A : Type 0} where
       → weight step reply ≡ weight step other
 
   module _ (weight : Step T → Reply T A → ℕ) where
-    -- what a history weighs: the sum over its entries
+    -- what a history weighs
     abbrev pub history_weight : List (Step T × Reply T A) → ℕ
     history_weight history = sum_by (λ entry. weight entry.0 entry.1) history
 

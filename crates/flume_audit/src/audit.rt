@@ -16,11 +16,9 @@ use std::alloc::{Allocator, Global};
 use std::sync::ledger::{Blank, Ledger};
 use std::sync::{Mutex, MutexGuard, Wait};
 
-/// A book behind a lock: threads that share it make their steps, each with a seat of its own.
-/// `close` says what happened under the lock: the history that it gives back is a run of the
-/// channel, and it weighs what the receipts of all seats weigh, by any weight. So each step with
-/// its reply is in the history as often as in the receipts, if drained lists are compared by their
-/// messages.
+/// A book behind a lock. Each thread makes its steps with a seat of its own, and `close` says what
+/// happened under the lock. The history weighs what the receipts weigh, by any weight: so it has
+/// each step with its reply as often as they do, if drained lists are compared by their messages.
 #[derive(Drop)]
 pub struct Audit<T, L: Ledger, R, W: Weigh<T, A> = Ones, A: Allocator = Global> {
     rt: R,
@@ -28,9 +26,9 @@ pub struct Audit<T, L: Ledger, R, W: Weigh<T, A> = Ones, A: Allocator = Global> 
 }
 
 impl<T: Copy, L: Ledger, R: Drop, W: Weigh<T, A>, A: Allocator + Copy> Audit<T, L, R, W, A> {
-    /// An audit of a new channel of this capacity (`None`: unbounded), with this many seats, at
-    /// least one. `blank` is a new ledger with one part for each seat. `NoMemory`: there was no
-    /// room for the seats.
+    /// An audit of a new channel of this capacity, or unbounded if `None`, with this many seats, at
+    /// least one. `blank` is a new ledger with one part for each seat. `NoMemory`: the seats
+    /// couldn't be allocated.
     ///
     /// ```
     /// let (audit, mut seats) = Audit::<u64, L, _>::new(rt, alloc, blank, None, 1)?;
@@ -63,8 +61,7 @@ impl<T: Copy, L: Ledger, R: Drop, W: Weigh<T, A>, A: Allocator + Copy> Audit<T, 
         Ok((audit, seated))
     }
 
-    /// Ends the audit, and compares the history with the receipts of these seats, as `Book::close`
-    /// does. Takes no lock; doesn't allocate.
+    /// Ends the audit as `Book::close` does. Takes no lock; doesn't allocate.
     ///
     /// ```
     /// let (closed, book) = audit.close(seats);         // Settled, where all seats are there
@@ -97,8 +94,7 @@ impl<T: Copy, L: Ledger, R: Drop, W: Weigh<T, A>, A: Allocator + Copy> Audit<T, 
 }
 
 impl<T: Copy, L: Ledger, R: Wait, W: Weigh<T, A>, A: Allocator + Copy> Audit<T, L, R, W, A> {
-    /// Makes the step under the lock, as `Book::step` does. The answer is the reply. `NoMemory`:
-    /// nothing was done.
+    /// `Book::step`, under the lock.
     ///
     /// ```
     /// let _ = audit.step(seat, Step::TrySend(5));      // Ok(Sent { filled: None })

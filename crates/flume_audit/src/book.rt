@@ -1,17 +1,17 @@
-//! A channel with its history, for whoever has it lent.
+//! A channel with its history.
 ghost use Rattle.std.specs.Prelude.{◌≡◌, ◌<◌, ◌↔◌, ℕ, [], length, map, reverse, vec_len, All};
 ghost use Rattle.std.specs.Prelude.{IfOk, OnErr};
 ghost use Rattle.flume_model.specs.Log.{opens};
 ghost use Rattle.flume_model.specs.Conserved.{Conserved};
-ghost use Rattle.flume_audit.specs.Recorded.{IsChannelOfHistory, IsRecorded, unwritten};
+ghost use Rattle.flume_audit.specs.Recorded.{IsChannelOfHistory, IsRecorded, new_book};
 ghost use Rattle.flume_audit.specs.Settled.{IsSettled, LeastDisagreement};
 ghost use Rattle.flume_audit.specs.Weights.{history_weight, lists_weight};
 
 use crate::closed::Closed;
 use crate::differs::differs;
-use crate::laws::settled_where_nothing_differs;
+use crate::laws::settled_if_nothing_differs;
 use crate::receipt::Receipt;
-use crate::reply::{copied, drained_by};
+use crate::reply::{copy_reply, drain_len};
 use crate::seat::Seat;
 use crate::tally::{add_weight, merge_all, seat_all};
 use crate::weigh::{Ones, Weigh};
@@ -24,15 +24,14 @@ use std::marker::{Model, PhantomData};
 use std::sync::ledger;
 use std::sync::ledger::{Blank, Ledger};
 
-/// A channel with its history: each step that was made since it was opened, with its reply. Steps
-/// are made by seats, each of which keeps a receipt.
+/// A channel with its history: each step that was made, with its reply. Each seat keeps the
+/// receipts of its steps.
 #[derive(Drop)]
 pub struct Book<T, L: Ledger, W: Weigh<T, A> = Ones, A: Allocator = Global> {
     chan: Chan<T, (), A>,
     opening: Option<usize>,
     history: Vec<(Step<T>, Reply<T, A>), A>,
     seats: usize,
-    // Its total is what the history weighs.
     ledger: ledger::Book<L>,
     weigh: PhantomData<W>,
 }
@@ -64,9 +63,9 @@ impl<T, L: Ledger, W: Weigh<T, A>, A: Allocator> Model for Book<T, L, W, A> {
 }
 
 impl<T: Copy, L: Ledger, W: Weigh<T, A>, A: Allocator + Copy> Book<T, L, W, A> {
-    /// A new channel of this capacity (`None`: unbounded) with no history, and this many seats, at
-    /// least one. `blank` is a new ledger with one part for each seat. `NoMemory`: there was no
-    /// room for the seats.
+    /// A book of a new channel of this capacity, or unbounded if `None`, with this many seats, at
+    /// least one. `blank` is a new ledger with one part for each seat. `NoMemory`: the seats
+    /// couldn't be allocated.
     ///
     /// ```
     /// let (mut book, mut seats) = Book::<u64, L>::new(alloc, blank, Some(1), 2)?;
@@ -87,7 +86,7 @@ impl<T: Copy, L: Ledger, W: Weigh<T, A>, A: Allocator + Copy> Book<T, L, W, A> {
         requires parts { blank.parts ≡ L.parts }
         requires one_each { blank.parts ≡ seats }
         requires some { 0 < seats }
-        ensures book { IfOk result (λ r. r.0 ≡ unwritten capacity) }
+        ensures book { IfOk result (λ r. r.0 ≡ new_book capacity) }
         ensures seats { IfOk result (λ r. vec_len r.1 ≡ seats) }
         ensures no_receipts { IfOk result (λ r. All (λ seat. seat ≡ []) r.1.items) }
     {
@@ -104,9 +103,9 @@ impl<T: Copy, L: Ledger, W: Weigh<T, A>, A: Allocator + Copy> Book<T, L, W, A> {
         Ok((book, seated))
     }
 
-    /// Makes the step, writes it with its reply at the end of the history, and gives the seat a
-    /// receipt of it. The answer is the reply. `NoMemory`: there was no room for the entry, for the
-    /// receipt or for the copies of a drained list; the book and the seat are as they were.
+    /// Makes the step, adds it with its reply to the history, and gives the seat a receipt. The
+    /// answer is the reply. `NoMemory`: the entry, the receipt or the copies of a drained list
+    /// couldn't be allocated; nothing was done.
     ///
     /// ```
     /// let _ = book.step(seat, Step::TrySend(5));       // Ok(Sent { filled: None })
@@ -122,33 +121,29 @@ impl<T: Copy, L: Ledger, W: Weigh<T, A>, A: Allocator + Copy> Book<T, L, W, A> {
         ensures unchanged { OnErr result (self.new ≡ self.old) }
         ensures seat_unchanged { OnErr result (seat.new ≡ seat.old) }
     {
-        // All room is made before the step, so that a step that was made is always written. The
-        // history keeps the channel's own reply; the receipt and the answer are copies of it, since
-        // a drained list is a block of memory.
+        // All is allocated first, so that each step that is made is recorded. A drained list is a
+        // block of memory, so the receipt and the answer have copies of the reply.
         let alloc = *self.history.allocator();
-        let drained = drained_by(&self.chan, &step);
+        let drained = drain_len(&self.chan, &step);
         let room = Vec::with_capacity(alloc, drained)?;
         let more = Vec::with_capacity(alloc, drained)?;
         self.history.try_reserve(1)?;
         seat.receipts.try_reserve(1)?;
         let number = self.history.len();
         let reply = self.chan.step(step);
-        let told = copied(&reply, room);
-        let answer = copied(&reply, more);
+        let receipt_reply = copy_reply(&reply, room);
+        let answer = copy_reply(&reply, more);
         add_weight::<T, A, L, W>(&mut self.ledger, &mut seat.share, &step, &reply);
         seat.receipts.push_reserved(Receipt {
             number,
             step,
-            reply: told,
+            reply: receipt_reply,
         });
         self.history.push_reserved((step, reply));
         Ok(answer)
     }
 
-    /// Compares the history with the receipts of these seats. `MissingSeat`: they aren't all.
-    /// `Differs`: the least number at which they disagree, as `differs` has it. `Settled`: they
-    /// agree throughout. The book stays as it is; if all seats were handed in, the history weighs
-    /// what their receipts weigh. Doesn't allocate.
+    /// Compares the history with the receipts of these seats, by `differs`. Doesn't allocate.
     ///
     /// ```
     /// book.close(seats);                               // Settled, where all seats are there
@@ -169,7 +164,7 @@ impl<T: Copy, L: Ledger, W: Weigh<T, A>, A: Allocator + Copy> Book<T, L, W, A> {
         ensures weights { vec_len seats ≡ L.parts
             → history_weight W.weight self.old.history ≡ lists_weight W.weight seats.items }
     {
-        settled_where_nothing_differs::<T, A>();
+        settled_if_nothing_differs::<T, A>();
         if seats.len() != self.seats {
             return Closed::MissingSeat;
         }
@@ -188,8 +183,7 @@ impl<T: Copy, L: Ledger, W: Weigh<T, A>, A: Allocator + Copy> Book<T, L, W, A> {
         self.opening
     }
 
-    /// The steps that were made, with their replies, in order: a run of the channel, so each reply
-    /// is the abstract channel's, and no message was lost or given out twice.
+    /// The steps that were made, with their replies, in order.
     pub fn history(&self) -> &[(Step<T>, Reply<T, A>)]
         ensures history { result.now ≡ self.now.history }
         ensures conserved { Conserved (opens self.now.opening 1) (reverse self.now.history) }
@@ -201,7 +195,7 @@ impl<T: Copy, L: Ledger, W: Weigh<T, A>, A: Allocator + Copy> Book<T, L, W, A> {
     /// The channel after the history's steps.
     pub fn channel(&self) -> &Chan<T, (), A>
         ensures channel { result.now ≡ self.now.channel }
-        ensures stands { IsChannelOfHistory self.now }
+        ensures represents { IsChannelOfHistory self.now }
     {
         &self.chan
     }

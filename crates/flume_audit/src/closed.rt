@@ -5,8 +5,8 @@
 pub enum Closed {
     /// Not all seats were handed in.
     MissingSeat,
-    /// This is the least number at which the history and the receipts disagree.
+    /// The least number at which the history and the receipts disagree.
     Differs(usize),
-    /// The history and the receipts agree at every number.
+    /// They agree at every number.
     Settled,
 }

@@ -3,7 +3,7 @@ ghost use Rattle.std.specs.Prelude.{◌≡◌, ◌<◌, ◌≤◌, ◌==◌, ◌
 ghost use Rattle.std.specs.Prelude.{[], ◌∷◌, Any, filter, map, MatchOption, option_map};
 ghost use Rattle.std.specs.List.Sorted.{IsPartitionPoint};
 ghost use Rattle.flume_audit.specs.Settled.{DisagreeAt, LeastDisagreement, NotAbove};
-ghost use Rattle.flume_audit.specs.Settled.{is_told_once, told_at, entry_of};
+ghost use Rattle.flume_audit.specs.Settled.{has_one_receipt, receipts_at, step_and_reply};
 ghost use Rattle.flume_audit.specs.Only.{only};
 ghost use Rattle.flume_audit.specs.Misplaced.{IsLeast, Misplaced, lesser};
 
@@ -12,10 +12,10 @@ use flume_model::step::{Reply, Step};
 use std::alloc::Allocator;
 use std::convert::AsSlice;
 
-/// The least number at which a history and the receipts of these lists disagree; `None` if they
-/// agree throughout. They agree at a number if exactly one receipt has it and equals the entry
-/// there. A receipt whose number isn't above the one before it in its list disagrees at its number;
-/// one past the end disagrees at the history's length. Doesn't allocate.
+/// The least number at which a history and the receipts of these lists disagree, or `None`. They
+/// agree at a number if exactly one receipt has it and equals the entry there. A receipt whose
+/// number isn't above the one before it in its list disagrees at its number. One past the end
+/// disagrees at the history's length. Doesn't allocate.
 ///
 /// ```
 /// let history: [(Step<u64>, Reply<u64>); 1] = [(Step::TrySend(1), Reply::Full(1))];
@@ -35,7 +35,7 @@ pub fn differs<T: Eq, A: Allocator, H: AsSlice<Receipt<T, A>>>(
 {
     let end = first_misplaced(history.len(), seats);
     for number in 0..end.unwrap_or(history.len()) {
-        if !is_told_at(&history[number], number, seats) {
+        if !has_receipt_at(&history[number], number, seats) {
             return Some(number);
         }
     }
@@ -97,24 +97,22 @@ fn lesser(first: Option<usize>, second: Option<usize>) -> Option<usize>
     }
 }
 
-// Whether exactly one receipt of all lists has this number, and it is of this entry.
-fn is_told_at<T: Eq, A: Allocator, H: AsSlice<Receipt<T, A>>>(
+fn has_receipt_at<T: Eq, A: Allocator, H: AsSlice<Receipt<T, A>>>(
     entry: &(Step<T>, Reply<T, A>),
     number: usize,
     seats: &[H],
 ) -> bool
     requires before { (misplaced : ℕ) → Any (NotAbove misplaced) (map H.items seats.now)
         → number < misplaced }
-    ensures told { result ≡ is_told_once ⟦<(Step<T>, Reply<T, A>) as PartialEq>⟧.eq entry.now
-        (told_at number (map H.items seats.now)) }
+    ensures sole { result ≡ has_one_receipt ⟦<(Step<T>, Reply<T, A>) as PartialEq>⟧.eq entry.now
+        (receipts_at number (map H.items seats.now)) }
 {
     match only_receipt_at(number, seats) {
-        Some(receipt) => tells(receipt, entry),
+        Some(receipt) => is_receipt_of(receipt, entry),
         None => false,
     }
 }
 
-// The one receipt with this number, over all lists; `None` if there is none, or another.
 fn only_receipt_at<T, A: Allocator, H: AsSlice<Receipt<T, A>>>(
     number: usize,
     seats: &[H],
@@ -122,7 +120,7 @@ fn only_receipt_at<T, A: Allocator, H: AsSlice<Receipt<T, A>>>(
     requires before { (misplaced : ℕ) → Any (NotAbove misplaced) (map H.items seats.now)
         → number < misplaced }
     ensures only { option_map (λ receipt. receipt.now) result
-        ≡ only (told_at number (map H.items seats.now)) }
+        ≡ only (receipts_at number (map H.items seats.now)) }
 {
     let mut only: Option<&Receipt<T, A>> = None;
     for seat in seats {
@@ -138,9 +136,9 @@ fn only_receipt_at<T, A: Allocator, H: AsSlice<Receipt<T, A>>>(
 
 fn receipt_at<T, A: Allocator>(number: usize, list: &[Receipt<T, A>]) -> Option<&Receipt<T, A>>
     requires before { (misplaced : ℕ) → NotAbove misplaced list.now → number < misplaced }
-    ensures told { MatchOption result
+    ensures sole { MatchOption result
         (filter (λ receipt. receipt.number == number) list.now ≡ [])
-        (λ told. filter (λ receipt. receipt.number == number) list.now ≡ told.now ∷ []) }
+        (λ sole. filter (λ receipt. receipt.number == number) list.now ≡ sole.now ∷ []) }
 {
     match list.get(place_of(number, list)) {
         Some(receipt) if receipt.number == number => Some(receipt),
@@ -148,9 +146,8 @@ fn receipt_at<T, A: Allocator>(number: usize, list: &[Receipt<T, A>]) -> Option<
     }
 }
 
-// How many receipts of the list come before those with this number or a higher one. The binary
-// search is right although the list needn't rise: it rises below the least number that isn't above
-// the one before it, and no number from there on is asked for.
+// The list needn't rise, but it does below the least misplaced number, and no higher one is asked
+// for.
 fn place_of<T, A: Allocator>(number: usize, list: &[Receipt<T, A>]) -> usize
     requires before { (misplaced : ℕ) → NotAbove misplaced list.now → number < misplaced }
     ensures place { IsPartitionPoint (λ receipt. receipt.number < number)
@@ -159,8 +156,11 @@ fn place_of<T, A: Allocator>(number: usize, list: &[Receipt<T, A>]) -> usize
     list.partition_point(|receipt| receipt.number < number)
 }
 
-fn tells<T: Eq, A: Allocator>(receipt: &Receipt<T, A>, entry: &(Step<T>, Reply<T, A>)) -> bool
-    ensures same { result ≡ ⟦<(Step<T>, Reply<T, A>) as PartialEq>⟧.eq (entry_of receipt.now)
+fn is_receipt_of<T: Eq, A: Allocator>(
+    receipt: &Receipt<T, A>,
+    entry: &(Step<T>, Reply<T, A>),
+) -> bool
+    ensures same { result ≡ ⟦<(Step<T>, Reply<T, A>) as PartialEq>⟧.eq (step_and_reply receipt.now)
         entry.now }
 {
     receipt.step == entry.0 && receipt.reply == entry.1

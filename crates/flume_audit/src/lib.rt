@@ -1,10 +1,9 @@
-//! A channel that records its history, and compares it in the end with the replies that each user
-//! got.
+//! A channel that records its history, and compares it in the end with what its users were
+//! answered.
 //!
-//! A lock hides from contracts what happened under it. An `audit::Audit` is a channel behind a lock
-//! that writes down each step with its reply. Each user has a *seat*, makes its steps with it, and
-//! gets a *receipt* of each. `close` takes the seats back and answers whether history and receipts
-//! agree.
+//! A lock hides from contracts what happened under it. An `audit::Audit` records each step under
+//! its lock. Each user makes its steps with a *seat*, and gets a *receipt* of each. `close` answers
+//! whether history and receipts agree.
 //!
 //! ```
 //! let (audit, mut seats) = Audit::<u64, L, _>::new(rt, alloc, Blank::new(1), None, 1)?;
@@ -16,10 +15,8 @@
 //! book.history().len();                            // 2
 //! ```
 //!
-//! `L` names the ledger of the standard library by which a seat belongs to one audit only. Whatever
-//! `close` answers, the history is a run of the abstract channel: each reply is lawful, and no
-//! message is lost or given out twice. `book::Book` is the same without a lock. `differs::differs`
-//! compares a history with any lists of receipts.
+//! `L` names the ledger of the standard library by which a seat belongs to one audit only. The
+//! history is always a run of the abstract channel. `book::Book` is the same without a lock.
 #![tactic(auto)]
 
 pub mod audit;

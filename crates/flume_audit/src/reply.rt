@@ -7,9 +7,9 @@ use flume_core::chan::Chan;
 use flume_model::step::{Reply, Step};
 use std::alloc::Allocator;
 
-// A copy of the reply, whose drained list, if it has one, is made in `room`.
+// `room` takes the copy of a drained list.
 #[inline(always)]
-pub(crate) fn copied<T: Copy, A: Allocator>(reply: &Reply<T, A>, room: Vec<T, A>) -> Reply<T, A>
+pub(crate) fn copy_reply<T: Copy, A: Allocator>(reply: &Reply<T, A>, room: Vec<T, A>) -> Reply<T, A>
     requires empty { room.items ≡ [] }
     requires room { DrainedWithin (vec_capacity room) reply.now }
     ensures same { SameReply reply.now result }
@@ -30,7 +30,7 @@ pub(crate) fn copied<T: Copy, A: Allocator>(reply: &Reply<T, A>, room: Vec<T, A>
         Reply::Ended => Reply::Ended,
         Reply::Parked(ticket) => Reply::Parked(ticket),
         Reply::Gone { closed, filled } => Reply::Gone { closed, filled },
-        Reply::Drained(ref list) => Reply::Drained(copied_list(list, room)),
+        Reply::Drained(ref list) => Reply::Drained(copy_list(list, room)),
         Reply::Done => Reply::Done,
         Reply::NoEnd => Reply::NoEnd,
         Reply::CountFull => Reply::CountFull,
@@ -42,7 +42,7 @@ pub(crate) fn copied<T: Copy, A: Allocator>(reply: &Reply<T, A>, room: Vec<T, A>
 }
 
 #[inline(never)]
-fn copied_list<T: Copy, A: Allocator>(list: &Vec<T, A>, mut room: Vec<T, A>) -> Vec<T, A>
+fn copy_list<T: Copy, A: Allocator>(list: &Vec<T, A>, mut room: Vec<T, A>) -> Vec<T, A>
     requires empty { room.items ≡ [] }
     requires room { vec_len list.now ≤ vec_capacity room }
     ensures items { result.items ≡ list.now.items }
@@ -52,7 +52,7 @@ fn copied_list<T: Copy, A: Allocator>(list: &Vec<T, A>, mut room: Vec<T, A>) -> 
 }
 
 #[inline(always)]
-pub(crate) fn drained_by<T: Copy, A: Allocator + Copy>(
+pub(crate) fn drain_len<T: Copy, A: Allocator + Copy>(
     chan: &Chan<T, (), A>,
     step: &Step<T>,
 ) -> usize

@@ -10,13 +10,12 @@ use std::convert::AsSlice;
 use std::marker::{Model, PhantomData};
 use std::sync::ledger::{Ledger, Share};
 
-/// A user's place at an audit, with a receipt for each step that was made with it. Only the audit
-/// whose ledger is `L` accepts it. It can't be copied, and holds one part of the ledger: so as many
-/// seats as the ledger has parts are all of them.
+/// A user's place at an audit, with a receipt for each step that was made with it. It can't be
+/// copied, and has one part of the ledger `L`: so as many seats as the ledger has parts are all of
+/// them.
 #[derive(Drop)]
 pub struct Seat<T, L: Ledger, W: Weigh<T, A> = Ones, A: Allocator = Global> {
     pub(crate) receipts: Vec<Receipt<T, A>, A>,
-    // One part of the ledger, whose amount is what the receipts weigh.
     pub(crate) share: Share<L>,
     weigh: PhantomData<W>,
 }
@@ -47,7 +46,7 @@ impl<T, L: Ledger, W: Weigh<T, A>, A: Allocator> Seat<T, L, W, A> {
         }
     }
 
-    /// The receipts, in the order in which the steps were made.
+    /// The receipts, in the order of the steps.
     pub fn receipts(&self) -> &[Receipt<T, A>]
         ensures receipts { result.now ≡ self.now }
     {

@@ -1,4 +1,4 @@
-//! Weights are added up in a ledger, whose tokens take no bytes.
+//! Weights, added up in a ledger whose tokens take no bytes.
 ghost use Rattle.std.specs.Prelude.{◌≡◌, ◌<◌, ◌+◌, [], vec_len, All, IfOk};
 ghost use Rattle.flume_audit.specs.Weights.{lists_weight};
 
@@ -9,11 +9,8 @@ use flume_model::step::{Reply, Step};
 use std::alloc::Allocator;
 use std::sync::ledger::{Book, Ledger, Share};
 
-// Adds the weight of the step with its reply to the ledger's total and to the share's amount. Does
-// nothing at run time. The ledger's own call adds a number that the program has, but a weight is a
-// definition alone: so the proof opens both tokens itself, sets the book's row and the share's row
-// in one opening of the ledger's invariant, and closes both. Std's lemmas on a row that grows can't
-// be named from a crate that uses std, so this crate has its own.
+// Does nothing at run time. A weight is a definition, so the ledger's own call, which adds a number
+// of the program, can't add it: the proof sets the book's row and the share's row itself.
 pub(crate) fn add_weight<T, A: Allocator, L: Ledger, W: Weigh<T, A>>(
     book: &mut Book<L>,
     share: &mut Share<L>,
@@ -43,7 +40,6 @@ pub(crate) fn seat_all<T: Drop, L: Ledger, W: Weigh<T, A>, A: Allocator + Copy>(
     Ok(list)
 }
 
-// Merges the shares of all seats: the ledger's total is what their receipts weigh.
 pub(crate) fn merge_all<T: Drop, L: Ledger, W: Weigh<T, A>, A: Allocator>(
     book: &mut Book<L>,
     mut seats: Vec<Seat<T, L, W, A>, A>,

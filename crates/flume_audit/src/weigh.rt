@@ -7,17 +7,16 @@ ghost use Rattle.flume_audit.specs.Weights.{GoesByMessages};
 use flume_model::step::{Reply, Step};
 use std::alloc::Allocator;
 
-/// A weight for each step with its reply, a whole number from 0. It is a definition alone: no value
-/// of a program depends on it. Two drained lists of the same messages weigh the same
-/// (`by_messages`). With the weight 1 at one such pair and 0 at all others, a sum of weights counts
-/// how often the pair is there.
+/// A weight for each step with its reply, as a definition: no value of a program depends on it.
+/// With the weight 1 at one pair and 0 at all others, a sum of weights counts how often the pair is
+/// there.
 pub trait Weigh<T, A: Allocator> {
     ghost weight: { Step T → Reply T A → ℕ };
 
     ghost by_messages: { GoesByMessages weight };
 }
 
-/// Weighs each step with its reply 1: a sum of weights is a number of entries.
+/// Weighs each step with its reply 1.
 pub struct Ones;
 
 impl<T, A: Allocator> Weigh<T, A> for Ones {

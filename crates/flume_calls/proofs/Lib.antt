@@ -1,10 +1,10 @@
-mod Got
-mod DueCounts
-mod Ringing
-mod WhoIsDue
-mod EachRung
-mod Quiet
-pub mod Leading
-mod Available
-mod ManyReceiving
-mod ManySends
+mod GotLemmas
+mod DueCountLemmas
+mod RingLemmas
+mod WhoIsDueLemmas
+mod EachIsRungLemmas
+mod QuietLemmas
+pub mod LeadsToLemmas
+mod AvailableLemmas
+mod ManyReceiveLemmas
+mod ManySendLemmas

@@ -7,19 +7,17 @@ use Rattle.flume_core.specs.Represents.{IsReachable, SameLogs}
 use Rattle.flume_calls.specs.Rings.{Rings}
 
 module _ {T S : Type 0} where
-  -- some run led to the state, and no ticket is due: it is so between two calls
+  -- some run led to the state, and no ticket is due
   pub record IsAtRest (A : Type 0) (s : State T S) : Type 0 where
-    pub led : IsReachable A s
+    pub reachable : IsReachable A s
     pub sends : NoDueSend s.sends
     pub receivers : NoDueReceiver s.entries
 
 module _ {T S N B : Type 0} (A : Type 0) (rings : B → ℕ → S → B → Type 0) where
-  -- One turn, and then one ring of the bell for each ticket that its steps made due: from the
-  -- channel and the bell before to both after, and the turn's answer.
-  pub record IsCall (does : State T S → State T S → N → Type 0) (old : State T S) (bell : B)
+  -- one turn, and then one ring of the bell for each ticket that is due
+  pub record IsCallAtRest (does : State T S → State T S → N → Type 0) (old : State T S) (bell : B)
       (new : State T S) (rung : B) (answer : N) : Type 0 where
     pub between : State T S
     pub turn : does old between answer
     pub rang : Rings rings between bell new rung
-    -- ringing makes no step
-    pub stands : SameLogs A between new
+    pub represents : SameLogs A between new

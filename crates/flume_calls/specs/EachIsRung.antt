@@ -1,4 +1,4 @@
--- Which calls may go on by what a call does to a channel, and that the call rings for each of them.
+-- Which calls may go on since a call was made, and that it rings for each of them.
 use Rattle.std.specs.Prelude.{◌≡◌, ℕ, true, false, Option, Some, List, [], ◌∷◌, Contains}
 use Rattle.std.specs.Option.{option_map}
 use Rattle.flume_model.specs.declared.entry.Mark.{Mark}
@@ -9,41 +9,34 @@ use Rattle.flume_state.specs.State.{State, accepted_at}
 use Rattle.flume_state.specs.Signals.{signal_of}
 
 module _ {T S : Type 0} where
-  -- the state of the receiver that is parked under a ticket, if there is one
+  -- the mark of the receiver that is parked under a ticket
   abbrev pub mark_at : State T S → ℕ → Option (Mark T)
   mark_at s ticket = option_map (λ e. e.mark) (entry_of ticket s.entries)
 
   -- between these states a call that was parked under this ticket became able to go on
   pub data MayGoOn (old new : State T S) (ticket : ℕ) : Type 0 where
-    -- its message was accepted
-    IsAccepted : accepted_at old ticket ≡ Some false → accepted_at new ticket ≡ Some true
+    BecomesAccepted : accepted_at old ticket ≡ Some false → accepted_at new ticket ≡ Some true
         → MayGoOn old new ticket
-    -- it waited, and was woken
-    IsWoken : mark_at old ticket ≡ Some Waiting → mark_at new ticket ≡ Some Woken
+    BecomesWoken : mark_at old ticket ≡ Some Waiting → mark_at new ticket ≡ Some Woken
         → MayGoOn old new ticket
-    -- it waited, and was filled with a message
-    IsFilled : (message : T) → mark_at old ticket ≡ Some Waiting
+    BecomesFilled : (message : T) → mark_at old ticket ≡ Some Waiting
         → mark_at new ticket ≡ Some (Filled message) → MayGoOn old new ticket
-    -- its message was blocked, and still is, and the channel was closed
+    -- its message is still blocked
     ChannelCloses : accepted_at old ticket ≡ Some false → accepted_at new ticket ≡ Some false
         → IsOpen old.senders old.receivers → IsClosed new.senders new.receivers
         → MayGoOn old new ticket
 
 module _ {B S : Type 0} (rings : B → ℕ → S → B → Type 0) where
-  -- the bell rings once for each of these, a ticket with a signal, the first first
+  -- the bell rings once for each of these tickets, in order
   pub data RingsFor : B → List (ℕ × S) → B → Type 0 where
-    -- it doesn't ring
     NoRing : {bell : B} → RingsFor bell [] bell
-    -- one ring, and then the others
     FirstRing : {bell rung end : B} {ticket : ℕ} {signal : S} {later : List (ℕ × S)}
         → rings bell ticket signal rung → RingsFor rung later end
         → RingsFor bell ((ticket, signal) ∷ later) end
 
-  -- From the channel and the bell before a call to both after it: the bell rang for each ticket
-  -- whose call may go on since, with the signal that it left last.
+  -- the bell rang for each ticket whose call may go on since, with the signal that it left last
   pub record EachIsRung {T : Type 0} (old : State T S) (bell : B) (new : State T S) (rung : B)
       : Type 0 where
-    -- each by its ticket and its signal
     pub calls : List (ℕ × S)
     pub rang : RingsFor bell calls rung
     pub each : (ticket : ℕ) → MayGoOn old new ticket

@@ -1,5 +1,4 @@
--- Receives of many messages with nothing between them: which steps each batch makes, and what it
--- answers.
+-- Receives of many messages: which steps each batch makes, and what it answers.
 use Rattle.std.specs.Prelude.{◌≡◌, ◌⊎◌, ℕ, ◌+◌, ◌<◌, ◌≤◌, ◌↔◌, min, List, [], ◌∷◌, ◌++◌, map}
 use Rattle.std.specs.Prelude.{length, Ok, Err, Vec, vec_len, vec_capacity}
 use Rattle.flume_model.specs.declared.step.Step.{Step}
@@ -13,37 +12,34 @@ use Rattle.flume_calls.specs.declared.calls.receive.RecvNext.{RecvNext}
 use Rattle.flume_calls.specs.declared.calls.receive.RecvNext.TheVariants.{Done, NeedSignal, Park}
 use Rattle.flume_calls.specs.declared.calls.receive.RecvNext.TheVariants.{Refused}
 use Rattle.flume_calls.specs.Batches.{StepsBetween}
-use Rattle.flume_calls.specs.ReceiveTurns.{after_try_recv, IsNone}
+use Rattle.flume_calls.specs.ReceiveTurns.{after_try_recv, GivesNone}
 
--- how many messages a call took, if it took some: at most this many, and none only for a call that
--- was to take none
-abbrev pub IsWithin : ℕ → RecvNext ℕ → Type 0
-IsWithin most (Done (Ok count)) = (count ≤ most) × (count ≡ 0 → most ≡ 0)
-IsWithin most _ = Unit {0}
+-- a call takes at most this many, and none only if it was to take none
+abbrev pub IsAtMost : ℕ → RecvNext ℕ → Type 0
+IsAtMost most (Done (Ok count)) = (count ≤ most) × (count ≡ 0 → most ≡ 0)
+IsAtMost most _ = Unit {0}
 
 module _ {T A : Type 0} where
-  -- a `try_recv` for each of these messages, which got it
+  -- a `try_recv` that got it, for each of these messages
   abbrev pub each_got : List T → List (Step T × Reply T A)
   each_got taken = map (λ message. (TryRecv, Got message)) taken
 
 module _ {T S : Type 0} (A : Type 0) where
-  -- This many messages were taken, each by a `try_recv`, and put behind what was there before, in
-  -- order: from the channel and the list before to both after.
+  -- this many messages were taken, each by a `try_recv`, and put behind the list in order
   pub record Takes (old : State T S) (before : List T) (count : ℕ) (new : State T S)
       (after : List T) : Type 0 where
     pub taken : List T
-    pub led : StepsBetween {A = A} old (each_got taken) new
+    pub reachable : StepsBetween {A = A} old (each_got taken) new
     pub items : after ≡ before ++ taken
     pub number : length taken ≡ count
 
 module _ {T : Type 0} where
-  -- the message that a turn of a receive gave, if it gave one
-  abbrev pub given : RecvNext T → List T
-  given (Done (Ok message)) = message ∷ []
-  given _ = []
+  -- the message that a turn of a receive gave
+  abbrev pub given_by : RecvNext T → List T
+  given_by (Done (Ok message)) = message ∷ []
+  given_by _ = []
 
-  -- What is answered if a turn of a receive gave this and this many messages were taken after it:
-  -- how many came, if one did, and else what the turn answered.
+  -- the answer if a turn of a receive gave this and this many messages were taken after it
   abbrev pub with_more : ℕ → RecvNext T → RecvNext ℕ
   with_more more (Done (Ok message)) = Done (Ok (more + 1))
   with_more more (Done (Err error)) = Done (Err error)
@@ -51,17 +47,16 @@ module _ {T : Type 0} where
   with_more more (Park ticket) = Park ticket
   with_more more (Refused ticket) = Refused ticket
 
-  -- A turn of a receive gave this, and then these were taken, at most this many: what the list
-  -- holds after it, and the answer. If the turn gave no message none was taken.
+  -- a turn of a receive gave this, and then these were taken
   pub record Gives (before : List T) (more : ℕ) (first : RecvNext T) (taken : List T)
       (after : List T) (next : RecvNext ℕ) : Type 0 where
-    pub items : after ≡ before ++ (given first ++ taken)
+    pub items : after ≡ before ++ (given_by first ++ taken)
     pub next_is : next ≡ with_more (length taken) first
-    pub only_behind_one : given first ≡ [] → taken ≡ []
+    pub only_behind_one : given_by first ≡ [] → taken ≡ []
     pub at_most : length taken ≤ more
 
 module _ {T A : Type 0} where
-  -- the table of a batch that takes what is there: this many were taken, and put behind
+  -- the table of a batch that takes what is there
   pub record MoreTable (before : List T) (made : List (Step T × Reply T A)) (after : List T)
       (count : ℕ) : Type 0 where
     pub taken : List T
@@ -72,36 +67,33 @@ module _ {T A : Type 0} where
   -- the table of a first receive of many
   pub data FirstManyTable (before : List T) (made : List (Step T × Reply T A)) (after : List T)
       (next : RecvNext ℕ) : Type 0 where
-    -- it took what was there
     Some : (count : ℕ) → MoreTable before made after count → next ≡ Done (Ok count)
         → FirstManyTable before made after next
-    -- there was none, as its one step says
     None : (reply : Reply T A) → (first : RecvNext T) → made ≡ (TryRecv, reply) ∷ []
-        → after_try_recv reply first → IsNone first → after ≡ before → next ≡ with_more 0 first
+        → after_try_recv reply first → GivesNone first → after ≡ before → next ≡ with_more 0 first
         → FirstManyTable before made after next
-    -- there was no memory for the room that they need, and it made no step
+    -- the list couldn't grow
     NoRoom : made ≡ [] → after ≡ before → next ≡ Done (Err NoMemory)
         → FirstManyTable before made after next
 
 module _ {T A : Type 0} where
-  -- This many were taken of those that were there: all, at most this many, or as many as the list
-  -- has room for, if there was no memory for more room.
+  -- this many of those that were there were taken: all up to the most, or else as many as the list
+  -- has room for
   abbrev pub TakesAll : ℕ → ℕ → ℕ → Vec T A → Type 0
   TakesAll most there count after =
       (count ≡ min most there) ⊎ ((count < min most there) × (vec_len after ≡ vec_capacity after))
 
-  -- The answer of a turn of this kind, and of what was taken after it. If the turn gave no message
-  -- the list is the very one that was given, its room included.
+  -- the answer of a turn of this kind, and of what was taken after it
   pub record AnswersMore (answers : RecvNext T → Type 0) (before : Vec T A) (more : ℕ)
       (after : Vec T A) (next : RecvNext ℕ) : Type 0 where
     pub first : RecvNext T
     pub taken : List T
     pub answered : answers first
     pub gives : Gives before.items more first taken after.items next
-    pub none_given : given first ≡ [] → after ≡ before
+    pub none_given : given_by first ≡ [] → after ≡ before
 
 module _ {T S A : Type 0} where
-  -- a first receive of at most this many
+  -- what a first receive of at most this many says of the states, by its answer
   pub record FirstManyOutcome (into : Vec T A) (most : ℕ) (old new : State T S)
       (next : RecvNext ℕ) : Type 0 where
     pub took : (count : ℕ) → next ≡ Done (Ok count)
@@ -112,19 +104,18 @@ module _ {T S A : Type 0} where
         ↔ (0 < most) × (message_count old ≡ 0) × IsClosed old.senders old.receivers
     pub no_memory : next ≡ Done (Err NoMemory) → (0 < message_count old)
         × (vec_capacity into < vec_len into + min most (message_count old))
-    pub unchanged : IsNone next → new ≡ old
+    pub unchanged : GivesNone next → new ≡ old
 
 module _ {T S : Type 0} (A : Type 0) where
-  -- A turn that does this, and then, if it gave a message, what else is there, at most this many:
-  -- each by a `try_recv`, and put behind what was there before.
-  pub record AndMore (does : State T S → State T S → RecvNext T → Type 0) (before : Vec T A)
+  -- a turn that does this, and if it gave a message, then what else is there, at most this many
+  pub record TurnAndMore (does : State T S → State T S → RecvNext T → Type 0) (before : Vec T A)
       (more : ℕ) (old new : State T S) (after : Vec T A) (next : RecvNext ℕ) : Type 0 where
     pub between : State T S
     pub first : RecvNext T
     pub taken : List T
     pub turn : does old between first
-    pub led : StepsBetween {A = A} between (each_got taken) new
+    pub reachable : StepsBetween {A = A} between (each_got taken) new
     pub gives : Gives before.items more first taken after.items next
-    pub none_behind : given first ≡ [] → new ≡ between
+    pub none_behind : given_by first ≡ [] → new ≡ between
     pub all_behind : (message : T) → first ≡ Done (Ok message)
         → TakesAll more (message_count between) (length taken) after

@@ -1,4 +1,4 @@
--- Sends of a list of messages: which steps are made under one lock, and what is answered.
+-- Sends of a list of messages: which steps are made, and what is answered.
 use Rattle.std.specs.Prelude.{◌≡◌, ◌≢◌, ℕ, ◌+◌, ◌≤◌, Option, Some, List, [], ◌∷◌, ◌++◌, length}
 use Rattle.std.specs.Prelude.{Result, Ok, Err}
 use Rattle.std.specs.declared.collections.VecDeque.{VecDeque}
@@ -14,33 +14,28 @@ use Rattle.flume_core.specs.declared.error.TrySendError.{TrySendError}
 use Rattle.flume_core.specs.declared.error.TrySendError.TheVariants.{Full, Disconnected, NoMemory}
 
 module _ {T A : Type 0} where
-  -- By its messages: the steps that a send of many makes under one lock, each with its reply, and
-  -- what it answers. Each message is offered once, in order, up to the first that isn't taken in.
-  -- The error is named by that reply, and has that message and all behind it.
+  -- From the messages to the steps with their replies and to the answer. Each message is offered
+  -- once, in order, up to the first that is refused. The error has that one and all behind it.
   pub data SendsMany : List T → List (Step T × Reply T A)
       → Result (Unit {0}) (TrySendError (VecDeque T A)) → Type 0 where
-    -- no message is left
     NoneLeft : SendsMany [] [] (Ok tt)
-    -- the first is taken in, and then the others are offered
     TakenIn : {message : T} {rest : List T} {made : List (Step T × Reply T A)}
         {answer : Result (Unit {0}) (TrySendError (VecDeque T A))} (filled : Option ℕ)
         → SendsMany rest made answer
         → SendsMany (message ∷ rest) ((TrySend message, Sent filled) ∷ made) answer
-    -- the channel is full
     IsFull : {message : T} {rest : List T} {left : VecDeque T A} → left.items ≡ message ∷ rest
         → SendsMany (message ∷ rest) ((TrySend message, reply.Full message) ∷ [])
         (Err (Full left))
-    -- the channel is closed
     IsClosed : {message : T} {rest : List T} {left : VecDeque T A} → left.items ≡ message ∷ rest
         → SendsMany (message ∷ rest) ((TrySend message, reply.Closed message) ∷ [])
         (Err (Disconnected left))
-    -- there was no memory for the message
+    -- out of memory
     IsRefused : {message : T} {rest : List T} {left : VecDeque T A} → left.items ≡ message ∷ rest
         → SendsMany (message ∷ rest) ((TrySend message, reply.NoMemory (Some message)) ∷ [])
         (Err (NoMemory left))
 
 module _ {T : Type 0} where
-  -- what is left of these messages is one of them and all behind it
+  -- these are one of the messages and all behind it
   pub record IsRest (messages left : List T) : Type 0 where
     pub sent : List T
     pub first : T
@@ -57,10 +52,7 @@ module _ {T A : Type 0} where
   LeavesRest messages (Err (NoMemory left)) = IsRest messages left.items
 
 module _ {T S A : Type 0} where
-  -- What the states before and after say of the sends of these messages. The offer that was
-  -- refused, if one was, left the channel as it is after them: there was no room for its message,
-  -- or it was closed, or it had no space for one more without memory. If there was space for all of
-  -- them before, none is refused for memory.
+  -- what the sends of these messages say of the states before and after, by their answer
   pub record SendManyOutcome (messages : List T) (old new : State T S)
       (answer : Result (Unit {0}) (TrySendError (VecDeque T A))) : Type 0 where
     pub full : (left : VecDeque T A) → answer ≡ Err (Full left) → FindsNoRoom new

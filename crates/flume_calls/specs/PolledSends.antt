@@ -16,59 +16,55 @@ use Rattle.flume_calls.specs.SendTurns.{step_of_parked_send, IsFirst, IsParking,
 use Rattle.flume_calls.specs.SendOutcomes.{FirstSendOutcome, ParkSendOutcome, AgainSendOutcome}
 
 module _ {T : Type 0} where
-  -- By what its turn led to: the send then, and the poll's answer. An answer of none says that the
-  -- send waits on. A message that comes back because there is no signal comes back because memory
-  -- ran out.
-  abbrev pub settles_send : SendNext T → PolledSend T
+  -- From what the turn led to, to the send then and the poll's answer. `NeedSignal` and `Timeout`
+  -- come only if there was no memory for a signal.
+  abbrev pub finishes_send : SendNext T → PolledSend T
       → Option (Result (Unit {0}) (SendError T)) → Type 0
-  settles_send (Done (Ok sent)) after answer = (after ≡ Finished) × (answer ≡ Some (Ok tt))
-  settles_send (Done (Err (timed.Disconnected back))) after answer =
+  finishes_send (Done (Ok sent)) after answer = (after ≡ Finished) × (answer ≡ Some (Ok tt))
+  finishes_send (Done (Err (timed.Disconnected back))) after answer =
       (after ≡ Finished) × (answer ≡ Some (Err (Disconnected back)))
-  settles_send (Done (Err (timed.NoMemory back))) after answer =
+  finishes_send (Done (Err (timed.NoMemory back))) after answer =
       (after ≡ Finished) × (answer ≡ Some (Err (NoMemory back)))
-  settles_send (Done (Err (timed.Timeout back))) after answer =
+  finishes_send (Done (Err (timed.Timeout back))) after answer =
       (after ≡ Finished) × (answer ≡ Some (Err (NoMemory back)))
-  settles_send (NeedSignal back) after answer =
+  finishes_send (NeedSignal back) after answer =
       (after ≡ Finished) × (answer ≡ Some (Err (NoMemory back)))
-  settles_send (Park ticket) after answer = (after ≡ Parked ticket) × (answer ≡ None)
+  finishes_send (Park ticket) after answer = (after ≡ Parked ticket) × (answer ≡ None)
 
 module _ {T : Type 0} where
-  -- the ticket that the send is parked under
+  -- the ticket of a parked send
   abbrev pub ticket_of : PolledSend T → Option ℕ
   ticket_of (Unsent message) = None
   ticket_of (Parked ticket) = Some ticket
   ticket_of Finished = None
 
 module _ {T S : Type 0} where
-  -- when the poll would wait
+  -- when a poll would wait
   abbrev pub send_waits : PolledSend T → State T S → Type 0
   send_waits (Unsent message) s = FindsNoRoom s
   send_waits (Parked ticket) s = IsHeldBack ticket s
   send_waits Finished s = ⊥
 
-  -- One poll of a send: its state before, the signal that is given to it, if one is, the states
-  -- before and after, its state after, and its answer.
+  -- one poll of a send, which is `after` then
   pub data SendPoll (A : Type 0) (send : PolledSend T) (signal : Option S) (old new : State T S)
       (after : PolledSend T) (answer : Option (Result (Unit {0}) (SendError T))) : Type 0 where
-    -- it has ended: nothing is done
-    Over : send ≡ Finished → new ≡ old → after ≡ Finished → answer ≡ Some (Ok tt)
+    AlreadyFinished : send ≡ Finished → new ≡ old → after ≡ Finished → answer ≡ Some (Ok tt)
         → SendPoll A send signal old new after answer
-    -- it isn't sent, and has no signal to block with: it tries
+    -- it isn't sent, and has no signal to block with
     Tries : (message : T) → (next : SendNext T) → send ≡ Unsent message → signal ≡ None
         → Turned {A = A} (TrySend message) after_try_send old new next
         → IsFirst message next → FirstSendOutcome message old new next
-        → settles_send next after answer → SendPoll A send signal old new after answer
-    -- it isn't sent, and blocks with the signal if it finds no room
+        → finishes_send next after answer → SendPoll A send signal old new after answer
+    -- it blocks if it finds no room
     Parks : (message : T) → (next : SendNext T) → (given : S) → send ≡ Unsent message
         → signal ≡ Some given → Turned {A = A} (Send message) after_send old new next
         → IsParking message next → ParkSendOutcome A message given old new next
-        → settles_send next after answer → SendPoll A send signal old new after answer
-    -- It is parked, and asks again. If it is held back and has no signal to wait on with, it takes
-    -- its message back.
+        → finishes_send next after answer → SendPoll A send signal old new after answer
+    -- if it is held back and has no signal, it takes its message back
     Asks : (late : Bool) → (ticket : ℕ) → (next : SendNext T) → send ≡ Parked ticket
         → (late ≡ true → (signal ≡ None) × IsHeldBack ticket old)
         → (late ≡ false → signal ≡ None → ¬ (IsHeldBack ticket old))
         → Turned {A = A} (step_of_parked_send ticket late) (after_parked_send ticket late)
         old new next
         → IsAgain ticket late next → AgainSendOutcome A ticket late signal old new next
-        → settles_send next after answer → SendPoll A send signal old new after answer
+        → finishes_send next after answer → SendPoll A send signal old new after answer

@@ -4,7 +4,8 @@ use Rattle.std.specs.Prelude.{List, ◌∷◌, []}
 use Rattle.flume_model.specs.declared.step.Kind.{Kind}
 use Rattle.flume_model.specs.Limits.{IsOpen, IsClosed, most}
 use Rattle.flume_model.specs.Entries.{entry_of, held_by, again}
-use Rattle.flume_state.specs.Receivers.{receiver_status, looks, blocks, noticed_receiver, waits_on}
+use Rattle.flume_state.specs.Receivers.{receiver_status, looks, is_unfilled_block}
+use Rattle.flume_state.specs.Receivers.{noticed_receiver, waits_on}
 use Rattle.flume_state.specs.declared.entries.ReceiverStatus.TheVariants.{BlockWaiting}
 use Rattle.flume_state.specs.State.{State}
 use Rattle.flume_state.specs.Effects.{with_front, after_take, without_receiver, with_peak}
@@ -14,7 +15,7 @@ use Rattle.flume_core.specs.declared.error.RecvTimeoutError.TheVariants.{Timeout
 use Rattle.flume_core.specs.declared.error.RecvTimeoutError.TheVariants.{NoMemory}
 use Rattle.flume_calls.specs.declared.calls.receive.RecvNext.{RecvNext}
 use Rattle.flume_calls.specs.declared.calls.receive.RecvNext.TheVariants.{Done, NeedSignal, Park}
-use Rattle.flume_calls.specs.ReceiveTurns.{IsNone}
+use Rattle.flume_calls.specs.ReceiveTurns.{GivesNone}
 
 module _ {T S : Type 0} where
   -- the first turn
@@ -25,7 +26,7 @@ module _ {T S : Type 0} where
         ↔ ((with_front old).queue ≡ []) × IsClosed old.senders old.receivers
     pub need_signal : (next ≡ NeedSignal)
         ↔ ((with_front old).queue ≡ []) × IsOpen old.senders old.receivers
-    pub unchanged : IsNone next → new ≡ old
+    pub unchanged : GivesNone next → new ≡ old
 
   -- the turn that may park, with its kind and its signal
   pub record ParkReceiveOutcome (kind : Kind) (signal : S) (old new : State T S)
@@ -39,8 +40,8 @@ module _ {T S : Type 0} where
         → next ≡ Done (Err NoMemory)
     pub unchanged : (error : RecvTimeoutError) → next ≡ Done (Err error) → new ≡ old
 
-  -- a turn of the receive parked under the ticket, by whether its deadline is reached, with a
-  -- signal that is to replace the one that it left
+  -- a turn of the receive parked under this ticket, by whether its deadline is reached; the signal
+  -- replaces the one that it left
   pub record AgainReceiveOutcome (call : ℕ) (late : Bool) (signal : Option S)
       (old new : State T S) (next : RecvNext T) : Type 0 where
     pub waits : (next ≡ Park call) ↔ (late ≡ false)
@@ -55,7 +56,8 @@ module _ {T S : Type 0} where
         → looks (receiver_status call old.entries) ≡ true → (with_front old).queue ≡ message ∷ rest
         → (next ≡ Done (Ok message)) × (new ≡ without_receiver call (after_take rest old))
     pub got_late : (message : T) (rest : List T) → late ≡ true
-        → blocks (receiver_status call old.entries) ≡ true → (with_front old).queue ≡ message ∷ rest
+        → is_unfilled_block (receiver_status call old.entries) ≡ true
+        → (with_front old).queue ≡ message ∷ rest
         → (next ≡ Done (Ok message)) × (new ≡ without_receiver call (after_take rest old))
     pub ended : late ≡ false → looks (receiver_status call old.entries) ≡ true
         → (with_front old).queue ≡ [] → IsClosed old.senders old.receivers

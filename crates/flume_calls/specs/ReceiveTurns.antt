@@ -27,8 +27,7 @@ module _ {T : Type 0} where
   IsParking (Refused ticket) = ⊥
   IsParking _ = Unit {0}
 
-  -- a turn of the receive parked under this ticket, before its deadline: it ends or stays parked,
-  -- never needs a signal, is never too late, and doesn't end because memory ran out
+  -- a turn of the receive parked under this ticket, before its deadline
   abbrev pub IsLater : ℕ → RecvNext T → Type 0
   IsLater ticket (Done (Err Timeout)) = ⊥
   IsLater ticket (Done (Err NoMemory)) = ⊥
@@ -37,7 +36,7 @@ module _ {T : Type 0} where
   IsLater ticket (Refused same) = same ≡ ticket
   IsLater ticket _ = Unit {0}
 
-  -- the turn of a parked receive at its deadline ends it, and needs no memory
+  -- the turn of a parked receive at its deadline
   abbrev pub IsEnd : RecvNext T → Type 0
   IsEnd (Done (Err NoMemory)) = ⊥
   IsEnd (Done result) = Unit {0}
@@ -48,17 +47,17 @@ module _ {T : Type 0} where
   IsAgain ticket false next = IsLater ticket next
   IsAgain ticket true next = IsEnd next
 
-  -- it isn't that memory ran out
+  -- memory didn't run out
   abbrev pub IsntRefused : RecvNext T → Type 0
   IsntRefused (Done (Err NoMemory)) = ⊥
   IsntRefused (Refused ticket) = ⊥
   IsntRefused _ = Unit {0}
 
   -- a receive that gave no message, and isn't parked
-  abbrev pub IsNone : RecvNext T → Type 0
-  IsNone NeedSignal = Unit {0}
-  IsNone (Done (Err error)) = Unit {0}
-  IsNone _ = ⊥
+  abbrev pub GivesNone : RecvNext T → Type 0
+  GivesNone NeedSignal = Unit {0}
+  GivesNone (Done (Err error)) = Unit {0}
+  GivesNone _ = ⊥
 
   -- the step of a parked receive's turn: if its deadline is reached, it leaves
   abbrev pub step_of_parked_receive : ℕ → Bool → Step T
@@ -68,8 +67,8 @@ module _ {T : Type 0} where
 module _ {T A : Type 0} where
   -- The tables: what is answered to each reply. A reply that isn't in a table never comes.
 
-  -- The first turn, to the reply of a `try_recv`. A `Chan` never answers it that it has no memory,
-  -- nor a `poll`; the row is of a channel with another body, which may.
+  -- The first turn, to the reply of a `try_recv`. A `Chan` never answers `NoMemory` to it, nor to a
+  -- `poll`, but the abstract channel may.
   abbrev pub after_try_recv : Reply T A → RecvNext T → Type 0
   after_try_recv (Got message) next = next ≡ Done (Ok message)
   after_try_recv Empty next = next ≡ NeedSignal
@@ -103,7 +102,7 @@ module _ {T A : Type 0} where
   after_withdraw NoTicket next = next ≡ Done (Err Disconnected)
   after_withdraw _ next = ⊥
 
-  -- a turn of a parked receive, to the reply of its step, by whether its deadline is reached
+  -- a turn of a parked receive, by whether its deadline is reached
   abbrev pub after_parked_receive : ℕ → Bool → Reply T A → RecvNext T → Type 0
   after_parked_receive ticket false reply next = after_poll ticket reply next
   after_parked_receive ticket true reply next = after_withdraw reply next

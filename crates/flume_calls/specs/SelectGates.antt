@@ -7,21 +7,20 @@ use Rattle.flume_core.specs.declared.error.NoMemory.{NoMemory as Refusal}
 use Rattle.flume_calls.specs.declared.gates.select.ArmNext.{ArmNext}
 use Rattle.flume_calls.specs.declared.gates.select.RoundEnd.{RoundEnd}
 
--- the arm after this one, in cyclic order: after the last one comes the first
+-- the arm after this one, in cyclic order
 abbrev pub next_arm : (count arm : ℕ) → ℕ
 next_arm count arm = if arm + 1 == count then 0 else arm + 1
 
 module _ {G : Type 0} (turns : G → ℕ → G → ArmNext → Type 0) (count start : ℕ) where
-  -- from a gate to the gate after this many turns, with the arm that comes next: one turn of each
-  -- arm in cyclic order, from the start arm on, and each of them waits
+  -- one turn of each of so many arms in cyclic order, from the start arm on to the `next`; each of
+  -- them waits
   pub data Waiting : G → (made next : ℕ) → G → Type 0 where
     NoTurn : {gate : G} → Waiting gate 0 start gate
     OneMore : {old between new : G} {made arm : ℕ} → Waiting old made arm between
         → turns between arm new ArmNext.Waits
         → Waiting old (made + 1) (next_arm count arm) new
 
-  -- a round, from its gate to the gate after it, by how it ends: one turn of each arm, in cyclic
-  -- order, up to the first that doesn't wait
+  -- a round: one turn of each arm, in cyclic order, up to the first that doesn't wait
   pub data IsRound (old new : G) : RoundEnd → Type 0 where
     AllWait : {next : ℕ} → Waiting old count next new → IsRound old new RoundEnd.AllWait
     Completed : {between : G} {before arm : ℕ} → before < count → Waiting old before arm between
@@ -29,14 +28,14 @@ module _ {G : Type 0} (turns : G → ℕ → G → ArmNext → Type 0) (count st
     Refused : {between : G} {before arm : ℕ} → before < count → Waiting old before arm between
         → turns between arm new ArmNext.NoMemory → IsRound old new (RoundEnd.NoMemory before)
 
--- if an arm completed in the round, this holds of it
+-- this holds of the arm that completed in the round
 abbrev pub IfCompleted : (ℕ → Type 0) → RoundEnd → Type 0
-IfCompleted holds (RoundEnd.Completed before arm) = holds arm
-IfCompleted holds _ = Unit {0}
+IfCompleted is_done (RoundEnd.Completed before arm) = is_done arm
+IfCompleted is_done _ = Unit {0}
 
 module _ {G : Type 0} (withdraws : G → ℕ → G → Type 0) (count start : ℕ) where
-  -- from a gate to the gate after withdrawals, with the arm that comes next: of this many arms, in
-  -- cyclic order from the start arm on, each was withdrawn once, but the one that is spared
+  -- each of so many arms was withdrawn once, in cyclic order from the start arm on to the `next`,
+  -- but the one that is spared
   pub data Withdraws (spared : Option ℕ) : G → (passed next : ℕ) → G → Type 0 where
     NoArm : {gate : G} → Withdraws spared gate 0 start gate
     OneMore : {old between new : G} {passed arm : ℕ} → Withdraws spared old passed arm between
@@ -45,68 +44,66 @@ module _ {G : Type 0} (withdraws : G → ℕ → G → Type 0) (count start : �
     Spared : {old new : G} {passed arm : ℕ} → Withdraws spared old passed arm new
         → spared ≡ Some arm → Withdraws spared old (passed + 1) (next_arm count arm) new
 
-  -- How a selection ends after a round, of which this many arms are started: from the gate after
-  -- the round to the gate at the end, and the result. All that were started are withdrawn, but the
-  -- one that completed.
-  pub data Ends (started : ℕ) : RoundEnd → G → G → Result ℕ SelectError → Type 0 where
+  -- How a selection with this many started arms ends after a round: all of them are withdrawn, but
+  -- the one that completed.
+  pub data EndsAfter (started : ℕ) : RoundEnd → G → G → Result ℕ SelectError → Type 0 where
     Late : {old new : G} {next : ℕ} → Withdraws None old started next new
-        → Ends started RoundEnd.AllWait old new (Err Timeout)
+        → EndsAfter started RoundEnd.AllWait old new (Err Timeout)
     Won : {old new : G} {before arm next : ℕ} → Withdraws (Some arm) old started next new
-        → Ends started (RoundEnd.Completed before arm) old new (Ok arm)
+        → EndsAfter started (RoundEnd.Completed before arm) old new (Ok arm)
     Refused : {old new : G} {before next : ℕ} → Withdraws None old started next new
-        → Ends started (RoundEnd.NoMemory before) old new (Err NoMemory)
+        → EndsAfter started (RoundEnd.NoMemory before) old new (Err NoMemory)
 
 module _ {G : Type 0} (turns : G → ℕ → G → ArmNext → Type 0) (waits : G → G → Bool → Type 0)
     (withdraws : G → ℕ → G → Type 0) (count start : ℕ) where
-  -- A selection whose arms are all started, from its gate to the gate at the end and the result. It
-  -- makes a round, and waits if all arms do; at the deadline it makes one more.
+  -- A selection whose arms are all started. It makes a round, and waits if all arms do; at the
+  -- deadline it makes one more.
   pub data StartedSelection : G → G → Result ℕ SelectError → Type 0 where
     Ended : {old polled new : G} {round : RoundEnd} {result : Result ℕ SelectError}
         → IsRound turns count start old polled round → round ≢ RoundEnd.AllWait
-        → Ends withdraws count start count round polled new result
+        → EndsAfter withdraws count start count round polled new result
         → StartedSelection old new result
     AtDeadline : {old polled waited last new : G} {round : RoundEnd} {result : Result ℕ SelectError}
         → IsRound turns count start old polled RoundEnd.AllWait → waits polled waited true
         → IsRound turns count start waited last round
-        → Ends withdraws count start count round last new result
+        → EndsAfter withdraws count start count round last new result
         → StartedSelection old new result
     Again : {old polled waited new : G} {result : Result ℕ SelectError}
         → IsRound turns count start old polled RoundEnd.AllWait → waits polled waited false
         → StartedSelection waited new result → StartedSelection old new result
 
-module _ {G : Type 0} (holds : G → ℕ → Type 0) (count : ℕ) where
+module _ {G : Type 0} (is_done : G → ℕ → Type 0) (count : ℕ) where
   -- this is one of the gate's arms, and it has completed
   pub record HasCompleted (gate : G) (arm : ℕ) : Type 0 where
     pub within : arm < count
-    pub completed : holds gate arm
+    pub completed : is_done gate arm
 
 module _ {G : Type 0} (makes : G → G → Bool → Type 0) (turns : G → ℕ → G → ArmNext → Type 0)
     (waits : G → G → Bool → Type 0) (withdraws : G → ℕ → G → Type 0) (count start : ℕ) where
   -- a selection, from its gate to the gate at the end and the result
   pub data WholeSelection (old new : G) : Result ℕ SelectError → Type 0 where
-    -- what it waits on couldn't be made, and no arm was started
-    Unmade : makes old new false → WholeSelection old new (Err NoMemory)
-    -- an arm completed as it was started, and those after it were never started
+    -- there was no memory for the waiter, and no arm was started
+    NoWaiter : makes old new false → WholeSelection old new (Err NoMemory)
+    -- an arm completed as it was started; those after it were never started
     Won : {made won : G} {before arm next : ℕ} → makes old made true
         → IsRound turns count start made won (RoundEnd.Completed before arm)
         → Withdraws withdraws count start (Some arm) won before next new
         → WholeSelection old new (Ok arm)
-    -- memory ran out as an arm was started, and those after it were never started
+    -- memory ran out as an arm was started; those after it were never started
     Refused : {made refused : G} {before next : ℕ} → makes old made true
         → IsRound turns count start made refused (RoundEnd.NoMemory before)
         → Withdraws withdraws count start None refused before next new
         → WholeSelection old new (Err NoMemory)
-    -- all were started, and wait
     Started : {made started : G} {result : Result ℕ SelectError} → makes old made true
         → IsRound turns count start made started RoundEnd.AllWait
         → StartedSelection turns waits withdraws count start started new result
         → WholeSelection old new result
 
 module _ {G : Type 0} (turns : G → ℕ → G → ArmNext → Type 0) (count start : ℕ) where
-  -- a selection that only tries its arms, from its gate to the gate at the end and the result: one
-  -- round of turns that may not park, and nothing is withdrawn
+  -- a selection that only tries its arms: one round of turns that may not park
   pub data TriedSelection (old new : G) : Result (Option ℕ) Refusal → Type 0 where
-    NoneCan : IsRound turns count start old new RoundEnd.AllWait → TriedSelection old new (Ok None)
+    NoneCompletes : IsRound turns count start old new RoundEnd.AllWait
+        → TriedSelection old new (Ok None)
     Won : {before arm : ℕ} → IsRound turns count start old new (RoundEnd.Completed before arm)
         → TriedSelection old new (Ok (Some arm))
     Refused : {before : ℕ} → IsRound turns count start old new (RoundEnd.NoMemory before)

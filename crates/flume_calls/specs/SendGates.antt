@@ -7,14 +7,12 @@ use Rattle.flume_calls.specs.declared.calls.send.SendNext.TheVariants.{Done, Nee
 
 module _ {G T : Type 0} (agains : G → ℕ → Bool → G → SendNext T → Type 0)
     (waits : G → G → Bool → Type 0) where
-  -- A parked send, from its gate and its ticket to its gate at the end and its result. It asks, and
-  -- waits if it is to wait on; only if the waiting says that the deadline is reached, it asks at
-  -- its deadline.
+  -- a parked send, from its gate and its ticket to its gate at the end and its result
   pub data ParkedSend : G → ℕ → G → Result (Unit {0}) (SendTimeoutError T) → Type 0 where
     -- the turn ended the call
     Asked : {old new : G} {ticket : ℕ} {result : Result (Unit {0}) (SendTimeoutError T)}
         → agains old ticket false new (Done result) → ParkedSend old ticket new result
-    -- it waits up to its deadline, and the turn there ended the call
+    -- the turn at its deadline ended the call
     Late : {old asked waited new : G} {ticket same : ℕ}
         {result : Result (Unit {0}) (SendTimeoutError T)}
         → agains old ticket false asked (Park same) → waits asked waited true
@@ -25,7 +23,7 @@ module _ {G T : Type 0} (agains : G → ℕ → Bool → G → SendNext T → Ty
         → agains old ticket false asked (Park same) → waits asked waited false
         → ParkedSend waited same new result → ParkedSend old ticket new result
 
-module _ {G T : Type 0} (firsts : G → T → G → SendNext T → Type 0) (arms : G → G → Bool → Type 0)
+module _ {G T : Type 0} (firsts : G → T → G → SendNext T → Type 0) (makes : G → G → Bool → Type 0)
     (parks : G → T → G → SendNext T → Type 0)
     (agains : G → ℕ → Bool → G → SendNext T → Type 0) (waits : G → G → Bool → Type 0) where
   -- a send, from its gate and its message to its gate at the end and its result
@@ -33,14 +31,14 @@ module _ {G T : Type 0} (firsts : G → T → G → SendNext T → Type 0) (arms
       (result : Result (Unit {0}) (SendTimeoutError T)) : Type 0 where
     -- the first turn ended the call
     AtFirst : firsts old message new (Done result) → WholeSend old message new result
-    -- the call was to park, and what it parks on couldn't be made
-    Unarmed : {first : G} → firsts old message first (NeedSignal message) → arms first new false
+    -- there was no memory for the waiter
+    NoWaiter : {first : G} → firsts old message first (NeedSignal message) → makes first new false
         → result ≡ Err (NoMemory message) → WholeSend old message new result
     -- the turn that may park ended the call
-    AtPark : {first armed : G} → firsts old message first (NeedSignal message)
-        → arms first armed true → parks armed message new (Done result)
+    AtPark : {first made : G} → firsts old message first (NeedSignal message)
+        → makes first made true → parks made message new (Done result)
         → WholeSend old message new result
     -- it parked, and ended later
-    Parked : {first armed parked : G} {ticket : ℕ} → firsts old message first (NeedSignal message)
-        → arms first armed true → parks armed message parked (Park ticket)
+    Parked : {first made parked : G} {ticket : ℕ} → firsts old message first (NeedSignal message)
+        → makes first made true → parks made message parked (Park ticket)
         → ParkedSend agains waits parked ticket new result → WholeSend old message new result

@@ -6,7 +6,7 @@ use Rattle.std.specs.FinMap.{get, insert, remove}
 use Rattle.flume_model.specs.Limits.{IsOpen, IsClosed, IsAtCapacity}
 use Rattle.flume_model.specs.Entries.{some_wait}
 use Rattle.flume_state.specs.Notices.{with_signal}
-use Rattle.flume_state.specs.Sends.{blocked, noticed_send}
+use Rattle.flume_state.specs.Sends.{newly_blocked, noticed_send}
 use Rattle.flume_state.specs.State.{State, accepted_at, message_count}
 use Rattle.flume_state.specs.Effects.{Joins, Returns}
 use Rattle.flume_core.specs.Represents.{IsReachable}
@@ -15,7 +15,7 @@ use Rattle.flume_core.specs.declared.error.SendTimeoutError.TheVariants.{Timeout
 use Rattle.flume_core.specs.declared.error.SendTimeoutError.TheVariants.{NoMemory}
 use Rattle.flume_calls.specs.declared.calls.send.SendNext.{SendNext}
 use Rattle.flume_calls.specs.declared.calls.send.SendNext.TheVariants.{Done, NeedSignal, Park}
-use Rattle.flume_calls.specs.SendTurns.{IsBack}
+use Rattle.flume_calls.specs.SendTurns.{HandsBack}
 
 module _ {T S : Type 0} where
   -- the first turn
@@ -26,7 +26,7 @@ module _ {T S : Type 0} where
         × (some_wait old.entries ≡ false) × IsAtCapacity old.capacity (length old.queue)
     pub sent : next ≡ Done (Ok tt) → (filled : Option ℕ) × Joins old new message filled
     pub succeeds : message_count old < old.space → next ≢ Done (Err (NoMemory message))
-    pub unchanged : IsBack next → new ≡ old
+    pub unchanged : HandsBack next → new ≡ old
 
   -- the turn that may park, with its signal
   pub record ParkSendOutcome (A : Type 0) (message : T) (signal : S) (old new : State T S)
@@ -39,14 +39,14 @@ module _ {T S : Type 0} where
     pub parked : next ≡ Park old.next → new ≡ record old {
       blocked = old.blocked ++ record { ticket = old.next; message = message } ∷ [];
       space = new.space;
-      sends = insert old.sends old.next (blocked signal);
+      sends = insert old.sends old.next (newly_blocked signal);
       next = old.next + 1;
     }
     pub ticket : IsReachable A old → (ticket : ℕ) → next ≡ Park ticket → ticket ≡ old.next
-    pub unchanged : IsBack next → new ≡ old
+    pub unchanged : HandsBack next → new ≡ old
 
-  -- a turn of the send parked under the ticket, by whether its deadline is reached, with a signal
-  -- that is to replace the one that it left
+  -- a turn of the send parked under this ticket, by whether its deadline is reached; the signal
+  -- replaces the one that it left
   pub record AgainSendOutcome (A : Type 0) (call : ℕ) (late : Bool) (signal : Option S)
       (old new : State T S) (next : SendNext T) : Type 0 where
     pub waits : (next ≡ Park call) ↔ (late ≡ false)

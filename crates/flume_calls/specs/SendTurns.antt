@@ -12,7 +12,7 @@ use Rattle.flume_calls.specs.declared.calls.send.SendNext.{SendNext}
 use Rattle.flume_calls.specs.declared.calls.send.SendNext.TheVariants.{Done, NeedSignal, Park}
 
 module _ {T : Type 0} where
-  -- the first turn never parks and is never too late; a message that comes back is this one
+  -- the first turn never parks and is never too late
   abbrev pub IsFirst : T → SendNext T → Type 0
   IsFirst message (Done (Ok sent)) = Unit {0}
   IsFirst message (Done (Err (Timeout back))) = ⊥
@@ -21,22 +21,20 @@ module _ {T : Type 0} where
   IsFirst message (NeedSignal back) = back ≡ message
   IsFirst message (Park ticket) = ⊥
 
-  -- the turn that may park never needs a signal and is never too late; a message that comes back
-  -- is this one
+  -- the turn that may park never needs a signal and is never too late
   abbrev pub IsParking : T → SendNext T → Type 0
   IsParking message (NeedSignal back) = ⊥
   IsParking message (Park ticket) = Unit {0}
   IsParking message other = IsFirst message other
 
-  -- a turn of the send parked under this ticket, before its deadline: it ends or waits on, is never
-  -- too late and needs no memory
+  -- a turn of the send parked under this ticket, before its deadline
   abbrev pub IsLater : ℕ → SendNext T → Type 0
   IsLater ticket (Done (Ok sent)) = Unit {0}
   IsLater ticket (Done (Err (Disconnected back))) = Unit {0}
   IsLater ticket (Park same) = same ≡ ticket
   IsLater ticket _ = ⊥
 
-  -- the turn of a parked send at its deadline ends it, and needs no memory
+  -- the turn of a parked send at its deadline
   abbrev pub IsEnd : SendNext T → Type 0
   IsEnd (Done (Ok sent)) = Unit {0}
   IsEnd (Done (Err (Disconnected back))) = Unit {0}
@@ -48,13 +46,13 @@ module _ {T : Type 0} where
   IsAgain ticket false next = IsLater ticket next
   IsAgain ticket true next = IsEnd next
 
-  -- an offer that was refused: the message comes back
-  abbrev pub IsBack : SendNext T → Type 0
-  IsBack (NeedSignal back) = Unit {0}
-  IsBack (Done (Err error)) = Unit {0}
-  IsBack _ = ⊥
+  -- an offer that hands its message back
+  abbrev pub HandsBack : SendNext T → Type 0
+  HandsBack (NeedSignal back) = Unit {0}
+  HandsBack (Done (Err error)) = Unit {0}
+  HandsBack _ = ⊥
 
-  -- the step of a parked send's turn: if its deadline is reached, it takes its message back
+  -- the step of a parked send's turn, by whether its deadline is reached
   abbrev pub step_of_parked_send : ℕ → Bool → Step T
   step_of_parked_send ticket false = PollSend ticket
   step_of_parked_send ticket true = WithdrawSend ticket
@@ -95,7 +93,7 @@ module _ {T A : Type 0} where
   after_withdraw_send (Returned back false) next = next ≡ Done (Err (Timeout back))
   after_withdraw_send _ next = ⊥
 
-  -- a turn of a parked send, to the reply of its step, by whether its deadline is reached
+  -- a turn of a parked send, by whether its deadline is reached
   abbrev pub after_parked_send : ℕ → Bool → Reply T A → SendNext T → Type 0
   after_parked_send ticket false reply next = after_poll_send ticket reply next
   after_parked_send ticket true reply next = after_withdraw_send reply next

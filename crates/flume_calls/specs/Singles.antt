@@ -1,4 +1,4 @@
--- Which step each turn makes that is a call of its own, and what a change of the capacity answers.
+-- The steps of turns that are a whole call.
 use Rattle.std.specs.Prelude.{◌≡◌, Result, Ok, Err}
 use Rattle.flume_model.specs.declared.step.Step.{Step}
 use Rattle.flume_model.specs.declared.step.Step.TheVariants as step
@@ -14,7 +14,7 @@ use Rattle.flume_calls.specs.declared.single.AskTruth.{AskTruth}
 use Rattle.flume_calls.specs.declared.single.AskTruth.TheVariants as truth
 
 module _ {T : Type 0} where
-  -- the step that a single turn makes: it has the turn's name
+  -- the step that a single turn makes
   abbrev pub step_of : Single → Step T
   step_of single.Drain = step.Drain
   step_of single.CloneSender = step.CloneSender
@@ -35,7 +35,7 @@ module _ {T : Type 0} where
   step_for_truth truth.IsDisconnected = step.IsDisconnected
 
 module _ {T A : Type 0} where
-  -- what a change of the capacity answers to the step's reply; no other reply comes
+  -- what a change of the capacity answers to each reply
   abbrev pub after_set_capacity : Reply T A → Result (Unit {0}) CapacityError → Type 0
   after_set_capacity reply.Done answer = answer ≡ Ok tt
   after_set_capacity reply.Unbounded answer = answer ≡ Err error.Unbounded

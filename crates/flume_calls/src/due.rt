@@ -1,4 +1,4 @@
-//! Notifying the owners of the tickets that are due.
+//! The bell, which notifies the owners of due tickets.
 ghost use Rattle.std.specs.Prelude.{◌≡◌, ◌≢◌, ℕ, Some, None};
 ghost use Rattle.flume_state.specs.Sends.{NoDueSend};
 ghost use Rattle.flume_state.specs.Receivers.{NoDueReceiver};
@@ -11,16 +11,15 @@ use std::alloc::Allocator;
 
 /// Notifies the owner of a signal that its ticket is due.
 pub trait Bell<S> {
-    // The bell before, the ticket, its signal, and the bell after.
     ghost rings: { Self → ℕ → S → Self → Type 0 };
 
-    /// Rings once, for this ticket and with this signal.
+    /// Rings once.
     fn ring(&mut self, ticket: u64, signal: &S)
         ensures { rings self.old ticket signal.now self.new };
 }
 
-/// Rings once for each ticket that is due, with the signal that it left last. Then none is due, and
-/// the rest of the channel is as it was. No step; doesn't allocate.
+/// Rings once for each ticket that is due, with the signal that it left last. No step; doesn't
+/// allocate.
 ///
 /// ```
 /// let mut chan: Chan<u64, u64> = Chan::new(alloc, Some(0));
@@ -39,8 +38,8 @@ pub fn fire_due<T: Drop, S: Drop, A: Allocator + Copy, B: Bell<S>>(
     ensures rings { Rings B.rings chan.old bell.old chan.new bell.new }
     ensures sends { NoDueSend chan.new.sends }
     ensures receivers { NoDueReceiver chan.new.entries }
-    ensures told { NoneDueAnyMore chan.old chan.new }
-    ensures stands { SameLogs A chan.old chan.new }
+    ensures none_due_any_more { NoneDueAnyMore chan.old chan.new }
+    ensures represents { SameLogs A chan.old chan.new }
 {
     while let Some(ticket) = chan.next_due() {
         ring_for(chan, ticket, bell);

@@ -1,5 +1,4 @@
-//! What a blocking call goes through: a gate makes each turn of the call, and does the waiting
-//! between turns. The calls here decide only which turn comes next.
+//! The loops of blocking calls. A *gate*, which the caller writes, makes the turns and waits.
 
 mod receive;
 mod select;

@@ -9,7 +9,7 @@ ghost use Rattle.flume_state.specs.State.{State, new_state};
 ghost use Rattle.flume_state.specs.Signals.{signal_of};
 ghost use Rattle.flume_core.specs.Represents.{IsReachable};
 ghost use Rattle.flume_core.specs.StateFacts.{ChannelFacts, NobodyIsStuck};
-ghost use Rattle.flume_calls.specs.AtRest.{IsAtRest, IsCall};
+ghost use Rattle.flume_calls.specs.AtRest.{IsAtRest, IsCallAtRest};
 ghost use Rattle.flume_calls.specs.EachIsRung.{EachIsRung};
 ghost use Rattle.flume_calls.specs.Polls.{IsPollCall, AtMostOneStep};
 ghost use Rattle.flume_calls.specs.Quiet.{IsQuiet};
@@ -22,8 +22,7 @@ use flume_core::facts::facts;
 use std::alloc::Allocator;
 use std::marker::Model;
 
-/// A channel as its lock protects it between two calls: some run led to it, and no ticket is due.
-/// Each call makes one turn, and then rings the bell once for each ticket that became due.
+/// A channel as its lock protects it between two calls.
 ///
 /// ```
 /// let mut locked: Locked<u64, u64, Global> = Locked::new(rt.alloc(), Some(1));
@@ -53,7 +52,7 @@ impl<T, S, A: Allocator> Model for Locked<T, S, A> {
 }
 
 impl<T: Drop, S: Drop, A: Allocator + Copy> Locked<T, S, A> {
-    /// A new channel of this capacity; `None` is unbounded. Doesn't allocate.
+    /// A new channel of this capacity, or unbounded if `None`. Doesn't allocate.
     #[inline(always)]
     pub fn new(alloc: A, capacity: Option<usize>) -> Self
         ensures state { result ≡ new_state (opens capacity 1) }
@@ -63,10 +62,9 @@ impl<T: Drop, S: Drop, A: Allocator + Copy> Locked<T, S, A> {
         }
     }
 
-    /// What holds of the channel whenever its lock is free. Once every woken receiver has looked,
-    /// nobody waits for what is there already (`rest`). Does nothing.
+    /// The laws of the channel's state. Does nothing.
     pub fn facts(&self)
-        ensures led { IsReachable A self.now }
+        ensures reachable { IsReachable A self.now }
         ensures facts { ChannelFacts self.now }
         ensures rest { woken_count self.now.entries ≡ 0 → NobodyIsStuck self.now }
         ensures no_send_is_due { NoDueSend self.now.sends }
@@ -75,13 +73,13 @@ impl<T: Drop, S: Drop, A: Allocator + Copy> Locked<T, S, A> {
         facts(&self.chan);
     }
 
-    // What a call that doesn't park runs through is `inline(always)`, here and in the turns; what
-    // is done once something is parked or due is out of line.
-    /// Makes the turn, and rings once for each ticket that is due then: so for each call that can
-    /// go on, since its message was accepted or its receiver was woken (`each_is_rung`).
+    // The path of a call that doesn't park is inlined, here and in the turns. The rest is out of
+    // line.
+    /// Makes the turn, and rings once for each ticket that is due then.
     #[inline(always)]
     pub fn make<C: Turn<T, S, A>, B: Bell<S>>(&mut self, turn: C, bell: &mut B) -> C::Answer
-        ensures call { IsCall A B.rings (C.does turn) self.old bell.old self.new bell.new result }
+        ensures call { IsCallAtRest A B.rings (C.does turn) self.old bell.old self.new bell.new
+            result }
         ensures each_is_rung { EachIsRung B.rings self.old bell.old self.new bell.new }
         ensures answers { C.answers turn result }
     {
@@ -90,8 +88,7 @@ impl<T: Drop, S: Drop, A: Allocator + Copy> Locked<T, S, A> {
         answer
     }
 
-    /// Whether no send is blocked and no receiver waits: then the next step makes no ticket due. No
-    /// step.
+    /// Whether no send is blocked and no receiver waits. No step.
     ///
     /// ```
     /// let mut locked: Locked<u64, u64, Global> = Locked::new(rt.alloc(), Some(0));
@@ -108,8 +105,7 @@ impl<T: Drop, S: Drop, A: Allocator + Copy> Locked<T, S, A> {
         self.chan.blocked_len() == 0 && self.chan.waiting_len() == 0
     }
 
-    /// Makes a turn of at most one step, on a channel with no blocked send and no waiting receiver.
-    /// No other call can go on by it, so no bell is rung.
+    /// Makes a turn of at most one step, and rings no bell: no other call can go on by it.
     ///
     /// ```
     /// let mut locked: Locked<u64, u64, Global> = Locked::new(rt.alloc(), None);
@@ -136,21 +132,21 @@ impl<T: Drop, S: Drop, A: Allocator + Copy> Locked<T, S, A> {
         polled.would_wait(&self.chan)
     }
 
-    /// How many sends are blocked, as `Chan::blocked_len`.
+    /// How many sends are blocked.
     pub fn blocked_len(&self) -> usize
         ensures blocked { result ≡ length self.now.blocked }
     {
         self.chan.blocked_len()
     }
 
-    /// How many parked receivers wait, as `Chan::waiting_len`.
+    /// How many parked receivers wait.
     pub fn waiting_len(&self) -> usize
         ensures waiting { result ≡ waiting_count self.now.entries }
     {
         self.chan.waiting_len()
     }
 
-    /// The signal that the call left last, if it is parked. No step.
+    /// The signal that the parked call left last. No step.
     #[inline(always)]
     pub fn parked_signal<P: Polled<T, S, A>>(&self, polled: &P) -> Option<&S>
         ensures signal { option_copied result

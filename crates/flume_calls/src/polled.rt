@@ -1,5 +1,4 @@
-//! A call that is polled: a future, a sink or a stream without its lock and its waker. Each poll
-//! makes at most one step of the channel, in which it ends or leaves its signal.
+//! A call that is polled: a future, a sink or a stream without its lock and its waker.
 ghost use Rattle.std.specs.Prelude.{◌≡◌, ◌↔◌, ℕ, IsTrue, Option, None, IsSome};
 ghost use Rattle.flume_state.specs.State.{State};
 ghost use Rattle.flume_calls.specs.Polls.{AtMostOneStep};
@@ -12,24 +11,21 @@ pub use receive::PolledReceive;
 pub use send::PolledSend;
 use std::alloc::Allocator;
 
-/// A call on a channel of messages `T` and signals `S` that is polled until it ends. Its owner asks
-/// first whether it would wait, and makes a signal only then: a poll that ends at once allocates
-/// none.
+/// A call on a channel of messages `T` and signals `S` that is polled until it ends. Its owner
+/// makes a signal only if it would wait.
 pub trait Polled<T, S, A: Allocator> {
     /// What the call ends with.
     type Answer;
 
-    // When a poll would have to wait.
     ghost waits: { Self → State T S → Type 0 };
 
-    // The call before, the signal that it is given, if any, the channel before and after, the call
-    // after, and what it answers.
+    // The call before, the signal that it is given, the channel before and after, the call after,
+    // and the answer.
     ghost polls: { Self → Option S → State T S → State T S → Self → Option Self.Answer → Type 0 };
 
-    // The ticket that it is parked under.
     ghost parked: { Self → Option ℕ };
 
-    /// The ticket under which the call is parked. `None`: it isn't parked.
+    /// The ticket under which the call is parked; `None` if it isn't parked.
     fn ticket(&self) -> Option<u64>
         ensures ticket { result ≡ parked self.now };
 
@@ -37,11 +33,10 @@ pub trait Polled<T, S, A: Allocator> {
     fn would_wait(&self, chan: &Chan<T, S, A>) -> bool
         ensures waits { IsTrue result ↔ waits self.now chan.now };
 
-    // The signal is taken out of a place instead of passed by value, since the checker proves no
-    // clauses of a trait's method that has an `Option` of the trait's parameter by value.
-    /// Polls the call, which may take the signal out of `signal`. `None`: it waits, and the signal
-    /// was left in the step that found nothing. If it would wait and `signal` is `None`, since
-    /// there was no memory for one, it ends with `NoMemory`.
+    // The checker proves no clauses of a trait's method that takes an `Option` of the trait's
+    // parameter by value.
+    /// Polls the call, which may take the signal out of `signal`. `None`: it waits, and has left
+    /// the signal. If it would wait and `signal` is `None`, it ends with `NoMemory`.
     fn poll(&mut self, chan: &mut Chan<T, S, A>, signal: &mut Option<S>) -> Option<Self::Answer>
         ensures row { polls self.old signal.old chan.old chan.new self.new result }
         ensures step { AtMostOneStep A chan.old chan.new }

@@ -1,4 +1,4 @@
-//! The turns that are a whole call: none waits.
+//! The turns that are a whole call.
 ghost use Rattle.flume_calls.specs.Turns.{Turned};
 ghost use Rattle.flume_calls.specs.Batches.{by_step};
 
@@ -8,18 +8,18 @@ use flume_core::error::CapacityError;
 use flume_model::step::{Reply, Step};
 use std::alloc::Allocator;
 
-/// The steps that are answered by their reply as it is.
+/// The steps whose reply is the answer. A refusal changes nothing.
 #[derive(Clone, Copy, Drop)]
 pub enum Single {
-    /// Takes all that is queued: `Drained` with the list; or `NoMemory`, and nothing changed.
+    /// Takes all that is queued: `Drained`, or `NoMemory`.
     Drain,
-    /// One more sender: `Done`; or `NoEnd` or `CountFull`, and nothing changed.
+    /// One more sender: `Done`, `NoEnd` or `CountFull`.
     CloneSender,
-    /// One more receiver: `Done`; or `NoEnd` or `CountFull`, and nothing changed.
+    /// One more receiver: `Done`, `NoEnd` or `CountFull`.
     CloneReceiver,
-    /// One sender less: `Done`; or `NoEnd` if none was left, and nothing changed.
+    /// One sender less: `Done`, or `NoEnd` if none was left.
     DropSender,
-    /// One receiver less: `Done`; or `NoEnd` if none was left, and nothing changed.
+    /// One receiver less: `Done`, or `NoEnd` if none was left.
     DropReceiver,
 }
 
@@ -32,7 +32,7 @@ impl<T: Drop, S: Drop, A: Allocator + Copy> Turn<T, S, A> for Single {
     type Answer = Reply<T, A>;
 
     ghost does = { λ turn old new answer.
-        Turned {A = A} (step_of turn) (λ reply told. told ≡ reply) old new answer
+        Turned {A = A} (step_of turn) (λ reply same. same ≡ reply) old new answer
         × (ChangesNothing (step_of turn) answer → new ≡ old) };
 
     ghost leads = { λ _ old new answer does. by_step does.0 };
@@ -93,7 +93,7 @@ impl<T: Drop, S: Drop, A: Allocator + Copy> Turn<T, S, A> for AskNumber {
 pub enum AskTruth {
     /// Whether no message is queued.
     IsEmpty,
-    /// Whether the channel is bounded, and its queue at or past its capacity.
+    /// Whether a bounded channel's queue is at or past its capacity.
     IsFull,
     /// Whether all senders or all receivers have been dropped.
     IsDisconnected,
@@ -156,7 +156,7 @@ impl<T: Drop, S: Drop, A: Allocator + Copy> Turn<T, S, A> for AskCapacity {
 /// Both leave it as it was.
 #[derive(Clone, Copy, Drop)]
 pub struct SetCapacity {
-    /// What the capacity is to be.
+    /// The new capacity.
     pub capacity: usize,
 }
 

@@ -2,9 +2,9 @@
 use Rattle.std.proofs.Common.{◌≡◌, ◌≢◌, Option, ℕ, ◌==◌, List, [], ◌∷◌, ◌++◌, Some, None, map, length, refl, sym, ap, ap₂, subst, ◌∙◌, arith, length-append, if◌then◌else◌, eq-eqb}
 use Rattle.std.specs.Vec.{vec_len}
 use Rattle.flume_chain.specs.declared.chain.links.Links.{Links}
-use Rattle.flume_chain.specs.declared.labelled.Labelled.{Labelled}
+use Rattle.flume_chain.specs.declared.labelled.LabelledValue.{LabelledValue}
 use Rattle.flume_chain.specs.Links.{end, with, next_at, previous_at, element_at, Linked, HasNode}
-use Rattle.flume_chain.specs.Chained.{once, Placed, Chained, Table, Holds, IsChain, places, found, listed, moved_back, table_of, chain_of}
+use Rattle.flume_chain.specs.ChainState.{once, ChainItem, ChainState, Table, HoldsItems, IsChain, places, found, listed, moved_back, table_of, chain_of}
 use Rattle.flume_chain.proofs.Rings.{once_same, with_same}
 use Rattle.flume_chain.proofs.Tables.{walk_in, item, Split, with_again}
 use Rattle.flume_chain.proofs.Steps.{linked_table, emptied, bypassed, filled, last_below, takes, puts_last}
@@ -13,15 +13,15 @@ use Rattle.flume_chain.proofs.Puts.{with_twice}
 
 module _ {L E Z : Type 0} where
   -- the element at the first place, and those behind it
-  pub record Begun (s : Links L E Z) (items : List (Placed (Labelled L E))) : Type 0 where
-    pub element : (Labelled L E)
-    pub rest : List (Placed (Labelled L E))
+  pub record Begun (s : Links L E Z) (items : List (ChainItem (LabelledValue L E))) : Type 0 where
+    pub element : (LabelledValue L E)
+    pub rest : List (ChainItem (LabelledValue L E))
     pub is : items ≡ item s.first element ∷ rest
-    pub stands : element_at s s.first ≡ Some element
+    pub occupied : element_at s s.first ≡ Some element
     pub before : previous_at s s.first ≡ end
 
   -- if a place is the first, there is an element there
-  pub begun : (s : Links L E Z) (items : List (Placed (Labelled L E))) (frees : List ℕ) → Holds (table_of s) items frees → s.first ≢ end → Begun s items
+  pub begun : (s : Links L E Z) (items : List (ChainItem (LabelledValue L E))) (frees : List ℕ) → HoldsItems (table_of s) items frees → s.first ≢ end → Begun s items
   begun s [] frees h ne =
       let f : s.first ∷ [] ≡ end ∷ [] = h.forward in
       absurd (ne cc)
@@ -34,13 +34,13 @@ module _ {L E Z : Type 0} where
         element = x.element;
         rest = xs;
         is = ap (λ (k : ℕ). item k x.element ∷ xs) (sym name);
-        stands = h.elements s.first ∙ ap (found (x ∷ xs)) name
+        occupied = h.elements s.first ∙ ap (found (x ∷ xs)) name
             ∙ ap (λ t. if t then Some x.element else found xs x.place) (eq-eqb x.place x.place refl);
         before = ap (previous_at s) name ∙ ahead;
       }
 
   -- if no place is the first, there is no element
-  pub none_begun : (s : Links L E Z) (items : List (Placed (Labelled L E))) (frees : List ℕ) → Holds (table_of s) items frees → s.first ≡ end → items ≡ []
+  pub none_begun : (s : Links L E Z) (items : List (ChainItem (LabelledValue L E))) (frees : List ℕ) → HoldsItems (table_of s) items frees → s.first ≡ end → items ≡ []
   none_begun s [] frees h is = refl
   none_begun s (x ∷ xs) frees h is =
       let f : s.first ∷ map (next_at s) (x.place ∷ places xs) ≡ x.place ∷ (places xs ++ end ∷ []) = h.forward in
@@ -51,7 +51,7 @@ module _ {L E Z : Type 0} where
       absurd (omega arith)
 
   -- the first element is ahead of those behind it
-  pub begun_split : (s : Links L E Z) (items : List (Placed (Labelled L E))) (b : Begun s items) → Split items s.first b.element
+  pub begun_split : (s : Links L E Z) (items : List (ChainItem (LabelledValue L E))) (b : Begun s items) → Split items s.first b.element
   begun_split s items b = record { before = []; after = b.rest; is = b.is }
 
   -- what is written to take the first element out of its node, and then that node out of the links
@@ -62,11 +62,11 @@ module _ {L E Z : Type 0} where
       (with (element_at old) old.first None) old.first
 
   -- links with the first element taken out hold those behind it
-  pub first_taken : (old new : Links L E Z) (items : List (Placed (Labelled L E))) (frees : List ℕ) (b : Begun old items)
-      → Holds (table_of old) items frees → FirstTaken old new → Holds (table_of new) b.rest (old.first ∷ frees)
+  pub first_taken : (old new : Links L E Z) (items : List (ChainItem (LabelledValue L E))) (frees : List ℕ) (b : Begun old items)
+      → HoldsItems (table_of old) items frees → FirstTaken old new → HoldsItems (table_of new) b.rest (old.first ∷ frees)
   first_taken old new items frees b h t =
-      let held : Holds (table_of old) (item old.first b.element ∷ b.rest) frees =
-      subst (λ (l : List (Placed (Labelled L E))). Holds (table_of old) l frees) b.is h in
+      let held : HoldsItems (table_of old) (item old.first b.element ∷ b.rest) frees =
+      subst (λ (l : List (ChainItem (LabelledValue L E))). HoldsItems (table_of old) l frees) b.is h in
       let is : table_of new ≡ bypassed (emptied (table_of old) old.first) old.first =
       linked_table old new _ _ _ _ t ∙ ap (λ (p : ℕ). record {
         size = vec_len old.nodes;
@@ -75,7 +75,7 @@ module _ {L E Z : Type 0} where
         element = with (element_at old) old.first None;
         free = old.first;
       }) (sym b.before) in
-      subst (λ x. Holds x b.rest (old.first ∷ frees)) (sym is) (takes (table_of old) [] b.rest old.first b.element frees held)
+      subst (λ x. HoldsItems x b.rest (old.first ∷ frees)) (sym is) (takes (table_of old) [] b.rest old.first b.element frees held)
 
 module _ {E : Type 0} where
   -- a table with a place linked out of it
@@ -112,7 +112,7 @@ module _ {E : Type 0} where
       }
 
 -- links of which the place of an element was linked out, and then linked behind all others
-module _ {L E Z : Type 0} (old mid : Links L E Z) (n c : ℕ) (e : (Labelled L E)) (k : IsChain old n) (is : Some e ≡ element_at old c)
+module _ {L E Z : Type 0} (old mid : Links L E Z) (n c : ℕ) (e : (LabelledValue L E)) (k : IsChain old n) (is : Some e ≡ element_at old c)
     (out : Linked old mid
     (with (next_at old) (previous_at old c) (next_at old c))
     (with (previous_at old) (next_at old c) (previous_at old c))
@@ -122,9 +122,9 @@ module _ {L E Z : Type 0} (old mid : Links L E Z) (n c : ℕ) (e : (Labelled L E
   split = found_split old k.items k.frees c e k.holds is
 
   -- the table with the element taken out
-  left : Holds (bypassed (emptied (table_of old) c) c) (split.before ++ split.after) (c ∷ k.frees)
+  left : HoldsItems (bypassed (emptied (table_of old) c) c) (split.before ++ split.after) (c ∷ k.frees)
   left = takes (table_of old) split.before split.after c e k.frees
-      (subst (λ (l : List (Placed (Labelled L E))). Holds (table_of old) l k.frees) split.is k.holds)
+      (subst (λ (l : List (ChainItem (LabelledValue L E))). HoldsItems (table_of old) l k.frees) split.is k.holds)
 
   -- the last place is the end or below the size
   pub last_stands : HasNode mid mid.last
@@ -151,7 +151,7 @@ module _ {L E Z : Type 0} (old mid : Links L E Z) (n c : ℕ) (e : (Labelled L E
       record {
         items = (split.before ++ split.after) ++ item c e ∷ [];
         frees = k.frees;
-        holds = subst (λ t. Holds t ((split.before ++ split.after) ++ item c e ∷ []) k.frees) (sym all)
+        holds = subst (λ t. HoldsItems t ((split.before ++ split.after) ++ item c e ∷ []) k.frees) (sym all)
             (puts_last (bypassed (emptied (table_of old) c) c) (split.before ++ split.after) k.frees e left);
         count =
             let a = length-append split.before split.after in
@@ -163,11 +163,11 @@ module _ {L E Z : Type 0} (old mid : Links L E Z) (n c : ℕ) (e : (Labelled L E
       }
 
   -- and so the chain has that element behind all others
-  pub moved_items : (v : Chained (Labelled L E)) → chain_of old n ≡ v → (new : Links L E Z) → LinkedLast new → walk_in (table_of new) new.first n ≡ moved_back v.items c
+  pub moved_items : (v : ChainState (LabelledValue L E)) → chain_of old n ≡ v → (new : Links L E Z) → LinkedLast new → walk_in (table_of new) new.first n ≡ moved_back v.items c
   unfolding moved_kept
   moved_items v view new last =
       let m = moved_kept new last in
       walked new n m.items m.frees m.holds m.count
-      ∙ sym (ap₂ (λ (l : List (Placed (Labelled L E))) (o : Option (Labelled L E)). l ++ listed c o [])
+      ∙ sym (ap₂ (λ (l : List (ChainItem (LabelledValue L E))) (o : Option (LabelledValue L E)). l ++ listed c o [])
       (taken_items old k.items k.frees c e split k.holds) (sym (k.holds.elements c) ∙ sym is))
       ∙ ap (λ l. moved_back l c) (kept_items old n v k view)

@@ -5,9 +5,9 @@ use Rattle.std.specs.Option.{option_map}
 use Rattle.std.specs.Vec.{vec_len}
 use Rattle.std.proofs.lemmas.List.{map-append, get_or_past}
 use Rattle.flume_chain.specs.declared.chain.links.Links.{Links}
-use Rattle.flume_chain.specs.declared.labelled.Labelled.{Labelled}
+use Rattle.flume_chain.specs.declared.labelled.LabelledValue.{LabelledValue}
 use Rattle.flume_chain.specs.Links.{end, no_node, element_of, with, next_at, previous_at, element_at, Linked, Same}
-use Rattle.flume_chain.specs.Chained.{once, times, Placed, Chained, Table, Holds, IsChain, places, without, put_before, table_of, room_of, chain_of, first_place, place_after}
+use Rattle.flume_chain.specs.ChainState.{once, times, ChainItem, ChainState, Table, HoldsItems, IsChain, places, without_place, put_before, table_of, room_of, chain_of, first_place, place_after}
 use Rattle.flume_chain.proofs.Rings.{Ring, times-append, once_same}
 use Rattle.flume_chain.proofs.Splices.{around}
 use Rattle.flume_chain.proofs.Tables.{walk_in, item, walk_is, Split, found_some, without_at, put_before_at, after_at, heads, ring_of}
@@ -43,9 +43,9 @@ module _ {E : Type 0} where
     pub next : t.next c ≢ end → t.next c < t.size
     pub previous : t.previous c ≢ end → t.previous c < t.size
 
-  pub neighbours : (t : Table E) (xs ys : List (Placed E)) (c : ℕ) (e : E) (frees : List ℕ) → Holds t (xs ++ item c e ∷ ys) frees → Neighbours t c
+  pub neighbours : (t : Table E) (xs ys : List (ChainItem E)) (c : ℕ) (e : E) (frees : List ℕ) → HoldsItems t (xs ++ item c e ∷ ys) frees → Neighbours t c
   neighbours t xs ys c e frees h =
-      let names : places (xs ++ item c e ∷ ys) ≡ places xs ++ c ∷ places ys = map-append (λ (x : Placed E). x.place) xs (item c e ∷ ys) in
+      let names : places (xs ++ item c e ∷ ys) ≡ places xs ++ c ∷ places ys = map-append (λ (x : ChainItem E). x.place) xs (item c e ∷ ys) in
       let r = around t.next t.previous (places xs) c (places ys) (subst (Ring t.next t.previous) names (ring_of t (xs ++ item c e ∷ ys) frees h)) in
       let last_stands : 1 ≤ times (t.previous c) (end ∷ places (xs ++ item c e ∷ ys)) =
       let s = ap (times (t.previous c)) r.ends in
@@ -69,15 +69,15 @@ module _ {E : Type 0} where
       }
 
   -- what is after the place of an element is the first of those behind it
-  pub record After (t : Table E) (items : List (Placed E)) (c : ℕ) : Type 0 where
+  pub record After (t : Table E) (items : List (ChainItem E)) (c : ℕ) : Type 0 where
     pub none : t.next c ≡ end → None ≡ place_after items c
     pub some : t.next c ≢ end → Some (t.next c) ≡ place_after items c
 
-  pub after_is : (t : Table E) (items : List (Placed E)) (frees : List ℕ) (c : ℕ) (e : E) → Holds t items frees → Some e ≡ t.element c → After t items c
+  pub after_is : (t : Table E) (items : List (ChainItem E)) (frees : List ℕ) (c : ℕ) (e : E) → HoldsItems t items frees → Some e ≡ t.element c → After t items c
   after_is t items frees c e h is =
       let s = found_some items c e (sym (h.elements c) ∙ sym is) in
       let names : places items ≡ places s.before ++ c ∷ places s.after =
-      ap places s.is ∙ map-append (λ (x : Placed E). x.place) s.before (item c e ∷ s.after) in
+      ap places s.is ∙ map-append (λ (x : ChainItem E). x.place) s.before (item c e ∷ s.after) in
       let ring = ring_of t items frees h in
       let r = around t.next t.previous (places s.before) c (places s.after) (subst (Ring t.next t.previous) names ring) in
       let most = ring.apart c in
@@ -89,7 +89,7 @@ module _ {E : Type 0} where
       let d = times-append end (places s.before) (c ∷ places s.after) in
       let heads_are = heads r.head r.rest s.after (omega arith) r.begins in
       let after : first_place s.after ≡ place_after items c =
-      sym (ap (λ (l : List (Placed E)). place_after l c) s.is ∙ after_at s.before s.after c e (omega arith)) in
+      sym (ap (λ (l : List (ChainItem E)). place_after l c) s.is ∙ after_at s.before s.after c e (omega arith)) in
       record {
         none = λ q. heads_are.none (sym r.from ∙ q) ∙ after;
         some = λ q. ap Some r.from ∙ heads_are.some (λ p. q (r.from ∙ p)) ∙ after;
@@ -117,12 +117,12 @@ module _ {L E Z : Type 0} where
   same_kept old new n h k = record {
     items = k.items;
     frees = k.frees;
-    holds = subst (λ t. Holds t k.items k.frees) (sym (same_table old new h)) k.holds;
+    holds = subst (λ t. HoldsItems t k.items k.frees) (sym (same_table old new h)) k.holds;
     count = k.count;
   }
 
   -- the same links are the same chain
-  pub same_chain : (old new : Links L E Z) (n : ℕ) (v : Chained (Labelled L E)) → Same old new → chain_of old n ≡ v → chain_of new n ≡ v
+  pub same_chain : (old new : Links L E Z) (n : ℕ) (v : ChainState (LabelledValue L E)) → Same old new → chain_of old n ≡ v → chain_of new n ≡ v
   same_chain old new n v h is =
       (λ i. record {
         items = walk_in ((same_table old new h) i) (((same_table old new h) i).next end) n;
@@ -130,31 +130,31 @@ module _ {L E Z : Type 0} where
       }) ∙ is
 
   -- the elements that the links hold are those of the chain
-  pub walked : (s : Links L E Z) (n : ℕ) (items : List (Placed (Labelled L E))) (frees : List ℕ) → Holds (table_of s) items frees → n ≡ length items
+  pub walked : (s : Links L E Z) (n : ℕ) (items : List (ChainItem (LabelledValue L E))) (frees : List ℕ) → HoldsItems (table_of s) items frees → n ≡ length items
       → walk_in (table_of s) s.first n ≡ items
   walked s n items frees h e = ap (λ m. walk_in (table_of s) s.first m) e ∙ walk_is (table_of s) items frees h
 
   -- the elements that are kept are those of the chain
-  pub kept_items : (s : Links L E Z) (n : ℕ) (v : Chained (Labelled L E)) (k : IsChain s n) → chain_of s n ≡ v → k.items ≡ v.items
-  kept_items s n v k is = sym (walked s n k.items k.frees k.holds k.count) ∙ ap (λ (x : Chained (Labelled L E)). x.items) is
+  pub kept_items : (s : Links L E Z) (n : ℕ) (v : ChainState (LabelledValue L E)) (k : IsChain s n) → chain_of s n ≡ v → k.items ≡ v.items
+  kept_items s n v k is = sym (walked s n k.items k.frees k.holds k.count) ∙ ap (λ (x : ChainState (LabelledValue L E)). x.items) is
 
   -- how many more elements fit if no place is free
-  pub full_room : (s : Links L E Z) (items : List (Placed (Labelled L E))) (frees : List ℕ) → s.free ≡ end → Holds (table_of s) items frees
+  pub full_room : (s : Links L E Z) (items : List (ChainItem (LabelledValue L E))) (frees : List ℕ) → s.free ≡ end → HoldsItems (table_of s) items frees
       → vec_len s.nodes ≡ length items
   full_room s items frees e h = let n = none_free (table_of s) items frees h e in let w = h.total in omega arith
 
   -- with one more before a place, the elements are those ahead of it, it, and those behind it
-  pub put_items : (s : Links L E Z) (items : List (Placed (Labelled L E))) (frees : List ℕ) (c : ℕ) (x : (Labelled L E)) (y : Placed (Labelled L E)) (r : Split items c x)
-      → Holds (table_of s) items frees → put_before items c y ≡ r.before ++ y ∷ item c x ∷ r.after
+  pub put_items : (s : Links L E Z) (items : List (ChainItem (LabelledValue L E))) (frees : List ℕ) (c : ℕ) (x : (LabelledValue L E)) (y : ChainItem (LabelledValue L E)) (r : Split items c x)
+      → HoldsItems (table_of s) items frees → put_before items c y ≡ r.before ++ y ∷ item c x ∷ r.after
   put_items s items frees c x y r h =
       let ring = ring_of (table_of s) items frees h in
       let most = ring.apart c in
       let names : places items ≡ places r.before ++ c ∷ places r.after =
-      ap places r.is ∙ map-append (λ (z : Placed (Labelled L E)). z.place) r.before (item c x ∷ r.after) in
+      ap places r.is ∙ map-append (λ (z : ChainItem (LabelledValue L E)). z.place) r.before (item c x ∷ r.after) in
       let n = ap (times c) names in
       let a = times-append c (places r.before) (c ∷ places r.after) in
       let o = once_same c in
-      ap (λ (l : List (Placed (Labelled L E))). put_before l c y) r.is ∙ put_before_at r.before r.after c x y (omega arith)
+      ap (λ (l : List (ChainItem (LabelledValue L E))). put_before l c y) r.is ∙ put_before_at r.before r.after c x y (omega arith)
 
   -- what is written to take the element at a place out of its node, and then that place out of the links
   abbrev pub Bypassed : Links L E Z → Links L E Z → ℕ → Type 0
@@ -164,34 +164,34 @@ module _ {L E Z : Type 0} where
       (element_at old) c
 
   -- what a place is found in: those ahead of it and those behind it
-  pub found_split : (s : Links L E Z) (items : List (Placed (Labelled L E))) (frees : List ℕ) (c : ℕ) (e : (Labelled L E)) → Holds (table_of s) items frees
+  pub found_split : (s : Links L E Z) (items : List (ChainItem (LabelledValue L E))) (frees : List ℕ) (c : ℕ) (e : (LabelledValue L E)) → HoldsItems (table_of s) items frees
       → Some e ≡ element_at s c → Split items c e
   found_split s items frees c e h is = found_some items c e (sym (h.elements c) ∙ sym is)
 
   -- links with the element at a place taken out
-  pub take_holds : (old mid new : Links L E Z) (items : List (Placed (Labelled L E))) (frees : List ℕ) (c : ℕ) (e : (Labelled L E)) (r : Split items c e)
-      → Holds (table_of old) items frees
+  pub take_holds : (old mid new : Links L E Z) (items : List (ChainItem (LabelledValue L E))) (frees : List ℕ) (c : ℕ) (e : (LabelledValue L E)) (r : Split items c e)
+      → HoldsItems (table_of old) items frees
       → Linked old mid (next_at old) (previous_at old) (with (element_at old) c None) old.free → Bypassed mid new c
-      → Holds (table_of new) (r.before ++ r.after) (c ∷ frees)
+      → HoldsItems (table_of new) (r.before ++ r.after) (c ∷ frees)
   take_holds old mid new items frees c e r h emptied_is bypassed_is =
       let t : table_of mid ≡ emptied (table_of old) c = linked_table old mid _ _ _ _ emptied_is in
       let u : table_of new ≡ bypassed (table_of mid) c = linked_table mid new _ _ _ _ bypassed_is in
-      let held : Holds (table_of old) (r.before ++ item c e ∷ r.after) frees = subst (λ (l : List (Placed (Labelled L E))). Holds (table_of old) l frees) r.is h in
-      subst (λ x. Holds x (r.before ++ r.after) (c ∷ frees)) (sym (u ∙ ap (λ x. bypassed x c) t))
+      let held : HoldsItems (table_of old) (r.before ++ item c e ∷ r.after) frees = subst (λ (l : List (ChainItem (LabelledValue L E))). HoldsItems (table_of old) l frees) r.is h in
+      subst (λ x. HoldsItems x (r.before ++ r.after) (c ∷ frees)) (sym (u ∙ ap (λ x. bypassed x c) t))
       (takes (table_of old) r.before r.after c e frees held)
 
   -- the elements without that at a place are those ahead of it and those behind it
-  pub taken_items : (s : Links L E Z) (items : List (Placed (Labelled L E))) (frees : List ℕ) (c : ℕ) (e : (Labelled L E)) (r : Split items c e)
-      → Holds (table_of s) items frees → without items c ≡ r.before ++ r.after
+  pub taken_items : (s : Links L E Z) (items : List (ChainItem (LabelledValue L E))) (frees : List ℕ) (c : ℕ) (e : (LabelledValue L E)) (r : Split items c e)
+      → HoldsItems (table_of s) items frees → without_place items c ≡ r.before ++ r.after
   taken_items s items frees c e r h =
       let ring = ring_of (table_of s) items frees h in
       let most = ring.apart c in
       let names : places items ≡ places r.before ++ c ∷ places r.after =
-      ap places r.is ∙ map-append (λ (x : Placed (Labelled L E)). x.place) r.before (item c e ∷ r.after) in
+      ap places r.is ∙ map-append (λ (x : ChainItem (LabelledValue L E)). x.place) r.before (item c e ∷ r.after) in
       let n = ap (times c) names in
       let a = times-append c (places r.before) (c ∷ places r.after) in
       let o = once_same c in
-      ap (λ (l : List (Placed (Labelled L E))). without l c) r.is ∙ without_at r.before r.after c e (omega arith) (omega arith)
+      ap (λ (l : List (ChainItem (LabelledValue L E))). without_place l c) r.is ∙ without_at r.before r.after c e (omega arith) (omega arith)
 
   -- links with no nodes are of no elements
   pub new_kept : (s : Links L E Z) → vec_len s.nodes ≡ 0 → s.first ≡ end → s.last ≡ end → s.free ≡ end → IsChain s 0
@@ -212,23 +212,23 @@ module _ {L E Z : Type 0} where
   }
 
   -- the places next to that of an element, once it was taken out of its node
-  pub beside_taken : (old mid : Links L E Z) (items : List (Placed (Labelled L E))) (frees : List ℕ) (c : ℕ) (e : (Labelled L E)) (r : Split items c e)
-      → Holds (table_of old) items frees
+  pub beside_taken : (old mid : Links L E Z) (items : List (ChainItem (LabelledValue L E))) (frees : List ℕ) (c : ℕ) (e : (LabelledValue L E)) (r : Split items c e)
+      → HoldsItems (table_of old) items frees
       → Linked old mid (next_at old) (previous_at old) (with (element_at old) c None) old.free → Neighbours (table_of mid) c
   beside_taken old mid items frees c e r h emptied_is =
-      let n = neighbours (table_of old) r.before r.after c e frees (subst (λ (l : List (Placed (Labelled L E))). Holds (table_of old) l frees) r.is h) in
+      let n = neighbours (table_of old) r.before r.after c e frees (subst (λ (l : List (ChainItem (LabelledValue L E))). HoldsItems (table_of old) l frees) r.is h) in
       let again : Neighbours (emptied (table_of old) c) c = record { next = n.next; previous = n.previous } in
       subst (λ t. Neighbours t c) (sym (linked_table old mid _ _ _ _ emptied_is)) again
 
   -- if there is an element, its place is below the size
-  pub place_below : (s : Links L E Z) (items : List (Placed (Labelled L E))) (frees : List ℕ) (c : ℕ) (e : (Labelled L E)) (r : Split items c e)
-      → Holds (table_of s) items frees → c < vec_len s.nodes
+  pub place_below : (s : Links L E Z) (items : List (ChainItem (LabelledValue L E))) (frees : List ℕ) (c : ℕ) (e : (LabelledValue L E)) (r : Split items c e)
+      → HoldsItems (table_of s) items frees → c < vec_len s.nodes
   place_below s items frees c e r h = elim (cases_lt c (vec_len s.nodes)) [
     | inl lt ↦ lt
     | inr ge ↦ (
         let none = h.beyond c ge in
         let names : places items ≡ places r.before ++ c ∷ places r.after =
-        ap places r.is ∙ map-append (λ (x : Placed (Labelled L E)). x.place) r.before (item c e ∷ r.after) in
+        ap places r.is ∙ map-append (λ (x : ChainItem (LabelledValue L E)). x.place) r.before (item c e ∷ r.after) in
         let n = ap (times c) names in
         let a = times-append c (places r.before) (c ∷ places r.after) in
         let o = once_same c in
@@ -237,7 +237,7 @@ module _ {L E Z : Type 0} where
   ]
 
 -- links of n elements, if that at a place was taken out of its node
-module _ {L E Z : Type 0} (old mid : Links L E Z) (n c : ℕ) (e : Labelled L E) (k : IsChain old n) (is : Some e ≡ element_at old c)
+module _ {L E Z : Type 0} (old mid : Links L E Z) (n c : ℕ) (e : LabelledValue L E) (k : IsChain old n) (is : Some e ≡ element_at old c)
     (emptied_is : Linked old mid (next_at old) (previous_at old) (with (element_at old) c None) old.free) where
   split : Split k.items c e
   split = found_split old k.items k.frees c e k.holds is
@@ -256,7 +256,7 @@ module _ {L E Z : Type 0} (old mid : Links L E Z) (n c : ℕ) (e : Labelled L E)
       omega arith
 
   module _ (new : Links L E Z) (bypassed_is : Bypassed mid new c) where
-    left_holds : Holds (table_of new) (split.before ++ split.after) (c ∷ k.frees)
+    left_holds : HoldsItems (table_of new) (split.before ++ split.after) (c ∷ k.frees)
     left_holds = take_holds old mid new k.items k.frees c e split k.holds emptied_is bypassed_is
 
     -- once the place is out of the links, they are of the others
@@ -264,18 +264,18 @@ module _ {L E Z : Type 0} (old mid : Links L E Z) (n c : ℕ) (e : Labelled L E)
     left_kept = record { items = split.before ++ split.after; frees = c ∷ k.frees; holds = left_holds; count = one_fewer }
 
     -- in their order
-    pub left_items : (v : Chained (Labelled L E)) → chain_of old n ≡ v → walk_in (table_of new) new.first (n - 1) ≡ without v.items c
+    pub left_items : (v : ChainState (LabelledValue L E)) → chain_of old n ≡ v → walk_in (table_of new) new.first (n - 1) ≡ without_place v.items c
     left_items v view =
         walked new (n - 1) (split.before ++ split.after) (c ∷ k.frees) left_holds one_fewer
-        ∙ sym (taken_items old k.items k.frees c e split k.holds) ∙ ap (λ l. without l c) (kept_items old n v k view)
+        ∙ sym (taken_items old k.items k.frees c e split k.holds) ∙ ap (λ l. without_place l c) (kept_items old n v k view)
 
     -- and as many fit
-    pub left_room : (v : Chained (Labelled L E)) → chain_of old n ≡ v
+    pub left_room : (v : ChainState (LabelledValue L E)) → chain_of old n ≡ v
         → room_of new (n - 1) + length (walk_in (table_of new) new.first (n - 1)) ≡ v.room + length v.items
     left_room v view =
         let left = ap length (walked new (n - 1) (split.before ++ split.after) (c ∷ k.frees) left_holds one_fewer) in
         let stood = ap length (kept_items old n v k view) in
-        let room = ap (λ (x : Chained (Labelled L E)). x.room) view in
+        let room = ap (λ (x : ChainState (LabelledValue L E)). x.room) view in
         let same = bypassed_is.capacity ∙ emptied_is.capacity in
         let a = length-append split.before split.after in
         let b = length-append split.before (item c e ∷ split.after) in

@@ -5,9 +5,9 @@ use Rattle.std.proofs.lemmas.List.{map-append}
 use Rattle.std.specs.Prelude.{Result, Ok, Err, OnErr}
 use Rattle.std.specs.Vec.{vec_len}
 use Rattle.flume_chain.specs.declared.chain.links.Links.{Links}
-use Rattle.flume_chain.specs.declared.labelled.Labelled.{Labelled}
+use Rattle.flume_chain.specs.declared.labelled.LabelledValue.{LabelledValue}
 use Rattle.flume_chain.specs.Links.{end, with, next_at, previous_at, element_at, HasNode, Put, Full}
-use Rattle.flume_chain.specs.Chained.{once, times, Placed, Holds, places, found, table_of, room_of}
+use Rattle.flume_chain.specs.ChainState.{once, times, ChainItem, HoldsItems, places, found, table_of, room_of}
 use Rattle.flume_chain.proofs.Rings.{times-append, once_same, with_same, with_other}
 use Rattle.flume_chain.proofs.Tables.{item, Split, found_none}
 use Rattle.flume_chain.proofs.Steps.{grown, filled, first_free, free_below, grows, puts}
@@ -30,34 +30,34 @@ module _ {V X : Type 0} where
 
 module _ {L E Z : Type 0} where
   -- what is written to put an element at a place, before another
-  abbrev pub PutBefore : Links L E Z → Links L E Z → ℕ → ℕ → (Labelled L E) → Type 0
+  abbrev pub PutBefore : Links L E Z → Links L E Z → ℕ → ℕ → (LabelledValue L E) → Type 0
   PutBefore old new place c e = Put old new place
       (with (with (next_at old) place c) (previous_at old c) place)
       (with (with (previous_at old) place (previous_at old c)) c place)
       (with (element_at old) place (Some e))
 
   -- the links hold an element at a place of its own, between others
-  pub record Holding (new : Links L E Z) (xs ys : List (Placed (Labelled L E))) (place : ℕ) (e : (Labelled L E)) : Type 0 where
+  pub record Holding (new : Links L E Z) (xs ys : List (ChainItem (LabelledValue L E))) (place : ℕ) (e : (LabelledValue L E)) : Type 0 where
     pub frees : List ℕ
-    pub holds : Holds (table_of new) (xs ++ item place e ∷ ys) frees
+    pub holds : HoldsItems (table_of new) (xs ++ item place e ∷ ys) frees
     pub fresh : found (xs ++ ys) place ≡ None
 
   -- the free place is below the size, or the end
-  pub free_stands : (s : Links L E Z) (items : List (Placed (Labelled L E))) (frees : List ℕ) → Holds (table_of s) items frees → HasNode s s.free
+  pub free_stands : (s : Links L E Z) (items : List (ChainItem (LabelledValue L E))) (frees : List ℕ) → HoldsItems (table_of s) items frees → HasNode s s.free
   free_stands s items frees h ne =
       let r = first_free (table_of s) items frees h ne in
-      free_below (table_of s) items s.free r.rest (subst (λ (l : List ℕ). Holds (table_of s) items l) r.is h)
+      free_below (table_of s) items s.free r.rest (subst (λ (l : List ℕ). HoldsItems (table_of s) items l) r.is h)
 
 -- links of elements xs and ys, with one put between them
-module _ {L E Z : Type 0} (old new : Links L E Z) (xs ys : List (Placed (Labelled L E))) (frees : List ℕ) (place c : ℕ) (e : (Labelled L E)) (later : List ℕ)
-    (h : Holds (table_of old) (xs ++ ys) frees) (before : places ys ++ end ∷ [] ≡ c ∷ later) (p : PutBefore old new place c e) where
+module _ {L E Z : Type 0} (old new : Links L E Z) (xs ys : List (ChainItem (LabelledValue L E))) (frees : List ℕ) (place c : ℕ) (e : (LabelledValue L E)) (later : List ℕ)
+    (h : HoldsItems (table_of old) (xs ++ ys) frees) (before : places ys ++ end ∷ [] ≡ c ∷ later) (p : PutBefore old new place c e) where
   -- if a node was free they hold it there
   put_reused : old.free ≢ end → Holding new xs ys place e
   put_reused ne =
       let u = p.reused ne in
       let r = first_free (table_of old) (xs ++ ys) frees h ne in
-      let held : Holds (table_of old) (xs ++ ys) (old.free ∷ r.rest) =
-      subst (λ (l : List ℕ). Holds (table_of old) (xs ++ ys) l) r.is h in
+      let held : HoldsItems (table_of old) (xs ++ ys) (old.free ∷ r.rest) =
+      subst (λ (l : List ℕ). HoldsItems (table_of old) (xs ++ ys) l) r.is h in
       let below = free_below (table_of old) (xs ++ ys) old.free r.rest held in
       let counted = held.within old.free below in
       let here = once_same old.free in
@@ -70,7 +70,7 @@ module _ {L E Z : Type 0} (old new : Links L E Z) (xs ys : List (Placed (Labelle
       } in
       record {
         frees = r.rest;
-        holds = subst₂ (λ t (j : ℕ). Holds t (xs ++ item j e ∷ ys) r.rest) (sym is) (sym u.at)
+        holds = subst₂ (λ t (j : ℕ). HoldsItems t (xs ++ item j e ∷ ys) r.rest) (sym is) (sym u.at)
             (puts (table_of old) xs ys r.rest e c later held before);
         fresh = ap (found (xs ++ ys)) u.at ∙ found_none (xs ++ ys) old.free (omega arith);
       }
@@ -80,7 +80,7 @@ module _ {L E Z : Type 0} (old new : Links L E Z) (xs ys : List (Placed (Labelle
   made_other is =
       let m = p.made is in
       let none = h.beyond (vec_len old.nodes) (omega arith) in
-      let names = ap (times (vec_len old.nodes)) (map-append (λ (x : Placed (Labelled L E)). x.place) xs ys) in
+      let names = ap (times (vec_len old.nodes)) (map-append (λ (x : ChainItem (LabelledValue L E)). x.place) xs ys) in
       let both = times-append (vec_len old.nodes) (places xs) (places ys) in
       let ended = times-append (vec_len old.nodes) (places ys) (end ∷ []) in
       let at_end : once end (vec_len old.nodes) ≡ 0 =
@@ -93,7 +93,7 @@ module _ {L E Z : Type 0} (old new : Links L E Z) (xs ys : List (Placed (Labelle
   put_made none =
       let m = p.made none in
       let n = vec_len old.nodes in
-      let held : Holds (grown (table_of old)) (xs ++ ys) (n ∷ frees) = grows (table_of old) (xs ++ ys) frees h m.below in
+      let held : HoldsItems (grown (table_of old)) (xs ++ ys) (n ∷ frees) = grows (table_of old) (xs ++ ys) frees h m.below in
       let back : with (previous_at old) n end c ≡ previous_at old c = with_other (previous_at old) n end c (made_other none) in
       let beyond = h.beyond n (omega arith) in
       let is : table_of new ≡ filled (grown (table_of old)) c e = λ i. record {
@@ -110,7 +110,7 @@ module _ {L E Z : Type 0} (old new : Links L E Z) (xs ys : List (Placed (Labelle
       } in
       record {
         frees = frees;
-        holds = subst₂ (λ t (j : ℕ). Holds t (xs ++ item j e ∷ ys) frees) (sym is) (sym m.at)
+        holds = subst₂ (λ t (j : ℕ). HoldsItems t (xs ++ item j e ∷ ys) frees) (sym is) (sym m.at)
             (puts (grown (table_of old)) xs ys frees e c later held before);
         fresh = ap (found (xs ++ ys)) m.at ∙ found_none (xs ++ ys) n (omega arith);
       }
@@ -124,22 +124,22 @@ module _ {L E Z : Type 0} (old new : Links L E Z) (xs ys : List (Placed (Labelle
 
 module _ {L E Z : Type 0} where
   -- links with an element put behind all others
-  pub push_holds : (old new : Links L E Z) (items : List (Placed (Labelled L E))) (frees : List ℕ) (place : ℕ) (e : (Labelled L E))
-      → Holds (table_of old) items frees → PutBefore old new place end e → Holding new items [] place e
+  pub push_holds : (old new : Links L E Z) (items : List (ChainItem (LabelledValue L E))) (frees : List ℕ) (place : ℕ) (e : (LabelledValue L E))
+      → HoldsItems (table_of old) items frees → PutBefore old new place end e → Holding new items [] place e
   push_holds old new items frees place e h p =
       put_holds old new items [] frees place end e []
-      (subst (λ (l : List (Placed (Labelled L E))). Holds (table_of old) l frees) (sym (append-nil items)) h) refl p
+      (subst (λ (l : List (ChainItem (LabelledValue L E))). HoldsItems (table_of old) l frees) (sym (append-nil items)) h) refl p
 
   -- links with an element put before that at a place
-  pub insert_holds : (old new : Links L E Z) (items : List (Placed (Labelled L E))) (frees : List ℕ) (c : ℕ) (x : (Labelled L E)) (place : ℕ) (e : (Labelled L E)) (r : Split items c x)
-      → Holds (table_of old) items frees → PutBefore old new place c e → Holding new r.before (item c x ∷ r.after) place e
+  pub insert_holds : (old new : Links L E Z) (items : List (ChainItem (LabelledValue L E))) (frees : List ℕ) (c : ℕ) (x : (LabelledValue L E)) (place : ℕ) (e : (LabelledValue L E)) (r : Split items c x)
+      → HoldsItems (table_of old) items frees → PutBefore old new place c e → Holding new r.before (item c x ∷ r.after) place e
   insert_holds old new items frees c x place e r h p =
       put_holds old new r.before (item c x ∷ r.after) frees place c e (places r.after ++ end ∷ [])
-      (subst (λ (l : List (Placed (Labelled L E))). Holds (table_of old) l frees) r.is h) refl p
+      (subst (λ (l : List (ChainItem (LabelledValue L E))). HoldsItems (table_of old) l frees) r.is h) refl p
 
   -- with one more element there is room for one less, if there was room
-  pub put_room : (old new : Links L E Z) (items : List (Placed (Labelled L E))) (frees : List ℕ) (n place : ℕ) (f g : ℕ → ℕ) (v : ℕ → Option (Labelled L E))
-      → Holds (table_of old) items frees → n ≡ length items → Put old new place f g v → 0 < room_of old n
+  pub put_room : (old new : Links L E Z) (items : List (ChainItem (LabelledValue L E))) (frees : List ℕ) (n place : ℕ) (f g : ℕ → ℕ) (v : ℕ → Option (LabelledValue L E))
+      → HoldsItems (table_of old) items frees → n ≡ length items → Put old new place f g v → 0 < room_of old n
       → room_of new (n + 1) + 1 ≡ room_of old n
   put_room old new items frees n place f g v h count p some = elim (cases_eq old.free end) [
     | inl is ↦ (
@@ -152,8 +152,8 @@ module _ {L E Z : Type 0} where
   ]
 
   -- if there is room, no element is refused
-  pub not_full : (s : Links L E Z) (items : List (Placed (Labelled L E))) (frees : List ℕ) (n : ℕ) (P : Type 0)
-      → Holds (table_of s) items frees → n ≡ length items → Full s → 0 < room_of s n → P
+  pub not_full : (s : Links L E Z) (items : List (ChainItem (LabelledValue L E))) (frees : List ℕ) (n : ℕ) (P : Type 0)
+      → HoldsItems (table_of s) items frees → n ≡ length items → Full s → 0 < room_of s n → P
   not_full s items frees n P h count f some =
       let full = full_room s items frees f.frees h in
       let over = f.size (omega arith) in

@@ -2,7 +2,7 @@
 use Rattle.std.proofs.Common.{◌≡◌, ℕ, suc, ◌+◌, ◌≤◌, ◌==◌, List, [], ◌∷◌, ◌++◌, false, map, length, refl, sym, ap, ap₂, ◌∙◌, inl, inr, arith, length-append, if◌then◌else◌, eq-eqb, ne_eqb}
 use Rattle.std.proofs.lemmas.Bool.{cases_Bool, cases_eq, eqb-false}
 use Rattle.flume_chain.specs.Links.{end, with}
-use Rattle.flume_chain.specs.Chained.{once, times}
+use Rattle.flume_chain.specs.ChainState.{once, times}
 
 -- a place is as often in two lists joined as in both
 pub times-append : (k : ℕ) (xs ys : List ℕ) → times k (xs ++ ys) ≡ times k xs + times k ys

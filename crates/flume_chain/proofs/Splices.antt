@@ -2,7 +2,7 @@
 use Rattle.std.proofs.Common.{◌≡◌, ℕ, ◌+◌, ◌≤◌, List, [], ◌∷◌, ◌++◌, map, sym, ap, ap₂, ◌∙◌, arith, append_assoc}
 use Rattle.std.proofs.lemmas.List.{map-append}
 use Rattle.flume_chain.specs.Links.{end, with}
-use Rattle.flume_chain.specs.Chained.{once, times}
+use Rattle.flume_chain.specs.ChainState.{once, times}
 use Rattle.flume_chain.proofs.Rings.{Ring, parts, ends, begins, times-append, once_same, once_back, once_more, with_same, with_other, map_with}
 
 -- if a ring is cut between the places xs and ys: the last ahead of the cut, and the head behind it

@@ -4,16 +4,16 @@ use Rattle.std.proofs.lemmas.Bool.{cases_Bool, cases_eq, cases_lt, eqb-true}
 use Rattle.std.proofs.lemmas.List.{map-append}
 use Rattle.std.specs.Vec.{vec_len}
 use Rattle.flume_chain.specs.declared.chain.links.Links.{Links}
-use Rattle.flume_chain.specs.declared.labelled.Labelled.{Labelled}
+use Rattle.flume_chain.specs.declared.labelled.LabelledValue.{LabelledValue}
 use Rattle.flume_chain.specs.Links.{end, with, Linked}
-use Rattle.flume_chain.specs.Chained.{once, times, Placed, Table, Holds, places, found, table_of}
+use Rattle.flume_chain.specs.ChainState.{once, times, ChainItem, Table, HoldsItems, places, found, table_of}
 use Rattle.flume_chain.proofs.Rings.{Ring, times-append, once_same, once_back, with_same, map_with}
 use Rattle.flume_chain.proofs.Splices.{between, inserted, around, removed}
 use Rattle.flume_chain.proofs.Tables.{ring_of, item, found_none, found_put, with_again}
 
 module _ {L E Z : Type 0} where
   -- the table of links that were written
-  pub linked_table : (old new : Links L E Z) (n p : ℕ → ℕ) (e : ℕ → Option (Labelled L E)) (f : ℕ) → Linked old new n p e f
+  pub linked_table : (old new : Links L E Z) (n p : ℕ → ℕ) (e : ℕ → Option (LabelledValue L E)) (f : ℕ) → Linked old new n p e f
       → table_of new ≡ record { size = vec_len old.nodes; next = n; previous = p; element = e; free = f }
   linked_table old new n p e f h = λ i. record {
     size = h.size i;
@@ -63,7 +63,7 @@ module _ {E : Type 0} where
     pub rest : List ℕ
     pub is : frees ≡ t.free ∷ rest
 
-  pub first_free : (t : Table E) (items : List (Placed E)) (frees : List ℕ) → Holds t items frees → t.free ≢ end → First t frees
+  pub first_free : (t : Table E) (items : List (ChainItem E)) (frees : List ℕ) → HoldsItems t items frees → t.free ≢ end → First t frees
   first_free t items [] h ne =
       let f : t.free ∷ [] ≡ end ∷ [] = h.freed in
       absurd (ne cc)
@@ -73,7 +73,7 @@ module _ {E : Type 0} where
       record { rest = rest; is = ap (λ (k : ℕ). k ∷ rest) (sym same) }
 
   -- no place is free if the first free one is the end
-  pub none_free : (t : Table E) (items : List (Placed E)) (frees : List ℕ) → Holds t items frees → t.free ≡ end → length frees ≡ 0
+  pub none_free : (t : Table E) (items : List (ChainItem E)) (frees : List ℕ) → HoldsItems t items frees → t.free ≡ end → length frees ≡ 0
   none_free t items [] h e = refl
   none_free t items (c ∷ rest) h e =
       let f : t.free ∷ t.next c ∷ map t.next rest ≡ c ∷ (rest ++ end ∷ []) = h.freed in
@@ -84,14 +84,14 @@ module _ {E : Type 0} where
       absurd (omega arith)
 
   -- a free place is below the size
-  pub free_below : (t : Table E) (items : List (Placed E)) (c : ℕ) (rest : List ℕ) → Holds t items (c ∷ rest) → c < t.size
+  pub free_below : (t : Table E) (items : List (ChainItem E)) (c : ℕ) (rest : List ℕ) → HoldsItems t items (c ∷ rest) → c < t.size
   free_below t items c rest h = elim (cases_lt c t.size) [
     | inl lt ↦ lt
     | inr ge ↦ (let none = h.beyond c ge in let here = once_same c in absurd (omega arith))
   ]
 
   -- a place in the ring is the end or below the size
-  pub ring_below : (t : Table E) (items : List (Placed E)) (frees : List ℕ) (k : ℕ) → Holds t items frees
+  pub ring_below : (t : Table E) (items : List (ChainItem E)) (frees : List ℕ) (k : ℕ) → HoldsItems t items frees
       → 1 ≤ times k (end ∷ places items) → k ≢ end → k < t.size
   ring_below t items frees k h some ne = elim (cases_lt k t.size) [
     | inl lt ↦ lt
@@ -103,22 +103,22 @@ module _ {E : Type 0} where
   ]
 
   -- the last place is the end or below the size
-  pub last_below : (t : Table E) (items : List (Placed E)) (frees : List ℕ) → Holds t items frees → t.previous end ≢ end → t.previous end < t.size
+  pub last_below : (t : Table E) (items : List (ChainItem E)) (frees : List ℕ) → HoldsItems t items frees → t.previous end ≢ end → t.previous end < t.size
   last_below t items frees h =
       let ring = ring_of t items frees h in
       let r = between t.next t.previous (places items) [] (subst (Ring t.next t.previous) (sym (append-nil (places items))) ring) in
       let b : end ∷ [] ≡ r.head ∷ r.rest = r.begins in
       let head_is : r.head ≡ end = cc in
       let last_is : t.previous end ≡ r.last = ap t.previous (sym head_is) ∙ r.over_back in
-      let stands : 1 ≤ times r.last (end ∷ places items) =
+      let occupied : 1 ≤ times r.last (end ∷ places items) =
       let s = ap (times r.last) r.ends in
       let a = times-append r.last r.front (r.last ∷ []) in
       let o = once_same r.last in
       omega arith in
-      ring_below t items frees (t.previous end) h (subst (λ k. 1 ≤ times k (end ∷ places items)) (sym last_is) stands)
+      ring_below t items frees (t.previous end) h (subst (λ k. 1 ≤ times k (end ∷ places items)) (sym last_is) occupied)
 
   -- with one more node there is one more free place
-  pub grows : (t : Table E) (items : List (Placed E)) (frees : List ℕ) → Holds t items frees → t.size < end → Holds (grown t) items (t.size ∷ frees)
+  pub grows : (t : Table E) (items : List (ChainItem E)) (frees : List ℕ) → HoldsItems t items frees → t.size < end → HoldsItems (grown t) items (t.size ∷ frees)
   grows t items frees h lt =
       let none = h.beyond t.size (omega arith) in
       let size_end : once end t.size ≡ 0 = ap (λ b. if b then 1 else 0) (ne_eqb end t.size (omega arith)) in
@@ -157,7 +157,7 @@ module _ {E : Type 0} where
       }
 
   -- a place in the ring isn't free
-  pub ring_apart : (t : Table E) (items : List (Placed E)) (frees : List ℕ) (k : ℕ) → Holds t items frees
+  pub ring_apart : (t : Table E) (items : List (ChainItem E)) (frees : List ℕ) (k : ℕ) → HoldsItems t items frees
       → 1 ≤ times k (end ∷ places items) → times k frees ≡ 0
   ring_apart t items frees k h some = elim (cases_eq end k) [
     | inl e ↦ (
@@ -173,12 +173,12 @@ module _ {E : Type 0} where
   ]
 
   -- with an element put into the free node between others, ahead of the place that is next there
-  pub puts : (t : Table E) (xs ys : List (Placed E)) (rest : List ℕ) (e : E) (next : ℕ) (later : List ℕ)
-      → Holds t (xs ++ ys) (t.free ∷ rest) → places ys ++ end ∷ [] ≡ next ∷ later
-      → Holds (filled t next e) (xs ++ item t.free e ∷ ys) rest
+  pub puts : (t : Table E) (xs ys : List (ChainItem E)) (rest : List ℕ) (e : E) (next : ℕ) (later : List ℕ)
+      → HoldsItems t (xs ++ ys) (t.free ∷ rest) → places ys ++ end ∷ [] ≡ next ∷ later
+      → HoldsItems (filled t next e) (xs ++ item t.free e ∷ ys) rest
   puts t xs ys rest e next later h at =
-      let names_old : places (xs ++ ys) ≡ places xs ++ places ys = map-append (λ (x : Placed E). x.place) xs ys in
-      let names : places (xs ++ item t.free e ∷ ys) ≡ places xs ++ t.free ∷ places ys = map-append (λ (x : Placed E). x.place) xs (item t.free e ∷ ys) in
+      let names_old : places (xs ++ ys) ≡ places xs ++ places ys = map-append (λ (x : ChainItem E). x.place) xs ys in
+      let names : places (xs ++ item t.free e ∷ ys) ≡ places xs ++ t.free ∷ places ys = map-append (λ (x : ChainItem E). x.place) xs (item t.free e ∷ ys) in
       let ring : Ring t.next t.previous (places xs ++ places ys) = subst (Ring t.next t.previous) names_old (ring_of t (xs ++ ys) (t.free ∷ rest) h) in
       let r = between t.next t.previous (places xs) (places ys) ring in
       let meets : next ∷ later ≡ r.head ∷ r.rest = sym at ∙ r.begins in
@@ -198,13 +198,13 @@ module _ {E : Type 0} where
       let end_none : once end t.free ≡ 0 = let f = h.fits in ap (λ b. if b then 1 else 0) (ne_eqb end t.free (omega arith)) in
       let fresh : times t.free (end ∷ (places xs ++ places ys)) ≡ 0 =
       ap (λ (l : List ℕ). times t.free (end ∷ l)) (sym names_old) ∙ (omega arith) in
-      let stands : 1 ≤ times r.last (end ∷ places (xs ++ ys)) =
+      let occupied : 1 ≤ times r.last (end ∷ places (xs ++ ys)) =
       let s = ap (times r.last) r.ends in
       let a = times-append r.last r.front (r.last ∷ []) in
       let o = once_same r.last in
       let n = counts_old r.last in
       omega arith in
-      let last_apart : times r.last (t.free ∷ rest) ≡ 0 = ring_apart t (xs ++ ys) (t.free ∷ rest) r.last h stands in
+      let last_apart : times r.last (t.free ∷ rest) ≡ 0 = ring_apart t (xs ++ ys) (t.free ∷ rest) r.last h occupied in
       let last_rest : times (t.previous next) rest ≡ 0 = ap (λ x. times x rest) last_is ∙ (omega arith) in
       let put : Ring (with (with t.next t.free r.head) r.last t.free) (with (with t.previous t.free r.last) r.head t.free) (places xs ++ t.free ∷ places ys) =
       inserted t.next t.previous (places xs) (places ys) t.free ring r fresh in
@@ -234,19 +234,19 @@ module _ {E : Type 0} where
       }
 
   -- with an element put into the free node behind all others
-  pub puts_last : (t : Table E) (items : List (Placed E)) (rest : List ℕ) (e : E) → Holds t items (t.free ∷ rest)
-      → Holds (filled t end e) (items ++ item t.free e ∷ []) rest
+  pub puts_last : (t : Table E) (items : List (ChainItem E)) (rest : List ℕ) (e : E) → HoldsItems t items (t.free ∷ rest)
+      → HoldsItems (filled t end e) (items ++ item t.free e ∷ []) rest
   puts_last t items rest e h =
-      puts t items [] rest e end [] (subst (λ (l : List (Placed E)). Holds t l (t.free ∷ rest)) (sym (append-nil items)) h) refl
+      puts t items [] rest e end [] (subst (λ (l : List (ChainItem E)). HoldsItems t l (t.free ∷ rest)) (sym (append-nil items)) h) refl
 
   -- with the element at a place taken out, and its place free
-  pub takes : (t : Table E) (xs ys : List (Placed E)) (c : ℕ) (e : E) (frees : List ℕ) → Holds t (xs ++ item c e ∷ ys) frees
-      → Holds (bypassed (emptied t c) c) (xs ++ ys) (c ∷ frees)
+  pub takes : (t : Table E) (xs ys : List (ChainItem E)) (c : ℕ) (e : E) (frees : List ℕ) → HoldsItems t (xs ++ item c e ∷ ys) frees
+      → HoldsItems (bypassed (emptied t c) c) (xs ++ ys) (c ∷ frees)
   takes t xs ys c e frees h =
-      let items : List (Placed E) = xs ++ item c e ∷ ys in
+      let items : List (ChainItem E) = xs ++ item c e ∷ ys in
       let ring = ring_of t (xs ++ item c e ∷ ys) frees h in
-      let names : places (xs ++ item c e ∷ ys) ≡ places xs ++ c ∷ places ys = map-append (λ (x : Placed E). x.place) xs (item c e ∷ ys) in
-      let names_left : places (xs ++ ys) ≡ places xs ++ places ys = map-append (λ (x : Placed E). x.place) xs ys in
+      let names : places (xs ++ item c e ∷ ys) ≡ places xs ++ c ∷ places ys = map-append (λ (x : ChainItem E). x.place) xs (item c e ∷ ys) in
+      let names_left : places (xs ++ ys) ≡ places xs ++ places ys = map-append (λ (x : ChainItem E). x.place) xs ys in
       let ring_at : Ring t.next t.previous (places xs ++ c ∷ places ys) = subst (Ring t.next t.previous) names ring in
       let r = around t.next t.previous (places xs) c (places ys) ring_at in
       let out : Ring (with (with t.next r.last r.head) c t.free) (with t.previous r.head r.last) (places xs ++ places ys) =
@@ -266,7 +266,7 @@ module _ {E : Type 0} where
       let c_is = once_same c in
       let c_apart : times c frees ≡ 0 = ring_apart t (xs ++ item c e ∷ ys) frees c h (omega arith) in
       let c_ring = ring.apart c in
-      let stands : 1 ≤ times r.last (end ∷ places (xs ++ item c e ∷ ys)) =
+      let occupied : 1 ≤ times r.last (end ∷ places (xs ++ item c e ∷ ys)) =
       let s = ap (times r.last) r.ends in
       let a = times-append r.last r.front (r.last ∷ []) in
       let o = once_same r.last in
@@ -274,7 +274,7 @@ module _ {E : Type 0} where
       let n = ap (times r.last) names in
       omega arith in
       let last_apart : times (t.previous c) frees ≡ 0 =
-      ap (λ x. times x frees) r.from_back ∙ ring_apart t (xs ++ item c e ∷ ys) frees r.last h stands in
+      ap (λ x. times x frees) r.from_back ∙ ring_apart t (xs ++ item c e ∷ ys) frees r.last h occupied in
       let ahead_none : times c (places xs) ≡ 0 =
       let d = times-append c (places xs) (places ys) in
       let m = ap (times c) names_left in

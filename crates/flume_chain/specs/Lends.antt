@@ -2,15 +2,15 @@
 use Rattle.std.specs.Prelude.{ℕ, Option}
 use Rattle.std.specs.Borrow.{Lends, LendsIf, Fml, RattleType, MutBor}
 use Rattle.std.specs.declared.alloc.Allocator.{Ghosts}
-use Rattle.flume_chain.specs.declared.labelled.Labelled.{Labelled}
-use Rattle.flume_chain.specs.Chained.{Chained}
-use Rattle.flume_chain.specs.Edited.{with_value_at}
+use Rattle.flume_chain.specs.declared.labelled.LabelledValue.{LabelledValue}
+use Rattle.flume_chain.specs.ChainState.{ChainState}
+use Rattle.flume_chain.specs.ChangedAt.{with_value_at}
 use Rattle.flume_chain.specs.contracts.chain.Chain.{the_row}
 
 module _ (L E A : RattleType) (alloc : Ghosts A.Denot)
-    (s : MutBor (Chained (Labelled L.Denot E.Denot))) (place : ℕ) where
+    (s : MutBor (ChainState (LabelledValue L.Denot E.Denot))) (place : ℕ) where
   -- the chain with this value at the place
-  abbrev pub with_value : E.Denot → Chained (Labelled L.Denot E.Denot)
+  abbrev pub with_value : E.Denot → ChainState (LabelledValue L.Denot E.Denot)
   with_value v = record s.now { items = with_value_at place s.now.items v }
 
   -- once the borrow r ends, the place has the last value written through r

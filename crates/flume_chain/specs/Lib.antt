@@ -1,4 +1,4 @@
 pub mod Links
-pub mod Chained
-pub mod Edited
+pub mod ChainState
+pub mod ChangedAt
 pub mod Lends

@@ -1,11 +1,10 @@
--- What the contracts of a chain's links say, by look-ups at each place. Of these the view of a chain
--- has `next_at` and `element_at`; no contract above this crate names one.
+-- What the contracts of a chain's links say. A chain's view has `next_at` and `element_at`.
 use Rattle.std.specs.Prelude.{◌≡◌, ◌≢◌, ℕ, suc, ◌<◌, ◌≤◌, ◌==◌, Option, Some, None, if◌then◌else◌}
 use Rattle.std.specs.Prelude.{slice_index_or}
 use Rattle.std.specs.Vec.{vec_len, vec_capacity, with_item}
 use Rattle.flume_chain.specs.declared.chain.node.Node.{Node}
-use Rattle.flume_chain.specs.declared.chain.node.Node.TheVariants.{Free, Stands}
-use Rattle.flume_chain.specs.declared.labelled.Labelled.{Labelled}
+use Rattle.flume_chain.specs.declared.chain.node.Node.TheVariants.{Free, Occupied}
+use Rattle.flume_chain.specs.declared.labelled.LabelledValue.{LabelledValue}
 use Rattle.flume_chain.specs.declared.chain.links.Links.{Links}
 
 -- the place that no element has: it is before the first and after the last
@@ -24,30 +23,30 @@ module _ {L E : Type 0} where
   -- the place after a node
   abbrev pub next_of : Node L E → ℕ
   next_of (Free previous next) = next
-  next_of (Stands previous next label value) = next
+  next_of (Occupied previous next label value) = next
 
   -- the place before a node
   abbrev pub previous_of : Node L E → ℕ
   previous_of (Free previous next) = previous
-  previous_of (Stands previous next label value) = previous
+  previous_of (Occupied previous next label value) = previous
 
   -- the element of a node
-  abbrev pub element_of : Node L E → Option (Labelled L E)
+  abbrev pub element_of : Node L E → Option (LabelledValue L E)
   element_of (Free previous next) = None
-  element_of (Stands previous next label value) = Some (record { label = label; value = value })
+  element_of (Occupied previous next label value) = Some (record { label = label; value = value })
 
   -- an element with another label
-  abbrev pub relabelled : L → Labelled L E → Labelled L E
-  relabelled l e = record e { label = l }
+  abbrev pub with_new_label : L → LabelledValue L E → LabelledValue L E
+  with_new_label l e = record e { label = l }
 
   -- an element with another value
-  abbrev pub revalued : E → Labelled L E → Labelled L E
-  revalued v e = record e { value = v }
+  abbrev pub with_new_value : E → LabelledValue L E → LabelledValue L E
+  with_new_value v e = record e { value = v }
 
   -- a node with this value, if it has one
   abbrev pub with_value_of : Node L E → E → Node L E
   with_value_of (Free previous next) v = Free previous next
-  with_value_of (Stands previous next label value) v = Stands previous next label v
+  with_value_of (Occupied previous next label value) v = Occupied previous next label v
 
 module _ {L E Z : Type 0} where
   -- the node at a place
@@ -63,7 +62,7 @@ module _ {L E Z : Type 0} where
   previous_at s k = if k == end then s.last else previous_of (node_at s k)
 
   -- the element at a place
-  abbrev pub element_at : Links L E Z → ℕ → Option (Labelled L E)
+  abbrev pub element_at : Links L E Z → ℕ → Option (LabelledValue L E)
   element_at s k = element_of (node_at s k)
 
   -- s with a value in the node at a place
@@ -76,7 +75,7 @@ module _ {L E Z : Type 0} where
 
   -- new has the size and the capacity of old, and at each place what these say
   pub record Linked (old new : Links L E Z) (next previous : ℕ → ℕ)
-      (element : ℕ → Option (Labelled L E)) (free : ℕ) : Type 0 where
+      (element : ℕ → Option (LabelledValue L E)) (free : ℕ) : Type 0 where
     pub size : vec_len new.nodes ≡ vec_len old.nodes
     pub capacity : vec_capacity new.nodes ≡ vec_capacity old.nodes
     pub nexts : (k : ℕ) → next_at new k ≡ next k
@@ -106,7 +105,7 @@ module _ {L E Z : Type 0} where
 
   -- new has the place, which in old was free or of no node, and at each place what these say
   pub record Put (old new : Links L E Z) (place : ℕ) (next previous : ℕ → ℕ)
-      (element : ℕ → Option (Labelled L E)) : Type 0 where
+      (element : ℕ → Option (LabelledValue L E)) : Type 0 where
     pub nexts : (k : ℕ) → next_at new k ≡ next k
     pub previouses : (k : ℕ) → previous_at new k ≡ previous k
     pub elements : (k : ℕ) → element_at new k ≡ element k

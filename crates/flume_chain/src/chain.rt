@@ -1,27 +1,24 @@
-//! Elements in order, of which each can be taken out at the same cost wherever it is. An element is
-//! a value and a label.
+//! Elements in order, each a value with a label. Taking one out costs the same wherever it is.
 ghost use Rattle.std.specs.Prelude.{◌≡◌, ◌≢◌, ◌<◌, ◌≤◌, ◌+◌, ◌++◌, ◌∷◌, [], Some, None, length};
 ghost use Rattle.std.specs.Prelude.{ℕ, true, false};
 ghost use Rattle.std.specs.Prelude.{IsOk, IfOk, IfErr, OnOk, OnErr, IfSome, IfNone, OnSome, IsSome};
 ghost use Rattle.std.specs.Prelude.{option_copied, ◌↔◌};
 ghost use Rattle.std.specs.Option.{option_map, option_copied_mut};
 ghost use Rattle.std.specs.Borrow.{sem};
-ghost use Rattle.flume_chain.specs.Chained.{found, without, put_before, place_after};
-ghost use Rattle.flume_chain.specs.Chained.{first_element, behind_first, moved_back};
-ghost use Rattle.flume_chain.specs.Chained.{times, places};
-ghost use Rattle.flume_chain.specs.Edited.{with_label_at};
+ghost use Rattle.flume_chain.specs.ChainState.{found, without_place, put_before, place_after};
+ghost use Rattle.flume_chain.specs.ChainState.{first_element, behind_first, moved_back};
+ghost use Rattle.flume_chain.specs.ChainState.{times, places};
+ghost use Rattle.flume_chain.specs.ChangedAt.{with_label_at};
 
 mod links;
 mod node;
 
-use crate::labelled::Labelled;
+use crate::labelled::LabelledValue;
 use links::{END, Links};
 use std::alloc::Allocator;
 use std::marker::Model;
 
-/// Elements in order, each a value with a label. Each has a place, a number that names it while it
-/// is in the list. Only `push_back` and `insert_before` allocate. Each method leaves the order and
-/// the places of all other elements.
+/// Elements in order, each with a label and a place. Only `push_back` and `insert_before` allocate.
 #[derive(Drop)]
 pub struct Chain<L, E, A: Allocator> {
     links: Links<L, E, A>,
@@ -29,10 +26,10 @@ pub struct Chain<L, E, A: Allocator> {
 }
 
 impl<L, E, A: Allocator> Model for Chain<L, E, A> {
-    ghost use Rattle.flume_chain.specs.Chained.{Chained, chain_of, IsChain};
-    ghost use Rattle.flume_chain.specs.declared.labelled.Labelled.{Labelled};
+    ghost use Rattle.flume_chain.specs.ChainState.{ChainState, chain_of, IsChain};
+    ghost use Rattle.flume_chain.specs.declared.labelled.LabelledValue.{LabelledValue};
 
-    ghost Value = { Chained (Labelled L E) };
+    ghost Value = { ChainState (LabelledValue L E) };
 
     ghost view = { λ c. chain_of c.links c.len };
 
@@ -46,8 +43,8 @@ impl<L: Drop, E: Drop, A: Allocator> Chain<L, E, A> {
     ///
     /// ```
     /// let mut chain = Chain::new(alloc);
-    /// chain.push_back(Labelled { label: 7, value: 'a' }).ok(); // Some(0)
-    /// chain.push_back(Labelled { label: 8, value: 'b' }).ok(); // Some(1)
+    /// chain.push_back(LabelledValue { label: 7, value: 'a' }).ok(); // Some(0)
+    /// chain.push_back(LabelledValue { label: 8, value: 'b' }).ok(); // Some(1)
     /// chain.get(0).copied();             // Some('a')
     /// chain.label(1).copied();           // Some(8)
     /// chain.next(0);                     // Some(1)
@@ -63,7 +60,7 @@ impl<L: Drop, E: Drop, A: Allocator> Chain<L, E, A> {
         }
     }
 
-    /// What holds of every chain: no two elements have the same place. Does nothing.
+    /// What holds of every chain. Does nothing.
     #[inline(always)]
     pub fn facts(&self)
         ensures apart { (k : ℕ) → times k (places self.now.items) ≤ 1 }
@@ -98,7 +95,7 @@ impl<L: Drop, E: Drop, A: Allocator> Chain<L, E, A> {
         self.links.allocator()
     }
 
-    /// The value at a place, which no other has. `None` if there is none there.
+    /// The value at a place. `None` if there is none there.
     #[inline(always)]
     pub fn get(&self, place: u32) -> Option<&E>
         ensures found { option_copied result
@@ -116,8 +113,7 @@ impl<L: Drop, E: Drop, A: Allocator> Chain<L, E, A> {
         self.links.label(place)
     }
 
-    /// The value at a place, for writing: it keeps its place and its label. `None` if there is none
-    /// there, and then nothing changes.
+    /// The value at a place, for writing. `None` if there is none there.
     #[inline(always)]
     pub fn get_mut(&mut self, place: u32) -> Option<&mut E>
         ensures* writes_back { sem 𝓛
@@ -132,11 +128,10 @@ impl<L: Drop, E: Drop, A: Allocator> Chain<L, E, A> {
         }
     }
 
-    // Apart from `get_mut`: what it lends is said of the list of elements, and by
-    // `Links::value_mut` of nodes.
+    // Apart from `get_mut`: it says of elements what `Links::value_mut` says of nodes.
     #[inline(always)]
     fn value_mut(&mut self, place: u32) -> &mut E
-        requires stands { IsSome (found self.old.items place) }
+        requires occupied { IsSome (found self.old.items place) }
         ensures* writes_back { sem 𝓛
             (lends_value L.row E.row A.row A.Allocator self.entry place result) }
         ensures value { option_map (λ e. e.value) (found self.old.items place) ≡ Some result.now }
@@ -144,8 +139,7 @@ impl<L: Drop, E: Drop, A: Allocator> Chain<L, E, A> {
         self.links.value_mut(place)
     }
 
-    /// Writes the label at a place, and drops the one that was there. Nothing changes if there is
-    /// no element there.
+    /// Replaces the label at a place. Nothing changes if there is no element there.
     #[inline(always)]
     pub fn set_label(&mut self, place: u32, label: L)
         ensures labelled { self.new.items ≡ with_label_at place self.old.items label }
@@ -154,8 +148,7 @@ impl<L: Drop, E: Drop, A: Allocator> Chain<L, E, A> {
         self.links.set_label(place, label);
     }
 
-    /// The place of the element behind that at a place. `None` if there is none at the place, or
-    /// none behind it.
+    /// The place of the element behind that at a place. `None` if there is no such element.
     #[inline(always)]
     pub fn next(&self, place: u32) -> Option<u32>
         ensures next { result ≡ place_after self.now.items place }
@@ -170,11 +163,10 @@ impl<L: Drop, E: Drop, A: Allocator> Chain<L, E, A> {
         Some(next)
     }
 
-    /// Puts an element behind all others, and returns its place, which no other has. If an
-    /// allocation fails, or there are 4,294,967,295 elements already, the element comes back, and
-    /// the chain stays as it was.
+    /// Puts an element behind all others, and returns its place. If an allocation fails, or the
+    /// chain is full, the element comes back, and the chain is unchanged.
     #[inline(always)]
-    pub fn push_back(&mut self, element: Labelled<L, E>) -> Result<u32, Labelled<L, E>>
+    pub fn push_back(&mut self, element: LabelledValue<L, E>) -> Result<u32, LabelledValue<L, E>>
         ensures pushed { IfOk result (λ place. self.new.items
             ≡ self.old.items ++ record { place = place; element = element } ∷ []) }
         ensures fresh { IfOk result (λ place. found self.old.items place ≡ None) }
@@ -189,15 +181,13 @@ impl<L: Drop, E: Drop, A: Allocator> Chain<L, E, A> {
         Ok(place)
     }
 
-    /// Puts an element ahead of that at a place, or behind all others if there is none there, and
-    /// returns its own place, which no other has. If an allocation fails, or there are
-    /// 4,294,967,295 elements already, the element comes back, and the chain stays as it was.
+    /// Puts an element ahead of that at a place, or last if there is none. It fails as `push_back`.
     #[inline(always)]
     pub fn insert_before(
         &mut self,
         next: u32,
-        element: Labelled<L, E>,
-    ) -> Result<u32, Labelled<L, E>>
+        element: LabelledValue<L, E>,
+    ) -> Result<u32, LabelledValue<L, E>>
         ensures inserted { IfOk result (λ place. self.new.items
             ≡ put_before self.old.items next (record { place = place; element = element })) }
         ensures fresh { IfOk result (λ place. found self.old.items place ≡ None) }
@@ -215,8 +205,7 @@ impl<L: Drop, E: Drop, A: Allocator> Chain<L, E, A> {
         Ok(place)
     }
 
-    /// Puts the element at a place behind all others. It keeps its place. `false` if there is none
-    /// there, and then nothing changes.
+    /// Puts the element at a place behind all others; it keeps its place. `false` if there is none.
     #[inline(always)]
     pub fn move_back(&mut self, place: u32) -> bool
         ensures stood { result ≡ true ↔ IsSome (found self.old.items place) }
@@ -232,28 +221,27 @@ impl<L: Drop, E: Drop, A: Allocator> Chain<L, E, A> {
         true
     }
 
-    /// Takes out the element at a place, which then names none. `None` if there is none there, and
-    /// then nothing changes.
+    /// Takes out the element at a place. `None` if there is none there.
     #[inline(always)]
-    pub fn remove(&mut self, place: u32) -> Option<Labelled<L, E>>
+    pub fn remove(&mut self, place: u32) -> Option<LabelledValue<L, E>>
         ensures found { result ≡ found self.old.items place }
-        ensures taken { OnSome result (self.new.items ≡ without self.old.items place) }
+        ensures taken { OnSome result (self.new.items ≡ without_place self.old.items place) }
         ensures room { OnSome result (self.new.room ≡ self.old.room + 1) }
         ensures unchanged { IfNone result (self.new ≡ self.old) }
     {
         let Some(element) = self.links.take(place) else {
             return None;
         };
-        self.links.bypass(place);
+        self.links.unlink_and_free(place);
         self.len -= 1;
         Some(element)
     }
 
-    /// Drops the element at a place, which then names none. Nothing changes if there is none there.
+    /// Drops the element at a place. Nothing changes if there is none there.
     // Not by `remove`, which moves the element out, a part at a time and more than once.
     #[inline(always)]
     pub fn discard(&mut self, place: u32)
-        ensures left { self.new.items ≡ without self.old.items place }
+        ensures left { self.new.items ≡ without_place self.old.items place }
         ensures room { self.new.room + length self.new.items
             ≡ self.old.room + length self.old.items }
     {
@@ -261,13 +249,13 @@ impl<L: Drop, E: Drop, A: Allocator> Chain<L, E, A> {
             return;
         };
         self.links.discard(place);
-        self.links.bypass(place);
+        self.links.unlink_and_free(place);
         self.len -= 1;
     }
 
-    /// Takes out the first element. `None` if there is none, and then nothing changes.
+    /// Takes out the first element. `None` if there is none.
     #[inline(always)]
-    pub fn pop_front(&mut self) -> Option<Labelled<L, E>>
+    pub fn pop_front(&mut self) -> Option<LabelledValue<L, E>>
         ensures first { result ≡ first_element self.old.items }
         ensures taken { self.new.items ≡ behind_first self.old.items }
         ensures room { OnSome result (self.new.room ≡ self.old.room + 1) }
@@ -283,7 +271,9 @@ impl<L: Drop, E: Drop, A: Allocator> Chain<L, E, A> {
         ensures empty { self.new.items ≡ [] }
         ensures room { self.new.room ≡ self.old.room + length self.old.items }
     {
-        self.links.clear();
-        self.len = 0;
+        if self.len > 0 {
+            self.links.clear();
+            self.len = 0;
+        }
     }
 }

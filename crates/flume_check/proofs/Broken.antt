@@ -11,7 +11,7 @@ use Rattle.flume_concurrent.specs.declared.event.Event.{Event}
 use Rattle.flume_recording.specs.EventLines.{thread_of}
 use Rattle.flume_recording.specs.Recordings.{IsRecordingText}
 use Rattle.flume_explain.specs.Search.{BreaksAfter}
-use Rattle.flume_check.specs.CallsText.{AreExplained, BreaksOff, IsPossible, but_text, line_text, told_text}
+use Rattle.flume_check.specs.CallsText.{AreExplained, BreaksOff, IsPossible, but_text, line_text, recorded_text}
 
 module _ {A : Type 0} where
   -- the events before a place are the first of those that stay without that one
@@ -31,7 +31,7 @@ module _ {A : Type 0} where
       → event ≡ get_or events place event
       → left ≡ take place events ++ drop (place + 1) events
       → All (IsPossible capacity (take place left) (thread_of event)) answers
-      → text ≡ line_text (place + 2) (told_text event ++ but_text answers)
+      → text ≡ line_text (place + 2) (recorded_text event ++ but_text answers)
       → BreaksOff A input text 1
   broken input text capacity names events left place event answers breaks reads here parts possible told =
       let within = breaks.is_within in
@@ -53,6 +53,6 @@ module _ {A : Type 0} where
         not_on = λ e. breaks.not_on (subst (λ l. AreExplained capacity l) (sym next) e);
         answers = answers;
         possible = subst (λ l. All (IsPossible capacity l (thread_of event)) answers) (front events left place within parts) possible;
-        text_is = told ∙ ap (λ n. line_text (n + 2) (told_text event ++ but_text answers)) (sym size);
+        text_is = told ∙ ap (λ n. line_text (n + 2) (recorded_text event ++ but_text answers)) (sym size);
         status_is = refl;
       }

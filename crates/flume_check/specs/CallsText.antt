@@ -10,7 +10,7 @@ use Rattle.flume_concurrent.specs.declared.event.Event.{Event}
 use Rattle.flume_concurrent.specs.declared.event.Event.TheVariants.{Begins, Returns}
 use Rattle.flume_concurrent.specs.declared.event.Item.{Item}
 use Rattle.flume_concurrent.specs.Explanations.{events_in, IsExplained}
-use Rattle.flume_concurrent.specs.Told.{TellExplanation}
+use Rattle.flume_concurrent.specs.Descriptions.{DescribeExplanation}
 use Rattle.flume_recording.specs.declared.fault.Fault.{Fault}
 use Rattle.flume_recording.specs.declared.fault.Fault.TheVariants.{NoOpening, NoEvent, NoCall}
 use Rattle.flume_recording.specs.declared.fault.Fault.TheVariants.{NoAnswer}
@@ -21,7 +21,7 @@ use Rattle.flume_check.specs.ItemLines.{item_lines}
 
 -- what is printed at a line
 abbrev pub line_text : ℕ → List ℕ → List ℕ
-line_text number told = codes "line " ++ decimal number ++ codes ": " ++ told ++ 10 ∷ []
+line_text number rest = codes "line " ++ decimal number ++ codes ": " ++ rest ++ 10 ∷ []
 
 -- why a line is wrong, as it is printed
 abbrev pub fault_text : Fault → List ℕ
@@ -36,9 +36,9 @@ module _ {A : Type 0} where
   AreExplained capacity events = IsExplained (λ x y. x == y) (opens capacity 1) events
 
   -- the recorded text of an event: the call, or the answer
-  abbrev pub told_text : Event ℕ A → List ℕ
-  told_text (Begins thread call) = call_text call
-  told_text (Returns thread answer) = answer_text answer
+  abbrev pub recorded_text : Event ℕ A → List ℕ
+  recorded_text (Begins thread call) = call_text call
+  recorded_text (Returns thread answer) = answer_text answer
 
   -- answers, with ` or ` before each
   abbrev pub or_text : List (Answer ℕ A) → List ℕ
@@ -50,7 +50,7 @@ module _ {A : Type 0} where
   but_text [] = []
   but_text (answer ∷ answers) = codes ", but " ++ answer_text answer ++ or_text answers
 
-  -- behind these events, a thread could have been answered so
+  -- after these events, this thread's call could have returned this
   abbrev pub IsPossible : Option ℕ → List (Event ℕ A) → ℕ → Answer ℕ A → Type 0
   IsPossible capacity before thread answer =
       AreExplained capacity (before ++ Returns thread answer ∷ [])
@@ -65,8 +65,8 @@ pub record Explains (A : Type 0) (input text : List ℕ) (status : ℕ) : Type 0
   pub text_is : text ≡ codes "correct" ++ 10 ∷ []
   pub status_is : status ≡ 0
 
--- each line is right, and the events are explained: the text is the first line, and then the events
--- with steps between them, a line each, that describe an explanation
+-- each line is right, and the events are explained: the text is the first line, and then a line for
+-- each item of an explanation
 pub record ShowsSteps (A : Type 0) (input text : List ℕ) (status : ℕ) : Type 0 where
   pub first : List ℕ
   pub rest : List (List ℕ)
@@ -77,12 +77,12 @@ pub record ShowsSteps (A : Type 0) (input text : List ℕ) (status : ℕ) : Type
   pub reads : IsRecordingText (lines input) capacity events names
   pub items : List (Item ℕ A)
   pub events_are : events_in items ≡ events
-  pub explains : TellExplanation (λ x y. x == y) (opens capacity 1) items
+  pub explains : DescribeExplanation (λ x y. x == y) (opens capacity 1) items
   pub text_is : text ≡ first ++ 10 ∷ item_lines names items
   pub status_is : status ≡ 0
 
--- each line is right, and an event is the first with which they aren't explained: the text names
--- its line, what is recorded there, and answers that are possible there
+-- each line is right: the text names the first event with which the events aren't explained, and
+-- answers that are possible there
 pub record BreaksOff (A : Type 0) (input text : List ℕ) (status : ℕ) : Type 0 where
   pub capacity : Option ℕ
   pub before : List (Event ℕ A)
@@ -95,7 +95,7 @@ pub record BreaksOff (A : Type 0) (input text : List ℕ) (status : ℕ) : Type 
   pub answers : List (Answer ℕ A)
   pub possible : All (IsPossible capacity before (thread_of event)) answers
   pub text_is :
-      text ≡ line_text (length before + 2) (told_text event ++ but_text answers)
+      text ≡ line_text (length before + 2) (recorded_text event ++ but_text answers)
   pub status_is : status ≡ 1
 
 -- each line is right, and the events aren't explained: the text names a line before which they are
@@ -110,9 +110,9 @@ pub record IsWrongLater (A : Type 0) (input text : List ℕ) (status : ℕ) : Ty
   pub text_is : text ≡ line_text (count + 2) (codes "wrong, here or later")
   pub status_is : status ≡ 1
 
--- each line is right, and the search was given up: the text names a line before which the events are
+-- each line is right, and the limit was reached: the text names a line before which the events are
 -- explained
-pub record LeavesOpen (A : Type 0) (input text : List ℕ) (status : ℕ) : Type 0 where
+pub record GivesUp (A : Type 0) (input text : List ℕ) (status : ℕ) : Type 0 where
   pub capacity : Option ℕ
   pub events : List (Event ℕ A)
   pub names : List (List ℕ)
@@ -130,10 +130,10 @@ pub record RefusesRecording (A : Type 0) (input text : List ℕ) (status : ℕ) 
   pub text_is : text ≡ line_text line (fault_text fault)
   pub status_is : status ≡ 2
 
--- Of these bytes this text is printed, with this status. If the recording is explained, the text
--- shows the steps, or it doesn't. A is the allocator of the lists in answers.
+-- this text is printed of these bytes, with this status; `shows` says whether with the steps; A
+-- allocates the lists of the answers
 abbrev pub JudgesCalls : Type 0 → Bool → List ℕ → List ℕ → ℕ → Type 0
 JudgesCalls A shows input text status =
     MatchBool shows (ShowsSteps A input text status) (Explains A input text status)
-    ⊎ (BreaksOff A input text status ⊎ (LeavesOpen A input text status
+    ⊎ (BreaksOff A input text status ⊎ (GivesUp A input text status
     ⊎ (RefusesRecording A input text status ⊎ IsWrongLater A input text status)))

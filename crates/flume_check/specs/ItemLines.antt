@@ -39,7 +39,7 @@ step_word SenderCount = codes "sender_count"
 step_word ReceiverCount = codes "receiver_count"
 step_word IsDisconnected = codes "is_disconnected"
 
--- the number that is behind the word of a step, if there is one
+-- the number after the word of a step
 abbrev pub step_number : Step ℕ → Option ℕ
 step_number (TrySend message) = Some message
 step_number (Send message) = Some message
@@ -55,8 +55,7 @@ abbrev pub step_text : Step ℕ → List ℕ
 step_text step = worded (step_word step) (step_number step)
 
 module _ {A : Type 0} where
-  -- The line of an item, where the threads have these names, and its line feed. The line of a step
-  -- begins with spaces: that of an event begins with a name, in which there is none.
+  -- the line of an item and its line feed; that of a step begins with spaces, which no name has
   abbrev pub item_line : List (List ℕ) → Item ℕ A → List ℕ
   item_line names (Happens event) = event_text names event ++ 10 ∷ []
   item_line names (Makes thread step reply) =

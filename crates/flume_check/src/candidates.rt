@@ -5,7 +5,6 @@ use flume_concurrent::event::Event;
 use flume_core::error::NoMemory;
 use std::alloc::{AllocError, Allocator};
 
-// An answer whose text is one word, and neither `nomemory` nor `dropped`.
 #[derive(Clone, Copy, Debug, Drop)]
 enum Word {
     Sent,
@@ -22,7 +21,7 @@ enum Word {
     Unbounded,
 }
 
-// These words, in the order of their texts.
+// In the order of their texts.
 const WORDS: [Word; 12] = [
     Word::Sent,
     Word::Full,
@@ -38,10 +37,9 @@ const WORDS: [Word; 12] = [
     Word::Unbounded,
 ];
 
-/// The answers to try for this call, in the order of their texts, without `nomemory`, `dropped` and
-/// drained lists. The messages are those that calls begun in these events send, the numbers those
-/// up to the number of these calls, the capacities the opening's and those that calls set: each
-/// once, and 16 at most. `NoMemory`: a list couldn't be allocated.
+// The answers to try for this call, in the order of their texts, without `nomemory`, `dropped` and
+// drained lists: the messages that calls send, the numbers up to how many calls begin, and the
+// capacities of the opening and of calls; of each kind `MOST` at most.
 pub(crate) fn candidates<A: Allocator + Copy>(
     alloc: A,
     capacity: Option<usize>,
@@ -107,14 +105,14 @@ fn push_words<A: Allocator>(
     call: &Call<u64>,
 ) -> Result<(), NoMemory> {
     for word in &WORDS {
-        if is_told_by(*word, call) {
+        if may_answer(*word, call) {
             answers.push(answer_of(*word)).map_err(AllocError::from)?;
         }
     }
     Ok(())
 }
 
-fn is_told_by(word: Word, call: &Call<u64>) -> bool {
+fn may_answer(word: Word, call: &Call<u64>) -> bool {
     match word {
         Word::Sent => message_of(call).is_some(),
         Word::Full => matches!(call, Call::TrySend(_)),

@@ -12,8 +12,7 @@ use flume_recording::writing::write_event;
 use flume_script::writing::write_reply;
 use std::alloc::Allocator;
 
-/// The first line, and behind it a line for each item, where the threads have these names.
-/// `NoMemory`: the text couldn't be allocated.
+// The first line, and a line for each item.
 pub(crate) fn write_items<A: Allocator + Copy>(
     alloc: A,
     first: &[u8],
@@ -51,15 +50,15 @@ fn line_of<A: Allocator + Copy>(
             step,
             reply,
         } => {
-            let mut told = String::new(alloc);
-            told.push_str(" makes ")?;
-            write_step(&mut told, step)?;
-            told.push_str(" -> ")?;
-            write_reply(&mut told, reply)?;
+            let mut rest = String::new(alloc);
+            rest.push_str(" makes ")?;
+            write_step(&mut rest, step)?;
+            rest.push_str(" -> ")?;
+            write_reply(&mut rest, reply)?;
             let mut line = Vec::new(alloc);
             line.extend_from_slice(b"  ")?;
             line.extend_from_slice(names.get(*thread).copied().unwrap_or(&[]))?;
-            line.extend_from_slice(told.as_bytes())?;
+            line.extend_from_slice(rest.as_bytes())?;
             Ok(line)
         }
     }

@@ -5,7 +5,7 @@ ghost use Rattle.flume_check.specs.Kinds.{first_word as word_of};
 
 use flume_script::reading::{next_line, part_at};
 
-/// Whether the first word of the second line ends in a colon.
+// A recording's second line is an event, which begins a call.
 pub(crate) fn is_of_calls(input: &[u8]) -> bool
     ensures value { IsTrue result ↔ IsOfCalls input.now }
 {

@@ -1,5 +1,5 @@
-//! Reads a recording of threads' calls, or a history of steps, from standard input, and says
-//! whether a correct channel could have produced it.
+//! Reads a recording of calls, or a history of steps, from standard input, and says whether a
+//! correct channel could have produced it.
 #![tactic(auto)]
 
 ghost use Rattle.std.specs.Prelude.{IfOk, ◌≡◌, ℕ, List, Some};
@@ -19,7 +19,7 @@ mod texts;
 
 use flume_core::error::NoMemory;
 use flume_history::script::check_script;
-use flume_script::Script;
+use flume_script::ScriptOutput;
 use flume_script::serving::{FAULT, Unread, read_all, write_answer};
 use kind::is_of_calls;
 use reasons::explain_input;
@@ -46,7 +46,6 @@ fn main(rt: HostRuntime) -> ExitCode {
     }
 }
 
-/// Whether `--steps` is among the program's arguments.
 fn asks_for_steps(rt: &HostRuntime) -> io::Result<bool> {
     Ok(
         env::args(rt)?
@@ -55,11 +54,9 @@ fn asks_for_steps(rt: &HostRuntime) -> io::Result<bool> {
     )
 }
 
-/// Reads the input to its end, checks the recording or the history, and writes the result: with
-/// `--steps`, an explained recording is written with the steps that explain it. The status: 0, a
-/// correct channel could have produced it; 1, none could; 2, a line is wrong, and a message says
-/// why; 3, out of memory; 4, a fault of reading or writing, and then nothing more is written; 6, of
-/// a recording, not decided.
+// The status: 0, a correct channel could have produced it; 1, none could; 2, a line is wrong, and a
+// message says why; 3, out of memory; 4, the input couldn't be read or the text not be written; 6,
+// of a recording, not decided.
 fn serve<A: Allocator + Copy, R: Read, W: Write, M: Write>(
     alloc: A,
     shows: bool,
@@ -76,7 +73,7 @@ fn serve<A: Allocator + Copy, R: Read, W: Write, M: Write>(
 {
     let bytes = match read_all(alloc, input) {
         Ok(bytes) => bytes,
-        Err(Unread::NoMemory) => return write_answer(output, Err::<Script<A>, _>(NoMemory)),
+        Err(Unread::NoMemory) => return write_answer(output, Err::<ScriptOutput<A>, _>(NoMemory)),
         Err(Unread::Fault) => return FAULT,
     };
     // Each case by itself: the prover then knows which of the two is written.
@@ -85,28 +82,30 @@ fn serve<A: Allocator + Copy, R: Read, W: Write, M: Write>(
             say_why(alloc, &bytes, &script, messages);
             write_answer(output, Ok(script))
         }
-        Err(NoMemory) => write_answer(output, Err::<Script<A>, _>(NoMemory)),
+        Err(NoMemory) => write_answer(output, Err::<ScriptOutput<A>, _>(NoMemory)),
     }
 }
 
-// Says what is wrong with the first wrong line, if one is. If that can't be said, the text that is
-// printed still has its number.
+// If that can't be said, the text that is printed still has the line's number.
 fn say_why<A: Allocator + Copy, M: Write>(
     alloc: A,
     input: &[u8],
-    told: &Script<A>,
+    printed: &ScriptOutput<A>,
     messages: &mut M,
 ) {
-    if told.status != 2 {
+    if printed.status != 2 {
         return;
     }
-    if let Ok(why) = explain_input(alloc, input, told) {
+    if let Ok(why) = explain_input(alloc, input, printed) {
         let _ = messages.write_all(why.as_bytes());
     }
 }
 
-// Checks the recording, or the history, that the input is.
-fn judge<A: Allocator + Copy>(alloc: A, shows: bool, input: &[u8]) -> Result<Script<A>, NoMemory>
+fn judge<A: Allocator + Copy>(
+    alloc: A,
+    shows: bool,
+    input: &[u8],
+) -> Result<ScriptOutput<A>, NoMemory>
     ensures recording { IfOk result (λ script. IsOfCalls input.now
         → JudgesCalls A shows input.now script.text.items script.status) }
     ensures history { IfOk result (λ script. ¬ IsOfCalls input.now

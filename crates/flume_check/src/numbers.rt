@@ -4,10 +4,9 @@ use flume_concurrent::event::Event;
 use flume_core::error::NoMemory;
 use std::alloc::{AllocError, Allocator};
 
-/// How many numbers are tried at most.
 pub(crate) const MOST: usize = 16;
 
-/// The messages that the calls begun in these events send, each once, and 16 at most.
+// Each once, and `MOST` at most.
 pub(crate) fn messages_in<A: Allocator + Copy>(
     alloc: A,
     events: &[Event<u64, A>],
@@ -21,8 +20,7 @@ pub(crate) fn messages_in<A: Allocator + Copy>(
     Ok(messages)
 }
 
-/// The capacities that a channel was opened with, or that the calls begun in these events set, each
-/// once, and 16 at most.
+// Those that the channel was opened with or that calls set, each once, and `MOST` at most.
 pub(crate) fn capacities_in<A: Allocator + Copy>(
     alloc: A,
     opened: Option<usize>,
@@ -40,7 +38,6 @@ pub(crate) fn capacities_in<A: Allocator + Copy>(
     Ok(capacities)
 }
 
-/// How many calls begin in these events.
 pub(crate) fn calls_in<A: Allocator>(events: &[Event<u64, A>]) -> usize {
     let mut calls: usize = 0;
     for event in events {
@@ -51,7 +48,6 @@ pub(crate) fn calls_in<A: Allocator>(events: &[Event<u64, A>]) -> usize {
     calls
 }
 
-/// The message that a call sends.
 pub(crate) fn message_of(call: &Call<u64>) -> Option<u64> {
     match call {
         Call::Send(message) => Some(*message),
@@ -62,7 +58,6 @@ pub(crate) fn message_of(call: &Call<u64>) -> Option<u64> {
     }
 }
 
-/// The capacity that a call sets.
 pub(crate) fn capacity_of(call: &Call<u64>) -> Option<u64> {
     match call {
         Call::SetCapacity(capacity) => Some(*capacity as u64),
@@ -70,7 +65,6 @@ pub(crate) fn capacity_of(call: &Call<u64>) -> Option<u64> {
     }
 }
 
-// Adds a number that isn't among these yet, while they are fewer than `MOST`.
 fn add_new<A: Allocator>(numbers: &mut Vec<u64, A>, number: Option<u64>) -> Result<(), NoMemory> {
     match number {
         Some(number) if numbers.len() < MOST && !numbers.contains(&number) => {

@@ -1,8 +1,8 @@
-//! What is wrong with a line of a history or of a recording, in words for who wrote it.
+//! Why a line of a history or of a recording is wrong.
 
 use flume_core::error::NoMemory;
 use flume_recording::calls::call_of;
-use flume_script::Script;
+use flume_script::ScriptOutput;
 use flume_script::faults::{
     first_word, line_at, number_fault, opening_fault, step_fault, write_line_fault, write_place,
     write_shown,
@@ -10,19 +10,18 @@ use flume_script::faults::{
 use flume_script::reading::{number, part_at};
 use std::alloc::Allocator;
 
-/// Says what is wrong with the line that is the first wrong one by what is printed of the input.
-/// `NoMemory`: the text found no room.
+// The line is found by its number in the text that is printed of the input.
 pub(crate) fn explain_input<A: Allocator + Copy>(
     alloc: A,
     input: &[u8],
-    told: &Script<A>,
+    printed: &ScriptOutput<A>,
 ) -> Result<String<A>, NoMemory> {
     let mut text = String::new(alloc);
     if input.is_empty() {
         text.push_str("the input is empty\n")?;
         return Ok(text);
     }
-    let (place, said) = parts_of(&told.text);
+    let (place, said) = parts_of(&printed.text);
     let line = line_at(input, place);
     write_place(&mut text, place, line)?;
     match said {
@@ -43,16 +42,16 @@ pub(crate) fn explain_input<A: Allocator + Copy>(
 }
 
 // The number of a line, and what is said of it, in a text such as `line 2: not a step`.
-fn parts_of(told: &[u8]) -> (usize, &[u8]) {
-    let told = told.strip_prefix(b"line ").unwrap_or(told);
-    let Some((digits, said)) = part_at(told, b':') else {
-        return (1, told);
+fn parts_of(printed: &[u8]) -> (usize, &[u8]) {
+    let printed = printed.strip_prefix(b"line ").unwrap_or(printed);
+    let Some((digits, said)) = part_at(printed, b':') else {
+        return (1, printed);
     };
     let place = number(digits).unwrap_or(1);
     (place as usize, said.strip_prefix(b" ").unwrap_or(said))
 }
 
-// What stands before the first such mark in a line, and what behind it.
+// What is before the first such mark, and after it.
 fn parts_at<'l>(line: &'l [u8], mark: &[u8]) -> Option<(&'l [u8], &'l [u8])> {
     for place in 0..line.len() {
         if let Some(behind) = line[place..].strip_prefix(mark) {
@@ -62,7 +61,6 @@ fn parts_at<'l>(line: &'l [u8], mark: &[u8]) -> Option<(&'l [u8], &'l [u8])> {
     None
 }
 
-// What stands behind the first such mark.
 fn behind<'l>(line: &'l [u8], mark: &[u8]) -> &'l [u8] {
     match parts_at(line, mark) {
         Some((_, behind)) => behind,
@@ -70,7 +68,6 @@ fn behind<'l>(line: &'l [u8], mark: &[u8]) -> &'l [u8] {
     }
 }
 
-// Adds what is wrong with a line of a history.
 fn explain_pair<A: Allocator>(text: &mut String<A>, line: &[u8]) -> Result<(), NoMemory> {
     match parts_at(line, b" -> ") {
         Some((step, _)) => write_line_fault(text, step, step_fault(step)),
@@ -78,7 +75,6 @@ fn explain_pair<A: Allocator>(text: &mut String<A>, line: &[u8]) -> Result<(), N
     }
 }
 
-// Adds what is wrong with a call.
 fn explain_call<A: Allocator + Copy>(
     alloc: A,
     text: &mut String<A>,

@@ -1,5 +1,6 @@
 //! Whether a correct channel could have given the answers of a recording.
-ghost use Rattle.std.specs.Prelude.{IfOk, ◌≡◌, ◌==◌, ◌+◌, ◌<◌, ◌^◌, ◌⊎◌, ℕ, List, ◌∷◌, Option, length, take};
+ghost use Rattle.std.specs.Prelude.{IfOk, ◌≡◌, ◌==◌, ◌+◌, ◌<◌, ◌^◌, ◌⊎◌, ℕ, List, ◌∷◌, Option};
+ghost use Rattle.std.specs.Prelude.{length, take};
 ghost use Rattle.std.specs.List.{All};
 ghost use Rattle.std.specs.Str.Lines.{lines};
 ghost use Rattle.flume_recording.specs.EventLines.{thread_of};
@@ -8,7 +9,7 @@ ghost use Rattle.flume_concurrent.specs.declared.event.Event.{Event};
 ghost use Rattle.flume_explain.specs.Search.{BreaksAfter};
 ghost use Rattle.flume_model.specs.Log.{opens};
 ghost use Rattle.flume_check.specs.CallsText.{AreExplained, BreaksOff, IsPossible, JudgesCalls};
-ghost use Rattle.flume_check.specs.CallsText.{LeavesOpen, RefusesRecording, ShowsSteps};
+ghost use Rattle.flume_check.specs.CallsText.{GivesUp, RefusesRecording, ShowsSteps};
 
 use crate::items::write_items;
 use crate::possible::answers_there;
@@ -19,30 +20,28 @@ use flume_core::error::NoMemory;
 use flume_explain::explain::{Checked, Explanation, check_calls, explain};
 use flume_recording::fault::Fault;
 use flume_recording::recording::{Recording, read_recording};
-use flume_script::Script;
+use flume_script::ScriptOutput;
 use flume_script::reading::next_line;
 use std::alloc::Allocator;
 
-// How many configurations a search may enter.
 const LIMIT: usize = 10_000_000;
 
 /// Whether a correct channel could have given the answers of a recording. All lines are read first.
 ///
 /// - Status 2: a line is wrong; the text names the first wrong one and says why.
-/// - Status 0: the events are explained. The text is `correct`, or, if `shows`, the recording with the
-///   steps that explain it between its lines.
-/// - Status 1: the text names the first line whose event no correct channel can have come to, what is
-///   recorded there, and answers that are possible there. If that line wasn't found, the text names
-///   the first one that it can be.
-/// - Status 6: the search was given up; the text names a line before which the events
-///   are explained.
+/// - Status 0: the events are explained. The text is `correct`, or, if `shows`, the recording with
+///   the steps that explain it between its lines.
+/// - Status 1: the text names the first line whose event no correct channel can have come to, what
+///   is recorded there, and answers that are possible there. If that line wasn't found, the text
+///   names the first one that it can be.
+/// - Status 6: the limit was reached; the text names a line before which the events are explained.
 ///
-/// `NoMemory`: the events, the search or a text couldn't be allocated.
+/// `NoMemory`: an allocation failed.
 pub(crate) fn judge_recording<A: Allocator + Copy>(
     alloc: A,
     shows: bool,
     input: &[u8],
-) -> Result<Script<A>, NoMemory>
+) -> Result<ScriptOutput<A>, NoMemory>
     ensures judges { IfOk result (λ script.
         JudgesCalls A shows input.now script.text.items script.status) }
 {
@@ -66,13 +65,17 @@ fn first_line(input: &[u8]) -> &[u8]
     }
 }
 
-fn refuse<A: Allocator + Copy>(alloc: A, line: usize, fault: Fault) -> Result<Script<A>, NoMemory>
+fn refuse<A: Allocator + Copy>(
+    alloc: A,
+    line: usize,
+    fault: Fault,
+) -> Result<ScriptOutput<A>, NoMemory>
     ensures refuses { IfOk result (λ script. (input : List ℕ)
         → IsFirstWrongEvent A (lines input) line fault
         → RefusesRecording A input script.text.items script.status) }
 {
     let text = write_fault(alloc, line, fault)?;
-    Ok(Script { text, status: 2 })
+    Ok(ScriptOutput { text, status: 2 })
 }
 
 fn judge<A: Allocator + Copy>(
@@ -82,7 +85,7 @@ fn judge<A: Allocator + Copy>(
     capacity: Option<usize>,
     events: Vec<Event<u64, A>, A>,
     names: &[&[u8]],
-) -> Result<Script<A>, NoMemory>
+) -> Result<ScriptOutput<A>, NoMemory>
     ensures judges { IfOk result (λ script. (input : List ℕ) (rest : List (List ℕ))
         → lines input ≡ first.now ∷ rest
         → IsRecordingText (lines input) capacity events.items (names_of names.now)
@@ -93,56 +96,56 @@ fn judge<A: Allocator + Copy>(
         Checked::Explained => {
             let mut text = Vec::new(alloc);
             text.extend_from_slice(b"correct\n")?;
-            Ok(Script { text, status: 0 })
+            Ok(ScriptOutput { text, status: 0 })
         }
         Checked::Breaks(place) => break_off(alloc, capacity, events, place),
         Checked::Unexplained(place) => {
             let text = write_line(alloc, place + 2, "wrong, here or later")?;
-            Ok(Script { text, status: 1 })
+            Ok(ScriptOutput { text, status: 1 })
         }
         Checked::NoMemory => Err(NoMemory),
-        Checked::GaveUp(place) => leave_open(alloc, place),
+        Checked::GaveUp(place) => give_up(alloc, place),
     }
 }
 
-// The first line, and behind it the events, with steps between them that explain them.
+// The first line, and then the items, a line each.
 fn show<A: Allocator + Copy>(
     alloc: A,
     first: &[u8],
     capacity: Option<usize>,
     events: &[Event<u64, A>],
     names: &[&[u8]],
-) -> Result<Script<A>, NoMemory>
+) -> Result<ScriptOutput<A>, NoMemory>
     requires explained { AreExplained capacity events.now }
     requires room { length events.now + 2 < 2 ^ 64 }
     ensures shows { IfOk result (λ script. (input : List ℕ) (rest : List (List ℕ))
         → lines input ≡ first.now ∷ rest
         → IsRecordingText (lines input) capacity events.now (names_of names.now)
         → ShowsSteps A input script.text.items script.status
-        ⊎ LeavesOpen A input script.text.items script.status) }
+        ⊎ GivesUp A input script.text.items script.status) }
 {
     match explain(alloc, capacity, events, LIMIT) {
         Explanation::Explained(items) => {
             let text = write_items(alloc, first, names, &items)?;
-            Ok(Script { text, status: 0 })
+            Ok(ScriptOutput { text, status: 0 })
         }
         Explanation::Unexplained => unreachable!(),
         Explanation::NoMemory => Err(NoMemory),
-        Explanation::GaveUp(place) => leave_open(alloc, place),
+        Explanation::GaveUp(place) => give_up(alloc, place),
     }
 }
 
-// The line of the event at this place, before which the events are explained.
-fn leave_open<A: Allocator + Copy>(alloc: A, place: usize) -> Result<Script<A>, NoMemory>
+// The events before this one are explained.
+fn give_up<A: Allocator + Copy>(alloc: A, place: usize) -> Result<ScriptOutput<A>, NoMemory>
     requires room { place + 2 < 2 ^ 64 }
     ensures leaves_open { IfOk result (λ script. (input : List ℕ) (capacity : Option ℕ)
         (events : List (Event ℕ A)) (names : List (List ℕ))
         → IsRecordingText (lines input) capacity events names
         → AreExplained capacity (take place events)
-        → LeavesOpen A input script.text.items script.status) }
+        → GivesUp A input script.text.items script.status) }
 {
     let text = write_line(alloc, place + 2, "not decided")?;
-    Ok(Script { text, status: 6 })
+    Ok(ScriptOutput { text, status: 6 })
 }
 
 fn break_off<A: Allocator + Copy>(
@@ -150,7 +153,7 @@ fn break_off<A: Allocator + Copy>(
     capacity: Option<usize>,
     mut events: Vec<Event<u64, A>, A>,
     place: usize,
-) -> Result<Script<A>, NoMemory>
+) -> Result<ScriptOutput<A>, NoMemory>
     requires breaks { BreaksAfter (λ x y. x == y) (opens capacity 1) events.items place }
     ensures breaks { IfOk result (λ script. (input : List ℕ) (names : List (List ℕ))
         → IsRecordingText (lines input) capacity events.items names
@@ -160,11 +163,10 @@ fn break_off<A: Allocator + Copy>(
     events.truncate(place);
     let answers = answers_for(alloc, capacity, events, &event)?;
     let text = write_break(alloc, place + 2, &event, &answers)?;
-    Ok(Script { text, status: 1 })
+    Ok(ScriptOutput { text, status: 1 })
 }
 
-// The answers that are possible behind these events in place of an event: none, if that is no
-// answer.
+// None, if the event isn't an answer.
 fn answers_for<A: Allocator + Copy>(
     alloc: A,
     capacity: Option<usize>,

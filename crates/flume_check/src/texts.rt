@@ -1,7 +1,7 @@
 //! The texts that are printed of a recording.
 ghost use Rattle.std.specs.Prelude.{IfOk, OnOk, ◌≡◌, ◌++◌, codes, string_bytes};
 ghost use Rattle.flume_check.specs.CallsText.{but_text, fault_text, line_text, or_text};
-ghost use Rattle.flume_check.specs.CallsText.{told_text};
+ghost use Rattle.flume_check.specs.CallsText.{recorded_text};
 
 use flume_concurrent::call::Answer;
 use flume_concurrent::event::Event;
@@ -11,20 +11,18 @@ use flume_recording::calls::write_call;
 use flume_recording::fault::Fault;
 use std::alloc::Allocator;
 
-/// What is printed at a line. `NoMemory`: the text couldn't be allocated.
 pub(crate) fn write_line<A: Allocator + Copy>(
     alloc: A,
     number: usize,
-    told: &str,
+    rest: &str,
 ) -> Result<Vec<u8, A>, NoMemory>
-    ensures value { IfOk result (λ text. text.items ≡ line_text number told.now) }
+    ensures value { IfOk result (λ text. text.items ≡ line_text number rest.now) }
 {
     let mut text = String::new(alloc);
-    writeln!(text, "line {number}: {told}")?;
+    writeln!(text, "line {number}: {rest}")?;
     Ok(text.into_bytes())
 }
 
-/// What is printed of a line that is wrong. `NoMemory`: the text couldn't be allocated.
 pub(crate) fn write_fault<A: Allocator + Copy>(
     alloc: A,
     number: usize,
@@ -32,17 +30,15 @@ pub(crate) fn write_fault<A: Allocator + Copy>(
 ) -> Result<Vec<u8, A>, NoMemory>
     ensures value { IfOk result (λ text. text.items ≡ line_text number (fault_text fault)) }
 {
-    let told = match fault {
+    let rest = match fault {
         Fault::NoOpening => "not an opening",
         Fault::NoEvent => "not an event",
         Fault::NoCall => "not a call",
         Fault::NoAnswer => "not an answer",
     };
-    write_line(alloc, number, told)
+    write_line(alloc, number, rest)
 }
 
-/// What is printed of a line whose event can't come there, but these answers can. `NoMemory`: the
-/// text couldn't be allocated.
 pub(crate) fn write_break<A: Allocator + Copy>(
     alloc: A,
     number: usize,
@@ -50,15 +46,15 @@ pub(crate) fn write_break<A: Allocator + Copy>(
     answers: &[Answer<u64, A>],
 ) -> Result<Vec<u8, A>, NoMemory>
     ensures value { IfOk result (λ text.
-        text.items ≡ line_text number (told_text event.now ++ but_text answers.now)) }
+        text.items ≡ line_text number (recorded_text event.now ++ but_text answers.now)) }
 {
-    let mut told = String::new(alloc);
+    let mut rest = String::new(alloc);
     match event {
-        Event::Begins { call, .. } => write_call(&mut told, call)?,
-        Event::Returns { answer, .. } => write_answer(&mut told, answer)?,
+        Event::Begins { call, .. } => write_call(&mut rest, call)?,
+        Event::Returns { answer, .. } => write_answer(&mut rest, answer)?,
     }
-    write_but(&mut told, answers)?;
-    write_line(alloc, number, &told)
+    write_but(&mut rest, answers)?;
+    write_line(alloc, number, &rest)
 }
 
 fn write_but<A: Allocator>(text: &mut String<A>, answers: &[Answer<u64, A>]) -> Result<(), NoMemory>

@@ -10,7 +10,7 @@ use Rattle.flume_concurrent.specs.declared.event.Item.{Item}
 use Rattle.flume_concurrent.specs.declared.event.Item.TheVariants.{Happens, Makes}
 use Rattle.flume_concurrent.specs.declared.stage.Stage.{Stage}
 use Rattle.flume_concurrent.specs.declared.stage.Stage.TheVariants.{Begun}
-use Rattle.flume_concurrent.specs.Explanations.{further, open_call}
+use Rattle.flume_concurrent.specs.Explanations.{after_reply, open_call}
 
 module _ {T A : Type 0} where
   -- the thread began a call among these items
@@ -43,7 +43,7 @@ module _ {T A : Type 0} where
   -- a call is open
   abbrev pub IsThere : Option (Call T × Stage T A) → Type 0
   IsThere None = ⊥
-  IsThere (Some far) = Unit {0}
+  IsThere (Some current) = Unit {0}
 
   -- a thread that has a call open began one
   pub open_begun : (items : List (Item T A)) (t : ℕ) → IsThere (open_call items t) → BegunIn items t
@@ -54,16 +54,16 @@ module _ {T A : Type 0} where
           → IsThere (if b then Some (c, Begun) else open_call items t) → BegunIn (Happens (Begins u c) ∷ items) t
       by_thread true is before h = begun_now items u t c is
       by_thread false is before h = begun_more (Happens (Begins u c)) items t (before h)
-  open_begun (Happens (Returns u told) ∷ items) t h = by_thread (eqb u t) (open_begun items t) h
+  open_begun (Happens (Returns u recorded) ∷ items) t h = by_thread (eqb u t) (open_begun items t) h
     where
       by_thread : (b : Bool) → (IsThere (open_call items t) → BegunIn items t) → IsThere (if b then None else open_call items t)
-          → BegunIn (Happens (Returns u told) ∷ items) t
+          → BegunIn (Happens (Returns u recorded) ∷ items) t
       by_thread true before h = absurd h
-      by_thread false before h = begun_more (Happens (Returns u told)) items t (before h)
+      by_thread false before h = begun_more (Happens (Returns u recorded)) items t (before h)
   open_begun (Makes u step r ∷ items) t h =
       begun_more (Makes u step r) items t (open_begun items t (by_thread (eqb u t) (open_call items t) h))
     where
-      by_thread : (b : Bool) (far : Option (Call T × Stage T A)) → IsThere (if b then further r far else far) → IsThere far
+      by_thread : (b : Bool) (current : Option (Call T × Stage T A)) → IsThere (if b then after_reply r current else current) → IsThere current
       by_thread true None h = h
-      by_thread true (Some far) h = tt
-      by_thread false far h = h
+      by_thread true (Some current) h = tt
+      by_thread false current h = h

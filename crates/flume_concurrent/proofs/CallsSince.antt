@@ -13,8 +13,8 @@ use Rattle.flume_concurrent.specs.declared.call.Answer.{Answer}
 use Rattle.flume_concurrent.specs.declared.call.Answer.TheVariants as answer
 use Rattle.flume_concurrent.specs.declared.stage.Stage.{Stage}
 use Rattle.flume_concurrent.specs.declared.stage.Stage.TheVariants.{Begun, Tried, Parked, Refused, Answered}
-use Rattle.flume_concurrent.specs.Calls.{first_step, parking_step, is_send, next_step, other_step, stage_after}
-use Rattle.flume_concurrent.specs.Explanations.{further, IsNextStep}
+use Rattle.flume_concurrent.specs.Calls.{first_step, parking_step, is_send, next_step, alternative_step, stage_after}
+use Rattle.flume_concurrent.specs.Explanations.{after_reply, IsNextStep}
 use Rattle.flume_concurrent.proofs.HandedSince.{Since, IsHandedSince, handed_on, IsFrom, gets_message}
 
 -- a parked call that asks does so under its ticket, if it is a send or a receive
@@ -86,9 +86,9 @@ module _ {T : Type 0} (A : Type 0) where
 module _ {T A : Type 0} where
   -- the message that an answer gives, if it gives one, was handed out, after this many others at
   -- least
-  abbrev pub Told : ℕ → Log T A → Answer T A → Type 0
-  Told n log (answer.Got own) = IsHandedSince n log own
-  Told n log _ = Unit {0}
+  abbrev pub AnswerSince : ℕ → Log T A → Answer T A → Type 0
+  AnswerSince n log (answer.Got own) = IsHandedSince n log own
+  AnswerSince n log _ = Unit {0}
 
   -- a call that is so far is parked under a ticket that isn't below this, or answers so
   abbrev pub Stands : ℕ → ℕ → Log T A → Stage T A → Type 0
@@ -96,16 +96,16 @@ module _ {T A : Type 0} where
   Stands n k log Tried = Unit {0}
   Stands n k log (Parked t) = k ≤ t
   Stands n k log (Refused t) = k ≤ t
-  Stands n k log (Answered own) = Told n log own
+  Stands n k log (Answered own) = AnswerSince n log own
 
   -- a thread's open call, if it has one, does
   abbrev pub StandsIn : ℕ → ℕ → Log T A → Option (Call T × Stage T A) → Type 0
   StandsIn n k log None = Unit {0}
-  StandsIn n k log (Some far) = Stands n k log far.1
+  StandsIn n k log (Some current) = Stands n k log current.1
 
   -- an answer stays so by one more step
-  told_on : (n : ℕ) (o : Opening) (past : Log T A) (p : Step T × Reply T A) → IsRun o (p ∷ past) → (own : Answer T A) → Told n past own
-      → Told n (p ∷ past) own
+  told_on : (n : ℕ) (o : Opening) (past : Log T A) (p : Step T × Reply T A) → IsRun o (p ∷ past) → (own : Answer T A) → AnswerSince n past own
+      → AnswerSince n (p ∷ past) own
   told_on n o past p run (answer.Got own) h = handed_on n o past p own run h
   told_on n o past p run _ h = tt
 
@@ -120,9 +120,9 @@ module _ {T A : Type 0} where
 
   -- a thread's open call stays so by a step of another thread
   pub stands_in_on : (n k : ℕ) (o : Opening) (past : Log T A) (p : Step T × Reply T A) → IsRun o (p ∷ past)
-      → (far : Option (Call T × Stage T A)) → StandsIn n k past far → StandsIn n k (p ∷ past) far
+      → (current : Option (Call T × Stage T A)) → StandsIn n k past current → StandsIn n k (p ∷ past) current
   stands_in_on n k o past p run None h = tt
-  stands_in_on n k o past p run (Some far) h = stands_on n k o past p run far.1 h
+  stands_in_on n k o past p run (Some current) h = stands_on n k o past p run current.1 h
 
   -- the next step of a call, if it is one of a parked receiver, is of its ticket
   next_from : (n k : ℕ) (log : Log T A) (c : Call T) (stage : Stage T A) → Stands n k log stage → IsFromIn k (next_step c stage)
@@ -133,7 +133,7 @@ module _ {T A : Type 0} where
   next_from n k log c (Answered own) h = tt
 
   -- so is the step that it may make instead
-  other_from : (n k : ℕ) (log : Log T A) (c : Call T) (stage : Stage T A) → Stands n k log stage → IsFromIn k (other_step c stage)
+  other_from : (n k : ℕ) (log : Log T A) (c : Call T) (stage : Stage T A) → Stands n k log stage → IsFromIn k (alternative_step c stage)
   other_from n k log (call.SendAsync m) Begun h = tt
   other_from n k log call.RecvAsync Begun h = tt
   other_from n k log call.RecvAsync Tried h = tt
@@ -150,7 +150,7 @@ module _ {T A : Type 0} where
   step_from n k log c stage step h (inr is) = subst (IsFromIn k) is (other_from n k log c stage h)
 
   -- of an answer that gives no message nothing is said
-  told_by_side : (n : ℕ) (log : Log T A) (send : Bool) → Told n log (if send then answer.Sent else answer.Disconnected)
+  told_by_side : (n : ℕ) (log : Log T A) (send : Bool) → AnswerSince n log (if send then answer.Sent else answer.Disconnected)
   told_by_side n log true = tt
   told_by_side n log false = tt
 
@@ -187,8 +187,8 @@ module _ {T A : Type 0} where
   stands_after n k o past c stage step _ run since made h = tt
 
   -- a thread's open call stays so by its own step
-  pub stands_in_after : (n k : ℕ) (o : Opening) (past : Log T A) (far : Option (Call T × Stage T A)) (step : Step T) (r : Reply T A)
-      → IsRun o ((step, r) ∷ past) → Since n k o past → IsNextStep far step → StandsIn n k past far
-      → StandsIn n k ((step, r) ∷ past) (further r far)
+  pub stands_in_after : (n k : ℕ) (o : Opening) (past : Log T A) (current : Option (Call T × Stage T A)) (step : Step T) (r : Reply T A)
+      → IsRun o ((step, r) ∷ past) → Since n k o past → IsNextStep current step → StandsIn n k past current
+      → StandsIn n k ((step, r) ∷ past) (after_reply r current)
   stands_in_after n k o past None step r run since made h = tt
-  stands_in_after n k o past (Some far) step r run since made h = stands_after n k o past far.0 far.1 step r run since made h
+  stands_in_after n k o past (Some current) step r run since made h = stands_after n k o past current.0 current.1 step r run since made h

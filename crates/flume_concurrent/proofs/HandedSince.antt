@@ -3,7 +3,7 @@ use Rattle.flume_model.proofs.Common.{◌≡◌, ℕ, zero, suc, ◌<◌, ◌≤
 use Rattle.flume_model.proofs.Common.{None}
 use Rattle.flume_model.proofs.Common.{refl, sym, ap, ◌∙◌, arith, ◌⊎◌, inl, inr, common_steps, length, length-append, eq-eqb, eqb-true}
 use Rattle.flume_model.proofs.Common.{or_cases, or_from, slice_get, slice_get_within, Log, Opening, Offer, Shown, FilledIn, channel}
-use Rattle.flume_model.proofs.Common.{Change, Queues, Takes, Collects, Leaves, change, is_ticket, filled_by, was_filled, fill, handed}
+use Rattle.flume_model.proofs.Common.{Change, Queues, Takes, Collects, Leaves, change, is_ticket, filled_by, was_filled, fill, hands_out}
 use Rattle.flume_model.proofs.Common.{handed_out}
 use Rattle.flume_model.proofs.Common.{hand_outs, kept, next_ticket, is_over, entry_of, entries, held_by, FillIs, shows_to, shown, or_else}
 use Rattle.flume_model.proofs.Common.{IsReply, IsRun}
@@ -39,7 +39,7 @@ ticket_is t (Some u) e = ap (λ v. Some v) (eqb-true u t e)
 
 module _ {T : Type 0} where
   -- a change that fills a receiver hands out to it, and nothing else
-  fills_hand_out : (done : Change T) (t : ℕ) → fills done ≡ Some t → handed done ≡ FilledIn t ∷ []
+  fills_hand_out : (done : Change T) (t : ℕ) → fills done ≡ Some t → hands_out done ≡ FilledIn t ∷ []
   fills_hand_out (Queues m filled) t e = ap fill e
   fills_hand_out (Leaves u filled) t e = ap fill e
   fills_hand_out _ t e = absurd (let none : ⊥ = cc in none)
@@ -111,7 +111,7 @@ module _ {T A : Type 0} where
   pub since_more : (n k : ℕ) (o : Opening) (past : Log T A) (p : Step T × Reply T A) → IsRun o (p ∷ past) → Since n k o past
       → Since n k o (p ∷ past)
   since_more n k o past p run h = record {
-    more_handed = (let long = length-append (handed_out past) (handed (change past p.0 p.1)) in let before = h.more_handed in omega arith);
+    more_handed = (let long = length-append (handed_out past) (hands_out (change past p.0 p.1)) in let before = h.more_handed in omega arith);
     more_issued = (let before = h.more_issued in omega arith);
     filled_at = λ t le was. by_step t le (or_cases (is_ticket t (filled_by p.1)) (was_filled past t) was);
   }
@@ -127,7 +127,7 @@ module _ {T A : Type 0} where
       )
       by_step t le (inr before) =
           let at = h.filled_at t le before in
-          (at.0, at.1, get_more (handed_out past) (handed (change past p.0 p.1)) at.0 (FilledIn t) at.2)
+          (at.0, at.1, get_more (handed_out past) (hands_out (change past p.0 p.1)) at.0 (FilledIn t) at.2)
 
   -- a step leaves the kept offers that were handed out, each at its place
   pub kept_on : (o : Opening) (past : Log T A) (p : Step T × Reply T A) → IsRun o (p ∷ past) → (j : ℕ) → j < hand_outs past
@@ -150,7 +150,7 @@ module _ {T A : Type 0} where
     number = h.number;
     offer = h.offer;
     not_before = h.not_before;
-    handed = (let long = length-append (handed_out past) (handed (change past p.0 p.1)) in let before = h.handed in omega arith);
+    handed = (let long = length-append (handed_out past) (hands_out (change past p.0 p.1)) in let before = h.handed in omega arith);
     is_kept = kept_on o past p run h.number h.handed ∙ h.is_kept;
     same = h.same;
   }
@@ -160,7 +160,7 @@ module _ {T A : Type 0} where
       → n ≤ hand_outs past → change past p.0 p.1 ≡ Takes m receiver → IsHandedSince n (p ∷ past) m
   takes_hands_out n o past p m receiver run le is =
       let at : slice_get (handed_out (p ∷ past)) (hand_outs past) ≡ Some (Shown m) =
-      ap (λ done. slice_get (handed_out past ++ handed done) (hand_outs past)) is ∙ get_behind (handed_out past) (Shown m) in
+      ap (λ done. slice_get (handed_out past ++ hands_out done) (hand_outs past)) is ∙ get_behind (handed_out past) (Shown m) in
       let kept_at = placed o (p ∷ past) run (hand_outs past) (Shown m) at in
       record {
         number = hand_outs past;
@@ -178,7 +178,7 @@ module _ {T A : Type 0} where
   collects_message n k o past step m u run since le was shows =
       let log : Log T A = (step, reply.Got m) ∷ past in
       let filled = since.filled_at u le was in
-      let at = get_more (handed_out past) (handed (change past step (reply.Got m))) filled.0 (FilledIn u) filled.2 in
+      let at = get_more (handed_out past) (hands_out (change past step (reply.Got m))) filled.0 (FilledIn u) filled.2 in
       let kept_at = in_order o log run filled.0 (FilledIn u) at in
       record {
         number = filled.0;

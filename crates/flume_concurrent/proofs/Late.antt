@@ -14,7 +14,7 @@ use Rattle.flume_concurrent.specs.declared.event.Item.{Item}
 use Rattle.flume_concurrent.specs.declared.event.Item.TheVariants.{Happens, Makes}
 use Rattle.flume_concurrent.specs.declared.stage.Stage.{Stage}
 use Rattle.flume_concurrent.specs.declared.stage.Stage.TheVariants.{Begun}
-use Rattle.flume_concurrent.specs.Explanations.{steps_in, further, open_call, IsNextStep, returns, Fits, AreCalls, IsExplained}
+use Rattle.flume_concurrent.specs.Explanations.{steps_in, after_reply, open_call, IsNextStep, returns, Fits, AreCalls, IsExplained}
 use Rattle.flume_concurrent.specs.LateSteps.{IsFollowed, AreLate, IsExplainedLate}
 use Rattle.flume_concurrent.proofs.LateItems.{of_item, pick, own, steps_reverse, late, same_events, same_steps, same_own, IsWaited, AreWaited, waited}
 
@@ -23,14 +23,14 @@ module _ {T A : Type 0} (equal : T → T → Bool) where
   -- what a thread may do next, by its state
   abbrev Fit : Option (Call T × Stage T A) → Item T A → Type 0
   Fit c (Happens (Begins t call)) = c ≡ None
-  Fit c (Happens (Returns t told)) = IsTrue (returns equal c told)
+  Fit c (Happens (Returns t recorded)) = IsTrue (returns equal c recorded)
   Fit c (Makes t step reply) = IsNextStep c step
 
   -- and its state then
   abbrev after : Option (Call T × Stage T A) → Item T A → Option (Call T × Stage T A)
   after c (Happens (Begins t call)) = Some (call, Begun)
-  after c (Happens (Returns t told)) = None
-  after c (Makes t step reply) = further reply c
+  after c (Happens (Returns t recorded)) = None
+  after c (Makes t step reply) = after_reply reply c
 
   -- what one thread does
   abbrev Does : Option (Call T × Stage T A) → List (Item T A) → Type 0
@@ -45,19 +45,19 @@ module _ {T A : Type 0} (equal : T → T → Bool) where
   -- an item fits the past exactly if it fits its thread's state
   fit_of : (past : List (Item T A)) (item : Item T A) → Fits equal past item → Fit (open_call past (of_item item)) item
   fit_of past (Happens (Begins t call)) h = h
-  fit_of past (Happens (Returns t told)) h = h
+  fit_of past (Happens (Returns t recorded)) h = h
   fit_of past (Makes t step reply) h = h
 
   fits_of : (past : List (Item T A)) (item : Item T A) → Fit (open_call past (of_item item)) item → Fits equal past item
   fits_of past (Happens (Begins t call)) h = h
-  fits_of past (Happens (Returns t told)) h = h
+  fits_of past (Happens (Returns t recorded)) h = h
   fits_of past (Makes t step reply) h = h
 
   -- a thread's state behind an item: as it was, but for the item's own thread
   stands_is : (past : List (Item T A)) (item : Item T A) (t : ℕ)
       → open_call (item ∷ past) t ≡ (if of_item item == t then after (open_call past t) item else open_call past t)
   stands_is past (Happens (Begins u call)) t = refl
-  stands_is past (Happens (Returns u told)) t = refl
+  stands_is past (Happens (Returns u recorded)) t = refl
   stands_is past (Makes u step reply) t = refl
 
   stands_own : (past : List (Item T A)) (item : Item T A) (t : ℕ) → (of_item item == t) ≡ true
@@ -121,16 +121,16 @@ module _ {T A : Type 0} (equal : T → T → Bool) where
       by_thread t false is does = subst (λ c. Does c (own t items)) (sym (stands_other past item t is)) does
 
   -- a thread that has made a step has a call open, and doesn't begin another one
-  still_open : (c : Option (Call T × Stage T A)) (step : Step T) (reply : Reply T A) → IsNextStep c step → further reply c ≡ None → ⊥
+  still_open : (c : Option (Call T × Stage T A)) (step : Step T) (reply : Reply T A) → IsNextStep c step → after_reply reply c ≡ None → ⊥
   still_open None step reply made none = made
-  still_open (Some far) step reply made none = let no_way : ⊥ = cc in no_way
+  still_open (Some current) step reply made none = let no_way : ⊥ = cc in no_way
 
   -- a step that is waited for is followed
   followed : (past : List (Item T A)) (t : ℕ) (step : Step T) (reply : Reply T A) (items : List (Item T A))
       → Fits equal past (Makes t step reply) → AreNext (Makes t step reply ∷ past) items → IsWaited t items → IsFollowed t items
   followed past t step reply [] made h is = is
-  followed past t step reply (Makes u next told ∷ items) made h is = tt
-  followed past t step reply (Happens (Returns u told) ∷ items) made h is = is
+  followed past t step reply (Makes u next recorded ∷ items) made h is = tt
+  followed past t step reply (Happens (Returns u recorded) ∷ items) made h is = is
   followed past t step reply (Happens (Begins u call) ∷ items) made h is =
       still_open (open_call past t) step reply made
       (sym (stands_own past (Makes t step reply) t (eq-eqb t t refl))

@@ -1,7 +1,7 @@
 -- A step that is answered `Waiting`, by which no receiver waits that didn't before, changes nothing.
 use Rattle.flume_model.proofs.Common.{◌≡◌, ℕ, ◌+◌, Bool, true, false, not, ◌&&◌, ◌||◌, if◌then◌else◌, eqb, List, [], ◌∷◌, ◌++◌, Option, Some, None}
 use Rattle.flume_model.proofs.Common.{refl, sym, ap, ◌∙◌, subst, arith, common_steps, cond-false, append-nil, Log, Opening, channel, Channel}
-use Rattle.flume_model.proofs.Common.{senders, receivers, is_over, boundary, is_live, entries, entry_of, again, without, waiting_count}
+use Rattle.flume_model.proofs.Common.{senders, receivers, is_over, boundary, is_live, entries, entry_of, again, without_ticket, waiting_count}
 use Rattle.flume_model.proofs.Common.{is_woken, IsOpen, LogEntry, IsPolled, IsGone, IsGoneMark, IsReply, is_waiting, offers, handed_out}
 use Rattle.flume_model.specs.declared.step.Kind.{Kind}
 use Rattle.flume_model.specs.declared.step.Kind.TheVariants.{Block}
@@ -38,16 +38,16 @@ module _ {T N : Type 0} where
       (λ e found woken same. absurd (more e found woken same))
     where
       more : (e : Entry T N) → entry_of t es ≡ Some e → is_woken e.mark ≡ true
-          → waiting_count (without t es ++ record e { mark = StillWaits } ∷ []) ≡ waiting_count es → ⊥
+          → waiting_count (without_ticket t es ++ record e { mark = StillWaits } ∷ []) ≡ waiting_count es → ⊥
       more e found woken same =
           let left = (without_counts t e es found).waiting in
-          let last = one_more (without t es) e in
+          let last = one_more (without_ticket t es) e in
           not_waiting e.mark woken left last same
         where
           not_waiting : (m : Mark T) → is_woken m ≡ true
-              → waiting_count (without t es) + (if is_waiting m then 1 else 0) ≡ waiting_count es
-              → waiting_count (without t es ++ record e { mark = StillWaits } ∷ []) ≡ waiting_count (without t es) + 1
-              → waiting_count (without t es ++ record e { mark = StillWaits } ∷ []) ≡ waiting_count es → ⊥
+              → waiting_count (without_ticket t es) + (if is_waiting m then 1 else 0) ≡ waiting_count es
+              → waiting_count (without_ticket t es ++ record e { mark = StillWaits } ∷ []) ≡ waiting_count (without_ticket t es) + 1
+              → waiting_count (without_ticket t es ++ record e { mark = StillWaits } ∷ []) ≡ waiting_count es → ⊥
           not_waiting StillWaits w l k s = let none : ⊥ = cc in none
           not_waiting Woken w l k s = omega arith
           not_waiting (Filled m) w l k s = let none : ⊥ = cc in none

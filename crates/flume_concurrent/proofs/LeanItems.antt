@@ -13,7 +13,7 @@ use Rattle.flume_concurrent.specs.declared.event.Item.TheVariants.{Happens, Make
 use Rattle.flume_concurrent.specs.declared.stage.Stage.{Stage}
 use Rattle.flume_concurrent.specs.declared.stage.Stage.TheVariants.{Begun, Tried, Parked, Refused, Answered}
 use Rattle.flume_concurrent.specs.Answers.{may_return}
-use Rattle.flume_concurrent.specs.Calls.{first_step, parking_step, next_step, other_step}
+use Rattle.flume_concurrent.specs.Calls.{first_step, parking_step, next_step, alternative_step}
 use Rattle.flume_concurrent.specs.Explanations.{events_in, IsNextStep, returns}
 use Rattle.flume_concurrent.specs.LateSteps.{IsFollowed, AreLate}
 use Rattle.flume_concurrent.proofs.LeanIdle.{asks}
@@ -33,11 +33,11 @@ module _ {T A : Type 0} where
   Ends next (Makes t step reply ∷ past) = Follows next t × Ends (Some (Makes t step reply)) past
 
   -- before one step may come what may come before another
-  pub ends_before : (t u : ℕ) (step other : Step T) (reply told : Reply T A) (past : List (Item T A))
-      → Ends (Some (Makes t step reply)) past → Ends (Some (Makes u other told)) past
-  ends_before t u step other reply told [] h = tt
-  ends_before t u step other reply told (Happens event ∷ past) h = h
-  ends_before t u step other reply told (Makes v made back ∷ past) h = (tt, h.1)
+  pub ends_before : (t u : ℕ) (step other : Step T) (reply recorded : Reply T A) (past : List (Item T A))
+      → Ends (Some (Makes t step reply)) past → Ends (Some (Makes u other recorded)) past
+  ends_before t u step other reply recorded [] h = tt
+  ends_before t u step other reply recorded (Happens event ∷ past) h = h
+  ends_before t u step other reply recorded (Makes v made back ∷ past) h = (tt, h.1)
 
   -- the first of the items
   abbrev first_of_items : List (Item T A) → Option (Item T A)
@@ -120,32 +120,32 @@ module _ {T : Type 0} where
 
 module _ {T : Type 0} (A : Type 0) where
   -- nor does a step ask that a call makes instead, unless it is parked
-  other_begun : (call : Call T) → some_asks (other_step {A = A} call Begun) ≡ false
+  other_begun : (call : Call T) → some_asks (alternative_step {A = A} call Begun) ≡ false
   other_begun (Send m) = refl
   other_begun _ = refl
 
-  other_tried : (call : Call T) → some_asks (other_step {A = A} call Tried) ≡ false
+  other_tried : (call : Call T) → some_asks (alternative_step {A = A} call Tried) ≡ false
   other_tried (Send m) = refl
   other_tried _ = refl
 
 module _ {T A : Type 0} where
-  other_answered : (call : Call T) (own : Answer T A) → some_asks (other_step call (Answered own)) ≡ false
+  other_answered : (call : Call T) (own : Answer T A) → some_asks (alternative_step call (Answered own)) ≡ false
   other_answered (Send m) own = refl
   other_answered _ own = refl
 
-  at_stage : (equal : T → T → Bool) (call : Call T) (stage : Stage T A) (step : Step T) (told : Answer T A) → asks step ≡ true
-      → IsNextStep (Some (call, stage)) step → may_return equal call stage told ≡ true → ⊥
-  at_stage equal call Begun step told a (inl is) r = not_that step (next_step {A = A} call Begun) a (first_asks_not call) is
-  at_stage equal call Begun step told a (inr is) r = not_that step (other_step {A = A} call Begun) a (other_begun A call) is
-  at_stage equal call Tried step told a (inl is) r = not_that step (next_step {A = A} call Tried) a (parking_asks_not call) is
-  at_stage equal call Tried step told a (inr is) r = not_that step (other_step {A = A} call Tried) a (other_tried A call) is
-  at_stage equal call (Answered own) step told a (inl is) r = let none : ⊥ = cc in none
-  at_stage equal call (Answered own) step told a (inr is) r = not_that step (other_step call (Answered own)) a (other_answered call own) is
-  at_stage equal call (Parked t) step told a m r = let none : ⊥ = cc in none
-  at_stage equal call (Refused t) step told a m r = let none : ⊥ = cc in none
+  at_stage : (equal : T → T → Bool) (call : Call T) (stage : Stage T A) (step : Step T) (recorded : Answer T A) → asks step ≡ true
+      → IsNextStep (Some (call, stage)) step → may_return equal call stage recorded ≡ true → ⊥
+  at_stage equal call Begun step recorded a (inl is) r = not_that step (next_step {A = A} call Begun) a (first_asks_not call) is
+  at_stage equal call Begun step recorded a (inr is) r = not_that step (alternative_step {A = A} call Begun) a (other_begun A call) is
+  at_stage equal call Tried step recorded a (inl is) r = not_that step (next_step {A = A} call Tried) a (parking_asks_not call) is
+  at_stage equal call Tried step recorded a (inr is) r = not_that step (alternative_step {A = A} call Tried) a (other_tried A call) is
+  at_stage equal call (Answered own) step recorded a (inl is) r = let none : ⊥ = cc in none
+  at_stage equal call (Answered own) step recorded a (inr is) r = not_that step (alternative_step call (Answered own)) a (other_answered call own) is
+  at_stage equal call (Parked t) step recorded a m r = let none : ⊥ = cc in none
+  at_stage equal call (Refused t) step recorded a m r = let none : ⊥ = cc in none
 
   -- a call that may ask may not return
-  pub asks_on : (equal : T → T → Bool) (c : Option (Call T × Stage T A)) (step : Step T) (told : Answer T A) → asks step ≡ true
-      → IsNextStep c step → returns equal c told ≡ true → ⊥
-  asks_on equal None step told a m r = m
-  asks_on equal (Some far) step told a m r = at_stage equal far.0 far.1 step told a m r
+  pub asks_on : (equal : T → T → Bool) (c : Option (Call T × Stage T A)) (step : Step T) (recorded : Answer T A) → asks step ≡ true
+      → IsNextStep c step → returns equal c recorded ≡ true → ⊥
+  asks_on equal None step recorded a m r = m
+  asks_on equal (Some current) step recorded a m r = at_stage equal current.0 current.1 step recorded a m r

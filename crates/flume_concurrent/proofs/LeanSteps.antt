@@ -18,9 +18,9 @@ use Rattle.flume_concurrent.specs.declared.event.Item.{Item}
 use Rattle.flume_concurrent.specs.declared.event.Item.TheVariants.{Happens, Makes}
 use Rattle.flume_concurrent.specs.declared.stage.Stage.{Stage}
 use Rattle.flume_concurrent.specs.declared.stage.Stage.TheVariants.{Begun}
-use Rattle.flume_concurrent.specs.Explanations.{events_in, steps_in, further, open_call, IsNextStep, returns, Fits, AreCalls, IsExplanation}
+use Rattle.flume_concurrent.specs.Explanations.{events_in, steps_in, after_reply, open_call, IsNextStep, returns, Fits, AreCalls, IsExplanation}
 use Rattle.flume_concurrent.specs.LateSteps.{AreLate, IsExplainedLate}
-use Rattle.flume_concurrent.specs.Lean.{IsIdle, AreLean, IsExplainedLean}
+use Rattle.flume_concurrent.specs.NoIdleSteps.{IsIdle, NoneIsIdle, IsExplainedWithoutIdle}
 use Rattle.flume_concurrent.proofs.LeanAlike.{Alike, alike_self, alike_through, alike_step, channel_is}
 use Rattle.flume_concurrent.proofs.LeanIdle.{asks, waiting_asks, alike_idle}
 use Rattle.flume_concurrent.proofs.LeanItems.{Follows, Ends, ends_before, ends_late, late_ends, events_reverse, asks_on}
@@ -55,13 +55,13 @@ module _ {T A : Type 0} where
   told_asks c step _ is h = absurd (let none : ⊥ = cc in none)
 
   -- a call that is answered `Waiting` is as far as before
-  further_waiting : (far : Option (Call T × Stage T A)) → further Waiting far ≡ far
+  further_waiting : (current : Option (Call T × Stage T A)) → after_reply Waiting current ≡ current
   further_waiting None = refl
-  further_waiting (Some far) = refl
+  further_waiting (Some current) = refl
 
-  open_at : (b : Bool) (far : Option (Call T × Stage T A)) → (if b then further Waiting far else far) ≡ far
-  open_at true far = further_waiting far
-  open_at false far = refl
+  open_at : (b : Bool) (current : Option (Call T × Stage T A)) → (if b then after_reply Waiting current else current) ≡ current
+  open_at true current = further_waiting current
+  open_at false current = refl
 
   open_waiting : (past : List (Item T A)) (t : ℕ) (step : Step T) (reply : Reply T A) → reply ≡ Waiting → (u : ℕ)
       → open_call (Makes t step reply ∷ past) u ≡ open_call past u
@@ -72,8 +72,8 @@ module _ {T A : Type 0} where
   same_open : (item : Item T A) (past other : List (Item T A)) → ((u : ℕ) → open_call past u ≡ open_call other u) → (u : ℕ)
       → open_call (item ∷ past) u ≡ open_call (item ∷ other) u
   same_open (Happens (Begins t call)) past other same u = λ i. if t == u then Some (call, Begun) else same u i
-  same_open (Happens (Returns t told)) past other same u = λ i. if t == u then None else same u i
-  same_open (Makes t step reply) past other same u = λ i. if t == u then further reply (same u i) else same u i
+  same_open (Happens (Returns t recorded)) past other same u = λ i. if t == u then None else same u i
+  same_open (Makes t step reply) past other same u = λ i. if t == u then after_reply reply (same u i) else same u i
 
 -- where `equal` compares messages
 module _ {T A : Type 0} (equal : T → T → Bool) where
@@ -81,7 +81,7 @@ module _ {T A : Type 0} (equal : T → T → Bool) where
   same_fits : (item : Item T A) (past other : List (Item T A)) → ((u : ℕ) → open_call past u ≡ open_call other u)
       → Fits equal past item → Fits equal other item
   same_fits (Happens (Begins t call)) past other same h = sym (same t) ∙ h
-  same_fits (Happens (Returns t told)) past other same h = subst (λ c. IsTrue (returns equal c told)) (same t) h
+  same_fits (Happens (Returns t recorded)) past other same h = subst (λ c. IsTrue (returns equal c recorded)) (same t) h
   same_fits (Makes t step reply) past other same h = subst (λ c. IsNextStep c step) (same t) h
 
   -- the item that comes next, if there is one, fits
@@ -94,7 +94,7 @@ module _ {T A : Type 0} (equal : T → T → Bool) where
     pub items : List (Item T A)
     pub run : IsRun o (steps_in items)
     pub calls : AreCalls equal items
-    pub lean : AreLean o (steps_in items)
+    pub no_idle : NoneIsIdle o (steps_in items)
     pub alike : Alike o (steps_in past) (steps_in items)
     pub opened : (u : ℕ) → open_call past u ≡ open_call items u
     pub events_are : events_in past ≡ events_in items
@@ -105,12 +105,12 @@ module _ {T A : Type 0} (equal : T → T → Bool) where
       → reply ≡ Waiting → IsNextStep (open_call past t) step → Goes (Makes t step reply ∷ past) next → Follows next t
       → Ends (Some (Makes t step reply)) items → Ends next items
   ends_without None t step reply past items a is m goes follows ends = absurd follows
-  ends_without (Some (Makes u other told)) t step reply past items a is m goes follows ends =
-      ends_before t u step other reply told items ends
+  ends_without (Some (Makes u other recorded)) t step reply past items a is m goes follows ends =
+      ends_before t u step other reply recorded items ends
   ends_without (Some (Happens (Begins u call))) t step reply past items a is m goes follows ends = absurd follows
-  ends_without (Some (Happens (Returns u told))) t step reply past items a is m goes follows ends =
-      absurd (asks_on equal (open_call past t) step told a m
-      (sym (ap (λ c. returns equal c told)
+  ends_without (Some (Happens (Returns u recorded))) t step reply past items a is m goes follows ends =
+      absurd (asks_on equal (open_call past t) step recorded a m
+      (sym (ap (λ c. returns equal c recorded)
       (ap (open_call (Makes t step reply ∷ past)) (sym follows) ∙ open_waiting past t step reply is t)) ∙ goes))
 
   -- one more item, and one more step
@@ -120,7 +120,7 @@ module _ {T A : Type 0} (equal : T → T → Bool) where
     items = Happens event ∷ k.items;
     run = k.run;
     calls = (same_fits (Happens event) past k.items k.opened fit, k.calls);
-    lean = k.lean;
+    no_idle = k.no_idle;
     alike = k.alike;
     opened = same_open (Happens event) past k.items k.opened;
     events_are = ap (λ l. event ∷ l) k.events_are;
@@ -145,7 +145,7 @@ module _ {T A : Type 0} (equal : T → T → Bool) where
         items = k.items;
         run = k.run;
         calls = k.calls;
-        lean = k.lean;
+        no_idle = k.no_idle;
         alike = alike_through o ((step, reply) ∷ steps_in past) ((step, reply) ∷ steps_in k.items) (steps_in k.items) next_alike
             (alike_waiting o (steps_in k.items) step reply idle.0 lawful_on idle.1);
         opened = λ u. open_waiting past t step reply idle.0 u ∙ k.opened u;
@@ -157,7 +157,7 @@ module _ {T A : Type 0} (equal : T → T → Bool) where
         items = Makes t step reply ∷ k.items;
         run = (lawful_on, k.run);
         calls = (same_fits (Makes t step reply) past k.items k.opened fit, k.calls);
-        lean = (busy, k.lean);
+        no_idle = (busy, k.no_idle);
         alike = next_alike;
         opened = same_open (Makes t step reply) past k.items k.opened;
         events_are = k.events_are;
@@ -170,7 +170,7 @@ module _ {T A : Type 0} (equal : T → T → Bool) where
     items = [];
     run = tt;
     calls = tt;
-    lean = tt;
+    no_idle = tt;
     alike = alike_self o [];
     opened = λ u. refl;
     events_are = refl;
@@ -183,7 +183,7 @@ module _ {T A : Type 0} (equal : T → T → Bool) where
       (leaner o (Some (Makes t step reply)) past run.1 calls.1 calls.0 ends.1)
 
   -- events that have an explanation whose steps come late have one without idle steps
-  pub explained_lean : (o : Opening) (events : List (Event T A)) → IsExplainedLate equal o events → IsExplainedLean equal o events
+  pub explained_lean : (o : Opening) (events : List (Event T A)) → IsExplainedLate equal o events → IsExplainedWithoutIdle equal o events
   explained_lean o events h =
       let items = h.0 in
       let whole = h.2 in
@@ -196,5 +196,5 @@ module _ {T A : Type 0} (equal : T → T → Bool) where
             ∙ ap events_in (reverse-reverse items) ∙ h.1;
         explains = subst (IsExplanation equal o) back (record { calls = k.calls; run = k.run });
         late = subst AreLate (append-nil (reverse k.items)) (late_ends k.items [] k.ends tt);
-        lean = subst (λ l. AreLean o (steps_in l)) back k.lean;
+        no_idle = subst (λ l. NoneIsIdle o (steps_in l)) back k.no_idle;
       }

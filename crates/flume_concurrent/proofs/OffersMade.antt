@@ -9,7 +9,7 @@ use Rattle.flume_model.specs.declared.step.Step.TheVariants as step
 use Rattle.flume_model.specs.declared.step.Reply.{Reply}
 use Rattle.flume_model.specs.declared.step.Reply.TheVariants as reply
 use Rattle.flume_model.specs.Log.{Log, Offer, Takes, Collects, was_filled, change}
-use Rattle.flume_model.specs.Offers.{offered, offers}
+use Rattle.flume_model.specs.Offers.{offers_made, offers}
 use Rattle.flume_concurrent.specs.declared.call.Call.{Call}
 use Rattle.flume_concurrent.specs.declared.call.Call.TheVariants as call
 use Rattle.flume_concurrent.specs.declared.event.Event.{Event}
@@ -18,8 +18,8 @@ use Rattle.flume_concurrent.specs.declared.event.Item.{Item}
 use Rattle.flume_concurrent.specs.declared.event.Item.TheVariants.{Happens, Makes}
 use Rattle.flume_concurrent.specs.declared.stage.Stage.{Stage}
 use Rattle.flume_concurrent.specs.declared.stage.Stage.TheVariants.{Begun, Tried, Parked, Refused, Answered}
-use Rattle.flume_concurrent.specs.Calls.{first_step, parking_step, is_send, next_step, other_step}
-use Rattle.flume_concurrent.specs.Explanations.{events_in, steps_in, further, open_call, IsNextStep, AreCalls}
+use Rattle.flume_concurrent.specs.Calls.{first_step, parking_step, is_send, next_step, alternative_step}
+use Rattle.flume_concurrent.specs.Explanations.{events_in, steps_in, after_reply, open_call, IsNextStep, AreCalls}
 use Rattle.flume_concurrent.specs.Patterns.{sends, begins_send}
 
 module _ {T : Type 0} (such : T → Bool) where
@@ -69,7 +69,7 @@ module _ {T : Type 0} (such : T → Bool) where
   asking_none false t = refl
 
   -- a receiver that asks offers nothing
-  asked_lacks : (b : Bool) (t : ℕ) (m : T) → Lacks (offered (if b then Collects t else Takes m (Some t)))
+  asked_lacks : (b : Bool) (t : ℕ) (m : T) → Lacks (offers_made (if b then Collects t else Takes m (Some t)))
   asked_lacks true t m = tt
   asked_lacks false t m = tt
 
@@ -81,7 +81,7 @@ module _ {T A : Type 0} (such : T → Bool) where
   next_none c (Refused t) h = refl
   next_none c (Answered own) h = refl
 
-  other_none : (c : Call T) (stage : Stage T A) → sends such c ≡ false → hands_in_if such (other_step c stage) ≡ false
+  other_none : (c : Call T) (stage : Stage T A) → sends such c ≡ false → hands_in_if such (alternative_step c stage) ≡ false
   other_none (call.SendAsync m) Begun h = h
   other_none call.RecvAsync Begun h = refl
   other_none call.RecvAsync Tried h = refl
@@ -94,17 +94,17 @@ module _ {T A : Type 0} (such : T → Bool) where
   -- the open call, if there is one, sends no such message
   abbrev pub IsOther : Option (Call T × Stage T A) → Type 0
   IsOther None = Unit {0}
-  IsOther (Some far) = sends such far.0 ≡ false
+  IsOther (Some current) = sends such current.0 ≡ false
 
-  made_none : (far : Option (Call T × Stage T A)) (s : Step T) → IsOther far → IsNextStep far s → hands_in such s ≡ false
+  made_none : (current : Option (Call T × Stage T A)) (s : Step T) → IsOther current → IsNextStep current s → hands_in such s ≡ false
   made_none None s others made = absurd made
-  made_none (Some far) s others (inl made) =
-      subst (λ x. hands_in_if such x ≡ false) made (next_none far.0 far.1 others)
-  made_none (Some far) s others (inr made) =
-      subst (λ x. hands_in_if such x ≡ false) made (other_none far.0 far.1 others)
+  made_none (Some current) s others (inl made) =
+      subst (λ x. hands_in_if such x ≡ false) made (next_none current.0 current.1 others)
+  made_none (Some current) s others (inr made) =
+      subst (λ x. hands_in_if such x ≡ false) made (other_none current.0 current.1 others)
 
   -- a step that hands in no such message offers none
-  made_lacks : (log : Log T A) (s : Step T) (r : Reply T A) → hands_in such s ≡ false → Lacks such (offered (change log s r))
+  made_lacks : (log : Log T A) (s : Step T) (r : Reply T A) → hands_in such s ≡ false → Lacks such (offers_made (change log s r))
   made_lacks log (step.TrySend m) (reply.Sent filled) h = (h, tt)
   made_lacks log (step.Send m) (reply.Sent filled) h = (h, tt)
   made_lacks log (step.Send m) (reply.Pending t) h = (h, tt)
@@ -132,9 +132,9 @@ module _ {T A : Type 0} (such : T → Bool) where
   abbrev pub AreOthers : List (Item T A) → Type 0
   AreOthers past = (t : ℕ) → IsOther (open_call past t)
 
-  other_further : (far : Option (Call T × Stage T A)) (r : Reply T A) → IsOther far → IsOther (further r far)
+  other_further : (current : Option (Call T × Stage T A)) (r : Reply T A) → IsOther current → IsOther (after_reply r current)
   other_further None r others = tt
-  other_further (Some far) r others = others
+  other_further (Some current) r others = others
 
   other_either : (b : Bool) (x y : Option (Call T × Stage T A)) → IsOther x → IsOther y → IsOther (if b then x else y)
   other_either true x y h k = h
@@ -162,7 +162,7 @@ module _ {T A : Type 0} (such : T → Bool) where
           lacks = k.lacks;
           others = λ u. other_either (t == u) (Some (c, Begun)) (open_call (newer ++ past) u) apart.0 (k.others u);
         }
-    offers_others (Happens (Returns t told) ∷ newer) past calls others none =
+    offers_others (Happens (Returns t recorded) ∷ newer) past calls others none =
         let k = offers_others newer past calls.1 others none in
         record {
           more = k.more;
@@ -172,14 +172,14 @@ module _ {T A : Type 0} (such : T → Bool) where
         }
     offers_others (Makes t s r ∷ newer) past calls others none =
         let k = offers_others newer past calls.1 others none in
-        let made = offered (change (steps_in (newer ++ past)) s r) in
+        let made = offers_made (change (steps_in (newer ++ past)) s r) in
         record {
           more = k.more ++ made;
           offers_are = ap (λ l. l ++ made) k.offers_are ∙ append_assoc (offers (steps_in past)) k.more made;
           lacks = lacks_both such k.more made k.lacks
               (made_lacks (steps_in (newer ++ past)) s r
               (made_none (open_call (newer ++ past) t) s (k.others t) calls.0));
-          others = λ u. other_either (t == u) (further r (open_call (newer ++ past) u)) (open_call (newer ++ past) u)
+          others = λ u. other_either (t == u) (after_reply r (open_call (newer ++ past) u)) (open_call (newer ++ past) u)
               (other_further (open_call (newer ++ past) u) r (k.others u)) (k.others u);
         }
 
@@ -198,13 +198,13 @@ module _ {T A : Type 0} (such : T → Bool) where
       let apart = or_parts (sends such c) (begins_send such (xs ++ ys)) none in
       let k = begins_parts xs ys apart.1 in
       (or_from (sends such c) (begins_send such xs) apart.0 k.0, k.1)
-  begins_parts (Returns t told ∷ xs) ys none = begins_parts xs ys none
+  begins_parts (Returns t recorded ∷ xs) ys none = begins_parts xs ys none
 
   begins_more : (event : Event T A) (events : List (Event T A)) → begins_send such events ≡ false
       → begins_send such (event ∷ []) ≡ false → begins_send such (event ∷ events) ≡ false
   begins_more (Begins t c) events h k =
       or_from (sends such c) (begins_send such events) (or_parts (sends such c) false k).0 h
-  begins_more (Returns t told) events h k = h
+  begins_more (Returns t recorded) events h k = h
 
   pub begins_none : (events : List (Event T A)) → begins_send such (reverse events) ≡ false → begins_send such events ≡ false
   begins_none [] none = refl

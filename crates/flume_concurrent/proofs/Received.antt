@@ -19,16 +19,16 @@ use Rattle.flume_concurrent.specs.declared.event.Item.TheVariants.{Happens, Make
 use Rattle.flume_concurrent.specs.declared.stage.Stage.{Stage}
 use Rattle.flume_concurrent.specs.declared.stage.Stage.TheVariants.{Begun, Tried, Parked, Refused, Answered}
 use Rattle.flume_concurrent.specs.Answers.{is_dropped, may_return}
-use Rattle.flume_concurrent.specs.Explanations.{steps_in, further, open_call, IsNextStep, returns, AreCalls, IsExplanation}
+use Rattle.flume_concurrent.specs.Explanations.{steps_in, after_reply, open_call, IsNextStep, returns, AreCalls, IsExplanation}
 use Rattle.flume_concurrent.proofs.HandedSince.{Since, since_now, since_more, kept_on}
 use Rattle.flume_concurrent.proofs.BegunCalls.{BegunIn, begun_before, IsThere, open_begun}
 use Rattle.flume_concurrent.proofs.CallsSince.{Stands, StandsIn, stands_in_on, stands_in_after}
 
 module _ {T : Type 0} (A : Type 0) where
   -- an answer that gives a message isn't that the future was dropped
-  not_dropped : (c : Call T) (told : T) → is_dropped {A = A} c (answer.Got told) ≡ true → ⊥
-  not_dropped (call.SendAsync m) told e = let none : ⊥ = cc in none
-  not_dropped _ told e = let none : ⊥ = cc in none
+  not_dropped : (c : Call T) (recorded : T) → is_dropped {A = A} c (answer.Got recorded) ≡ true → ⊥
+  not_dropped (call.SendAsync m) recorded e = let none : ⊥ = cc in none
+  not_dropped _ recorded e = let none : ⊥ = cc in none
 
 -- where `equal` compares messages
 module _ {T A : Type 0} (equal : T → T → Bool) where
@@ -50,7 +50,7 @@ module _ {T A : Type 0} (equal : T → T → Bool) where
       by_thread (eqb u t) refl (begun_stands o newer past calls.1 run t) (begun_before (Happens (Begins u c)) newer t h)
     where
       Stand : Option (Call T × Stage T A) → Type 0
-      Stand far = StandsIn (hand_outs (steps_in past)) (next_ticket o (steps_in past)) (steps_in (newer ++ past)) far
+      Stand current = StandsIn (hand_outs (steps_in past)) (next_ticket o (steps_in past)) (steps_in (newer ++ past)) current
 
       by_thread : (b : Bool) → eqb u t ≡ b → (BegunIn newer t → Stand (open_call (newer ++ past) t))
           → ((call : Call T) × (Path (Item T A) (Happens (Begins u c)) (Happens (Begins t call)))) ⊎ BegunIn newer t
@@ -62,14 +62,14 @@ module _ {T A : Type 0} (equal : T → T → Bool) where
           let same : u ≡ t = cc in
           let own = eq-eqb u t same in
           absurd (let none : ⊥ = cc in none)
-  begun_stands o (Happens (Returns u told) ∷ newer) past calls run t h =
-      by_thread (eqb u t) (begun_stands o newer past calls.1 run t) (begun_before (Happens (Returns u told)) newer t h)
+  begun_stands o (Happens (Returns u recorded) ∷ newer) past calls run t h =
+      by_thread (eqb u t) (begun_stands o newer past calls.1 run t) (begun_before (Happens (Returns u recorded)) newer t h)
     where
       Stand : Option (Call T × Stage T A) → Type 0
-      Stand far = StandsIn (hand_outs (steps_in past)) (next_ticket o (steps_in past)) (steps_in (newer ++ past)) far
+      Stand current = StandsIn (hand_outs (steps_in past)) (next_ticket o (steps_in past)) (steps_in (newer ++ past)) current
 
       by_thread : (b : Bool) → (BegunIn newer t → Stand (open_call (newer ++ past) t))
-          → ((call : Call T) × (Path (Item T A) (Happens (Returns u told)) (Happens (Begins t call)))) ⊎ BegunIn newer t
+          → ((call : Call T) × (Path (Item T A) (Happens (Returns u recorded)) (Happens (Begins t call)))) ⊎ BegunIn newer t
           → Stand (if b then None else open_call (newer ++ past) t)
       by_thread true before begun = tt
       by_thread false before (inr begun) = before begun
@@ -88,7 +88,7 @@ module _ {T A : Type 0} (equal : T → T → Bool) where
 
       by_thread : (b : Bool) → eqb u t ≡ b → (BegunIn newer t → StandsIn n k log (open_call (newer ++ past) t))
           → ((call : Call T) × (Path (Item T A) (Makes u step r) (Happens (Begins t call)))) ⊎ BegunIn newer t
-          → StandsIn n k ((step, r) ∷ log) (if b then further r (open_call (newer ++ past) t) else open_call (newer ++ past) t)
+          → StandsIn n k ((step, r) ∷ log) (if b then after_reply r (open_call (newer ++ past) t) else open_call (newer ++ past) t)
       by_thread b is before (inl now) = absurd (let same = now.1 in let none : ⊥ = cc in none)
       by_thread true is before (inr begun) =
           stands_in_after n k o log (open_call (newer ++ past) t) step r run (since o newer past run.1)
@@ -96,72 +96,72 @@ module _ {T A : Type 0} (equal : T → T → Bool) where
       by_thread false is before (inr begun) = stands_in_on n k o log (step, r) run (open_call (newer ++ past) t) (before begun)
 
   -- a message was handed out that equals the recorded one, and it was after the past
-  pub record HandedTo (newer past : List (Item T A)) (told : T) : Type 0 where
+  pub record HandedTo (newer past : List (Item T A)) (recorded : T) : Type 0 where
     pub number : ℕ
     pub offer : Offer T
     pub after_past : hand_outs (steps_in past) ≤ number
     pub handed : number < hand_outs (steps_in (newer ++ past))
     pub is_kept : slice_get (kept (steps_in (newer ++ past))) number ≡ Some offer
-    pub same : equal told offer.message ≡ true
+    pub same : equal recorded offer.message ≡ true
 
   -- a message that a call may return that is so far was handed out
-  handed_at_stage : (newer past : List (Item T A)) (told : T) (k : ℕ) (c : Call T) (stage : Stage T A)
-      → Stands (hand_outs (steps_in past)) k (steps_in (newer ++ past)) stage → may_return equal c stage (answer.Got told) ≡ true
-      → HandedTo newer past told
-  handed_at_stage newer past told k c (Answered (answer.Got own)) h e =
-      by_case (or_cases (equal told own) (is_dropped {A = A} c (answer.Got told)) e)
+  handed_at_stage : (newer past : List (Item T A)) (recorded : T) (k : ℕ) (c : Call T) (stage : Stage T A)
+      → Stands (hand_outs (steps_in past)) k (steps_in (newer ++ past)) stage → may_return equal c stage (answer.Got recorded) ≡ true
+      → HandedTo newer past recorded
+  handed_at_stage newer past recorded k c (Answered (answer.Got own)) h e =
+      by_case (or_cases (equal recorded own) (is_dropped {A = A} c (answer.Got recorded)) e)
     where
-      by_case : (equal told own ≡ true) ⊎ (is_dropped {A = A} c (answer.Got told) ≡ true) → HandedTo newer past told
+      by_case : (equal recorded own ≡ true) ⊎ (is_dropped {A = A} c (answer.Got recorded) ≡ true) → HandedTo newer past recorded
       by_case (inl same) = record {
         number = h.number;
         offer = h.offer;
         after_past = h.not_before;
         handed = h.handed;
         is_kept = h.is_kept;
-        same = subst (λ x. equal told x ≡ true) h.same same;
+        same = subst (λ x. equal recorded x ≡ true) h.same same;
       }
-      by_case (inr dropped) = absurd (not_dropped A c told dropped)
-  handed_at_stage newer past told k c Begun h e = absurd (not_dropped A c told e)
-  handed_at_stage newer past told k c Tried h e = absurd (not_dropped A c told e)
-  handed_at_stage newer past told k c (Parked t) h e = absurd (let none : ⊥ = cc in none)
-  handed_at_stage newer past told k c (Refused t) h e = absurd (let none : ⊥ = cc in none)
-  handed_at_stage newer past told k c (Answered _) h e = absurd (not_dropped A c told e)
+      by_case (inr dropped) = absurd (not_dropped A c recorded dropped)
+  handed_at_stage newer past recorded k c Begun h e = absurd (not_dropped A c recorded e)
+  handed_at_stage newer past recorded k c Tried h e = absurd (not_dropped A c recorded e)
+  handed_at_stage newer past recorded k c (Parked t) h e = absurd (let none : ⊥ = cc in none)
+  handed_at_stage newer past recorded k c (Refused t) h e = absurd (let none : ⊥ = cc in none)
+  handed_at_stage newer past recorded k c (Answered _) h e = absurd (not_dropped A c recorded e)
 
   -- a message that the open call, if there is one, may return was handed out
-  handed_in_call : (newer past : List (Item T A)) (told : T) (k : ℕ) (far : Option (Call T × Stage T A))
-      → StandsIn (hand_outs (steps_in past)) k (steps_in (newer ++ past)) far → returns equal far (answer.Got told) ≡ true
-      → HandedTo newer past told
-  handed_in_call newer past told k None h e = absurd (let none : ⊥ = cc in none)
-  handed_in_call newer past told k (Some far) h e = handed_at_stage newer past told k far.0 far.1 h e
+  handed_in_call : (newer past : List (Item T A)) (recorded : T) (k : ℕ) (current : Option (Call T × Stage T A))
+      → StandsIn (hand_outs (steps_in past)) k (steps_in (newer ++ past)) current → returns equal current (answer.Got recorded) ≡ true
+      → HandedTo newer past recorded
+  handed_in_call newer past recorded k None h e = absurd (let none : ⊥ = cc in none)
+  handed_in_call newer past recorded k (Some current) h e = handed_at_stage newer past recorded k current.0 current.1 h e
 
   -- a message that an open call may return was handed out after what came before its call began
-  pub received_later : (o : Opening) (newer past : List (Item T A)) → IsExplanation equal o (newer ++ past) → (t : ℕ) (told : T)
-      → BegunIn newer t → returns equal (open_call (newer ++ past) t) (answer.Got told) ≡ true → HandedTo newer past told
-  received_later o newer past x t told begun e =
-      handed_in_call newer past told (next_ticket o (steps_in past)) (open_call (newer ++ past) t)
+  pub received_later : (o : Opening) (newer past : List (Item T A)) → IsExplanation equal o (newer ++ past) → (t : ℕ) (recorded : T)
+      → BegunIn newer t → returns equal (open_call (newer ++ past) t) (answer.Got recorded) ≡ true → HandedTo newer past recorded
+  received_later o newer past x t recorded begun e =
+      handed_in_call newer past recorded (next_ticket o (steps_in past)) (open_call (newer ++ past) t)
       (begun_stands o newer past x.calls x.run t begun) e
 
   -- what may return is an open call
-  returns_there : (far : Option (Call T × Stage T A)) (told : Answer T A) → returns equal far told ≡ true → IsThere far
-  returns_there None told e = let none : ⊥ = cc in none
-  returns_there (Some far) told e = tt
+  returns_there : (current : Option (Call T × Stage T A)) (recorded : Answer T A) → returns equal current recorded ≡ true → IsThere current
+  returns_there None recorded e = let none : ⊥ = cc in none
+  returns_there (Some current) recorded e = tt
 
   -- a message was handed out that equals the recorded one
-  pub record HandedOut (items : List (Item T A)) (told : T) : Type 0 where
+  pub record HandedOut (items : List (Item T A)) (recorded : T) : Type 0 where
     pub number : ℕ
     pub offer : Offer T
     pub handed : number < hand_outs (steps_in items)
     pub is_kept : slice_get (kept (steps_in items)) number ≡ Some offer
-    pub same : equal told offer.message ≡ true
+    pub same : equal recorded offer.message ≡ true
 
   -- a message that an open call may return was handed out
-  pub received : (o : Opening) (items : List (Item T A)) → IsExplanation equal o items → (t : ℕ) (told : T)
-      → returns equal (open_call items t) (answer.Got told) ≡ true → HandedOut items told
-  received o items x t told e =
+  pub received : (o : Opening) (items : List (Item T A)) → IsExplanation equal o items → (t : ℕ) (recorded : T)
+      → returns equal (open_call items t) (answer.Got recorded) ≡ true → HandedOut items recorded
+  received o items x t recorded e =
       let all = append-nil items in
-      let begun = open_begun items t (returns_there (open_call items t) (answer.Got told) e) in
-      let h = received_later o items [] (subst (IsExplanation equal o) (sym all) x) t told begun
-      (subst (λ l. returns equal (open_call l t) (answer.Got told) ≡ true) (sym all) e) in
+      let begun = open_begun items t (returns_there (open_call items t) (answer.Got recorded) e) in
+      let h = received_later o items [] (subst (IsExplanation equal o) (sym all) x) t recorded begun
+      (subst (λ l. returns equal (open_call l t) (answer.Got recorded) ≡ true) (sym all) e) in
       record {
         number = h.number;
         offer = h.offer;

@@ -11,7 +11,7 @@ use Rattle.flume_concurrent.specs.declared.event.Item.{Item}
 use Rattle.flume_concurrent.specs.declared.event.Item.TheVariants.{Happens, Makes}
 use Rattle.flume_concurrent.specs.declared.stage.Stage.{Stage}
 use Rattle.flume_concurrent.specs.declared.stage.Stage.TheVariants.{Begun}
-use Rattle.flume_concurrent.specs.Explanations.{events_in, further, open_call}
+use Rattle.flume_concurrent.specs.Explanations.{events_in, after_reply, open_call}
 use Rattle.flume_concurrent.specs.Patterns.{sends, returns_in, all_returned}
 use Rattle.flume_concurrent.proofs.OffersMade.{IsOther, AreOthers}
 
@@ -29,30 +29,30 @@ module _ {T A : Type 0} (such : T → Bool) where
   -- a thread's open call, if it has one, began at one of the events, the oldest first, and hasn't returned in those behind it
   abbrev IsOpened : List (Event T A) → ℕ → Option (Call T × Stage T A) → Type 0
   IsOpened events t None = Unit {0}
-  IsOpened events t (Some far) = (before : List (Event T A)) × (after : List (Event T A))
-      × (events ≡ before ++ Begins t far.0 ∷ after) × (returns_in t after ≡ false)
+  IsOpened events t (Some current) = (before : List (Event T A)) × (after : List (Event T A))
+      × (events ≡ before ++ Begins t current.0 ∷ after) × (returns_in t after ≡ false)
 
   returns_more : (t : ℕ) (xs ys : List (Event T A)) → returns_in t xs ≡ false → returns_in t ys ≡ false → returns_in t (xs ++ ys) ≡ false
   returns_more t [] ys h k = k
   returns_more t (Begins u c ∷ xs) ys h k = returns_more t xs ys h k
-  returns_more t (Returns u told ∷ xs) ys h k =
+  returns_more t (Returns u recorded ∷ xs) ys h k =
       let apart = choice_parts (u == t) (returns_in t xs) h in
       choice_from (u == t) (returns_in t (xs ++ ys)) apart.0 (returns_more t xs ys apart.1 k)
 
-  opened_more : (t : ℕ) (event : Event T A) (events : List (Event T A)) (far : Option (Call T × Stage T A))
-      → returns_in t (event ∷ []) ≡ false → IsOpened (reverse events) t far → IsOpened (reverse (event ∷ events)) t far
+  opened_more : (t : ℕ) (event : Event T A) (events : List (Event T A)) (current : Option (Call T × Stage T A))
+      → returns_in t (event ∷ []) ≡ false → IsOpened (reverse events) t current → IsOpened (reverse (event ∷ events)) t current
   opened_more t event events None none h = tt
-  opened_more t event events (Some far) none h = (
+  opened_more t event events (Some current) none h = (
     h.0,
     h.1 ++ event ∷ [],
-    reverse-append (event ∷ []) events ∙ ap (λ l. l ++ event ∷ []) h.2 ∙ append_assoc h.0 (Begins t far.0 ∷ h.1) (event ∷ []),
+    reverse-append (event ∷ []) events ∙ ap (λ l. l ++ event ∷ []) h.2 ∙ append_assoc h.0 (Begins t current.0 ∷ h.1) (event ∷ []),
     returns_more t h.1 (event ∷ []) h.3 none,
   )
 
-  opened_further : (t : ℕ) (events : List (Event T A)) (r : Reply T A) (far : Option (Call T × Stage T A)) → IsOpened events t far
-      → IsOpened events t (further r far)
+  opened_further : (t : ℕ) (events : List (Event T A)) (r : Reply T A) (current : Option (Call T × Stage T A)) → IsOpened events t current
+      → IsOpened events t (after_reply r current)
   opened_further t events r None h = tt
-  opened_further t events r (Some far) h = h
+  opened_further t events r (Some current) h = h
 
   opened : (past : List (Item T A)) (t : ℕ) → IsOpened (reverse (events_in past)) t (open_call past t)
   opened [] t = tt
@@ -68,17 +68,17 @@ module _ {T A : Type 0} (such : T → Bool) where
         refl,
       )
       by_thread false is before = opened_more t (Begins u c) (events_in past) (open_call past t) refl before
-  opened (Happens (Returns u told) ∷ past) t = by_thread (u == t) refl (opened past t)
+  opened (Happens (Returns u recorded) ∷ past) t = by_thread (u == t) refl (opened past t)
     where
       by_thread : (b : Bool) → (u == t) ≡ b → IsOpened (reverse (events_in past)) t (open_call past t)
-          → IsOpened (reverse (Returns u told ∷ events_in past)) t (if b then None else open_call past t)
+          → IsOpened (reverse (Returns u recorded ∷ events_in past)) t (if b then None else open_call past t)
       by_thread true is before = tt
       by_thread false is before =
-          opened_more t (Returns u told) (events_in past) (open_call past t) (choice_from (u == t) false is refl) before
+          opened_more t (Returns u recorded) (events_in past) (open_call past t) (choice_from (u == t) false is refl) before
   opened (Makes u s r ∷ past) t = by_thread (u == t) (opened past t)
     where
       by_thread : (b : Bool) → IsOpened (reverse (events_in past)) t (open_call past t)
-          → IsOpened (reverse (events_in past)) t (if b then further r (open_call past t) else open_call past t)
+          → IsOpened (reverse (events_in past)) t (if b then after_reply r (open_call past t) else open_call past t)
       by_thread true before = opened_further t (reverse (events_in past)) r (open_call past t) before
       by_thread false before = before
 
@@ -92,18 +92,18 @@ module _ {T A : Type 0} (such : T → Bool) where
       returned t c before after
       (and_parts (if sends such d then returns_in u (before ++ Begins t c ∷ after) else true)
       (all_returned such (before ++ Begins t c ∷ after)) all).1 sent
-  returned t c (Returns u told ∷ before) after all sent = returned t c before after all sent
+  returned t c (Returns u recorded ∷ before) after all sent = returned t c before after all sent
 
   -- so none is open
-  other_if : (events : List (Event T A)) (t : ℕ) (far : Option (Call T × Stage T A)) → all_returned such events ≡ true
-      → IsOpened events t far → IsOther such far
+  other_if : (events : List (Event T A)) (t : ℕ) (current : Option (Call T × Stage T A)) → all_returned such events ≡ true
+      → IsOpened events t current → IsOther such current
   other_if events t None all h = tt
-  other_if events t (Some far) all h = by_case (sends such far.0) refl
+  other_if events t (Some current) all h = by_case (sends such current.0) refl
     where
-      by_case : (b : Bool) → sends such far.0 ≡ b → b ≡ false
+      by_case : (b : Bool) → sends such current.0 ≡ b → b ≡ false
       by_case false is = refl
       by_case true is =
-          let back = returned t far.0 h.0 h.1 (sym (ap (all_returned such) h.2) ∙ all) is in
+          let back = returned t current.0 h.0 h.1 (sym (ap (all_returned such) h.2) ∙ all) is in
           sym back ∙ h.3
 
   pub all_others : (past : List (Item T A)) → all_returned such (reverse (events_in past)) ≡ true → AreOthers such past

@@ -17,22 +17,22 @@ use Rattle.flume_concurrent.proofs.SplitItems.{told_all, split_at}
 
 module _ {T A : Type 0} (equal : T → T → Bool) where
   -- what was received is one of the offers
-  is_offered : (past : List (Item T A)) (told : T) → HandedOut equal past told → Lacks (equal told) (offers (steps_in past)) → ⊥
-  is_offered past told k lacks =
+  is_offered : (past : List (Item T A)) (recorded : T) → HandedOut equal past recorded → Lacks (equal recorded) (offers (steps_in past)) → ⊥
+  is_offered past recorded k lacks =
       let log = steps_in past in
       let keeps : Offer T → Bool = λ offer. not (withdrawn log offer) in
-      let none : equal told k.offer.message ≡ false =
-      lacks_at (equal told) (offers log) (filter_place keeps (offers log) k.number) k.offer lacks
+      let none : equal recorded k.offer.message ≡ false =
+      lacks_at (equal recorded) (offers log) (filter_place keeps (offers log) k.number) k.offer lacks
       (at_filter_place keeps (offers log) k.number k.offer k.is_kept) in
       let no_way : ⊥ = (let same = k.same in cc) in
       no_way
 
   -- so some call sends it that has begun
-  returned_unsent : (o : Opening) (past : List (Item T A)) (t : ℕ) (told : T)
-      → IsExplanation equal o (Happens (Returns t (Got told)) ∷ past) → begins_send (equal told) (events_in past) ≡ false → ⊥
-  returned_unsent o past t told x none =
-      is_offered past told (received equal o past (record { calls = x.calls.1; run = x.run }) t told x.calls.0)
-      (offers_none (equal told) equal past x.calls.1 none)
+  returned_unsent : (o : Opening) (past : List (Item T A)) (t : ℕ) (recorded : T)
+      → IsExplanation equal o (Happens (Returns t (Got recorded)) ∷ past) → begins_send (equal recorded) (events_in past) ≡ false → ⊥
+  returned_unsent o past t recorded x none =
+      is_offered past recorded (received equal o past (record { calls = x.calls.1; run = x.run }) t recorded x.calls.0)
+      (offers_none (equal recorded) equal past x.calls.1 none)
 
   pub unsent : (o : Opening) (events : List (Event T A)) → IsExplained equal o events → IsUnsent equal events → ⊥
   unsent o events h pattern =

@@ -15,7 +15,7 @@ use Rattle.flume_concurrent.specs.declared.stage.Stage.{Stage}
 use Rattle.flume_concurrent.specs.declared.stage.Stage.TheVariants.{Begun, Tried, Answered}
 
 module _ {T A : Type 0} where
-  -- whether two answers are equal, where `equal` compares messages
+  -- whether two answers are equal; `equal` compares messages
   abbrev pub equal_answers : (T → T → Bool) → Answer T A → Answer T A → Bool
   equal_answers equal Sent Sent = true
   equal_answers equal Full Full = true
@@ -35,17 +35,18 @@ module _ {T A : Type 0} where
   equal_answers equal Unbounded Unbounded = true
   equal_answers equal _ _ = false
 
-  -- whether this is said of a future that was dropped
+  -- whether the answer is that a future was dropped
   abbrev pub is_dropped : Call T → Answer T A → Bool
   is_dropped (SendAsync message) Dropped = true
   is_dropped RecvAsync Dropped = true
   is_dropped _ _ = false
 
-  -- Whether a call at this stage may return this, where `equal` compares messages: the answer of
-  -- its last step; or, if it was to park, that there was no memory for what it parks on. A future
-  -- that isn't parked may be dropped, whatever it came to.
+  -- whether a call at this stage may return this: the answer of its last step; or `NoMemory`, if it
+  -- was to park and that couldn't be allocated; a future that isn't parked may be dropped
   abbrev pub may_return : (T → T → Bool) → Call T → Stage T A → Answer T A → Bool
-  may_return equal call Begun told = is_dropped call told
-  may_return equal call Tried told = equal_answers equal told NoMemory || is_dropped call told
-  may_return equal call (Answered own) told = equal_answers equal told own || is_dropped call told
-  may_return equal call _ told = false
+  may_return equal call Begun recorded = is_dropped call recorded
+  may_return equal call Tried recorded =
+      equal_answers equal recorded NoMemory || is_dropped call recorded
+  may_return equal call (Answered own) recorded =
+      equal_answers equal recorded own || is_dropped call recorded
+  may_return equal call _ recorded = false

@@ -1,4 +1,4 @@
--- Which steps a call makes, and where each reply leads it.
+-- Which steps a call makes, and its stage after each reply.
 use Rattle.std.specs.Prelude.{Bool, true, false, if◌then◌else◌, Option, Some, None}
 use Rattle.flume_model.specs.declared.step.Kind.TheVariants.{Block, Plain}
 use Rattle.flume_model.specs.declared.step.Step.{Step}
@@ -62,20 +62,19 @@ module _ {T A : Type 0} where
   next_step call (Refused t) = Some (step.Withdraw t)
   next_step call (Answered own) = None
 
-  -- the step that it may make instead: at its deadline, if the future is dropped, or if there is no
-  -- memory for what the future is woken by
-  abbrev pub other_step : Call T → Stage T A → Option (Step T)
-  other_step (call.SendAsync m) Begun = Some (step.TrySend m)
-  other_step call.RecvAsync Begun = Some step.TryRecv
-  other_step call.RecvAsync Tried = Some step.TryRecv
-  other_step (call.SendTimeout m) (Parked t) = Some (step.WithdrawSend t)
-  other_step (call.SendAsync m) (Parked t) = Some (step.WithdrawSend t)
-  other_step call.RecvTimeout (Parked t) = Some (step.Withdraw t)
-  other_step call.RecvAsync (Parked t) = Some (step.Withdraw t)
-  other_step _ _ = None
+  -- the step that it may make instead: at its deadline, if the future is dropped, or if its waker
+  -- can't be allocated
+  abbrev pub alternative_step : Call T → Stage T A → Option (Step T)
+  alternative_step (call.SendAsync m) Begun = Some (step.TrySend m)
+  alternative_step call.RecvAsync Begun = Some step.TryRecv
+  alternative_step call.RecvAsync Tried = Some step.TryRecv
+  alternative_step (call.SendTimeout m) (Parked t) = Some (step.WithdrawSend t)
+  alternative_step (call.SendAsync m) (Parked t) = Some (step.WithdrawSend t)
+  alternative_step call.RecvTimeout (Parked t) = Some (step.Withdraw t)
+  alternative_step call.RecvAsync (Parked t) = Some (step.Withdraw t)
+  alternative_step _ _ = None
 
-  -- How far a call is after a reply, by how far it was. A reply that its step can't have may lead
-  -- anywhere: no run has it.
+  -- the stage after a reply; after one that its step can't have, which no run has, it is arbitrary
   abbrev pub stage_after : Call T → Stage T A → Reply T A → Stage T A
   stage_after call stage (reply.Sent filled) = Answered answer.Sent
   stage_after (call.TrySend m) stage (reply.Full back) = Answered answer.Full

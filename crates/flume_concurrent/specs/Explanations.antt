@@ -13,7 +13,7 @@ use Rattle.flume_concurrent.specs.declared.event.Item.{Item}
 use Rattle.flume_concurrent.specs.declared.event.Item.TheVariants.{Happens, Makes}
 use Rattle.flume_concurrent.specs.declared.stage.Stage.{Stage}
 use Rattle.flume_concurrent.specs.declared.stage.Stage.TheVariants.{Begun}
-use Rattle.flume_concurrent.specs.Calls.{next_step, other_step, stage_after}
+use Rattle.flume_concurrent.specs.Calls.{next_step, alternative_step, stage_after}
 use Rattle.flume_concurrent.specs.Answers.{may_return}
 
 module _ {T A : Type 0} where
@@ -29,50 +29,51 @@ module _ {T A : Type 0} where
   steps_in (Happens event ∷ items) = steps_in items
   steps_in (Makes thread step reply ∷ items) = (step, reply) ∷ steps_in items
 
-  -- a call that is open, and how far it is, after a reply
-  abbrev pub further : Reply T A → Option (Call T × Stage T A) → Option (Call T × Stage T A)
-  further reply None = None
-  further reply (Some far) = Some (far.0, stage_after far.0 far.1 reply)
+  -- an open call and its stage, after a reply
+  abbrev pub after_reply : Reply T A → Option (Call T × Stage T A) → Option (Call T × Stage T A)
+  after_reply reply None = None
+  after_reply reply (Some current) = Some (current.0, stage_after current.0 current.1 reply)
 
-  -- the call that a thread has open, if it has one, and how far it is; the newest item comes first
+  -- the call that a thread has open, if any, and its stage; the newest item comes first
   abbrev pub open_call : List (Item T A) → ℕ → Option (Call T × Stage T A)
   open_call [] t = None
   open_call (Happens (Begins u call) ∷ past) t =
       if u == t then Some (call, Begun) else open_call past t
   open_call (Happens (Returns u answer) ∷ past) t = if u == t then None else open_call past t
   open_call (Makes u step reply ∷ past) t =
-      if u == t then further reply (open_call past t) else open_call past t
+      if u == t then after_reply reply (open_call past t) else open_call past t
 
   -- the open call, if there is one, may make this step next
   abbrev pub IsNextStep : Option (Call T × Stage T A) → Step T → Type 0
   IsNextStep None step = ⊥
-  IsNextStep (Some far) step =
-      (next_step far.0 far.1 ≡ Some step) ⊎ (other_step far.0 far.1 ≡ Some step)
+  IsNextStep (Some current) step =
+      (next_step current.0 current.1 ≡ Some step)
+      ⊎ (alternative_step current.0 current.1 ≡ Some step)
 
--- where `equal` compares messages
+-- `equal` compares messages
 module _ {T A : Type 0} (equal : T → T → Bool) where
   -- whether the open call, if there is one, may return this
   abbrev pub returns : Option (Call T × Stage T A) → Answer T A → Bool
-  returns None told = false
-  returns (Some far) told = may_return equal far.0 far.1 told
+  returns None recorded = false
+  returns (Some current) recorded = may_return equal current.0 current.1 recorded
 
-  -- an item may come next: a thread begins a call while it has none open, and makes steps and
-  -- returns answers while it has, as this call does at its stage
+  -- the item may come next: a thread begins a call if it has none open, and makes steps and returns
+  -- answers as its open call may at its stage
   abbrev pub Fits : List (Item T A) → Item T A → Type 0
   Fits past (Happens (Begins t call)) = open_call past t ≡ None
-  Fits past (Happens (Returns t told)) = IsTrue (returns (open_call past t) told)
+  Fits past (Happens (Returns t recorded)) = IsTrue (returns (open_call past t) recorded)
   Fits past (Makes t step reply) = IsNextStep (open_call past t) step
 
-  -- each item is what the open calls may do, after those before it; the newest comes first
+  -- each item fits those before it; the newest comes first
   abbrev pub AreCalls : List (Item T A) → Type 0
   AreCalls [] = Unit {0}
   AreCalls (item ∷ past) = Fits past item × AreCalls past
 
   -- the items, the newest first, are an explanation of their events
   pub record IsExplanation (opening : Opening) (past : List (Item T A)) : Type 0 where
-    -- they are what calls do
+    -- the threads' calls may do this
     pub calls : AreCalls past
-    -- and the steps with their replies are a run
+    -- the steps with their replies are a run
     pub run : IsRun opening (steps_in past)
 
   -- the events, the oldest first, have an explanation

@@ -1,5 +1,4 @@
--- What a checker knows of the items so far: the calls that are open, and the channel that the steps
--- lead to.
+-- What a checker knows of the items so far: the open calls, and the channel after the steps.
 use Rattle.std.specs.Prelude.{◌≡◌, ℕ, Bool, List, ◌∷◌}
 use Rattle.std.specs.BTreeMap.{BTreeMap, get}
 use Rattle.std.specs.Ordering.{nat_cmp}
@@ -11,29 +10,29 @@ use Rattle.flume_concurrent.specs.declared.call.Call.{Call}
 use Rattle.flume_concurrent.specs.declared.event.Item.{Item}
 use Rattle.flume_concurrent.specs.declared.stage.Stage.{Stage}
 use Rattle.flume_concurrent.specs.Explanations.{open_call, steps_in, Fits}
-use Rattle.flume_concurrent.specs.Told.{IsTold}
+use Rattle.flume_concurrent.specs.Descriptions.{Describes}
 
 module _ {T A : Type 0} where
   -- the map has the calls that are open after these items, the newest first
   abbrev pub HasOpen : List (Item T A) → BTreeMap ℕ (Call T × Stage T A) → Type 0
   HasOpen past calls = (t : ℕ) → get nat_cmp calls t ≡ open_call past t
 
-  -- calls and a state that these items lead to, the newest first
+  -- these are the open calls and the state after the items, the newest first
   pub record LeadTo {S : Type 0} (opening : Opening) (past : List (Item T A))
       (calls : BTreeMap ℕ (Call T × Stage T A)) (s : State T S) : Type 0 where
     pub has : HasOpen past calls
-    pub stands : Represents opening (steps_in past) s
+    pub represents : Represents opening (steps_in past) s
 
-  -- the item tells of one that may come next, and that leads to these calls and this state
-  pub record GoesOn {S : Type 0} (equal : T → T → Bool) (opening : Opening)
+  -- the item describes one that may come next, after which these are the open calls and the state
+  pub record ComesNext {S : Type 0} (equal : T → T → Bool) (opening : Opening)
       (past : List (Item T A)) (item : Item T A) (calls : BTreeMap ℕ (Call T × Stage T A))
       (s : State T S) : Type 0 where
     pub own : Item T A
-    pub told : IsTold equal item own
+    pub describes : Describes equal item own
     pub fits : Fits equal past own
     pub leads : LeadTo opening (own ∷ past) calls s
 
-  -- the item tells of none that may come next
-  abbrev pub GoesNowhere : (T → T → Bool) → Opening → List (Item T A) → Item T A → Type 0
-  GoesNowhere equal opening past item = (own : Item T A) → IsTold equal item own
+  -- the item describes none that may come next
+  abbrev pub NeverComesNext : (T → T → Bool) → Opening → List (Item T A) → Item T A → Type 0
+  NeverComesNext equal opening past item = (own : Item T A) → Describes equal item own
       → Fits equal past own → IsRun opening (steps_in (own ∷ past)) → ⊥

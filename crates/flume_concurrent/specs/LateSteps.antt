@@ -21,7 +21,7 @@ module _ {T A : Type 0} where
   AreLate (Happens event ∷ items) = AreLate items
   AreLate (Makes t step reply ∷ items) = IsFollowed t items × AreLate items
 
-  -- the events have an explanation with such steps, where `equal` compares messages
+  -- the events have an explanation with such steps; `equal` compares messages
   abbrev pub IsExplainedLate : (T → T → Bool) → Opening → List (Event T A) → Type 0
   IsExplainedLate equal opening events = (items : List (Item T A))
       × (events_in items ≡ events) × IsExplanation equal opening (reverse items) × AreLate items

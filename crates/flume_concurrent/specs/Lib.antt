@@ -2,7 +2,7 @@ pub mod Calls
 pub mod Answers
 pub mod Explanations
 pub mod LateSteps
-pub mod Told
+pub mod Descriptions
 pub mod Following
-pub mod Lean
+pub mod NoIdleSteps
 pub mod Patterns

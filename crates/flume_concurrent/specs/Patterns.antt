@@ -38,9 +38,9 @@ module _ {T A : Type 0} where
       (if sends such call then returns_in t events else true) && all_returned such events
   all_returned such (Returns t answer ∷ events) = all_returned such events
 
--- where `equal` compares messages
+-- `equal` compares messages
 module _ {T A : Type 0} (equal : T → T → Bool) where
-  -- the last event is that a message is received of which no send has begun
+  -- the last event receives a message of which no send has begun
   pub record IsUnsent (events : List (Event T A)) : Type 0 where
     pub message : T
     pub thread : ℕ
@@ -48,8 +48,8 @@ module _ {T A : Type 0} (equal : T → T → Bool) where
     pub parts : events ≡ before ++ Returns thread (Got message) ∷ []
     pub unsent : begins_send (equal message) before ≡ false
 
-  -- Of two messages, each send of the first had returned before a send of the second began. And the
-  -- second had been received before the call began that receives the first, as the last event.
+  -- each send of `first` had returned before a send of `second` began, and `second` had been
+  -- received before the call began that receives `first`, as the last event
   pub record IsOutOfOrder (events : List (Event T A)) : Type 0 where
     pub first : T
     pub second : T

@@ -7,50 +7,31 @@ ghost use Rattle.std.proofs.lemmas.Cmp.{lists_equiv};
 use std::alloc::{Allocator, Global};
 use std::marker::Model;
 
-/// A call, as a thread makes it on an end of a channel.
+/// A call on an end of a channel, named as its method.
 #[derive(Clone, Copy, Debug, Drop)]
 pub enum Call<T> {
-    /// Send, and wait while the channel is full.
     Send(T),
-    /// Send, and wait up to a deadline.
     SendTimeout(T),
-    /// Send by a future, which may be dropped at any time.
+    /// A future, which may be dropped at any time.
     SendAsync(T),
-    /// Send, without waiting.
     TrySend(T),
-    /// Receive, and wait while there is no message.
     Recv,
-    /// Receive, and wait up to a deadline.
     RecvTimeout,
-    /// Receive by a future, which may be dropped at any time.
+    /// A future, which may be dropped at any time.
     RecvAsync,
-    /// Receive, without waiting.
     TryRecv,
-    /// Receive all queued messages.
     Drain,
-    /// Clone a sender.
     CloneSender,
-    /// Clone a receiver.
     CloneReceiver,
-    /// Drop a sender.
     DropSender,
-    /// Drop a receiver.
     DropReceiver,
-    /// Set the capacity.
     SetCapacity(usize),
-    /// Ask how many messages are queued.
     Len,
-    /// Ask whether no message is queued.
     IsEmpty,
-    /// Ask whether the queue is at or past its capacity.
     IsFull,
-    /// Ask for the capacity.
     Capacity,
-    /// Ask how many senders live.
     SenderCount,
-    /// Ask how many receivers live.
     ReceiverCount,
-    /// Ask whether the channel is closed.
     IsDisconnected,
 }
 
@@ -58,37 +39,27 @@ pub enum Call<T> {
 #[derive(Drop)]
 #[derive_where(PartialEq, Eq; T)]
 pub enum Answer<T, A: Allocator = Global> {
-    /// The message was sent.
     Sent,
-    /// The channel is full, of a `TrySend`.
     Full,
-    /// This message was received.
     Got(T),
-    /// There is no message, of a `TryRecv`.
     Empty,
-    /// The channel is closed; of a receive also: and no message is left.
+    /// The channel is closed, and to a receive: no message is left.
     Disconnected,
-    /// The deadline came first.
     Timeout,
-    /// Out of memory.
     NoMemory,
     /// The future was dropped before its result was read.
     Dropped,
-    /// These messages were received, in order.
     Drained(Messages<T, A>),
-    /// It was done.
     Done,
-    /// There was no such end left.
+    /// No such end is left.
     NoEnd,
-    /// There were as many such ends as can be counted.
+    /// There are as many such ends as can be counted.
     CountFull,
-    /// This number.
     Number(usize),
-    /// This truth value.
     Truth(bool),
-    /// This capacity, or `None` if unbounded.
+    /// `None` if unbounded.
     Capacity(Option<usize>),
-    /// The channel has no capacity to set.
+    /// There is no capacity to set.
     Unbounded,
 }
 

@@ -4,7 +4,7 @@ ghost use Rattle.flume_model.specs.Log.{Opening};
 ghost use Rattle.flume_concurrent.specs.Answers.{equal_answers};
 ghost use Rattle.flume_concurrent.specs.Explanations.{IsExplained};
 ghost use Rattle.flume_concurrent.specs.LateSteps.{IsExplainedLate};
-ghost use Rattle.flume_concurrent.specs.Lean.{IsExplainedLean};
+ghost use Rattle.flume_concurrent.specs.NoIdleSteps.{IsExplainedWithoutIdle};
 ghost use Rattle.flume_concurrent.specs.Patterns.{IsOutOfOrder, IsUnsent};
 ghost use Rattle.flume_concurrent.specs.declared.call.Answer.{Answer};
 ghost use Rattle.flume_concurrent.specs.declared.event.Event.{Event};
@@ -12,43 +12,40 @@ ghost use Rattle.flume_concurrent.specs.declared.event.Event.{Event};
 use crate::call::Answer;
 use std::alloc::Allocator;
 
-/// Answers are equal if their cases are the same and what they hold is equal.
+/// Answers are equal if their cases and what they hold are equal.
 pub fn answers_are_equal_by_case<T: PartialEq, A: Allocator>()
-    ensures same { (told own : Answer T A)
-        → ⟦<Answer<T, A> as PartialEq>⟧.eq told own ≡ equal_answers T.eq told own }
+    ensures same { (recorded own : Answer T A)
+        → ⟦<Answer<T, A> as PartialEq>⟧.eq recorded own ≡ equal_answers T.eq recorded own }
 {}
 
-/// Events that have an explanation have one in which steps come only just before a return, and the
-/// last of them is of the call that returns. So a search for an explanation need try no others.
-pub fn steps_may_stand_late<T: Eq, A: Allocator>()
+/// Events that have an explanation have one in which steps come only just before a return, the last
+/// of them by the returning call. So a search need try no others.
+pub fn steps_may_come_late<T: Eq, A: Allocator>()
     ensures late { (opening : Opening) (events : List (Event T A))
         → IsExplained T.eq opening events → IsExplainedLate T.eq opening events }
 {}
 
-/// A beginning of explained events is explained. So the first event at which events stop being
-/// explained can be found by halving.
+/// A beginning of explained events is explained. So the first event that isn't is found by halving.
 pub fn beginnings_are_explained<T: Eq, A: Allocator>()
     ensures beginning { (opening : Opening) (events : List (Event T A)) (n : ℕ)
         → IsExplained T.eq opening events → IsExplained T.eq opening (take n events) }
 {}
 
 /// Events that have an explanation whose steps come late have one in which, moreover, no step is
-/// idle: answered `Waiting`, while no receiver waits by it that didn't before. So a search for an
-/// explanation need try no such step.
-pub fn lean_steps_suffice<T: Eq, A: Allocator>()
-    ensures lean { (opening : Opening) (events : List (Event T A))
-        → IsExplainedLate T.eq opening events → IsExplainedLean T.eq opening events }
+/// idle. So a search need try no idle step.
+pub fn idle_steps_are_needless<T: Eq, A: Allocator>()
+    ensures no_idle { (opening : Opening) (events : List (Event T A))
+        → IsExplainedLate T.eq opening events → IsExplainedWithoutIdle T.eq opening events }
 {}
 
-/// Events of which the last one is that a message is received have no explanation if no send of it
-/// has begun.
+/// Events that end in a receipt of a message have no explanation if no send of it has begun.
 pub fn only_what_was_sent_is_received<T: Eq, A: Allocator>()
     ensures sent { (opening : Opening) (events : List (Event T A))
         → IsExplained T.eq opening events → IsUnsent T.eq events → ⊥ }
 {}
 
-/// Events have no explanation in which a message is received out of order: each send of it had
-/// returned before a send of another message began, and that one had been received before the call
+/// Events have no explanation if they end in a receipt of a message out of order: each send of it
+/// had returned before a send of another message began, which had been received before the call
 /// began that receives this one.
 pub fn messages_are_received_in_order<T: Eq, A: Allocator>()
     ensures order { (opening : Opening) (events : List (Event T A))

@@ -37,31 +37,31 @@ pub(crate) fn may_happen<T: Copy + Eq + Drop, A: Allocator + Copy>(
 }
 
 impl<T: Copy + Eq> Call<T> {
-    /// Whether the call may return this at this stage.
-    pub fn may_return<A: Allocator>(&self, stage: &Stage<T, A>, told: &Answer<T, A>) -> bool
-        ensures may { result ≡ may_return T.eq self.now stage.now told.now }
+    /// Whether a call at this stage may return this.
+    pub fn may_return<A: Allocator>(&self, stage: &Stage<T, A>, recorded: &Answer<T, A>) -> bool
+        ensures may { result ≡ may_return T.eq self.now stage.now recorded.now }
     {
         answers_are_equal_by_case::<T, A>();
-        let dropped = self.is_dropped(told);
+        let dropped = self.is_dropped(recorded);
         match stage {
             Stage::Begun => dropped,
-            Stage::Tried => *told == Answer::NoMemory || dropped,
-            Stage::Answered(own) => *told == *own || dropped,
+            Stage::Tried => *recorded == Answer::NoMemory || dropped,
+            Stage::Answered(own) => *recorded == *own || dropped,
             Stage::Parked(_) | Stage::Refused(_) => false,
         }
     }
 
-    fn is_dropped<A: Allocator>(&self, told: &Answer<T, A>) -> bool
-        ensures dropped { result ≡ is_dropped self.now told.now }
+    fn is_dropped<A: Allocator>(&self, recorded: &Answer<T, A>) -> bool
+        ensures dropped { result ≡ is_dropped self.now recorded.now }
     {
         matches!(
-            (self, told),
+            (self, recorded),
             (Call::SendAsync(_) | Call::RecvAsync, Answer::Dropped)
         )
     }
 }
 
-// The thread's next step, if its open call may make this one.
+// The step that equals this one, if the thread's open call may make it.
 pub(crate) fn own_step<T: Copy + Eq + Drop, A: Allocator + Copy>(
     calls: &OpenCalls<T, A>,
     thread: usize,
@@ -75,7 +75,7 @@ pub(crate) fn own_step<T: Copy + Eq + Drop, A: Allocator + Copy>(
     match calls.get(&thread) {
         Some((call, stage)) => match equal_step(step, call.next_step(stage)) {
             Some(own) => Some(own),
-            None => equal_step(step, call.other_step(stage)),
+            None => equal_step(step, call.alternative_step(stage)),
         },
         None => None,
     }
@@ -94,7 +94,7 @@ fn equal_step<T: Copy + Eq>(step: &Step<T>, own: Option<Step<T>>) -> Option<Step
     }
 }
 
-// Takes the event. `false`: an allocation failed.
+// `false`: an allocation failed.
 pub(crate) fn take_event<T: Copy + Drop, A: Allocator + Copy>(
     calls: &mut OpenCalls<T, A>,
     event: &Event<T, A>,
@@ -111,7 +111,7 @@ pub(crate) fn take_event<T: Copy + Drop, A: Allocator + Copy>(
     }
 }
 
-// Takes a step of the thread's open call, with its reply. `false`: an allocation failed.
+// `false`: an allocation failed.
 pub(crate) fn take_step<T: Copy + Drop, A: Allocator + Copy>(
     calls: &mut OpenCalls<T, A>,
     thread: usize,

@@ -1,6 +1,7 @@
-//! How far an open call is, the steps that it may make, and where each reply leads it.
+//! How far an open call is, the steps that it may make, and the stage after each reply.
 ghost use Rattle.std.specs.Prelude.{◌≡◌, ℕ, Option};
-ghost use Rattle.flume_concurrent.specs.Calls.{first_step, next_step, other_step, stage_after};
+ghost use Rattle.flume_concurrent.specs.Calls.{first_step, next_step, alternative_step};
+ghost use Rattle.flume_concurrent.specs.Calls.{stage_after};
 ghost use Rattle.flume_concurrent.specs.Calls.{parking_step, is_send};
 
 use crate::call::{Answer, Call, Messages};
@@ -10,13 +11,12 @@ use std::alloc::{Allocator, Global};
 /// How far an open call is.
 #[derive(Drop)]
 pub enum Stage<T, A: Allocator = Global> {
-    /// It has made no step.
     Begun,
-    /// It found no room, or no message: it may park.
+    /// It found no room or no message, and may park.
     Tried,
-    /// It is parked under this ticket.
+    /// It waits under this ticket.
     Parked(u64),
-    /// It is parked under this ticket, and was answered `NoMemory`: it withdraws.
+    /// It waits under this ticket and was answered `NoMemory`: it withdraws.
     Refused(u64),
     /// It has made its last step, and returns this.
     Answered(Answer<T, A>),
@@ -48,7 +48,7 @@ impl<T: Copy> Call<T> {
         }
     }
 
-    /// The step that the call makes next, if it makes one.
+    /// The step that the call makes next, if any.
     pub fn next_step<A: Allocator>(&self, stage: &Stage<T, A>) -> Option<Step<T>>
         ensures step { result ≡ next_step self.now stage.now }
     {
@@ -62,10 +62,10 @@ impl<T: Copy> Call<T> {
         }
     }
 
-    /// The step that it may make instead: at its deadline, if the future is dropped, or if there is
-    /// no memory for what the future is woken by.
-    pub fn other_step<A: Allocator>(&self, stage: &Stage<T, A>) -> Option<Step<T>>
-        ensures step { result ≡ other_step self.now stage.now }
+    /// The step that it may make instead: at its deadline, if the future is dropped, or if its
+    /// waker can't be allocated.
+    pub fn alternative_step<A: Allocator>(&self, stage: &Stage<T, A>) -> Option<Step<T>>
+        ensures step { result ≡ alternative_step self.now stage.now }
     {
         match (self, stage) {
             (Call::SendAsync(m), Stage::Begun) => Some(Step::TrySend(*m)),
@@ -101,7 +101,7 @@ impl<T: Copy> Call<T> {
     }
 }
 
-/// How far a call is after this reply, by how far it was.
+/// The stage after this reply.
 pub fn stage_after<T: Copy + Drop, A: Allocator + Copy>(
     call: &Call<T>,
     stage: Stage<T, A>,
@@ -155,8 +155,6 @@ fn after_empty<T, A: Allocator>(call: &Call<T>) -> Stage<T, A>
     }
 }
 
-// After `NoMemory` a parked future stays parked, another parked call is to withdraw, and any other
-// call returns.
 fn after_no_memory<T: Drop, A: Allocator>(call: &Call<T>, stage: Stage<T, A>) -> Stage<T, A>
     ensures stage { (back : Option T)
         → result ≡ stage_after call.now stage (Reply.NoMemory back) }
@@ -168,7 +166,7 @@ fn after_no_memory<T: Drop, A: Allocator>(call: &Call<T>, stage: Stage<T, A>) ->
     }
 }
 
-// After a reply that its ticket isn't live, which comes only once the channel is over.
+// The ticket of an open call isn't live only once both sides are disconnected.
 fn after_no_ticket<T: Copy + Drop, A: Allocator>(call: &Call<T>, stage: Stage<T, A>) -> Stage<T, A>
     ensures stage { result ≡ stage_after call.now stage Reply.NoTicket }
 {

@@ -1,4 +1,4 @@
--- What a turn of a call led to, as a stage.
+-- The stage of a call that corresponds to what a turn led to.
 use Rattle.std.specs.Prelude.{Bool, true, false, Ok, Err}
 use Rattle.flume_core.specs.declared.error.RecvTimeoutError.TheVariants as receive
 use Rattle.flume_core.specs.declared.error.SendTimeoutError.TheVariants as send
@@ -15,7 +15,7 @@ use Rattle.flume_concurrent.specs.declared.stage.Stage.TheVariants.{Tried, Parke
 use Rattle.flume_concurrent.specs.declared.stage.Stage.TheVariants.{Answered}
 
 module _ {T A : Type 0} where
-  -- of a send
+  -- the stage of a send
   abbrev pub stage_of_send : SendNext T → Stage T A
   stage_of_send (sending.Done (Ok sent)) = Answered Sent
   stage_of_send (sending.Done (Err (send.Timeout back))) = Answered Timeout
@@ -24,7 +24,7 @@ module _ {T A : Type 0} where
   stage_of_send (sending.NeedSignal back) = Tried
   stage_of_send (sending.Park ticket) = Parked ticket
 
-  -- of a receive
+  -- the stage of a receive
   abbrev pub stage_of_receive : RecvNext T → Stage T A
   stage_of_receive (receiving.Done (Ok message)) = Answered (Got message)
   stage_of_receive (receiving.Done (Err receive.Timeout)) = Answered Timeout
@@ -35,7 +35,7 @@ module _ {T A : Type 0} where
   stage_of_receive (receiving.Refused ticket) = Refused ticket
 
 module _ {T : Type 0} where
-  -- what a send led to that has no deadline: it took its message back since an allocation failed
+  -- a send without a deadline takes its message back only since an allocation failed
   abbrev pub untimed : SendNext T → SendNext T
   untimed (sending.Done (Err (send.Timeout back))) = sending.Done (Err (send.NoMemory back))
   untimed next = next

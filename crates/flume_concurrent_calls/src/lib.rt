@@ -1,6 +1,5 @@
-//! The calls of `flume_concurrent` are those of `flume_calls`: they make the same steps, and each
-//! reply leads them to the same. No proof depends on these files: they show that the definitions
-//! mean what they should. The functions do nothing: each contract is a law.
+//! The calls of `flume_concurrent` make the steps of those of `flume_calls`, and each reply leads
+//! both to the same stage. No proof depends on these laws: they check the definitions.
 #![tactic(auto)]
 
 ghost use Rattle.std.specs.Prelude.{◌≡◌, ℕ, true, false, Some, Result};
@@ -17,7 +16,7 @@ ghost use Rattle.flume_calls.specs.ReceiveGates.{got_or_no_memory};
 ghost use Rattle.flume_calls.specs.declared.calls.receive.RecvNext.{RecvNext};
 ghost use Rattle.flume_calls.specs.declared.calls.receive.RecvNext.TheVariants.{Done};
 ghost use Rattle.flume_calls.specs.declared.calls.send.SendNext.{SendNext};
-ghost use Rattle.flume_concurrent.specs.Calls.{is_send, next_step, other_step, stage_after};
+ghost use Rattle.flume_concurrent.specs.Calls.{is_send, next_step, alternative_step, stage_after};
 ghost use Rattle.flume_concurrent.specs.declared.call.Call.{Call};
 ghost use Rattle.flume_concurrent.specs.declared.call.Call.TheVariants.{SendTimeout, SendAsync};
 ghost use Rattle.flume_concurrent.specs.declared.call.Call.TheVariants.{RecvTimeout};
@@ -28,7 +27,7 @@ ghost use Rattle.flume_concurrent_calls.specs.Led.{blocks_to_receive, untimed};
 
 use std::alloc::Allocator;
 
-/// A send that waits is led by a reply to the same stage as by the turn that makes the same step.
+/// Each reply leads a send that waits to the same stage as the turn that makes the same step.
 pub fn sends_agree<T, A: Allocator>()
     ensures tries { (call : Call T) (reply : Reply T A) (next : SendNext T)
         → is_send call ≡ true → after_try_send reply next
@@ -48,11 +47,11 @@ pub fn sends_agree<T, A: Allocator>()
     ensures asks_by { (call : Call T) (t : ℕ) → is_send call ≡ true
         → next_step {A = A} call (Parked t) ≡ Some (step_of_parked_send t false) }
     ensures leaves_by { (message : T) (t : ℕ)
-        → other_step {A = A} (SendTimeout message) (Parked t) ≡ Some (step_of_parked_send t true) }
+        → alternative_step {A = A} (SendTimeout message) (Parked t)
+        ≡ Some (step_of_parked_send t true) }
 {}
 
-/// A receive that blocks is led by a reply to the same stage as by the turn that makes the same
-/// step.
+/// Each reply leads a receive that blocks to the same stage as the turn that makes the same step.
 pub fn receives_agree<T, A: Allocator>()
     ensures tries { (call : Call T) (reply : Reply T A) (next : RecvNext T)
         → blocks_to_receive call ≡ true → after_try_recv reply next
@@ -74,5 +73,6 @@ pub fn receives_agree<T, A: Allocator>()
     ensures asks_by { (call : Call T) (t : ℕ) → blocks_to_receive call ≡ true
         → next_step {A = A} call (Parked t) ≡ Some (step_of_parked_receive t false) }
     ensures leaves_by { (t : ℕ)
-        → other_step {T = T} {A = A} RecvTimeout (Parked t) ≡ Some (step_of_parked_receive t true) }
+        → alternative_step {T = T} {A = A} RecvTimeout (Parked t)
+        ≡ Some (step_of_parked_receive t true) }
 {}

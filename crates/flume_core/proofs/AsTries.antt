@@ -55,19 +55,19 @@ module _ {T A S : Type 0} where
 module _ {T A : Type 0} where
   -- a send that doesn't find the queue full has a reply that a send has
   pub send_comes : (m : T) (r : Reply T A) → PossibleReply (TrySend m) r → ((x : T) → r ≢ Full x) → PossibleReply (Send m) r
-  send_comes m (Sent filled) comes differs = comes
-  send_comes m (Closed back) comes differs = comes
-  send_comes m (NoMemory back) comes differs = comes
-  send_comes m (Full back) comes differs = absurd (differs back refl)
-  send_comes m _ comes differs = absurd comes
+  send_comes m (Sent filled) possible_reply differs = possible_reply
+  send_comes m (Closed back) possible_reply differs = possible_reply
+  send_comes m (NoMemory back) possible_reply differs = possible_reply
+  send_comes m (Full back) possible_reply differs = absurd (differs back refl)
+  send_comes m _ possible_reply differs = absurd possible_reply
 
   -- a receive that finds the line not empty, or the channel closed, has a reply that a receive has
   pub recv_comes : (kind : Kind) (r : Reply T A) → PossibleReply TryRecv r → r ≢ Empty → PossibleReply (Recv kind) r
-  recv_comes kind (Got m) comes differs = comes
-  recv_comes kind Ended comes differs = comes
-  recv_comes kind Empty comes differs = absurd (differs refl)
-  recv_comes kind _ comes differs = absurd comes
+  recv_comes kind (Got m) possible_reply differs = possible_reply
+  recv_comes kind Ended possible_reply differs = possible_reply
+  recv_comes kind Empty possible_reply differs = absurd (differs refl)
+  recv_comes kind _ possible_reply differs = absurd possible_reply
 
   -- a send that doesn't wait never finds the tickets spent
   pub try_never_spent : (m : T) (r : Reply T A) → PossibleReply (TrySend m) r → (back : Option T) → r ≢ Spent back
-  try_never_spent m r comes back is = absurd (rw is at comes)
+  try_never_spent m r possible_reply back is = absurd (rw is at possible_reply)

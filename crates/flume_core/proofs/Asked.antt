@@ -20,7 +20,7 @@ use Rattle.flume_model.specs.Entries.{is_woken, is_filled, entry_of, again, leav
 use Rattle.flume_model.specs.Parked.{LogEntry, entries}
 use Rattle.flume_model.specs.Channel.{channel}
 use Rattle.flume_model.specs.WaitLaws.{is_block, block_woken}
-use Rattle.flume_state.specs.Receivers.{status_of, receiver_status, looks, blocks, noticed_receiver}
+use Rattle.flume_state.specs.Receivers.{status_of, receiver_status, looks, is_unfilled_block, noticed_receiver}
 use Rattle.flume_model.specs.Entries.{held_by, held_in}
 use Rattle.flume_state.specs.State.{State, bare}
 use Rattle.flume_core.specs.Represents.{Represents}
@@ -88,8 +88,8 @@ module _ {T A S : Type 0} where
   pub poll_collects : (o : Opening) (log : Log T A) (s new : State T S) (t : ℕ) (r : Reply T A) → Represents o log s
       → receiver_status t s.entries ≡ Some IsFilled → (m : T) × (held_by (entry_of t s.entries) ≡ Some m) × (r ≡ Got m)
       → new ≡ without_receiver t s → Represents o ((Poll t, r) ∷ log) new
-  poll_collects o log s new t r h stands got is =
-      let at = one_found (entry_of t s.entries) IsFilled stands in
+  poll_collects o log s new t r h represents got is =
+      let at = one_found (entry_of t s.entries) IsFilled represents in
       let filled = filled_with at.0.kind at.0.mark at.2 in
       let held : Some filled.0 ≡ Some got.0 = sym (ap held_by at.1 ∙ ap held_in filled.1) ∙ got.1 in
       let same : filled.0 ≡ got.0 = cc in
@@ -101,8 +101,8 @@ module _ {T A S : Type 0} where
   pub withdraw_collects : (o : Opening) (log : Log T A) (s new : State T S) (t : ℕ) (r : Reply T A) → Represents o log s
       → receiver_status t s.entries ≡ Some IsFilled → (m : T) × (held_by (entry_of t s.entries) ≡ Some m) × (r ≡ Got m)
       → new ≡ without_receiver t s → Represents o ((Withdraw t, r) ∷ log) new
-  withdraw_collects o log s new t r h stands got is =
-      let at = one_found (entry_of t s.entries) IsFilled stands in
+  withdraw_collects o log s new t r h represents got is =
+      let at = one_found (entry_of t s.entries) IsFilled represents in
       let filled = filled_with at.0.kind at.0.mark at.2 in
       let held : Some filled.0 ≡ Some got.0 = sym (ap held_by at.1 ∙ ap held_in filled.1) ∙ got.1 in
       let same : filled.0 ≡ got.0 = cc in
@@ -115,16 +115,16 @@ module _ {T A S : Type 0} where
   pub poll_waits : (o : Opening) (log : Log T A) (s new : State T S) (t : ℕ) (f : Notice S → Notice S) → Represents o log s
       → receiver_status t s.entries ≡ Some BlockWaiting → new ≡ with_peak (again t (noticed_receiver f t s.entries)) s
       → Represents o ((Poll t, WaitsOn) ∷ log) new
-  poll_waits o log s new t f h stands is =
-      let at = one_found (entry_of t s.entries) BlockWaiting stands in
+  poll_waits o log s new t f h represents is =
+      let at = one_found (entry_of t s.entries) BlockWaiting represents in
       asks o log _ s new t f h (rw (entry_in_log h t at.0 at.1) (polled_blocked A (channel o log) at.0.kind at.0.mark at.2)) refl is
 
   -- one that looks takes the front
   pub poll_takes : (o : Opening) (log : Log T A) (s new : State T S) (t : ℕ) (st : ReceiverStatus) (m : T) (rest : List T) → Represents o log s
       → receiver_status t s.entries ≡ Some st → looks (Some st) ≡ true → (with_front s).queue ≡ m ∷ rest → new ≡ without_receiver t (after_take rest s)
       → Represents o ((Poll t, Got m) ∷ log) new
-  poll_takes o log s new t st m rest h stands looking front is =
-      let at = one_found (entry_of t s.entries) st stands in
+  poll_takes o log s new t st m rest h represents looking front is =
+      let at = one_found (entry_of t s.entries) st represents in
       let look : looks (Some (status_of at.0)) ≡ true = ap (λ x. looks (Some x)) at.2 ∙ looking in
       let told = told_in_log h t at.0 false at.1 (looks_unfilled at.0.kind at.0.mark look) in
       takes o log _ s new m (Some t) rest h
@@ -135,8 +135,8 @@ module _ {T A S : Type 0} where
   pub poll_ends : (o : Opening) (log : Log T A) (s new : State T S) (t : ℕ) (st : ReceiverStatus) → Represents o log s
       → receiver_status t s.entries ≡ Some st → looks (Some st) ≡ true → (with_front s).queue ≡ [] → IsClosed s.senders s.receivers
       → new ≡ without_receiver t s → Represents o ((Poll t, Ended) ∷ log) new
-  poll_ends o log s new t st h stands looking none closed is =
-      let at = one_found (entry_of t s.entries) st stands in
+  poll_ends o log s new t st h represents looking none closed is =
+      let at = one_found (entry_of t s.entries) st represents in
       let look : looks (Some (status_of at.0)) ≡ true = ap (λ x. looks (Some x)) at.2 ∙ looking in
       let empty_ : s.queue ≡ [] = fronted_empty s none in
       departs o log _ s new t None h
@@ -149,8 +149,8 @@ module _ {T A S : Type 0} where
       → Represents o log s
       → receiver_status t s.entries ≡ Some st → looks (Some st) ≡ true → (with_front s).queue ≡ [] → IsOpen s.senders s.receivers
       → new ≡ with_peak (again t (noticed_receiver f t s.entries)) s → Represents o ((Poll t, WaitsOn) ∷ log) new
-  poll_waits_on o log s new t st f h stands looking none open_ is =
-      let at = one_found (entry_of t s.entries) st stands in
+  poll_waits_on o log s new t st f h represents looking none open_ is =
+      let at = one_found (entry_of t s.entries) st represents in
       let look : looks (Some (status_of at.0)) ≡ true = ap (λ x. looks (Some x)) at.2 ∙ looking in
       let is_open = open_at_log h open_ in
       asks o log _ s new t f h
@@ -171,11 +171,11 @@ module _ {T A S : Type 0} where
 
   -- one that blocks leaves with the front
   pub withdraw_takes : (o : Opening) (log : Log T A) (s new : State T S) (t : ℕ) (st : ReceiverStatus) (m : T) (rest : List T) → Represents o log s
-      → receiver_status t s.entries ≡ Some st → blocks (Some st) ≡ true → (with_front s).queue ≡ m ∷ rest → new ≡ without_receiver t (after_take rest s)
+      → receiver_status t s.entries ≡ Some st → is_unfilled_block (Some st) ≡ true → (with_front s).queue ≡ m ∷ rest → new ≡ without_receiver t (after_take rest s)
       → Represents o ((Withdraw t, Got m) ∷ log) new
-  withdraw_takes o log s new t st m rest h stands blocking front is =
-      let at = one_found (entry_of t s.entries) st stands in
-      let block : blocks (Some (status_of at.0)) ≡ true = ap (λ x. blocks (Some x)) at.2 ∙ blocking in
+  withdraw_takes o log s new t st m rest h represents blocking front is =
+      let at = one_found (entry_of t s.entries) st represents in
+      let block : is_unfilled_block (Some (status_of at.0)) ≡ true = ap (λ x. is_unfilled_block (Some x)) at.2 ∙ blocking in
       let told = told_in_log h t at.0 false at.1 (blocks_unfilled at.0.kind at.0.mark block) in
       takes o log _ s new m (Some t) rest h
       (rw (entry_in_log h t at.0 at.1) (gone_got A (channel o log) t at.0.kind at.0.mark m block (front_line o log s m rest h front)))
@@ -183,11 +183,11 @@ module _ {T A S : Type 0} where
 
   -- one that blocks leaves with no message
   pub withdraw_leaves : (o : Opening) (log : Log T A) (s new : State T S) (t : ℕ) (st : ReceiverStatus) (closed : Bool) → Represents o log s
-      → receiver_status t s.entries ≡ Some st → blocks (Some st) ≡ true → (with_front s).queue ≡ [] → closed ≡ is_closed s.senders s.receivers
+      → receiver_status t s.entries ≡ Some st → is_unfilled_block (Some st) ≡ true → (with_front s).queue ≡ [] → closed ≡ is_closed s.senders s.receivers
       → new ≡ without_receiver t s → Represents o ((Withdraw t, Gone closed None) ∷ log) new
-  withdraw_leaves o log s new t st closed h stands blocking none told is =
-      let at = one_found (entry_of t s.entries) st stands in
-      let block : blocks (Some (status_of at.0)) ≡ true = ap (λ x. blocks (Some x)) at.2 ∙ blocking in
+  withdraw_leaves o log s new t st closed h represents blocking none told is =
+      let at = one_found (entry_of t s.entries) st represents in
+      let block : is_unfilled_block (Some (status_of at.0)) ≡ true = ap (λ x. is_unfilled_block (Some x)) at.2 ∙ blocking in
       let empty_ : s.queue ≡ [] = fronted_empty s none in
       departs o log _ s new t None h
       (rw (entry_in_log h t at.0 at.1)
@@ -199,8 +199,8 @@ module _ {T A S : Type 0} where
       → Represents o log s → receiver_status t s.entries ≡ Some st → (st ≡ IsWaiting) ⊎ (st ≡ IsWoken)
       → closed ≡ is_closed s.senders s.receivers → filled ≡ leave_fills t s.queue s.entries → new ≡ after_withdrawal t s
       → Represents o ((Withdraw t, Gone closed filled) ∷ log) new
-  withdraw_passes o log s new t st closed filled h stands other told fills is =
-      let at = one_found (entry_of t s.entries) st stands in
+  withdraw_passes o log s new t st closed filled h represents other told fills is =
+      let at = one_found (entry_of t s.entries) st represents in
       let parts = other_parts at.0.kind at.0.mark (⊎_elim (λ a. inl (at.2 ∙ a)) (λ b. inr (at.2 ∙ b)) other) in
       let same : leave_fills t s.queue s.entries ≡ leave_fills t (queue o log) (entries o log) =
       sym (bare_leave_fills t s.queue s.entries) ∙ ap₂ (λ q es. leave_fills t q es) (sym (queue_at_log h)) h.entries_are in

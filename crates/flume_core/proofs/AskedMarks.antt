@@ -14,7 +14,7 @@ use Rattle.flume_model.specs.Entries.{is_woken, is_filled, leave_fills}
 use Rattle.flume_model.specs.Channel.{Channel, IsFront}
 use Rattle.flume_model.specs.Asking.{IsPolledMark, IsGoneMark}
 use Rattle.flume_model.specs.WaitLaws.{is_block}
-use Rattle.flume_state.specs.Receivers.{status_by, looks, blocks}
+use Rattle.flume_state.specs.Receivers.{status_by, looks, is_unfilled_block}
 
 -- one that neither is filled nor blocks as it waits looks
 pub looks_else : (st : ReceiverStatus) → st ≢ IsFilled → st ≢ BlockWaiting → looks (Some st) ≡ true
@@ -25,7 +25,7 @@ looks_else IsWaiting a b = refl
 looks_else IsWoken a b = refl
 
 -- one that neither is filled nor of another kind blocks
-pub blocks_else : (st : ReceiverStatus) → st ≢ IsFilled → st ≢ IsWaiting → st ≢ IsWoken → blocks (Some st) ≡ true
+pub blocks_else : (st : ReceiverStatus) → st ≢ IsFilled → st ≢ IsWaiting → st ≢ IsWoken → is_unfilled_block (Some st) ≡ true
 blocks_else IsFilled a b c = absurd (a refl)
 blocks_else IsWaiting a b c = absurd (b refl)
 blocks_else IsWoken a b c = absurd (c refl)
@@ -40,7 +40,7 @@ module _ {T : Type 0} where
   looks_unfilled k Woken e = refl
 
   -- one that blocks, as it waits or was woken, isn't filled
-  pub blocks_unfilled : (k : Kind) (mark : Mark T) → blocks (Some (status_by k mark)) ≡ true → is_filled mark ≡ false
+  pub blocks_unfilled : (k : Kind) (mark : Mark T) → is_unfilled_block (Some (status_by k mark)) ≡ true → is_filled mark ≡ false
   blocks_unfilled k (Filled m) e = absurd (let none : ⊥ = cc in none)
   blocks_unfilled k Waiting e = refl
   blocks_unfilled k Woken e = refl
@@ -51,9 +51,9 @@ module _ {T : Type 0} where
 
   -- one of another kind that isn't filled
   pub other_parts : (k : Kind) (mark : Mark T) → (status_by k mark ≡ IsWaiting) ⊎ (status_by k mark ≡ IsWoken)
-      → (blocks (Some (status_by k mark)) ≡ false) × (is_filled mark ≡ false)
-  other_parts k mark (inl e) = (ap (λ x. blocks (Some x)) e, unfilled_as k mark IsWaiting e refl)
-  other_parts k mark (inr e) = (ap (λ x. blocks (Some x)) e, unfilled_as k mark IsWoken e refl)
+      → (is_unfilled_block (Some (status_by k mark)) ≡ false) × (is_filled mark ≡ false)
+  other_parts k mark (inl e) = (ap (λ x. is_unfilled_block (Some x)) e, unfilled_as k mark IsWaiting e refl)
+  other_parts k mark (inr e) = (ap (λ x. is_unfilled_block (Some x)) e, unfilled_as k mark IsWoken e refl)
 
   -- one that is filled is filled with a message
   pub filled_with : (k : Kind) (mark : Mark T) → status_by k mark ≡ IsFilled → (m : T) × (mark ≡ Filled m)
@@ -103,7 +103,7 @@ module _ {T : Type 0} (A : Type 0) where
   polled_blocked c _ _ e = absurd (let no : ⊥ = cc in no)
 
   -- one that blocks may leave with the front
-  pub gone_got : (c : Channel T) (t : ℕ) (k : Kind) (mark : Mark T) (m : T) → blocks (Some (status_by k mark)) ≡ true → IsFront c m
+  pub gone_got : (c : Channel T) (t : ℕ) (k : Kind) (mark : Mark T) (m : T) → is_unfilled_block (Some (status_by k mark)) ≡ true → IsFront c m
       → IsGoneMark {A = A} c t k mark (Got m)
   gone_got c t k (Filled x) m e front = absurd (let none : ⊥ = cc in none)
   gone_got c t Block Waiting m e front = front
@@ -111,7 +111,7 @@ module _ {T : Type 0} (A : Type 0) where
   gone_got c t _ _ m e front = absurd (let none : ⊥ = cc in none)
 
   -- one that blocks may leave with no message
-  pub gone_none : (c : Channel T) (t : ℕ) (k : Kind) (mark : Mark T) (closed : Bool) → blocks (Some (status_by k mark)) ≡ true
+  pub gone_none : (c : Channel T) (t : ℕ) (k : Kind) (mark : Mark T) (closed : Bool) → is_unfilled_block (Some (status_by k mark)) ≡ true
       → c.line ≡ []
       → closed ≡ is_closed c.senders c.receivers → IsGoneMark {A = A} c t k mark (Gone closed None)
   gone_none c t k (Filled x) closed e none is = absurd (let no : ⊥ = cc in no)
@@ -121,7 +121,7 @@ module _ {T : Type 0} (A : Type 0) where
 
   -- one of another kind leaves with none, and passes its wake on
   pub gone_other : (c : Channel T) (t : ℕ) (k : Kind) (mark : Mark T) (closed : Bool) (filled : Option ℕ)
-      → blocks (Some (status_by k mark)) ≡ false → is_filled mark ≡ false → closed ≡ is_closed c.senders c.receivers
+      → is_unfilled_block (Some (status_by k mark)) ≡ false → is_filled mark ≡ false → closed ≡ is_closed c.senders c.receivers
       → filled ≡ leave_fills t c.queue c.entries → IsGoneMark {A = A} c t k mark (Gone closed filled)
   gone_other c t k (Filled x) closed filled e empty is fills = absurd (let no : ⊥ = cc in no)
   gone_other c t Block Waiting closed filled e empty is fills = absurd (let no : ⊥ = cc in no)

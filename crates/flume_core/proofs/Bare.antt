@@ -9,7 +9,7 @@ use Rattle.flume_model.specs.declared.entry.Entry.{Entry}
 use Rattle.flume_model.specs.declared.entry.Mark.TheVariants.{Waiting}
 use Rattle.flume_state.specs.declared.notice.Notice.{Notice}
 use Rattle.flume_model.specs.Entries.{is_waiting, is_woken, some_wait, waiting_count, round, round_fills, round_for}
-use Rattle.flume_model.specs.Entries.{round_for_fills, all_woken, entry_of, held_by, without, again_as, again, passes_on}
+use Rattle.flume_model.specs.Entries.{round_for_fills, all_woken, entry_of, held_by, without_ticket, again_as, again, passes_on}
 use Rattle.flume_model.specs.Entries.{after_leave, leave_fills}
 use Rattle.flume_model.specs.Parked.{same_notice}
 use Rattle.flume_state.specs.Receivers.{noticed_receiver}
@@ -42,12 +42,12 @@ module _ {T N : Type 0} where
   bare_held (Some e) = refl
 
   -- the others
-  pub bare_without : (t : ℕ) (es : List (Entry T N)) → map bare (without t es) ≡ without t (map bare es)
+  pub bare_without : (t : ℕ) (es : List (Entry T N)) → map bare (without_ticket t es) ≡ without_ticket t (map bare es)
   bare_without t [] = refl
   bare_without t (e ∷ es) = by_case (eqb e.ticket t) refl (bare_without t es)
     where
-      by_case : (b : Bool) → eqb e.ticket t ≡ b → map bare (without t es) ≡ without t (map bare es)
-          → map bare (without t (e ∷ es)) ≡ without t (map bare (e ∷ es))
+      by_case : (b : Bool) → eqb e.ticket t ≡ b → map bare (without_ticket t es) ≡ without_ticket t (map bare es)
+          → map bare (without_ticket t (e ∷ es)) ≡ without_ticket t (map bare (e ∷ es))
       by_case true same rest = simp same refl
       by_case false other rest = simp other (ap (λ l. bare e ∷ l) rest)
 
@@ -99,7 +99,7 @@ module _ {T N : Type 0} where
         where
           by_case : (b : Bool) → is_woken e.mark ≡ b → map bare (again_as t (Some e) es) ≡ again_as t (Some (bare e)) (map bare es)
           by_case true woken =
-              simp woken (map_push bare (without t es) (record e { mark = Waiting })
+              simp woken (map_push bare (without_ticket t es) (record e { mark = Waiting })
               ∙ ap (λ l. l ++ bare (record e { mark = Waiting }) ∷ []) (bare_without t es))
           by_case false woken = simp woken refl
 
@@ -118,7 +118,7 @@ module _ {T N : Type 0} where
     where
       go : (b : Bool) → passes_on (entry_of t es) ≡ b → map bare (after_leave tell t queue es) ≡ after_leave same_notice t queue (map bare es)
       go true e =
-          rw (bare_passes t es, e) (bare_round_for tell queue (without t es) ∙ ap (round_for same_notice queue) (bare_without t es))
+          rw (bare_passes t es, e) (bare_round_for tell queue (without_ticket t es) ∙ ap (round_for same_notice queue) (bare_without t es))
       go false e = rw (bare_passes t es, e) (bare_without t es)
 
   pub bare_leave_fills : (t : ℕ) (queue : List T) (es : List (Entry T N)) → leave_fills t queue (map bare es) ≡ leave_fills t queue es
@@ -126,7 +126,7 @@ module _ {T N : Type 0} where
     where
       go : (b : Bool) → passes_on (entry_of t es) ≡ b → leave_fills t queue (map bare es) ≡ leave_fills t queue es
       go true e =
-          rw (bare_passes t es, e) (ap (round_for_fills queue) (sym (bare_without t es)) ∙ bare_round_for_fills queue (without t es))
+          rw (bare_passes t es, e) (ap (round_for_fills queue) (sym (bare_without t es)) ∙ bare_round_for_fills queue (without_ticket t es))
       go false e = rw (bare_passes t es, e) refl
 
 module _ {T S : Type 0} where

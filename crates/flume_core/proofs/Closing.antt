@@ -8,7 +8,7 @@ use Rattle.flume_model.specs.declared.step.Reply.{Reply}
 use Rattle.flume_model.specs.Log.{Log, Opening, Change}
 use Rattle.flume_model.specs.Log.{SenderLeaves, ReceiverLeaves, change}
 use Rattle.flume_model.specs.Counts.{senders_after, receivers_after}
-use Rattle.flume_model.specs.Line.{issued}
+use Rattle.flume_model.specs.Line.{tickets_issued}
 use Rattle.flume_model.specs.Channel.{channel}
 use Rattle.flume_model.specs.Replies.{IsReply}
 use Rattle.flume_model.specs.Limits.{is_closed}
@@ -36,7 +36,7 @@ leaving_moves ReceiverLeaves e = refl
 leaving_moves _ e = absurd (let none : ⊥ = cc in none)
 
 -- an end that leaves issues no ticket
-leaving_issues : {T : Type 0} (done : Change T) → leaves_end done ≡ true → issued done ≡ 0
+leaving_issues : {T : Type 0} (done : Change T) → leaves_end done ≡ true → tickets_issued done ≡ 0
 leaving_issues SenderLeaves e = refl
 leaving_issues ReceiverLeaves e = refl
 leaving_issues _ e = absurd (let none : ⊥ = cc in none)

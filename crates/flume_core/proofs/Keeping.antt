@@ -8,7 +8,7 @@ use Rattle.flume_model.specs.declared.step.Reply.{Reply}
 use Rattle.flume_model.specs.Log.{Log, Opening, Change, Queues, Blocks, Accepts, Withdraws, Takes, Drains, Parks, Asks, Collects}
 use Rattle.flume_model.specs.Log.{Leaves, SenderJoins, ReceiverJoins, SenderLeaves, ReceiverLeaves, Resizes, Stays, change}
 use Rattle.flume_model.specs.Counts.{senders, receivers, senders_after, receivers_after, is_over}
-use Rattle.flume_model.specs.Line.{boundary_after, capacity_after, issued, issues, spends, is_live}
+use Rattle.flume_model.specs.Line.{boundary_after, capacity_after, tickets_issued, issues, spends, is_live}
 use Rattle.flume_model.specs.Channel.{channel, has_ticket}
 use Rattle.flume_model.specs.Replies.{IsReply}
 use Rattle.flume_model.specs.Entries.{waiting_count}
@@ -80,7 +80,7 @@ module _ {T A S : Type 0} where
       }
       → SameMarks m old.sends
       → map bare es ≡ entries_after old.queue (not (is_closed_after past) && is_closed_after (p ∷ past)) (map bare old.entries) done
-      → peak ≡ max old.peak (waiting_count es) → next ≡ old.next + issued done → Represents o (p ∷ past) new
+      → peak ≡ max old.peak (waiting_count es) → next ≡ old.next + tickets_issued done → Represents o (p ∷ past) new
   keeps_standing o past p done old new m es peak next h reply e none open_ is marks entered peaked issued_ =
       let all = keeps_all done none in
       let before : is_over past ≡ false = not_over_yet o past p (told_filled o past h.run) (reply, h.run) open_ in
@@ -134,7 +134,7 @@ module _ {T A S : Type 0} where
       }
       → SameMarks m old.sends
       → map bare es ≡ entries_after old.queue (not (is_closed_after past) && is_closed_after (p ∷ past)) (map bare old.entries) done
-      → waiting_count es ≤ waiting_count old.entries → issued done ≡ 0
+      → waiting_count es ≤ waiting_count old.entries → tickets_issued done ≡ 0
       → 0 < senders_after old.senders done + receivers_after old.receivers done → Represents o (p ∷ past) new
   counts_open o past p done old new m es h reply e none is marks entered fewer issued_ some =
       let a : senders_after old.senders done ≡ senders (p ∷ past) =
@@ -147,7 +147,7 @@ module _ {T A S : Type 0} where
   -- an end leaves, and none is left
   pub counts_over : (o : Opening) (past : Log T A) (p : Step T × Reply T A) (done : Change T) (old new : State T S)
       → Represents o past old → IsReply (channel o past) p.0 p.1 → change past p.0 p.1 ≡ done → moves_none done ≡ true
-      → issued done ≡ 0 → new ≡ with_nothing_left (record old { senders = senders_after old.senders done; receivers = receivers_after old.receivers done })
+      → tickets_issued done ≡ 0 → new ≡ with_nothing_left (record old { senders = senders_after old.senders done; receivers = receivers_after old.receivers done })
       → senders_after old.senders done + receivers_after old.receivers done ≡ 0 → Represents o (p ∷ past) new
   counts_over o past p done old new h reply e moves issued_ is none =
       let a : senders_after old.senders done ≡ senders (p ∷ past) =

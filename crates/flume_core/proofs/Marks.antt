@@ -11,7 +11,7 @@ use Rattle.flume_model.specs.Log.{Log, Opening}
 use Rattle.flume_model.specs.Line.{line, is_live}
 use Rattle.flume_model.specs.Channel.{has_ticket}
 use Rattle.flume_state.specs.Messages.{Blocked}
-use Rattle.flume_state.specs.Sends.{SendMap, blocked as blocked_send, changed, accepted_now}
+use Rattle.flume_state.specs.Sends.{SendMap, newly_blocked as blocked_send, changed, accepted_now}
 use Rattle.flume_state.specs.State.{State, offers_of}
 use Rattle.flume_core.specs.Represents.{Represents}
 use Rattle.flume_model.proofs.Tickets.{has_ticket-append}

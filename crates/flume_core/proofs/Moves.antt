@@ -14,7 +14,7 @@ use Rattle.flume_model.specs.Channel.{channel, has_ticket, TakesIn}
 use Rattle.flume_model.specs.Replies.{IsReply}
 use Rattle.flume_model.specs.Entries.{some_wait, round_for_fills}
 use Rattle.flume_state.specs.Messages.{Blocked}
-use Rattle.flume_state.specs.Sends.{blocked as blocked_send}
+use Rattle.flume_state.specs.Sends.{newly_blocked as blocked_send}
 use Rattle.flume_state.specs.Notices.{due_now}
 use Rattle.flume_state.specs.State.{State, offers_of}
 use Rattle.flume_core.specs.Represents.{Represents}

@@ -12,7 +12,7 @@ use Rattle.flume_model.specs.Counts.{is_over}
 use Rattle.flume_model.specs.Line.{is_live, how_many}
 use Rattle.flume_model.specs.Channel.{channel, has_ticket}
 use Rattle.flume_model.specs.Replies.{IsReply, IsRun}
-use Rattle.flume_model.specs.Entries.{entry_of, without, again, after_leave, leave_fills, passes_on, round_for, round_for_fills}
+use Rattle.flume_model.specs.Entries.{entry_of, without_ticket, again, after_leave, leave_fills, passes_on, round_for, round_for_fills}
 use Rattle.flume_model.specs.Entries.{waiting_count}
 use Rattle.flume_model.specs.Parked.{LogEntry, entries}
 use Rattle.flume_state.specs.Notices.{due_now}
@@ -43,7 +43,7 @@ module _ {T N : Type 0} where
   leave_within t queue es = by_case (passes_on (entry_of t es)) refl
     where
       by_case : (b : Bool) → passes_on (entry_of t es) ≡ b → how_many (leave_fills t queue es) ≤ length queue
-      by_case true passes = rw passes (fills_within queue (without t es))
+      by_case true passes = rw passes (fills_within queue (without_ticket t es))
       by_case false stays = rw stays (omega arith)
 
 module _ {T S : Type 0} where
@@ -68,8 +68,8 @@ module _ {T S : Type 0} where
       by_case : (b : Bool) → passes_on (entry_of t s.entries) ≡ b → after_withdrawal t s ≡ without_receiver t s
       by_case true passes =
           rw passes (ap (λ q. record (without_receiver t s) {
-            queue = after_fill (round_for_fills q (without t s.entries)) q;
-            entries = round_for due_now q (without t s.entries);
+            queue = after_fill (round_for_fills q (without_ticket t s.entries)) q;
+            entries = round_for due_now q (without_ticket t s.entries);
           }) none
           ∙ sym (ap (λ q. record (without_receiver t s) { queue = q }) none))
       by_case false stays = rw stays refl
@@ -117,7 +117,7 @@ module _ {T A S : Type 0} where
       → IsReply (channel o past) p.0 p.1 → change past p.0 p.1 ≡ Collects t → new ≡ without_receiver t old → Represents o (p ∷ past) new
   collects o past p old new t h reply e is =
       let fit = fits_as o past p (Collects t) h.run reply e in
-      let es = without t old.entries in
+      let es = without_ticket t old.entries in
       keeps_standing o past p (Collects t) old new old.sends es old.peak old.next h reply e refl
       (over_same past p (Collects t) e refl ∙ entry_not_over o past t fit.0 h.run fit.2) is (λ q. refl) (bare_without t old.entries)
       (peak_kept h es (fewer_without t old.entries)) (omega arith)

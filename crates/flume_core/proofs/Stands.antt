@@ -9,7 +9,7 @@ use Rattle.flume_model.specs.declared.step.Step.{Step}
 use Rattle.flume_model.specs.declared.step.Reply.{Reply}
 use Rattle.flume_model.specs.Log.{Log, Opening, Offer, Change, change}
 use Rattle.flume_model.specs.Counts.{senders, receivers, senders_after, receivers_after, is_over}
-use Rattle.flume_model.specs.Line.{line, boundary, queue, boundary_after, capacity, capacity_after, greater, blocked, messages, issued, next_ticket, issues, spends, is_live}
+use Rattle.flume_model.specs.Line.{line, boundary, queue, boundary_after, capacity, capacity_after, greater, blocked, messages, tickets_issued, next_ticket, issues, spends, is_live}
 use Rattle.flume_model.specs.Channel.{channel, has_ticket}
 use Rattle.flume_model.specs.Replies.{IsReply, IsRun}
 use Rattle.flume_model.specs.Entries.{waiting_count}
@@ -91,7 +91,7 @@ pub record LeftBy {T A S : Type 0} (o : Opening) (past : Log T A) (p : Step T ×
   pub entries_are : map bare new.entries
       ≡ entries_after old.queue (not (is_closed_after past) && is_closed_after (p ∷ past)) (map bare old.entries) done
   pub peak_is : new.peak ≡ max old.peak (waiting_count new.entries)
-  pub next_is : new.next ≡ old.next + issued done
+  pub next_is : new.next ≡ old.next + tickets_issued done
   pub senders_are : new.senders ≡ senders_after old.senders done
   pub receivers_are : new.receivers ≡ receivers_after old.receivers done
 
@@ -133,7 +133,7 @@ module _ {T A S : Type 0} where
             ∙ ap (λ l. status (issues done t || (is_live past t && not (spends done t))) (has_ticket t l)) waiting);
         entries_are = entered;
         peak_is = by.peak_is ∙ ap₂ max h.peak_is (sym (bare_waiting new.entries) ∙ ap waiting_count entered);
-        next_is = by.next_is ∙ ap (λ n. n + issued done) h.next_is ∙ sym (ap (λ d. next_ticket o past + issued d) e);
+        next_is = by.next_is ∙ ap (λ n. n + tickets_issued done) h.next_is ∙ sym (ap (λ d. next_ticket o past + tickets_issued d) e);
         senders_are = by.senders_are ∙ ap (λ n. senders_after n done) h.senders_are ∙ sym (ap (senders_after (senders past)) e);
         receivers_are = by.receivers_are ∙ ap (λ n. receivers_after n done) h.receivers_are
             ∙ sym (ap (receivers_after (receivers past)) e);
@@ -145,7 +145,7 @@ module _ {T A S : Type 0} where
       → ((c : Option ℕ) → capacity_after c done ≡ c)
       → new.capacity ≡ old.capacity → new.greatest ≡ old.greatest → new.queue ≡ [] → new.blocked ≡ []
       → ((t : ℕ) → mark new.sends t ≡ None) → new.entries ≡ [] → new.peak ≡ old.peak
-      → new.next ≡ old.next + issued done → new.senders ≡ senders_after old.senders done
+      → new.next ≡ old.next + tickets_issued done → new.senders ≡ senders_after old.senders done
       → new.receivers ≡ receivers_after old.receivers done
       → Represents o (p ∷ past) new
   stands_over o past p done old new h reply e over keeps same_capacity same_greatest no_queue no_blocked no_sends no_entries same_peak next senders_
@@ -165,7 +165,7 @@ module _ {T A S : Type 0} where
         peak_is =
             let none : waiting_count (entries o (p ∷ past)) ≡ 0 = ap waiting_count (cond-true (is_over (p ∷ past)) [] _ over) in
             same_peak ∙ h.peak_is ∙ omega arith;
-        next_is = next ∙ ap (λ n. n + issued done) h.next_is ∙ sym (ap (λ d. next_ticket o past + issued d) e);
+        next_is = next ∙ ap (λ n. n + tickets_issued done) h.next_is ∙ sym (ap (λ d. next_ticket o past + tickets_issued d) e);
         senders_are = senders_ ∙ ap (λ n. senders_after n done) h.senders_are ∙ sym (ap (senders_after (senders past)) e);
         receivers_are = receivers_ ∙ ap (λ n. receivers_after n done) h.receivers_are
             ∙ sym (ap (receivers_after (receivers past)) e);

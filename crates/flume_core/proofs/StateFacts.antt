@@ -153,9 +153,9 @@ module _ {T A S : Type 0} where
   -- a live send that was accepted has a ticket below those of blocked ones
   pub accepted_before : (o : Opening) (log : Log T A) (s : State T S) → Represents o log s → AcceptedBeforeBlocked s
   accepted_before o log s h t e =
-      let stands = stands_live o log s h t true e in
+      let represents = stands_live o log s h t true e in
       all_tickets (λ u. t < u) s.blocked
-      (λ u of. accepted_below_blocked o log h.run t u stands.0 stands.1 (ap (has_ticket u) (blocked_is h) ∙ of))
+      (λ u of. accepted_below_blocked o log h.run t u represents.0 represents.1 (ap (has_ticket u) (blocked_is h) ∙ of))
 
   -- one that blocks is woken only in a closed channel
   pub blocking_woken : (o : Opening) (log : Log T A) (s : State T S) → Represents o log s → BlockingWokenByClosing s

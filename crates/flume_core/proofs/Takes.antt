@@ -19,7 +19,7 @@ use Rattle.flume_state.specs.State.{State, offers_of, bare}
 use Rattle.flume_core.specs.Represents.{Represents}
 use Rattle.flume_state.specs.Effects.{after_admission, after_admission_of, after_refill, with_front, with_front_of, after_take as taken_state}
 use Rattle.flume_model.specs.declared.entry.Entry.{Entry}
-use Rattle.flume_model.specs.Entries.{waiting_count, without}
+use Rattle.flume_model.specs.Entries.{waiting_count, without_ticket}
 use Rattle.flume_model.specs.Parked.{entries_after, is_closed_after}
 use Rattle.flume_core.proofs.Bare.{bare_without}
 use Rattle.flume_model.proofs.WaitingCounts.{fewer_without}
@@ -60,7 +60,7 @@ module _ {T N : Type 0} where
   -- the entries without that of the receiver that took a message, if it was parked
   abbrev pub released : Option ℕ → List (Entry T N) → List (Entry T N)
   released None es = es
-  released (Some t) es = without t es
+  released (Some t) es = without_ticket t es
 
   -- no more wait
   released_fewer : (receiver : Option ℕ) (es : List (Entry T N)) → waiting_count (released receiver es) ≤ waiting_count es

@@ -62,7 +62,7 @@ module _ {T S : Type 0} where
       → map bare new ≡ map bare old
   told_bare old new None some none = ap (map bare) none
   told_bare old new (Some t) some none =
-      ap (map bare) some.told ∙ map-append bare some.before _ ∙ sym (ap (map bare) some.found ∙ map-append bare some.before _)
+      ap (map bare) some.named ∙ map-append bare some.before _ ∙ sym (ap (map bare) some.found ∙ map-append bare some.before _)
 
 module _ {T A S : Type 0} where
   -- what a log knows of a state doesn't change if no mark does

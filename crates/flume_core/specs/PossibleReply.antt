@@ -17,8 +17,7 @@ use Rattle.flume_model.specs.declared.step.Reply.TheVariants.{Gone, Drained, Don
 use Rattle.flume_model.specs.declared.step.Reply.TheVariants.{Number, Truth, Capacity, Unbounded}
 
 module _ {T A : Type 0} where
-  -- The replies that a step may have: a refused offer hands its own message back, and other
-  -- refusals hand none back.
+  -- the replies that a step may have: a refusal hands back the offer's own message, or none
   abbrev pub PossibleReply : Step T → Reply T A → Type 0
   PossibleReply (TrySend message) (Sent filled) = Unit {0}
   PossibleReply (TrySend message) (Full back) = back ≡ message

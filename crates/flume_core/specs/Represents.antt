@@ -52,8 +52,7 @@ module _ {T A : Type 0} where
   IsRefusal Unbounded = Unit {0}
   IsRefusal _ = ⊥
 
-  -- the step with this reply changes nothing: it is a query, or it was refused, or it is the last
-  -- poll of a parked receiver, which leaves
+  -- the step with this reply changes nothing: a query, or any refusal but a poll's `Ended`
   abbrev pub ChangesNothing : Step T → Reply T A → Type 0
   ChangesNothing (Poll ticket) Ended = ⊥
   ChangesNothing Len reply = Unit {0}
@@ -66,8 +65,7 @@ module _ {T A : Type 0} where
   ChangesNothing _ reply = IsRefusal reply
 
 module _ {T A S : Type 0} where
-  -- each log that represents the state before, with this step and this reply, represents the state
-  -- after
+  -- each log of the state before, with this step and this reply, represents the state after
   abbrev pub Extends : State T S → Step T → Reply T A → State T S → Type 0
   Extends old step reply new =
       (opening : Opening) (log : Log T A) → Represents opening log old

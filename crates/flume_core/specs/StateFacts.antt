@@ -6,12 +6,11 @@ use Rattle.std.specs.FinMap.{get}
 use Rattle.flume_model.specs.Limits.{IsAtCapacity, IsOpen, IsClosed}
 use Rattle.flume_model.specs.Entries.{some_wait, waiting_count, woken_count, entry_of}
 use Rattle.flume_model.specs.Laws.{Rising}
-use Rattle.flume_model.specs.WaitLaws.{IsWithin, Apart, block_woken}
+use Rattle.flume_model.specs.WaitLaws.{IsWithinCapacity, Apart, block_woken}
 use Rattle.flume_state.specs.State.{State, accepted_at, offers_of}
 
 module _ {T S : Type 0} where
-  -- a sender is blocked only if the channel has a capacity and the queue is at or past it, and only
-  -- while no receiver waits
+  -- a sender is blocked only while the queue is at capacity and no receiver waits
   abbrev pub SendersBlockAtCapacity : State T S → Type 0
   SendersBlockAtCapacity s =
       0 < length s.blocked
@@ -26,11 +25,10 @@ module _ {T S : Type 0} where
   abbrev pub WokenCoverQueued : State T S → Type 0
   WokenCoverQueued s = some_wait s.entries ≡ true → length s.queue ≤ woken_count s.entries
 
-  -- the queued messages and the waiting receivers are together at most the greater of the greatest
-  -- capacity so far and the peak
+  -- queued messages and waiting receivers are together within the greatest capacity or the peak
   abbrev pub QueuedAndWaitingAreBounded : State T S → Type 0
   QueuedAndWaitingAreBounded s =
-      IsWithin s.greatest s.peak (length s.queue + waiting_count s.entries)
+      IsWithinCapacity s.greatest s.peak (length s.queue + waiting_count s.entries)
 
   -- the tickets of parked receivers are below the next one, and each is another
   abbrev pub ReceiverTicketsApart : State T S → Type 0
@@ -66,9 +64,7 @@ module _ {T S : Type 0} where
   BlockingWokenByClosing s =
       block_woken s.entries ≡ true → IsClosed s.senders s.receivers × (s.blocked ≡ [])
 
-  -- Nobody waits for a message or for room that is there: a receiver waits only in an open channel
-  -- that has no message, and a sender is blocked only while the queue is at capacity and no receiver
-  -- waits.
+  -- nobody waits for a message or for room that is there
   pub record NobodyIsStuck (s : State T S) : Type 0 where
     pub waiting_receivers :
         some_wait s.entries ≡ true

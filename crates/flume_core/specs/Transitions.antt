@@ -7,21 +7,20 @@ use Rattle.flume_state.specs.Due.{BecomesDue}
 use Rattle.flume_state.specs.State.{State}
 use Rattle.flume_core.specs.Represents.{Extends, IsReachable, ChangesNothing}
 use Rattle.flume_core.specs.PossibleReply.{PossibleReply}
-use Rattle.flume_core.specs.Wanting.{MayNeedMemory}
+use Rattle.flume_core.specs.Wanting.{ChanMayAllocate}
 
 module _ {T A S : Type 0} where
   -- a step, answered so, leads from the old state to the new one: all that `Chan::step` says of it
   pub record IsTransition (old : State T S) (step : Step T) (reply : Reply T A) (new : State T S)
       : Type 0 where
     pub extends : Extends old step reply new
-    pub dues : IsReachable A old → BecomesDue old step reply new
-    pub comes : PossibleReply step reply
+    pub becomes_due : IsReachable A old → BecomesDue old step reply new
+    pub possible_reply : PossibleReply step reply
     pub space : old.space ≤ new.space
-    pub refused : (back : Option T) → reply ≡ NoMemory back → MayNeedMemory old step
+    pub refused : (back : Option T) → reply ≡ NoMemory back → ChanMayAllocate old step
     pub unchanged : ChangesNothing step reply → new ≡ old
 
-  -- the steps, one after the other and each with the reply at its place, lead from the old state to
-  -- the new one
+  -- the steps, each with the reply at its place, lead from the old state to the new one
   abbrev pub AreTransitions : State T S → List (Step T) → List (Reply T A) → State T S → Type 0
   AreTransitions old [] [] new = new ≡ old
   AreTransitions old (step ∷ steps) (reply ∷ replies) new =

@@ -10,8 +10,7 @@ module _ {T S : Type 0} where
   abbrev pub FindsNothing : State T S → Type 0
   FindsNothing s = ((with_front s).queue ≡ []) × IsOpen s.senders s.receivers
 
-  -- an offer finds no room: the channel is open, no receiver waits, and the queue has reached its
-  -- capacity
+  -- an offer finds no room: the channel is open and at its capacity, and no receiver waits
   abbrev pub FindsNoRoom : State T S → Type 0
   FindsNoRoom s = IsOpen s.senders s.receivers × (some_wait s.entries ≡ false)
       × IsAtCapacity s.capacity (length s.queue)

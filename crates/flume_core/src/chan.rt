@@ -6,7 +6,7 @@ ghost use Rattle.flume_state.specs.State.{State, new_state};
 ghost use Rattle.flume_core.specs.Represents.{Represents, Extends, ChangesNothing, IsReachable};
 ghost use Rattle.flume_state.specs.Due.{BecomesDue};
 ghost use Rattle.flume_core.specs.PossibleReply.{PossibleReply};
-ghost use Rattle.flume_core.specs.Wanting.{MayNeedMemory};
+ghost use Rattle.flume_core.specs.Wanting.{ChanMayAllocate};
 
 mod capacity;
 mod ends;
@@ -23,17 +23,13 @@ use flume_state::line::Line;
 use std::alloc::{Allocator, Global};
 use std::marker::Model;
 
-/// A channel without its lock: many senders and many receivers of messages of type `T`, as one
-/// value whose owner makes each step. `S` is the signal that a blocked send or a parked receiver
-/// leaves.
-///
-/// A channel has at most 4,294,967,295 messages, as many live tickets of sends, and as many parked
-/// receivers. Past that a step answers `NoMemory`, though no allocation failed.
+/// A channel without its lock, as one value whose owner makes each step. `S` is the signal that a
+/// blocked send or a parked receiver leaves. Its messages, live sends and parked receivers are each
+/// in a `flume_chain::chain::Chain`: if that is full, a step answers `NoMemory`.
 #[derive(Drop)]
 pub struct Chan<T, S, A: Allocator = Global> {
     capacity: Option<usize>,
-    // The queue is bounded by these two, since the capacity in force may have been lowered under
-    // it: the greatest capacity so far, and the most receivers that waited at once.
+    // These two bound the queue, since the capacity in force may have been lowered under it.
     greatest: Option<usize>,
     line: Line<T, S, A>,
     entries: Entries<T, S, A>,
@@ -79,7 +75,7 @@ impl<T: Drop, S: Drop, A: Allocator + Copy> Chan<T, S, A> {
     #[inline(always)]
     pub fn new(alloc: A, capacity: Option<usize>) -> Self
         ensures state { result ≡ new_state (opens capacity 1) }
-        ensures stands { Represents {A = A} (opens capacity 1) [] result }
+        ensures represents { Represents {A = A} (opens capacity 1) [] result }
     {
         Chan::starting_at(alloc, capacity, 1)
     }
@@ -93,7 +89,7 @@ impl<T: Drop, S: Drop, A: Allocator + Copy> Chan<T, S, A> {
     #[inline(always)]
     pub fn starting_at(alloc: A, capacity: Option<usize>, ticket: u64) -> Self
         ensures state { result ≡ new_state (opens capacity ticket) }
-        ensures stands { Represents {A = A} (opens capacity ticket) [] result }
+        ensures represents { Represents {A = A} (opens capacity ticket) [] result }
     {
         Chan {
             capacity,
@@ -134,11 +130,11 @@ impl<T: Drop, A: Allocator + Copy> Chan<T, (), A> {
     /// ```
     pub fn step(&mut self, step: Step<T>) -> Reply<T, A>
         ensures step { Extends self.old step result self.new }
-        ensures dues { IsReachable A self.old → BecomesDue self.old step result self.new }
-        ensures comes { PossibleReply step result }
+        ensures becomes_due { IsReachable A self.old → BecomesDue self.old step result self.new }
+        ensures possible_reply { PossibleReply step result }
         ensures space { self.old.space ≤ self.new.space }
         ensures refused { (back : Option T) → result ≡ Reply.NoMemory back
-            → MayNeedMemory self.old step }
+            → ChanMayAllocate self.old step }
         ensures unchanged { ChangesNothing step result → self.new ≡ self.old }
     {
         match step {

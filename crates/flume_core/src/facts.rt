@@ -8,11 +8,9 @@ ghost use Rattle.flume_core.specs.StateFacts.{ChannelFacts, NobodyIsStuck};
 use crate::chan::Chan;
 use std::alloc::Allocator;
 
-/// What holds of every state that a run leads to, from `Chan::new` or `Chan::starting_at` on: once
-/// every woken receiver has looked, nobody waits for a message or for room that is there. A
-/// receiver waits only in an open channel that has no message; a sender is blocked only while the
-/// queue is at capacity and no receiver waits. In any state, the messages in the channel fit into
-/// the room that was allocated for them. Does nothing.
+/// What holds of every state that a run leads to. `rest`: once every woken receiver has looked,
+/// nobody waits for a message or for room that is there. `fits` holds in any state: the messages
+/// fit into the room that was allocated for them. Does nothing.
 ///
 /// ```
 /// let mut chan: Chan<u64, u32> = Chan::new(alloc, Some(0));

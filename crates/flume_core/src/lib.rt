@@ -1,10 +1,9 @@
 //! The channel as a value, without a lock: for one owner who makes all steps, and as the core on
 //! which the ends of `flume` are built.
 //!
-//! A `chan::Chan` is a channel with its messages, its parked receivers and its blocked sends. Each
-//! method is one *step* and answers a `step::Reply`. No step waits: a send that finds the channel
-//! full is blocked under a *ticket*, a receive that finds it empty is parked under one, and the
-//! owner of the ticket asks later.
+//! Each method of a `chan::Chan` is one *step* and answers a `step::Reply`. No step waits: a send
+//! that finds the channel full is blocked under a *ticket*, a receive that finds it empty is parked
+//! under one, and the owner of the ticket asks later.
 //!
 //! ```
 //! let mut chan: Chan<u64, u32> = Chan::new(alloc, Some(1));
@@ -16,9 +15,8 @@
 //! ```
 //!
 //! The contract of each step says which reply comes when, what the state is then, and whose ticket
-//! becomes due. `run::run` makes a list of steps, and its clause `headline` is the theorem of the
-//! repository. `facts::facts` gives the invariants of the state. The definitions are in
-//! `flume_model` and `flume_state`.
+//! becomes due. The clause `headline` of `run::run` is the theorem of the repository.
+//! `facts::facts` gives the invariants of the state.
 #![tactic(auto)]
 
 pub mod chan;

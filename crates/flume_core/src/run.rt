@@ -15,10 +15,8 @@ use flume_model::step::{Reply, Step};
 use std::alloc::Allocator;
 use std::collections::VecDeque;
 
-/// Does the steps in order, and answers one reply for each. Room for the replies is made first: if
-/// that fails, all steps come back and nothing was done. The clause `transitions` says of each step
-/// what `Chan::step` says, and which tickets are due after it. Two calls in a row are one call of
-/// all the steps (`two_runs_are_one`).
+/// Does the steps in order, and answers one reply for each. If there is no memory for the replies,
+/// all steps come back and nothing was done.
 ///
 /// ```
 /// let mut chan: Chan<u64, ()> = Chan::new(alloc, None);
@@ -59,9 +57,8 @@ pub fn run<T: Drop, A: Allocator + Copy>(
     Ok(replies)
 }
 
-/// The headline, for a caller who does the steps of a channel one by one: by its clause `step` each
-/// method of `Chan` says which log represents the state, and this says what holds of that log and
-/// that state. Does nothing.
+/// The headline, for a caller who does the steps one by one: what holds of each log that represents
+/// the state. Does nothing.
 ///
 /// ```
 /// let mut chan: Chan<u64, ()> = Chan::new(alloc, None);
@@ -77,7 +74,7 @@ pub fn headline_of_steps<T, S, A: Allocator>(chan: &Chan<T, S, A>)
         → Represents opening log chan.now → HeadlineThroughout S opening log }
 {}
 
-/// Two runs in a row are one run of the steps of both, with the replies of both. Does nothing.
+/// Two runs in a row are one run of the steps of both. Does nothing.
 pub fn two_runs_are_one<T, S, A: Allocator>()
     ensures joined { (old mid new : State T S) (steps later : List (Step T))
         (replies answers : List (Reply T A))

@@ -11,8 +11,7 @@ abbrev pub IsAt : Deadline → ℕ → Type 0
 IsAt (At time) nanos = instant_nanos time ≡ nanos
 IsAt _ nanos = ⊥
 
--- The deadline is this long after a time that the clock can show; never if it overflows, and
--- already reached if the clock couldn't be read.
+-- the deadline is this long after a time of the clock, never if it overflows, or already reached
 abbrev pub IsAfter : Duration → Deadline → Type 0
 IsAfter timeout (At time) =
     (now : ℕ) × FitsClock now × (instant_nanos time ≡ now + as_nanos timeout)

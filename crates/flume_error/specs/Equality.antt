@@ -8,7 +8,7 @@ use Rattle.flume_error.specs.declared.error.send.SendTimeoutError.{SendTimeoutEr
 use Rattle.flume_error.specs.declared.error.send.SendTimeoutError.TheVariants as send_timeout
 
 module _ {T : Type 0} where
-  -- of two `SendError`s, where `equal` compares messages
+  -- of two `SendError`s, if `equal` compares messages
   abbrev pub equal_sends : (T → T → Bool) → SendError T → SendError T → Bool
   equal_sends equal (send.Disconnected x) (send.Disconnected y) = equal x y
   equal_sends equal (send.NoMemory x) (send.NoMemory y) = equal x y

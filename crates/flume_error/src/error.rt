@@ -1,7 +1,4 @@
-//! The errors of the channel.
-//!
-//! A failed send gives its message back in the error. `NoMemory`, a type and a case of each error
-//! but `CapacityError`, says that memory ran out.
+//! The errors of the channel. A failed send gives its message back in the error.
 ghost use Rattle.std.specs.Prelude.{◌≡◌, Some};
 ghost use Rattle.std.specs.Fmt.{styled_text};
 ghost use Rattle.flume_error.specs.Texts.{no_memory_text, select_text};
@@ -18,9 +15,7 @@ use std::alloc::AllocError;
 use std::error::Error;
 use std::fmt;
 
-/// Out of memory.
-///
-/// The error of a call that can fail in no other way and has no message to give back.
+/// Out of memory: the error of a call that fails in no other way and has no message to give back.
 #[derive(Clone, Copy, Debug, PartialEq, Eq)]
 pub struct NoMemory;
 
@@ -71,7 +66,6 @@ impl SelectError {
     }
 }
 
-/// One text for each case, padded and cut as text is.
 impl fmt::Display for SelectError {
     ghost output = { λ e. Some (select_text e) };
 

@@ -20,7 +20,7 @@ use Rattle.flume_explain.specs.declared.place_reply.PlaceReply.{PlaceReply}
 use Rattle.flume_explain.specs.declared.place_reply.PlaceReply.TheVariants as reply
 use Rattle.flume_explain.specs.Configurations.{State}
 use Rattle.flume_explain.specs.ByPlaces.{admit_all, closed_now, resize}
-use Rattle.flume_explain.specs.Made.{resized}
+use Rattle.flume_explain.specs.Outcomes.{resize_outcome}
 use Rattle.flume_explain.specs.Mirrors.{Mirrors, Answers, IsLeft}
 use Rattle.flume_explain.specs.Moves.{is_refusal}
 use Rattle.flume_explain.proofs.MoveAnswers.{MoveAnswers, IsNew}
@@ -28,17 +28,17 @@ use Rattle.flume_explain.proofs.MoveCases.{AnswersAs, changes_nothing, places_le
 use Rattle.flume_explain.proofs.MirrorAdmits.{admits_all, blocked_kept, receives_kept}
 
 -- the parked receives that are left once blocked sends have joined the queue
-receives_admitted : (told : PlaceReply) (place : ℕ) (c : State) → IsNew place c
-    → All (IsLeft reply.Parked told place (map (λ r. r.place) c.receives)) (map (λ r. r.place) (admit_all c).receives)
-receives_admitted told place c new =
-    subst (λ rs. All (IsLeft reply.Parked told place (map (λ r. r.place) c.receives)) (map (λ r. r.place) rs)) (sym (receives_kept c.blocked c))
-    (receives_stay told place c.receives new.not_parked)
+receives_admitted : (reply_by_place : PlaceReply) (place : ℕ) (c : State) → IsNew place c
+    → All (IsLeft reply.Parked reply_by_place place (map (λ r. r.place) c.receives)) (map (λ r. r.place) (admit_all c).receives)
+receives_admitted reply_by_place place c new =
+    subst (λ rs. All (IsLeft reply.Parked reply_by_place place (map (λ r. r.place) c.receives)) (map (λ r. r.place) rs)) (sym (receives_kept c.blocked c))
+    (receives_stay reply_by_place place c.receives new.not_parked)
 
 -- the blocked sends that are left then
-blocked_admitted : (told : PlaceReply) (place : ℕ) (c : State) → IsNew place c
-    → All (IsLeft reply.Pending told place c.blocked) (admit_all c).blocked
-blocked_admitted told place c new =
-    blocked_kept (IsLeft reply.Pending told place c.blocked) c.blocked c refl (places_left told place c.blocked new.not_blocked)
+blocked_admitted : (reply_by_place : PlaceReply) (place : ℕ) (c : State) → IsNew place c
+    → All (IsLeft reply.Pending reply_by_place place c.blocked) (admit_all c).blocked
+blocked_admitted reply_by_place place c new =
+    blocked_kept (IsLeft reply.Pending reply_by_place place c.blocked) c.blocked c refl (places_left reply_by_place place c.blocked new.not_blocked)
 
 module _ {T A : Type 0} (events : List (Event T A)) where
   -- all that is queued is handed out
@@ -70,9 +70,9 @@ module _ {T A : Type 0} (events : List (Event T A)) where
           let items : list.items ≡ s.queue = lawful ∙ queue_at_log h in
           record {
             reply = own.Drained list;
-            alike = m.queue_is ∙ ap (map Some) (sym items);
+            corresponds = m.queue_is ∙ ap (map Some) (sym items);
             state = after_admissions (record s { queue = [] });
-            stands = drains o log (step.Drain, own.Drained list) s (after_admissions (record s { queue = [] })) list.items h lawful
+            represents = drains o log (step.Drain, own.Drained list) s (after_admissions (record s { queue = [] })) list.items h lawful
                 refl refl;
             mirrors = admits_all events tickets (record s { queue = [] }) (record c { queue = [] }) empty;
             blocked_left = blocked_admitted reply.Drained place (record c { queue = [] }) still_new;
@@ -85,7 +85,7 @@ module _ {T A : Type 0} (events : List (Event T A)) where
   pub set_capacity_answers : (n : ℕ) → MoveAnswers events (move.SetCapacity n)
   set_capacity_answers n o log s c tickets place call made_step given h m at is new lawful unrefused =
       let same : step.SetCapacity n ≡ made_step = cc in
-      subst (λ done. AnswersAs events o log tickets s c place done (resized c.capacity n c)) same
+      subst (λ done. AnswersAs events o log tickets s c place done (resize_outcome c.capacity n c)) same
       (by_given given (subst (λ done. IsReply (channel o log) done given) (sym same) lawful))
     where
       set_state : Channel T (Unit {0})
@@ -111,18 +111,18 @@ module _ {T A : Type 0} (events : List (Event T A)) where
       bounded : IsBounded (capacity o log) → (bound : Option ℕ) → bound ≡ capacity o log → IsBounded bound
       bounded some bound is = subst IsBounded (sym is) some
 
-      closed_answer : (bound : Option ℕ) → IsBounded bound → closed_now c ≡ true → resized bound n c ≡ (reply.Ended, c)
+      closed_answer : (bound : Option ℕ) → IsBounded bound → closed_now c ≡ true → resize_outcome bound n c ≡ (reply.Ended, c)
       closed_answer None some closed = absurd some
       closed_answer (Some old) some closed = rw closed refl
 
-      open_answer : (bound : Option ℕ) → IsBounded bound → closed_now c ≡ false → resized bound n c ≡ (reply.Done, resize n c)
+      open_answer : (bound : Option ℕ) → IsBounded bound → closed_now c ≡ false → resize_outcome bound n c ≡ (reply.Done, resize n c)
       open_answer None some open_ = absurd some
       open_answer (Some old) some open_ = rw open_ refl
 
       by_given : (given : Reply T A) → IsReply (channel o log) (step.SetCapacity n) given
-          → AnswersAs events o log tickets s c place (step.SetCapacity n) (resized c.capacity n c)
+          → AnswersAs events o log tickets s c place (step.SetCapacity n) (resize_outcome c.capacity n c)
       by_given own.Unbounded lawful =
-          subst (λ bound. AnswersAs events o log tickets s c place (step.SetCapacity n) (resized bound n c))
+          subst (λ bound. AnswersAs events o log tickets s c place (step.SetCapacity n) (resize_outcome bound n c))
           (sym (m.capacity_is ∙ h.capacity_is ∙ lawful))
           (changes_nothing events o log s c tickets place (step.SetCapacity n) reply.Unbounded own.Unbounded h m new lawful refl refl tt)
       by_given own.Ended lawful =
@@ -137,9 +137,9 @@ module _ {T A : Type 0} (events : List (Event T A)) where
           (sym (open_answer c.capacity (bounded lawful.0 c.capacity (m.capacity_is ∙ h.capacity_is)) (closed_logged ∙ open_)))
           record {
             reply = own.Done;
-            alike = tt;
+            corresponds = tt;
             state = with_capacity n s;
-            stands = resizes o log (step.SetCapacity n, own.Done) s (with_capacity n s) n h lawful refl refl;
+            represents = resizes o log (step.SetCapacity n, own.Done) s (with_capacity n s) n h lawful refl refl;
             mirrors = admits_all events tickets set_state (record c { capacity = Some n }) set_mirrors;
             blocked_left = blocked_admitted reply.Done place (record c { capacity = Some n }) still_new;
             receives_left = receives_admitted reply.Done place (record c { capacity = Some n }) still_new;

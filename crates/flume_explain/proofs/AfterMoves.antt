@@ -49,7 +49,7 @@ module _ {T A : Type 0} (equal : T → T → Bool) (events : List (Event T A)) (
           let both : Some own ≡ Some h.own = sym call_is ∙ h.call_is in
           let same : own ≡ h.own = cc in
           subst (λ (x : Call T). IsMade equal events c rest t one x mv refused o past step reply) (sym same)
-          (h.made mv (subst (λ (x : Call T). move_of x one.progress other ≡ Some mv) same chosen))
+          (h.outcome mv (subst (λ (x : Call T). move_of x one.progress other ≡ Some mv) same chosen))
 
       pub step_leads : (recorded : Option (Answer T A)) → first_answer t rest ≡ recorded → (want : Bool) → refused ≡ want → (new : State)
           → CallLeadsTo equal events c recorded one own mv want new → LeadsTo equal events c rest t other refused new

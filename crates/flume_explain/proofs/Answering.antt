@@ -6,12 +6,12 @@ use Rattle.flume_model.specs.declared.step.Step.{Step}
 use Rattle.flume_model.specs.declared.step.Reply.{Reply}
 use Rattle.flume_model.specs.declared.step.Reply.TheVariants.{NoMemory, Drained}
 use Rattle.flume_model.specs.Log.{Log, Opening, change}
-use Rattle.flume_model.specs.Line.{issued}
+use Rattle.flume_model.specs.Line.{tickets_issued}
 use Rattle.flume_model.specs.Channel.{channel}
 use Rattle.flume_model.specs.Replies.{IsReply, SameReply}
 use Rattle.flume_state.specs.State.{State as Channel}
 use Rattle.flume_core.specs.Represents.{Represents}
-use Rattle.flume_history.specs.SameRuns.{IsWant}
+use Rattle.flume_history.specs.SameRuns.{IsNoMemory}
 use Rattle.flume_history.proofs.OneBlocked.{one_blocked}
 use Rattle.flume_history.proofs.OneReply.{one_reply}
 use Rattle.flume_concurrent.specs.declared.call.Call.{Call}
@@ -24,7 +24,7 @@ use Rattle.flume_concurrent.specs.declared.stage.Stage.TheVariants as stage
 use Rattle.flume_concurrent.specs.Answers.{may_return}
 use Rattle.flume_concurrent.specs.Calls.{is_send, stage_after}
 use Rattle.std.specs.Option.{option_map_or}
-use Rattle.flume_concurrent.specs.Explanations.{open_call, steps_in, further}
+use Rattle.flume_concurrent.specs.Explanations.{open_call, steps_in, after_reply}
 use Rattle.flume_explain.specs.declared.configuration.OpenCall.{OpenCall}
 use Rattle.flume_explain.specs.declared.configuration.ParkedReceive.{ParkedReceive}
 use Rattle.flume_explain.specs.declared.configuration.Progress.{Progress}
@@ -33,13 +33,13 @@ use Rattle.flume_explain.specs.declared.place_reply.PlaceReply.{PlaceReply}
 use Rattle.flume_explain.specs.declared.place_reply.PlaceReply.TheVariants as reply
 use Rattle.flume_explain.specs.declared.step_of.Move.{Move}
 use Rattle.flume_explain.specs.declared.step_of.Move.TheVariants as move
-use Rattle.flume_explain.specs.Configurations.{State, progressed, is_parked, call_at, call_by, first_answer}
-use Rattle.flume_explain.specs.Made.{made}
-use Rattle.flume_explain.specs.Mirrors.{Mirrors, Answers, IsAlike, IsLeft, parks, stays_parked, tickets_after}
+use Rattle.flume_explain.specs.Configurations.{State, calls_with_progress, is_parked, call_at, call_by, first_answer}
+use Rattle.flume_explain.specs.Outcomes.{outcome}
+use Rattle.flume_explain.specs.Mirrors.{Mirrors, Answers, Corresponds, IsLeft, parks, stays_parked, tickets_after}
 use Rattle.flume_explain.specs.Agreement.{Agrees, AreParked, IsOwn, IsProgress, parked_at, is_send_at}
 use Rattle.flume_explain.specs.Moves.{move_of, is_refusal}
 use Rattle.flume_explain.specs.Leads.{IsMade, IsWrong}
-use Rattle.flume_explain.specs.Progresses.{progress_of, unticketed, is_wrong}
+use Rattle.flume_explain.specs.Progresses.{progress_of, clear_ticket, is_wrong}
 use Rattle.flume_explain.proofs.MoveAnswers.{MoveAnswers, IsReady, IsNew, IsApart}
 use Rattle.flume_explain.proofs.CallLists.{parked_self, parked_there}
 use Rattle.flume_explain.proofs.SameReplies.{stands_same}
@@ -51,45 +51,45 @@ use Rattle.flume_explain.proofs.Agreeing.{agrees_after}
 
 module _ {T A : Type 0} (events : List (Event T A)) where
   -- the same reply is alike
-  pub same_alike : (n : ℕ) (queue : List ℕ) (told : PlaceReply) (r other : Reply T A) → SameReply r other → IsAlike events n queue told r
-      → IsAlike events n queue told other
+  pub same_alike : (n : ℕ) (queue : List ℕ) (reply_by_place : PlaceReply) (r other : Reply T A) → SameReply r other → Corresponds events n queue reply_by_place r
+      → Corresponds events n queue reply_by_place other
   same_alike n queue reply.Drained (Drained list) (Drained other) same h = h ∙ ap (map Some) same
   same_alike n queue _ (Drained list) (Drained other) same h = absurd h
-  same_alike n queue told r other same h = subst (IsAlike events n queue told) same h
+  same_alike n queue reply_by_place r other same h = subst (Corresponds events n queue reply_by_place) same h
 
   -- no reply by places is want of memory
-  pub no_want : (n : ℕ) (queue : List ℕ) (told : PlaceReply) (r : Reply T A) → IsAlike events n queue told r → IsWant r → ⊥
-  no_want n queue reply.Sent (NoMemory back) h w = h
-  no_want n queue _ (NoMemory back) h w = h
-  no_want n queue told _ h w = w
+  pub had_memory : (n : ℕ) (queue : List ℕ) (reply_by_place : PlaceReply) (r : Reply T A) → Corresponds events n queue reply_by_place r → IsNoMemory r → ⊥
+  had_memory n queue reply.Sent (NoMemory back) h w = h
+  had_memory n queue _ (NoMemory back) h w = h
+  had_memory n queue reply_by_place _ h w = w
 
 module _ {T A : Type 0} where
-  pub not_refused : (r : Reply T A) → is_refusal r ≡ false → IsWant r → ⊥
+  pub not_refused : (r : Reply T A) → is_refusal r ≡ false → IsNoMemory r → ⊥
   not_refused (NoMemory back) e w = let none : ⊥ = cc in none
   not_refused _ e w = w
 
   -- a stage and the one without its ticket have the same progress
-  pub progress_same : (s : Stage T A) → progress_of (unticketed s) ≡ progress_of s
+  pub progress_same : (s : Stage T A) → progress_of (clear_ticket s) ≡ progress_of s
   progress_same stage.Begun = refl
   progress_same stage.Tried = refl
   progress_same (stage.Parked t) = refl
   progress_same (stage.Refused t) = refl
   progress_same (stage.Answered a) = refl
 
-  pub progress_by : (s r : Stage T A) → unticketed s ≡ unticketed r → progress_of s ≡ progress_of r
+  pub progress_by : (s r : Stage T A) → clear_ticket s ≡ clear_ticket r → progress_of s ≡ progress_of r
   progress_by s r e = sym (progress_same s) ∙ ap progress_of e ∙ progress_same r
 
 module _ {T A : Type 0} (equal : T → T → Bool) where
   wrong_same : (own : Call T) (recorded : Option (Answer T A)) (s : Stage T A)
-      → is_wrong equal own recorded (unticketed s) ≡ is_wrong equal own recorded s
+      → is_wrong equal own recorded (clear_ticket s) ≡ is_wrong equal own recorded s
   wrong_same own None s = refl
-  wrong_same own (Some told) stage.Begun = refl
-  wrong_same own (Some told) stage.Tried = refl
-  wrong_same own (Some told) (stage.Parked t) = refl
-  wrong_same own (Some told) (stage.Refused t) = refl
-  wrong_same own (Some told) (stage.Answered a) = refl
+  wrong_same own (Some recorded) stage.Begun = refl
+  wrong_same own (Some recorded) stage.Tried = refl
+  wrong_same own (Some recorded) (stage.Parked t) = refl
+  wrong_same own (Some recorded) (stage.Refused t) = refl
+  wrong_same own (Some recorded) (stage.Answered a) = refl
 
-  pub wrong_by : (own : Call T) (recorded : Option (Answer T A)) (s r : Stage T A) → unticketed s ≡ unticketed r
+  pub wrong_by : (own : Call T) (recorded : Option (Answer T A)) (s r : Stage T A) → clear_ticket s ≡ clear_ticket r
       → is_wrong equal own recorded s ≡ is_wrong equal own recorded r
   wrong_by own recorded s r e =
       sym (wrong_same own recorded s) ∙ ap (λ (x : Stage T A). is_wrong equal own recorded x) e ∙ wrong_same own recorded r
@@ -98,11 +98,11 @@ module _ {T A : Type 0} (equal : T → T → Bool) where
   pub wrong_answer : (events : List (Event T A)) (own : Call T) (recorded : Option (Answer T A)) (s : Stage T A)
       → is_wrong equal own recorded s ≡ true → IsWrong equal events (Some (own, s)) recorded
   wrong_answer events own None s e = absurd (let none : ⊥ = cc in none)
-  wrong_answer events own (Some told) stage.Begun e = absurd (let none : ⊥ = cc in none)
-  wrong_answer events own (Some told) stage.Tried e = absurd (let none : ⊥ = cc in none)
-  wrong_answer events own (Some told) (stage.Parked t) e = absurd (let none : ⊥ = cc in none)
-  wrong_answer events own (Some told) (stage.Refused t) e = absurd (let none : ⊥ = cc in none)
-  wrong_answer events own (Some told) (stage.Answered a) e = (by_case (may_return equal own (stage.Answered a) told) e, (a, refl))
+  wrong_answer events own (Some recorded) stage.Begun e = absurd (let none : ⊥ = cc in none)
+  wrong_answer events own (Some recorded) stage.Tried e = absurd (let none : ⊥ = cc in none)
+  wrong_answer events own (Some recorded) (stage.Parked t) e = absurd (let none : ⊥ = cc in none)
+  wrong_answer events own (Some recorded) (stage.Refused t) e = absurd (let none : ⊥ = cc in none)
+  wrong_answer events own (Some recorded) (stage.Answered a) e = (by_case (may_return equal own (stage.Answered a) recorded) e, (a, refl))
     where
       by_case : (b : Bool) → not b ≡ true → b ≡ false
       by_case true e = let none : ⊥ = cc in absurd none
@@ -116,7 +116,7 @@ placed_all P (r ∷ rs) h =
     (placed_all P rs (All-tail P r.place (map (λ r. r.place) rs) h))
 
 -- who isn't parked by a step is parked as before
-pub waits_on : {T : Type 0} (own : Call T) (p : Progress) (told : PlaceReply) → parks told ≡ false → stays_parked told ≡ true → IsMet own told p
+pub waits_on : {T : Type 0} (own : Call T) (p : Progress) (reply_by_place : PlaceReply) → parks reply_by_place ≡ false → stays_parked reply_by_place ≡ true → IsMet own reply_by_place p
     → is_parked p ≡ true
 waits_on own p reply.Waiting off on met = ap is_parked met
 waits_on own p reply.Pending off on met = absurd (let none : ⊥ = cc in none)

@@ -53,12 +53,12 @@ module _ {T A : Type 0} (equal : T → T → Bool) where
   -- so many of a beginning of the events are so many of the events
   pub explained_on : (o : Opening) (events : List (Event T A)) (n count : ℕ) → AreExplained equal (take n events) o count
       → AreExplained equal events o count
-  explained_on o events n count far =
+  explained_on o events n count current =
       let size = length-take n events in
-      let within = far.within in
+      let within = current.within in
       record {
         within = omega arith;
-        explained = subst (IsExplained equal o) (take-take count n events (omega arith)) far.explained;
+        explained = subst (IsExplained equal o) (take-take count n events (omega arith)) current.explained;
       }
 
   -- all events

@@ -80,7 +80,7 @@ module _ {T A : Type 0} (events : List (Event T A)) (tickets : ℕ → ℕ) (pla
       by : (map offer xs ≡ map some_offer (offers_of blocked) → list_any (λ p. p == place) xs ≡ true → IsFound xs blocked)
           → (is : Bool) → eqb q place ≡ is → map offer xs ≡ map some_offer (offers_of blocked)
           → offer q ≡ some_offer (record { message = b.message; ticket = Some b.ticket }) → IsFound (q ∷ xs) (b ∷ blocked)
-      by further true is rest first =
+      by after_reply true is rest first =
           let here = eqb-true q place is in
           let own_tickets : Some (tickets q) ≡ Some b.ticket = ap (λ x. x.ticket) first in
           let own_ticket : tickets q ≡ b.ticket = cc in
@@ -97,9 +97,9 @@ module _ {T A : Type 0} (events : List (Event T A)) (tickets : ℕ → ℕ) (pla
             after_are = rest;
             none_earlier = All-nil (λ p. p ≢ place);
           }
-      by further false is rest first =
+      by after_reply false is rest first =
           let more : list_any (λ p. p == place) xs ≡ true = cc in
-          let found = further rest more in
+          let found = after_reply rest more in
           record {
             earlier = q ∷ found.earlier;
             after = found.after;

@@ -6,7 +6,7 @@ use Rattle.std.proofs.lemmas.List.Elements.{All-map, All-weaker, All-head, All-t
 use Rattle.flume_concurrent.specs.declared.event.Event.{Event}
 use Rattle.flume_explain.specs.declared.configuration.OpenCall.{OpenCall}
 use Rattle.flume_explain.specs.declared.configuration.Progress.{Progress}
-use Rattle.flume_explain.specs.Configurations.{State, once, progressed, is_parked, is_thread, thread_at, call_by}
+use Rattle.flume_explain.specs.Configurations.{State, call_with_progress, calls_with_progress, is_parked, is_thread, thread_at, call_by}
 use Rattle.flume_explain.specs.Agreement.{IsOwn, parked_at}
 
 -- two equal numbers pass the test
@@ -18,19 +18,19 @@ pub differ : (t u : ℕ) → eqb t u ≡ false → t ≢ u
 differ t u differs e = not_equal t u e differs
 
 -- a call keeps its place
-pub place_once : (place : ℕ) (q : Progress) (call : OpenCall) → (once place q call).place ≡ call.place
+pub place_once : (place : ℕ) (q : Progress) (call : OpenCall) → (call_with_progress place q call).place ≡ call.place
 place_once place q call =
     elim (eqb call.place place) as (λ b. (if b then record { place = call.place; progress = q } else call).place ≡ call.place)
     [ true ↦ refl | false ↦ refl ]
 
 -- the call at another place stays as it is
-pub once_other : (place : ℕ) (q : Progress) (call : OpenCall) → call.place ≢ place → once place q call ≡ call
+pub once_other : (place : ℕ) (q : Progress) (call : OpenCall) → call.place ≢ place → call_with_progress place q call ≡ call
 once_other place q call other =
     let no : eqb call.place place ≡ false = ne_eqb call.place place other in
     ap (λ b. if b then record { place = call.place; progress = q } else call) no
 
 -- the call at its own place is so far now
-pub once_self : (q : Progress) (call : OpenCall) → once call.place q call ≡ record { place = call.place; progress = q }
+pub once_self : (q : Progress) (call : OpenCall) → call_with_progress call.place q call ≡ record { place = call.place; progress = q }
 once_self q call =
     let yes : eqb call.place call.place ≡ true = eq-eqb call.place call.place refl in
     ap (λ b. if b then record { place = call.place; progress = q } else call) yes
@@ -46,7 +46,7 @@ is_there p call = call.place == p && is_parked call.progress
 
 -- who is parked at another place stays so
 pub parked_other : (place : ℕ) (q : Progress) (p : ℕ) (calls : List OpenCall) → p ≢ place
-    → parked_at (progressed place q calls) p ≡ parked_at calls p
+    → parked_at (calls_with_progress place q calls) p ≡ parked_at calls p
 parked_other place q p [] other = refl
 parked_other place q p (call ∷ calls) other =
     ap₂ (λ a b. a || b) (by_case (eqb call.place place) refl) (parked_other place q p calls other)
@@ -60,7 +60,7 @@ parked_other place q p (call ∷ calls) other =
 
 -- where the call isn't parked that goes on, nobody is parked at its place
 pub parked_none : (place : ℕ) (q : Progress) (calls : List OpenCall) → is_parked q ≡ false
-    → parked_at (progressed place q calls) place ≡ false
+    → parked_at (calls_with_progress place q calls) place ≡ false
 parked_none place q [] still = refl
 parked_none place q (call ∷ calls) still =
     ap₂ (λ a b. a || b) (by_case (eqb call.place place) refl) (parked_none place q calls still)
@@ -87,14 +87,14 @@ parked_call P p (call ∷ calls) all e =
 module _ {T A : Type 0} (events : List (Event T A)) where
   -- the open call of a thread once one of them goes on
   pub call_by_once : (t place : ℕ) (q : Progress) (calls : List OpenCall)
-      → call_by events t (progressed place q calls) ≡ option_map (once place q) (call_by events t calls)
+      → call_by events t (calls_with_progress place q calls) ≡ option_map (call_with_progress place q) (call_by events t calls)
   call_by_once t place q [] = refl
   call_by_once t place q (call ∷ calls) =
-      ap (λ p. if is_thread t (thread_at events p) then Some (once place q call) else call_by events t (progressed place q calls))
+      ap (λ p. if is_thread t (thread_at events p) then Some (call_with_progress place q call) else call_by events t (calls_with_progress place q calls))
       (place_once place q call)
       ∙ elim (is_thread t (thread_at events call.place))
-      as (λ b. (if b then Some (once place q call) else call_by events t (progressed place q calls))
-      ≡ option_map (once place q) (if b then Some call else call_by events t calls))
+      as (λ b. (if b then Some (call_with_progress place q call) else call_by events t (calls_with_progress place q calls))
+      ≡ option_map (call_with_progress place q) (if b then Some call else call_by events t calls))
       [ true ↦ refl | false ↦ call_by_once t place q calls ]
 
   -- the open call of a thread is the thread's
@@ -125,9 +125,9 @@ module _ {T A : Type 0} (events : List (Event T A)) where
 
   -- once it goes on
   pub own_once : (t : ℕ) (q : Progress) (calls : List OpenCall) (one : OpenCall) → call_by events t calls ≡ Some one
-      → call_by events t (progressed one.place q calls) ≡ Some (record { place = one.place; progress = q })
+      → call_by events t (calls_with_progress one.place q calls) ≡ Some (record { place = one.place; progress = q })
   own_once t q calls one own =
-      call_by_once t one.place q calls ∙ ap (option_map (once one.place q)) own ∙ ap (λ c. Some c) (once_self q one)
+      call_by_once t one.place q calls ∙ ap (option_map (call_with_progress one.place q)) own ∙ ap (λ c. Some c) (once_self q one)
 
   -- a call that is parked is parked at its place
   pub parked_there : (t : ℕ) (calls : List OpenCall) (one : OpenCall) → call_by events t calls ≡ Some one
@@ -153,25 +153,25 @@ module _ {T A : Type 0} (events : List (Event T A)) where
 
   -- if it is parked that goes on, it is parked at its place
   pub parked_now : (t : ℕ) (q : Progress) (calls : List OpenCall) (one : OpenCall) → call_by events t calls ≡ Some one
-      → is_parked q ≡ true → parked_at (progressed one.place q calls) one.place ≡ true
+      → is_parked q ≡ true → parked_at (calls_with_progress one.place q calls) one.place ≡ true
   parked_now t q calls one own =
-      parked_there t (progressed one.place q calls) (record { place = one.place; progress = q }) (own_once t q calls one own)
+      parked_there t (calls_with_progress one.place q calls) (record { place = one.place; progress = q }) (own_once t q calls one own)
 
 module _ {T A : Type 0} (equal : T → T → Bool) (events : List (Event T A)) where
   -- each open call is its thread's, still
   own_still : (place : ℕ) (q : Progress) (calls : List OpenCall) (call : OpenCall) → IsOwn equal events calls call
-      → IsOwn equal events (progressed place q calls) (once place q call)
+      → IsOwn equal events (calls_with_progress place q calls) (call_with_progress place q call)
   own_still place q calls call own = (
     own.0,
     ap (thread_at events) (place_once place q call) ∙ own.1,
-    call_by_once events own.0 place q calls ∙ ap (option_map (once place q)) own.2,
+    call_by_once events own.0 place q calls ∙ ap (option_map (call_with_progress place q)) own.2,
   )
 
   pub threads_still : (place : ℕ) (q : Progress) (calls : List OpenCall) → All (IsOwn equal events calls) calls
-      → All (IsOwn equal events (progressed place q calls)) (progressed place q calls)
+      → All (IsOwn equal events (calls_with_progress place q calls)) (calls_with_progress place q calls)
   threads_still place q calls h =
-      All-map (IsOwn equal events (progressed place q calls)) (once place q) calls
-      (All-weaker (IsOwn equal events calls) (λ call. IsOwn equal events (progressed place q calls) (once place q call))
+      All-map (IsOwn equal events (calls_with_progress place q calls)) (call_with_progress place q) calls
+      (All-weaker (IsOwn equal events calls) (λ call. IsOwn equal events (calls_with_progress place q calls) (call_with_progress place q call))
       (λ call own. own_still place q calls call own) calls h)
 
   -- whose place is parked is parked, as each thread has one open call
@@ -200,17 +200,17 @@ module _ {T A : Type 0} (equal : T → T → Bool) (events : List (Event T A)) w
 
   -- so a call that is as far as before leaves the calls as they are
   pub progressed_same : (t : ℕ) (calls : List OpenCall) (one : OpenCall) → All (IsOwn equal events calls) calls
-      → call_by events t calls ≡ Some one → progressed one.place one.progress calls ≡ calls
+      → call_by events t calls ≡ Some one → calls_with_progress one.place one.progress calls ≡ calls
   progressed_same t calls one apart own = each calls apart
     where
       once_same : (call : OpenCall) → IsOwn equal events calls call → (b : Bool) → eqb call.place one.place ≡ b
           → (if b then record { place = call.place; progress = one.progress } else call) ≡ call
       once_same call mine true is =
           let it : call ≡ one = one_there t calls one call own mine (eqb-true call.place one.place is) in
-          ap (λ (x : OpenCall). let made : OpenCall = record { place = call.place; progress = x.progress } in made) (sym it)
+          ap (λ (x : OpenCall). let outcome : OpenCall = record { place = call.place; progress = x.progress } in outcome) (sym it)
       once_same call mine false is = refl
 
-      each : (some : List OpenCall) → All (IsOwn equal events calls) some → progressed one.place one.progress some ≡ some
+      each : (some : List OpenCall) → All (IsOwn equal events calls) some → calls_with_progress one.place one.progress some ≡ some
       each [] h = refl
       each (call ∷ some) h =
           ap₂ (λ a l. a ∷ l) (once_same call (All-head (IsOwn equal events calls) call some h) (eqb call.place one.place) refl)

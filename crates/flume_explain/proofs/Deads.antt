@@ -15,16 +15,16 @@ use Rattle.flume_concurrent.specs.declared.event.Item.{Item}
 use Rattle.flume_concurrent.specs.declared.event.Item.TheVariants.{Happens, Makes}
 use Rattle.flume_concurrent.specs.declared.stage.Stage.{Stage}
 use Rattle.flume_concurrent.specs.declared.stage.Stage.TheVariants.{Begun, Answered}
-use Rattle.flume_concurrent.specs.Calls.{other_step}
+use Rattle.flume_concurrent.specs.Calls.{alternative_step}
 use Rattle.flume_concurrent.specs.Answers.{may_return}
-use Rattle.flume_concurrent.specs.Explanations.{events_in, open_call, further, returns, IsNextStep, AreCalls, IsExplanation}
+use Rattle.flume_concurrent.specs.Explanations.{events_in, open_call, after_reply, returns, IsNextStep, AreCalls, IsExplanation}
 use Rattle.flume_concurrent.proofs.Unique.{run_before}
 use Rattle.flume_explain.specs.declared.choice.Choice.{Choice}
 use Rattle.flume_explain.specs.declared.choice.Choice.TheVariants.{TakeEvent, MakeStep}
 use Rattle.flume_explain.specs.declared.configuration.OpenCall.{OpenCall}
 use Rattle.flume_explain.specs.Configurations.{State, event_at, thread_at, first_answer}
 use Rattle.flume_explain.specs.Leads.{IsWrong, LeadsTo, LeadsNowhere}
-use Rattle.flume_explain.specs.Dead.{onto, IsDead, IsDeadWithin, IsOf, AreLeft, IsSpent, EventLeads, EventWaits}
+use Rattle.flume_explain.specs.Dead.{onto, IsDead, IsDeadWithin, IsItemOf, AreLeft, IsSpent, EventLeads, EventWaits}
 
 module _ {T A : Type 0} (equal : T → T → Bool) (events : List (Event T A)) where
   -- an explanation without its later items is one
@@ -59,11 +59,11 @@ module _ {T A : Type 0} (equal : T → T → Bool) (events : List (Event T A)) w
       let chosen = left o past item items agrees short on in
       other chosen.0 chosen.2 (Contains-push_cases choices last chosen.0 chosen.1)
     where
-      other : (choice : Choice) → IsOf equal events c past choice item → Contains choices choice ⊎ (last ≡ choice)
-          → (choice : Choice) × Contains choices choice × IsOf equal events c past choice item
+      other : (choice : Choice) → IsItemOf equal events c past choice item → Contains choices choice ⊎ (last ≡ choice)
+          → (choice : Choice) × Contains choices choice × IsItemOf equal events c past choice item
       other choice of (inl among) = (choice, among, of)
       other choice of (inr is) = absurd (spent o past item items agrees short on
-          (subst (λ x. IsOf equal events c past x item) (sym is) of))
+          (subst (λ x. IsItemOf equal events c past x item) (sym is) of))
 
   -- the event at a place, and those behind it
   pub event_there : (all : List (Event T A)) (place : ℕ) (event : Event T A) (rest : List (Event T A)) → event ∷ rest ≡ drop place all
@@ -113,13 +113,13 @@ module _ {T A : Type 0} (equal : T → T → Bool) (events : List (Event T A)) w
       (record { events_are = on.events_are; late = on.late.1; explains = on.explains })
 
   -- a call that has its answer makes no step
-  other_of_answered : (call : Call T) (own : Answer T A) → other_step call (Answered own) ≡ None
+  other_of_answered : (call : Call T) (own : Answer T A) → alternative_step call (Answered own) ≡ None
   other_of_answered (SendAsync m) own = refl
   other_of_answered _ own = refl
 
-  pub no_step : (far : Option (Call T × Stage T A)) (call : Call T) (own : Answer T A) → far ≡ Some (call, Answered own) → (step : Step T)
-      → IsNextStep far step → ⊥
-  no_step far call own is step next = none (subst (λ f. IsNextStep f step) is next)
+  pub no_step : (current : Option (Call T × Stage T A)) (call : Call T) (own : Answer T A) → current ≡ Some (call, Answered own) → (step : Step T)
+      → IsNextStep current step → ⊥
+  no_step current call own is step next = none (subst (λ f. IsNextStep f step) is next)
     where
       none : IsNextStep (Some (call, Answered own)) step → ⊥
       none (inl e) = let gone : ⊥ = cc in gone
@@ -130,39 +130,39 @@ module _ {T A : Type 0} (equal : T → T → Bool) (events : List (Event T A)) w
   calls_before past (item ∷ items) x = (calls_before (item ∷ past) items x).1
 
   -- so a call that has a wrong answer never returns as is recorded
-  pub wrong : (t : ℕ) (call : Call T) (own told : Answer T A) (past items : List (Item T A))
-      → may_return equal call (Answered own) told ≡ false → open_call past t ≡ Some (call, Answered own)
-      → first_answer t (events_in items) ≡ Some told → AreCalls equal (onto items past) → ⊥
-  wrong t call own told past [] never so first calls = let none : ⊥ = cc in none
-  wrong t call own told past (Makes u step reply ∷ items) never so first calls =
-      by (λ k. wrong t call own told (Makes u step reply ∷ past) items never k first calls)
+  pub wrong : (t : ℕ) (call : Call T) (own recorded_answer : Answer T A) (past items : List (Item T A))
+      → may_return equal call (Answered own) recorded_answer ≡ false → open_call past t ≡ Some (call, Answered own)
+      → first_answer t (events_in items) ≡ Some recorded_answer → AreCalls equal (onto items past) → ⊥
+  wrong t call own recorded_answer past [] never so first calls = let none : ⊥ = cc in none
+  wrong t call own recorded_answer past (Makes u step reply ∷ items) never so first calls =
+      by (λ k. wrong t call own recorded_answer (Makes u step reply ∷ past) items never k first calls)
       (u == t) refl (calls_before (Makes u step reply ∷ past) items calls).0
     where
       by : (open_call (Makes u step reply ∷ past) t ≡ Some (call, Answered own) → ⊥)
           → (b : Bool) → (u == t) ≡ b → IsNextStep (open_call past u) step → ⊥
       by on true is fits = no_step (open_call past u) call own (ap (open_call past) (eqb-true u t is) ∙ so) step fits
-      by on false is fits = on (ap (λ b. if b then further reply (open_call past t) else open_call past t) is ∙ so)
-  wrong t call own told past (Happens (Begins u more) ∷ items) never so first calls =
-      by (λ k. wrong t call own told (Happens (Begins u more) ∷ past) items never k first calls)
+      by on false is fits = on (ap (λ b. if b then after_reply reply (open_call past t) else open_call past t) is ∙ so)
+  wrong t call own recorded_answer past (Happens (Begins u more) ∷ items) never so first calls =
+      by (λ k. wrong t call own recorded_answer (Happens (Begins u more) ∷ past) items never k first calls)
       (u == t) refl (calls_before (Happens (Begins u more) ∷ past) items calls).0
     where
       by : (open_call (Happens (Begins u more) ∷ past) t ≡ Some (call, Answered own) → ⊥)
           → (b : Bool) → (u == t) ≡ b → open_call past u ≡ None → ⊥
       by on true is fits = let same = ap (open_call past) (eqb-true u t is) in let none : ⊥ = cc in none
       by on false is fits = on (ap (λ b. if b then Some (more, Begun) else open_call past t) is ∙ so)
-  wrong t call own told past (Happens (Returns u answer) ∷ items) never so first calls =
-      by (λ k e. wrong t call own told (Happens (Returns u answer) ∷ past) items never k e calls)
+  wrong t call own recorded_answer past (Happens (Returns u answer) ∷ items) never so first calls =
+      by (λ k e. wrong t call own recorded_answer (Happens (Returns u answer) ∷ past) items never k e calls)
       (u == t) refl (calls_before (Happens (Returns u answer) ∷ past) items calls).0
     where
-      by : (open_call (Happens (Returns u answer) ∷ past) t ≡ Some (call, Answered own) → first_answer t (events_in items) ≡ Some told → ⊥)
+      by : (open_call (Happens (Returns u answer) ∷ past) t ≡ Some (call, Answered own) → first_answer t (events_in items) ≡ Some recorded_answer → ⊥)
           → (b : Bool) → (u == t) ≡ b → IsTrue (returns equal (open_call past u) answer) → ⊥
       by on true is fits =
-          let picked : Some answer ≡ Some told = sym (ap (λ b. if b then Some answer else first_answer t (events_in items)) is) ∙ first in
-          let same : answer ≡ told = cc in
-          let may : IsTrue (may_return equal call (Answered own) told) =
+          let picked : Some answer ≡ Some recorded_answer = sym (ap (λ b. if b then Some answer else first_answer t (events_in items)) is) ∙ first in
+          let same : answer ≡ recorded_answer = cc in
+          let may : IsTrue (may_return equal call (Answered own) recorded_answer) =
           subst (λ a. IsTrue (may_return equal call (Answered own) a)) same
           (subst (λ f. IsTrue (returns equal f answer)) (ap (open_call past) (eqb-true u t is) ∙ so) fits) in
-          let on_true : may_return equal call (Answered own) told ≡ true = may in
+          let on_true : may_return equal call (Answered own) recorded_answer ≡ true = may in
           let none : ⊥ = cc in none
       by on false is fits = on (ap (λ b. if b then None else open_call past t) is ∙ so)
           (sym (ap (λ b. if b then Some answer else first_answer t (events_in items)) is) ∙ first)
@@ -179,12 +179,12 @@ module _ {T A : Type 0} (equal : T → T → Bool) (events : List (Event T A)) w
       by (open_call (Makes u step reply ∷ past) of.0) refl (first_answer of.0 (drop place events)) refl
       (off of.0 of.1 of.2 o past (Makes u step reply) agrees of.3 (before o (Makes u step reply ∷ past) items on.explains).run)
     where
-      by : (far : Option (Call T × Stage T A)) → open_call (Makes u step reply ∷ past) of.0 ≡ far
-          → (told : Option (Answer T A)) → first_answer of.0 (drop place events) ≡ told → IsWrong equal events far told → ⊥
-      by None so told first h = h
-      by (Some far) so None first h = h
-      by (Some far) so (Some told) first h =
-          wrong of.0 far.0 h.1.0 told (Makes u step reply ∷ past) items
-          (subst (λ s. may_return equal far.0 s told ≡ false) h.1.1 h.0)
-          (so ∙ ap (λ s. Some (far.0, s)) h.1.1)
+      by : (current : Option (Call T × Stage T A)) → open_call (Makes u step reply ∷ past) of.0 ≡ current
+          → (recorded_answer : Option (Answer T A)) → first_answer of.0 (drop place events) ≡ recorded_answer → IsWrong equal events current recorded_answer → ⊥
+      by None so recorded_answer first h = h
+      by (Some current) so None first h = h
+      by (Some current) so (Some recorded_answer) first h =
+          wrong of.0 current.0 h.1.0 recorded_answer (Makes u step reply ∷ past) items
+          (subst (λ s. may_return equal current.0 s recorded_answer ≡ false) h.1.1 h.0)
+          (so ∙ ap (λ s. Some (current.0, s)) h.1.1)
           (ap (first_answer of.0) on.events_are ∙ first) on.explains.calls

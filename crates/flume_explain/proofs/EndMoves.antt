@@ -16,7 +16,7 @@ use Rattle.flume_explain.specs.declared.step_of.Move.TheVariants as move
 use Rattle.flume_explain.specs.declared.place_reply.PlaceReply.TheVariants as reply
 use Rattle.flume_explain.specs.Configurations.{State}
 use Rattle.flume_explain.specs.ByPlaces.{closed_now, end_dropped}
-use Rattle.flume_explain.specs.Made.{cloned, dropped}
+use Rattle.flume_explain.specs.Outcomes.{clone_outcome, drop_outcome}
 use Rattle.flume_explain.specs.Mirrors.{Mirrors}
 use Rattle.flume_explain.proofs.MoveAnswers.{MoveAnswers, IsNew}
 use Rattle.flume_explain.proofs.MoveCases.{AnswersAs, changes_nothing, places_left, receives_stay}
@@ -25,16 +25,16 @@ use Rattle.flume_explain.proofs.LeavingEnds.{end_dropped_mirrors, blocked_end_dr
 
 module _ {T A : Type 0} (events : List (Event T A)) where
   -- an end joins: it is none where there is none, or where there are as many as can be counted
-  no_end_joins : (n : ℕ) (more c : State) → n ≡ 0 → cloned n more c ≡ (reply.NoEnd, c)
+  no_end_joins : (n : ℕ) (more c : State) → n ≡ 0 → clone_outcome n more c ≡ (reply.NoEnd, c)
   no_end_joins n more c none = let zero : (n == 0) ≡ true = eq-eqb n 0 none in rw zero refl
 
-  count_is_full : (n : ℕ) (more c : State) → n ≡ most → cloned n more c ≡ (reply.CountFull, c)
+  count_is_full : (n : ℕ) (more c : State) → n ≡ most → clone_outcome n more c ≡ (reply.CountFull, c)
   count_is_full n more c full =
       let some : (n == 0) ≡ false = ne_eqb n 0 (λ e. omega arith) in
       let last : (n == most) ≡ true = eq-eqb n most full in
       rw (some, last) refl
 
-  one_more_joins : (n : ℕ) (more c : State) → 0 < n → n < most → cloned n more c ≡ (reply.Done, more)
+  one_more_joins : (n : ℕ) (more c : State) → 0 < n → n < most → clone_outcome n more c ≡ (reply.Done, more)
   one_more_joins n more c above below =
       let some : (n == 0) ≡ false = ne_eqb n 0 (λ e. omega arith) in
       let room : (n == most) ≡ false = ne_eqb n most (λ e. omega arith) in
@@ -44,14 +44,14 @@ module _ {T A : Type 0} (events : List (Event T A)) where
   pub clone_sender_answers : MoveAnswers events move.CloneSender
   clone_sender_answers o log s c tickets place call made_step given h m at is new lawful unrefused =
       let same : step.CloneSender ≡ made_step = cc in
-      subst (λ done. AnswersAs events o log tickets s c place done (cloned c.senders more c)) same
+      subst (λ done. AnswersAs events o log tickets s c place done (clone_outcome c.senders more c)) same
       (by_given given (subst (λ done. IsReply (channel o log) done given) (sym same) lawful))
     where
       more : State
       more = record c { senders = c.senders + 1 }
 
       by_given : (given : Reply T A) → IsReply (channel o log) step.CloneSender given
-          → AnswersAs events o log tickets s c place step.CloneSender (cloned c.senders more c)
+          → AnswersAs events o log tickets s c place step.CloneSender (clone_outcome c.senders more c)
       by_given own.Done lawful =
           let count = m.senders_are in
           let logged = h.senders_are in
@@ -60,9 +60,9 @@ module _ {T A : Type 0} (events : List (Event T A)) where
           subst (AnswersAs events o log tickets s c place step.CloneSender)
           (sym (one_more_joins c.senders more c (omega arith) (omega arith))) record {
             reply = own.Done;
-            alike = tt;
+            corresponds = tt;
             state = record s { senders = s.senders + 1 };
-            stands = counts_open o log (step.CloneSender, own.Done) SenderJoins s _ s.sends s.entries h lawful refl refl refl
+            represents = counts_open o log (step.CloneSender, own.Done) SenderJoins s _ s.sends s.entries h lawful refl refl refl
                 (λ t. refl) refl (omega arith) refl (omega arith);
             mirrors = record {
               capacity_is = m.capacity_is;
@@ -89,14 +89,14 @@ module _ {T A : Type 0} (events : List (Event T A)) where
   pub clone_receiver_answers : MoveAnswers events move.CloneReceiver
   clone_receiver_answers o log s c tickets place call made_step given h m at is new lawful unrefused =
       let same : step.CloneReceiver ≡ made_step = cc in
-      subst (λ done. AnswersAs events o log tickets s c place done (cloned c.receivers more c)) same
+      subst (λ done. AnswersAs events o log tickets s c place done (clone_outcome c.receivers more c)) same
       (by_given given (subst (λ done. IsReply (channel o log) done given) (sym same) lawful))
     where
       more : State
       more = record c { receivers = c.receivers + 1 }
 
       by_given : (given : Reply T A) → IsReply (channel o log) step.CloneReceiver given
-          → AnswersAs events o log tickets s c place step.CloneReceiver (cloned c.receivers more c)
+          → AnswersAs events o log tickets s c place step.CloneReceiver (clone_outcome c.receivers more c)
       by_given own.Done lawful =
           let count = m.receivers_are in
           let logged = h.receivers_are in
@@ -105,9 +105,9 @@ module _ {T A : Type 0} (events : List (Event T A)) where
           subst (AnswersAs events o log tickets s c place step.CloneReceiver)
           (sym (one_more_joins c.receivers more c (omega arith) (omega arith))) record {
             reply = own.Done;
-            alike = tt;
+            corresponds = tt;
             state = record s { receivers = s.receivers + 1 };
-            stands = counts_open o log (step.CloneReceiver, own.Done) ReceiverJoins s _ s.sends s.entries h lawful refl refl refl
+            represents = counts_open o log (step.CloneReceiver, own.Done) ReceiverJoins s _ s.sends s.entries h lawful refl refl refl
                 (λ t. refl) refl (omega arith) refl (omega arith);
             mirrors = record {
               capacity_is = m.capacity_is;
@@ -131,17 +131,17 @@ module _ {T A : Type 0} (events : List (Event T A)) where
       by_given _ lawful = absurd lawful
 
   -- an end leaves: it is none where there is none
-  no_end_leaves : (n : ℕ) (fewer c : State) → n ≡ 0 → dropped n fewer c ≡ (reply.NoEnd, c)
+  no_end_leaves : (n : ℕ) (fewer c : State) → n ≡ 0 → drop_outcome n fewer c ≡ (reply.NoEnd, c)
   no_end_leaves n fewer c none = let zero : (n == 0) ≡ true = eq-eqb n 0 none in rw zero refl
 
-  one_end_leaves : (n : ℕ) (fewer c : State) → 0 < n → dropped n fewer c ≡ (reply.Done, end_dropped (closed_now c) fewer)
+  one_end_leaves : (n : ℕ) (fewer c : State) → 0 < n → drop_outcome n fewer c ≡ (reply.Done, end_dropped (closed_now c) fewer)
   one_end_leaves n fewer c above = let some : (n == 0) ≡ false = ne_eqb n 0 (λ e. omega arith) in rw some refl
 
   -- one sender less
   pub drop_sender_answers : MoveAnswers events move.DropSender
   drop_sender_answers o log s c tickets place call made_step given h m at is new lawful unrefused =
       let same : step.DropSender ≡ made_step = cc in
-      subst (λ done. AnswersAs events o log tickets s c place done (dropped c.senders fewer c)) same
+      subst (λ done. AnswersAs events o log tickets s c place done (drop_outcome c.senders fewer c)) same
       (by_given given (subst (λ done. IsReply (channel o log) done given) (sym same) lawful))
     where
       fewer : State
@@ -164,16 +164,16 @@ module _ {T A : Type 0} (events : List (Event T A)) where
       still_new = record { not_blocked = new.not_blocked; not_parked = new.not_parked }
 
       by_given : (given : Reply T A) → IsReply (channel o log) step.DropSender given
-          → AnswersAs events o log tickets s c place step.DropSender (dropped c.senders fewer c)
+          → AnswersAs events o log tickets s c place step.DropSender (drop_outcome c.senders fewer c)
       by_given own.Done lawful =
           let count = m.senders_are in
           let logged = h.senders_are in
           subst (AnswersAs events o log tickets s c place step.DropSender)
           (sym (one_end_leaves c.senders fewer c (omega arith))) record {
             reply = own.Done;
-            alike = tt;
+            corresponds = tt;
             state = after_end_dropped (not (closed_now c)) fewer_state;
-            stands = leaves o log (step.DropSender, own.Done) SenderLeaves s _ h lawful refl refl
+            represents = leaves o log (step.DropSender, own.Done) SenderLeaves s _ h lawful refl refl
                 (ap (λ b. after_end_dropped (not b) fewer_state) (closed_same events tickets s c m));
             mirrors = end_dropped_mirrors events tickets (closed_now c) fewer_state fewer fewer_mirrors;
             blocked_left = blocked_end_dropped reply.Done place (closed_now c) fewer still_new;
@@ -189,7 +189,7 @@ module _ {T A : Type 0} (events : List (Event T A)) where
   pub drop_receiver_answers : MoveAnswers events move.DropReceiver
   drop_receiver_answers o log s c tickets place call made_step given h m at is new lawful unrefused =
       let same : step.DropReceiver ≡ made_step = cc in
-      subst (λ done. AnswersAs events o log tickets s c place done (dropped c.receivers fewer c)) same
+      subst (λ done. AnswersAs events o log tickets s c place done (drop_outcome c.receivers fewer c)) same
       (by_given given (subst (λ done. IsReply (channel o log) done given) (sym same) lawful))
     where
       fewer : State
@@ -212,16 +212,16 @@ module _ {T A : Type 0} (events : List (Event T A)) where
       still_new = record { not_blocked = new.not_blocked; not_parked = new.not_parked }
 
       by_given : (given : Reply T A) → IsReply (channel o log) step.DropReceiver given
-          → AnswersAs events o log tickets s c place step.DropReceiver (dropped c.receivers fewer c)
+          → AnswersAs events o log tickets s c place step.DropReceiver (drop_outcome c.receivers fewer c)
       by_given own.Done lawful =
           let count = m.receivers_are in
           let logged = h.receivers_are in
           subst (AnswersAs events o log tickets s c place step.DropReceiver)
           (sym (one_end_leaves c.receivers fewer c (omega arith))) record {
             reply = own.Done;
-            alike = tt;
+            corresponds = tt;
             state = after_end_dropped (not (closed_now c)) fewer_state;
-            stands = leaves o log (step.DropReceiver, own.Done) ReceiverLeaves s _ h lawful refl refl
+            represents = leaves o log (step.DropReceiver, own.Done) ReceiverLeaves s _ h lawful refl refl
                 (ap (λ b. after_end_dropped (not b) fewer_state) (closed_same events tickets s c m));
             mirrors = end_dropped_mirrors events tickets (closed_now c) fewer_state fewer fewer_mirrors;
             blocked_left = blocked_end_dropped reply.Done place (closed_now c) fewer still_new;

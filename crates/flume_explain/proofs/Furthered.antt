@@ -15,10 +15,10 @@ use Rattle.flume_explain.specs.declared.configuration.Progress.TheVariants as pr
 use Rattle.flume_explain.specs.declared.place_reply.PlaceReply.{PlaceReply}
 use Rattle.flume_explain.specs.declared.place_reply.PlaceReply.TheVariants as reply
 use Rattle.flume_explain.specs.Configurations.{is_parked}
-use Rattle.flume_explain.specs.Mirrors.{IsAlike, stays_parked, ticketed, tickets_after}
+use Rattle.flume_explain.specs.Mirrors.{Corresponds, stays_parked, with_ticket, tickets_after}
 use Rattle.flume_explain.specs.Agreement.{IsProgress}
 use Rattle.flume_explain.specs.Moves.{is_refusal}
-use Rattle.flume_explain.specs.Progresses.{progress_of, unticketed, is_wrong}
+use Rattle.flume_explain.specs.Progresses.{progress_of, clear_ticket, is_wrong}
 use Rattle.flume_explain.proofs.Stages.{IsMet}
 use Rattle.std.proofs.Common.{eq-eqb, if◌then◌else◌}
 
@@ -94,7 +94,7 @@ module _ {T A : Type 0} where
   gone_off _ stage closed filled = refl
 
 -- a place has the ticket that it was given
-ticket_given : (place next : ℕ) (tickets : ℕ → ℕ) → ticketed place next tickets place ≡ next
+ticket_given : (place next : ℕ) (tickets : ℕ → ℕ) → with_ticket place next tickets place ≡ next
 ticket_given place next tickets = ap (λ b. if b then next else tickets place) (eq-eqb place place refl)
 
 module _ {T A : Type 0} (equal : T → T → Bool) (events : List (Event T A)) (call : Call T) where
@@ -133,7 +133,7 @@ module _ {T A : Type 0} (equal : T → T → Bool) (events : List (Event T A)) (
   progress_right recorded n (Parked t) h right = h
   progress_right recorded n (Refused t) h right = h
   progress_right None n (Answered a) h right = refl
-  progress_right (Some told) n (Answered a) h right = by_case (may_return equal call (Answered a) told) right
+  progress_right (Some recorded) n (Answered a) h right = by_case (may_return equal call (Answered a) recorded) right
     where
       by_case : (b : Bool) → not b ≡ false → b ≡ true
       by_case true e = refl
@@ -141,8 +141,8 @@ module _ {T A : Type 0} (equal : T → T → Bool) (events : List (Event T A)) (
 
   -- the ticket after a reply
   ticket_after : (recorded : Option (Answer T A)) (place next : ℕ) (tickets : ℕ → ℕ) (queue : List ℕ) (p : Progress) (stage : Stage T A)
-      (told : PlaceReply) (r : Reply T A) → IsAlike events next queue told r → IsProgress equal events call recorded (tickets place) p stage
-      → HasTicket call (tickets_after told place next tickets place) (stage_after call stage r)
+      (reply_by_place : PlaceReply) (r : Reply T A) → Corresponds events next queue reply_by_place r → IsProgress equal events call recorded (tickets place) p stage
+      → HasTicket call (tickets_after reply_by_place place next tickets place) (stage_after call stage r)
   ticket_after recorded place next tickets queue p stage reply.Full (own.Full back) h so = full_free call (tickets place) stage back
   ticket_after recorded place next tickets queue p stage reply.Pending (own.Pending t) h so = h ∙ sym (ticket_given place next tickets)
   ticket_after recorded place next tickets queue p stage reply.Accepted own.NoTicket h so = none_free call (tickets place) stage
@@ -168,18 +168,18 @@ module _ {T A : Type 0} (equal : T → T → Bool) (events : List (Event T A)) (
 
   -- so far is the call after a reply, unless its answer is wrong
   pub progress_after : (recorded : Option (Answer T A)) (place next : ℕ) (tickets : ℕ → ℕ) (queue : List ℕ) (p : Progress) (stage : Stage T A)
-      (told : PlaceReply) (r : Reply T A) → IsAlike events next queue told r → IsProgress equal events call recorded (tickets place) p stage
+      (reply_by_place : PlaceReply) (r : Reply T A) → Corresponds events next queue reply_by_place r → IsProgress equal events call recorded (tickets place) p stage
       → is_wrong equal call recorded (stage_after call stage r) ≡ false
-      → IsProgress equal events call recorded (tickets_after told place next tickets place) (progress_of (stage_after call stage r))
+      → IsProgress equal events call recorded (tickets_after reply_by_place place next tickets place) (progress_of (stage_after call stage r))
       (stage_after call stage r)
-  progress_after recorded place next tickets queue p stage told r h so right =
-      progress_right recorded (tickets_after told place next tickets place) (stage_after call stage r)
-      (ticket_after recorded place next tickets queue p stage told r h so) right
+  progress_after recorded place next tickets queue p stage reply_by_place r h so right =
+      progress_right recorded (tickets_after reply_by_place place next tickets place) (stage_after call stage r)
+      (ticket_after recorded place next tickets queue p stage reply_by_place r h so) right
 
   -- and it is parked or not as the reply says
-  pub parked_after : (next : ℕ) (queue : List ℕ) (stage : Stage T A) (told : PlaceReply) (r : Reply T A)
-      → IsAlike events next queue told r → IsMet call told (progress_of stage)
-      → is_parked (progress_of (stage_after call stage r)) ≡ stays_parked told
+  pub parked_after : (next : ℕ) (queue : List ℕ) (stage : Stage T A) (reply_by_place : PlaceReply) (r : Reply T A)
+      → Corresponds events next queue reply_by_place r → IsMet call reply_by_place (progress_of stage)
+      → is_parked (progress_of (stage_after call stage r)) ≡ stays_parked reply_by_place
   parked_after next queue stage reply.Sent (own.Sent filled) h met = refl
   parked_after next queue stage reply.Full (own.Full back) h met = full_off call stage back
   parked_after next queue stage reply.Closed (own.Closed back) h met = refl

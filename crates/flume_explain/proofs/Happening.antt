@@ -19,7 +19,7 @@ use Rattle.flume_explain.specs.declared.configuration.Progress.{Progress}
 use Rattle.flume_explain.specs.declared.configuration.Progress.TheVariants.{Begun, Tried, Parked, Refused, Done}
 use Rattle.flume_explain.specs.Configurations.{State, event_at, thread_at, call_by, is_thread, is_parked, first_answer, thread_of, call_of}
 use Rattle.flume_explain.specs.Agreement.{Agrees, AreParked, IsOpenAs, IsOwn, IsProgress, parked_at}
-use Rattle.flume_explain.specs.Happens.{begun_at, with_call, without_call}
+use Rattle.flume_explain.specs.Happens.{new_call, with_call, without_call}
 use Rattle.flume_explain.specs.Dead.{EventLeads}
 use Rattle.flume_explain.proofs.EventsAt.{events_from}
 use Rattle.flume_explain.proofs.ThreadCalls.{without, is_thread_true, call_by-other, call_by-new, call_by-kept, call_by-found, call_by-without_other, call_by-without_own, StandsAt, parked_at-begun, IsIdle, parked_at-without}
@@ -45,7 +45,7 @@ module _ {T A : Type 0} (equal : T → T → Bool) (events : List (Event T A)) w
   begins_leads place c t call begins o past event agrees there fits =
       subst (λ e. Agrees equal events o (Happens e ∷ past) (drop (place + 1) events) (with_call place c)) (sym same) (record {
         state = agrees.state;
-        stands = agrees.stands;
+        represents = agrees.represents;
         tickets = agrees.tickets;
         channel = record {
           capacity_is = agrees.channel.capacity_is;
@@ -56,14 +56,14 @@ module _ {T A : Type 0} (equal : T → T → Bool) (events : List (Event T A)) w
           receives_are = agrees.channel.receives_are;
         };
         calls_are = λ u. at u (t == u) refl;
-        threads_apart = All-push (IsOwn equal events calls) c.calls (begun_at place)
-            (All-weaker (IsOwn equal events c.calls) (IsOwn equal events calls) (λ x own. (own.0, own.1, call_by-kept events own.0 c.calls (begun_at place ∷ []) x own.2))
-            c.calls agrees.threads_apart) (t, thread, call_by-new events t c.calls (begun_at place) no_call (ap (is_thread t) thread ∙ eq-eqb t t refl));
+        threads_apart = All-push (IsOwn equal events calls) c.calls (new_call place)
+            (All-weaker (IsOwn equal events c.calls) (IsOwn equal events calls) (λ x own. (own.0, own.1, call_by-kept events own.0 c.calls (new_call place ∷ []) x own.2))
+            c.calls agrees.threads_apart) (t, thread, call_by-new events t c.calls (new_call place) no_call (ap (is_thread t) thread ∙ eq-eqb t t refl));
         parked = parked_same events agrees.tickets agrees.state.next c calls (parked_at-begun c.calls place) agrees.parked;
       })
     where
       calls : List OpenCall
-      calls = c.calls ++ begun_at place ∷ []
+      calls = c.calls ++ new_call place ∷ []
 
       same : event ≡ Begins t call
       same = let k = sym there ∙ begins in let e : event ≡ Begins t call = cc in e
@@ -93,25 +93,25 @@ module _ {T A : Type 0} (equal : T → T → Bool) (events : List (Event T A)) w
           subst (λ b. IsOpenAs equal events agrees.tickets (first_answer u (drop (place + 1) events)) (call_by events u calls)
           (if b then Some (call, stage.Begun) else open_call past u)) (sym is)
           (subst (λ x. IsOpenAs equal events agrees.tickets (first_answer u (drop (place + 1) events)) x (Some (call, stage.Begun)))
-          (sym (call_by-new events u c.calls (begun_at place) (subst (λ v. call_by events v c.calls ≡ None) (eqb-true t u is) no_call)
+          (sym (call_by-new events u c.calls (new_call place) (subst (λ v. call_by events v c.calls ≡ None) (eqb-true t u is) no_call)
           (ap (is_thread u) thread ∙ is))) (ap (option_and_then call_of) begins, tt))
       at u false is =
           subst (λ b. IsOpenAs equal events agrees.tickets (first_answer u (drop (place + 1) events)) (call_by events u calls)
           (if b then Some (call, stage.Begun) else open_call past u)) (sym is)
           (subst (λ x. IsOpenAs equal events agrees.tickets (first_answer u (drop (place + 1) events)) x (open_call past u))
-          (sym (call_by-other events u c.calls (begun_at place) (ap (is_thread u) thread ∙ is)))
+          (sym (call_by-other events u c.calls (new_call place) (ap (is_thread u) thread ∙ is)))
           (subst (λ f. IsOpenAs equal events agrees.tickets f (call_by events u c.calls) (open_call past u)) (first u) (agrees.calls_are u)))
 
   -- a call that may return isn't parked
-  not_parked : (call : Call T) (recorded : Option (Answer T A)) (ticket : ℕ) (told : Answer T A) (progress : Progress) (far : Stage T A)
-      → IsProgress equal events call recorded ticket progress far → may_return equal call far told ≡ true → is_parked progress ≡ false
-  not_parked call recorded ticket told Begun far h may = refl
-  not_parked call recorded ticket told Tried far h may = refl
-  not_parked call recorded ticket told Done far h may = refl
-  not_parked call recorded ticket told Parked (stage.Parked n) h may = absurd (false≢true may)
-  not_parked call recorded ticket told Refused (stage.Refused n) h may = absurd (false≢true may)
-  not_parked call recorded ticket told Parked _ h may = absurd h
-  not_parked call recorded ticket told Refused _ h may = absurd h
+  not_parked : (call : Call T) (recorded : Option (Answer T A)) (ticket : ℕ) (recorded_answer : Answer T A) (progress : Progress) (current : Stage T A)
+      → IsProgress equal events call recorded ticket progress current → may_return equal call current recorded_answer ≡ true → is_parked progress ≡ false
+  not_parked call recorded ticket recorded_answer Begun current h may = refl
+  not_parked call recorded ticket recorded_answer Tried current h may = refl
+  not_parked call recorded ticket recorded_answer Done current h may = refl
+  not_parked call recorded ticket recorded_answer Parked (stage.Parked n) h may = absurd (false≢true may)
+  not_parked call recorded ticket recorded_answer Refused (stage.Refused n) h may = absurd (false≢true may)
+  not_parked call recorded ticket recorded_answer Parked _ h may = absurd h
+  not_parked call recorded ticket recorded_answer Refused _ h may = absurd h
 
   -- no other open call is of the thread, or has the same place
   module _ (c : State) (t : ℕ) (one : OpenCall) (own : call_by events t c.calls ≡ Some one) where
@@ -155,12 +155,12 @@ module _ {T A : Type 0} (equal : T → T → Bool) (events : List (Event T A)) w
         (filter_passes (λ (x : OpenCall). not (x.place == one.place)) c.calls k d within)
 
   -- the open call of a thread returns
-  pub returns_leads : (place : ℕ) (c : State) (t : ℕ) (told : Answer T A) (one : OpenCall) → event_at events place ≡ Some (Returns t told)
+  pub returns_leads : (place : ℕ) (c : State) (t : ℕ) (recorded_answer : Answer T A) (one : OpenCall) → event_at events place ≡ Some (Returns t recorded_answer)
       → call_by events t c.calls ≡ Some one → EventLeads equal events place c (without_call one.place c)
-  returns_leads place c t told one returns_it own o past event agrees there fits =
+  returns_leads place c t recorded_answer one returns_it own o past event agrees there fits =
       subst (λ e. Agrees equal events o (Happens e ∷ past) (drop (place + 1) events) (without_call one.place c)) (sym same) (record {
         state = agrees.state;
-        stands = agrees.stands;
+        represents = agrees.represents;
         tickets = agrees.tickets;
         channel = record {
           capacity_is = agrees.channel.capacity_is;
@@ -179,20 +179,20 @@ module _ {T A : Type 0} (equal : T → T → Bool) (events : List (Event T A)) w
       calls : List OpenCall
       calls = without one.place c.calls
 
-      same : event ≡ Returns t told
-      same = let k = sym there ∙ returns_it in let e : event ≡ Returns t told = cc in e
+      same : event ≡ Returns t recorded_answer
+      same = let k = sym there ∙ returns_it in let e : event ≡ Returns t recorded_answer = cc in e
 
       free : is_parked one.progress ≡ false
       free = by (open_call past t) (subst (λ e. Fits equal past (Happens e)) same fits)
           (subst (λ x. IsOpenAs equal events agrees.tickets (first_answer t (drop place events)) x (open_call past t)) own (agrees.calls_are t))
         where
-          by : (far : Option (Call T × Stage T A)) → IsTrue (returns equal far told)
-              → IsOpenAs equal events agrees.tickets (first_answer t (drop place events)) (Some one) far → is_parked one.progress ≡ false
+          by : (current : Option (Call T × Stage T A)) → IsTrue (returns equal current recorded_answer)
+              → IsOpenAs equal events agrees.tickets (first_answer t (drop place events)) (Some one) current → is_parked one.progress ≡ false
           by None may h = absurd h
-          by (Some far) may h = not_parked far.0 (first_answer t (drop place events)) (agrees.tickets one.place) told one.progress far.1 h.1 may
+          by (Some current) may h = not_parked current.0 (first_answer t (drop place events)) (agrees.tickets one.place) recorded_answer one.progress current.1 h.1 may
 
-      rest_is : drop place events ≡ Returns t told ∷ drop (place + 1) events
-      rest_is = events_from events place (Returns t told) returns_it
+      rest_is : drop place events ≡ Returns t recorded_answer ∷ drop (place + 1) events
+      rest_is = events_from events place (Returns t recorded_answer) returns_it
 
       at : (u : ℕ) (b : Bool) → (t == u) ≡ b
           → IsOpenAs equal events agrees.tickets (first_answer u (drop (place + 1) events)) (call_by events u calls) (if t == u then None else open_call past u)
@@ -208,4 +208,4 @@ module _ {T A : Type 0} (equal : T → T → Bool) (events : List (Event T A)) w
           (subst (λ x. IsOpenAs equal events agrees.tickets (first_answer u (drop (place + 1) events)) x (open_call past u))
           (sym (call_by-without_other events u one.place c.calls (off_thread c t one own u is)))
           (subst (λ f. IsOpenAs equal events agrees.tickets f (call_by events u c.calls) (open_call past u))
-          (ap (first_answer u) rest_is ∙ ap (λ b. if b then Some told else first_answer u (drop (place + 1) events)) is) (agrees.calls_are u)))
+          (ap (first_answer u) rest_is ∙ ap (λ b. if b then Some recorded_answer else first_answer u (drop (place + 1) events)) is) (agrees.calls_are u)))

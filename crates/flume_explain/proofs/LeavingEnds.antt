@@ -14,11 +14,11 @@ use Rattle.flume_core.proofs.Bare.{bare_all_woken}
 use Rattle.flume_concurrent.specs.declared.event.Event.{Event}
 use Rattle.flume_explain.specs.declared.place_reply.PlaceReply.TheVariants as reply
 use Rattle.flume_explain.specs.declared.configuration.ParkedReceive.{ParkedReceive}
-use Rattle.flume_explain.specs.declared.configuration.Standing.{Standing}
-use Rattle.flume_explain.specs.declared.configuration.Standing.TheVariants.{Waiting, Woken, Filled}
+use Rattle.flume_explain.specs.declared.configuration.Status.{Status}
+use Rattle.flume_explain.specs.declared.configuration.Status.TheVariants.{Waiting, Woken, Filled}
 use Rattle.flume_explain.specs.declared.place_reply.PlaceReply.{PlaceReply}
 use Rattle.flume_explain.specs.Configurations.{State}
-use Rattle.flume_explain.specs.Receives.{waits, standing_as}
+use Rattle.flume_explain.specs.Receives.{waits, with_status}
 use Rattle.flume_explain.specs.ByPlaces.{closed_now, end_dropped, woken_if_waiting}
 use Rattle.flume_explain.specs.Mirrors.{Mirrors, IsLeft, entry_for, some_entry}
 use Rattle.flume_explain.proofs.MoveAnswers.{IsNew}
@@ -27,9 +27,9 @@ use Rattle.flume_explain.proofs.Renaming.{some_all_woken}
 
 -- a receive that is woken keeps its place
 woken_place : (r : ParkedReceive) → (woken_if_waiting r).place ≡ r.place
-woken_place r = by_waits (waits r.standing)
+woken_place r = by_waits (waits r.status)
   where
-    by_waits : (b : Bool) → (if b then standing_as Woken r else r).place ≡ r.place
+    by_waits : (b : Bool) → (if b then with_status Woken r else r).place ≡ r.place
     by_waits true = refl
     by_waits false = refl
 
@@ -39,44 +39,44 @@ woken_places [] = refl
 woken_places (r ∷ rs) = ap₂ (λ p l. p ∷ l) (woken_place r) (woken_places rs)
 
 -- the blocked sends that are left once an end left
-pub blocked_end_dropped : (told : PlaceReply) (place : ℕ) (was : Bool) (c : State) → IsNew place c
-    → All (IsLeft reply.Pending told place c.blocked) (end_dropped was c).blocked
-blocked_end_dropped told place was c new = by_cases (c.senders + c.receivers == 0) (not was && closed_now c)
+pub blocked_end_dropped : (reply_by_place : PlaceReply) (place : ℕ) (was : Bool) (c : State) → IsNew place c
+    → All (IsLeft reply.Pending reply_by_place place c.blocked) (end_dropped was c).blocked
+blocked_end_dropped reply_by_place place was c new = by_cases (c.senders + c.receivers == 0) (not was && closed_now c)
   where
-    by_cases : (gone closes : Bool) → All (IsLeft reply.Pending told place c.blocked) (if gone then record c { queue = []; blocked = []; receives = [] }
+    by_cases : (gone closes : Bool) → All (IsLeft reply.Pending reply_by_place place c.blocked) (if gone then record c { queue = []; blocked = []; receives = [] }
         else (if closes then record c { receives = map woken_if_waiting c.receives } else c)).blocked
-    by_cases true closes = All-nil (IsLeft reply.Pending told place c.blocked)
-    by_cases false true = places_left told place c.blocked new.not_blocked
-    by_cases false false = places_left told place c.blocked new.not_blocked
+    by_cases true closes = All-nil (IsLeft reply.Pending reply_by_place place c.blocked)
+    by_cases false true = places_left reply_by_place place c.blocked new.not_blocked
+    by_cases false false = places_left reply_by_place place c.blocked new.not_blocked
 
 -- the parked receives
-pub receives_end_dropped : (told : PlaceReply) (place : ℕ) (was : Bool) (c : State) → IsNew place c
-    → All (IsLeft reply.Parked told place (map (λ r. r.place) c.receives)) (map (λ r. r.place) (end_dropped was c).receives)
-receives_end_dropped told place was c new = by_cases (c.senders + c.receivers == 0) (not was && closed_now c)
+pub receives_end_dropped : (reply_by_place : PlaceReply) (place : ℕ) (was : Bool) (c : State) → IsNew place c
+    → All (IsLeft reply.Parked reply_by_place place (map (λ r. r.place) c.receives)) (map (λ r. r.place) (end_dropped was c).receives)
+receives_end_dropped reply_by_place place was c new = by_cases (c.senders + c.receivers == 0) (not was && closed_now c)
   where
-    by_cases : (gone closes : Bool) → All (IsLeft reply.Parked told place (map (λ r. r.place) c.receives))
+    by_cases : (gone closes : Bool) → All (IsLeft reply.Parked reply_by_place place (map (λ r. r.place) c.receives))
         (map (λ r. r.place) (if gone then record c { queue = []; blocked = []; receives = [] }
         else (if closes then record c { receives = map woken_if_waiting c.receives } else c)).receives)
-    by_cases true closes = All-nil (IsLeft reply.Parked told place (map (λ r. r.place) c.receives))
+    by_cases true closes = All-nil (IsLeft reply.Parked reply_by_place place (map (λ r. r.place) c.receives))
     by_cases false true =
-        subst (All (IsLeft reply.Parked told place (map (λ r. r.place) c.receives))) (sym (woken_places c.receives))
-        (receives_stay told place c.receives new.not_parked)
-    by_cases false false = receives_stay told place c.receives new.not_parked
+        subst (All (IsLeft reply.Parked reply_by_place place (map (λ r. r.place) c.receives))) (sym (woken_places c.receives))
+        (receives_stay reply_by_place place c.receives new.not_parked)
+    by_cases false false = receives_stay reply_by_place place c.receives new.not_parked
 
 module _ {T A : Type 0} (events : List (Event T A)) (tickets : ℕ → ℕ) where
   -- all who wait are woken, by places as by tickets
   placed_woken : (rs : List ParkedReceive)
       → map (entry_for events tickets) (map woken_if_waiting rs) ≡ all_woken same_notice (map (entry_for events tickets) rs)
   placed_woken [] = refl
-  placed_woken (r ∷ rs) = step r.standing r.kind r.place (placed_woken rs)
+  placed_woken (r ∷ rs) = step r.status r.kind r.place (placed_woken rs)
     where
-      step : (s : Standing) (k : Kind) (p : ℕ)
+      step : (s : Status) (k : Kind) (p : ℕ)
           → map (entry_for events tickets) (map woken_if_waiting rs) ≡ all_woken same_notice (map (entry_for events tickets) rs)
-          → map (entry_for events tickets) (map woken_if_waiting (record { place = p; kind = k; standing = s } ∷ rs))
-          ≡ all_woken same_notice (map (entry_for events tickets) (record { place = p; kind = k; standing = s } ∷ rs))
-      step Waiting k p rest = ap (λ l. entry_for events tickets (record { place = p; kind = k; standing = Woken }) ∷ l) rest
-      step Woken k p rest = ap (λ l. entry_for events tickets (record { place = p; kind = k; standing = Woken }) ∷ l) rest
-      step (Filled q) k p rest = ap (λ l. entry_for events tickets (record { place = p; kind = k; standing = Filled q }) ∷ l) rest
+          → map (entry_for events tickets) (map woken_if_waiting (record { place = p; kind = k; status = s } ∷ rs))
+          ≡ all_woken same_notice (map (entry_for events tickets) (record { place = p; kind = k; status = s } ∷ rs))
+      step Waiting k p rest = ap (λ l. entry_for events tickets (record { place = p; kind = k; status = Woken }) ∷ l) rest
+      step Woken k p rest = ap (λ l. entry_for events tickets (record { place = p; kind = k; status = Woken }) ∷ l) rest
+      step (Filled q) k p rest = ap (λ l. entry_for events tickets (record { place = p; kind = k; status = Filled q }) ∷ l) rest
 
   -- an end left, which is counted no more
   pub end_dropped_mirrors : (was : Bool) (s : Channel T (Unit {0})) (c : State) → Mirrors events tickets s c

@@ -6,12 +6,12 @@ use Rattle.std.proofs.Common.{eq-eqb}
 use Rattle.std.proofs.lemmas.List.Elements.{All-head, All-tail, All-nil, All-cons, All-push, All-map}
 use Rattle.std.proofs.lemmas.List.Elements.{All-contains_itself}
 use Rattle.flume_explain.specs.declared.configuration.ParkedReceive.{ParkedReceive}
-use Rattle.flume_explain.specs.declared.configuration.Standing.TheVariants.{Waiting}
+use Rattle.flume_explain.specs.declared.configuration.Status.TheVariants.{Waiting}
 use Rattle.flume_explain.specs.declared.place_reply.PlaceReply.{PlaceReply}
 use Rattle.flume_explain.specs.Configurations.{State}
 use Rattle.flume_explain.specs.ByPlaces.{admit_of, full_now, front_of, with_front, take_leaving, refill}
 use Rattle.flume_explain.specs.ByPlaces.{again_as}
-use Rattle.flume_explain.specs.Receives.{receive_of, without_place, is_awake, standing_as}
+use Rattle.flume_explain.specs.Receives.{receive_of, without_place, is_awake, with_status}
 use Rattle.flume_explain.specs.Mirrors.{IsLeft, stays_parked}
 
 -- the places of parked receives
@@ -25,15 +25,15 @@ all_of_places P (r ∷ rs) h =
     All-cons (λ r. P r.place) r rs (All-head P r.place (places rs) h)
     (all_of_places P rs (All-tail P r.place (places rs) h))
 
-module _ (told : PlaceReply) (place : ℕ) where
+module _ (reply_by_place : PlaceReply) (place : ℕ) where
   -- places of those before, none of which is the one that moved
   pub left_others : {joins : PlaceReply} (before after : List ℕ) → All (Contains before) after → All (λ q. q ≢ place) after
-      → All (IsLeft joins told place before) after
+      → All (IsLeft joins reply_by_place place before) after
   left_others before after among others k d lt = inl (among k d lt, inl (others k d lt))
 
   -- places of those before, if the call that moved is parked
-  pub left_parked : {joins : PlaceReply} (before after : List ℕ) → stays_parked told ≡ true → All (Contains before) after
-      → All (IsLeft joins told place before) after
+  pub left_parked : {joins : PlaceReply} (before after : List ℕ) → stays_parked reply_by_place ≡ true → All (Contains before) after
+      → All (IsLeft joins reply_by_place place before) after
   left_parked before after stays among k d lt = inl (among k d lt, inr stays)
 
 -- what holds of all blocked sends holds of all that a take leaves blocked
@@ -130,12 +130,12 @@ again_among p rs = go (receive_of p rs) refl
   where
     go : (found : Option ParkedReceive) → receive_of p rs ≡ found → All (Contains (places rs)) (places (again_as p found rs))
     go None at = All-contains_itself (places rs)
-    go (Some r) at = by_case (is_awake r.standing) refl
+    go (Some r) at = by_case (is_awake r.status) refl
       where
-        by_case : (b : Bool) → is_awake r.standing ≡ b → All (Contains (places rs)) (places (again_as p (Some r) rs))
+        by_case : (b : Bool) → is_awake r.status ≡ b → All (Contains (places rs)) (places (again_as p (Some r) rs))
         by_case true awake =
-            simp awake (All-map (Contains (places rs)) (λ r. r.place) (without_place p rs ++ standing_as Waiting r ∷ [])
-            (All-push (λ r. Contains (places rs) r.place) (without_place p rs) (standing_as Waiting r)
+            simp awake (All-map (Contains (places rs)) (λ r. r.place) (without_place p rs ++ with_status Waiting r ∷ [])
+            (All-push (λ r. Contains (places rs) r.place) (without_place p rs) (with_status Waiting r)
             (without_all (λ r. Contains (places rs) r.place) p rs
             (all_of_places (Contains (places rs)) rs (All-contains_itself (places rs))))
             (found_all (λ r. Contains (places rs) r.place) p rs r

@@ -8,7 +8,7 @@ use Rattle.flume_model.specs.declared.step.Kind.{Kind}
 use Rattle.flume_model.specs.declared.entry.Entry.{Entry}
 use Rattle.flume_model.specs.declared.entry.Mark.{Mark}
 use Rattle.flume_model.specs.declared.entry.Mark.TheVariants as mark
-use Rattle.flume_model.specs.Entries.{entry_of, without, again, again_as, held_by, held_in, passes_on}
+use Rattle.flume_model.specs.Entries.{entry_of, without_ticket, again, again_as, held_by, held_in, passes_on}
 use Rattle.flume_model.specs.Entries.{is_woken}
 use Rattle.flume_model.specs.Line.{next_ticket}
 use Rattle.flume_model.specs.Log.{Log, Opening}
@@ -24,14 +24,14 @@ use Rattle.flume_core.proofs.Bare.{bare_entry, bare_without, bare_again, bare_no
 use Rattle.flume_core.proofs.Views.{none_mapped}
 use Rattle.flume_concurrent.specs.declared.event.Event.{Event}
 use Rattle.flume_explain.specs.declared.configuration.ParkedReceive.{ParkedReceive}
-use Rattle.flume_explain.specs.declared.configuration.Standing.{Standing}
-use Rattle.flume_explain.specs.declared.configuration.Standing.TheVariants as standing
+use Rattle.flume_explain.specs.declared.configuration.Status.{Status}
+use Rattle.flume_explain.specs.declared.configuration.Status.TheVariants as status
 use Rattle.flume_explain.specs.Configurations.{State, message_at}
 use Rattle.flume_explain.specs.ByPlaces.{without_receive, ask_again}
 use Rattle.flume_explain.specs.ByPlaces.{again_as as again_here}
 use Rattle.flume_explain.specs.Receives.{receive_of, without_place}
-use Rattle.flume_explain.specs.Made.{parked}
-use Rattle.flume_explain.specs.Mirrors.{Mirrors, mark_of, some_mark, some_entry, entry_for, ticketed}
+use Rattle.flume_explain.specs.Outcomes.{with_parked}
+use Rattle.flume_explain.specs.Mirrors.{Mirrors, mark_of, some_mark, some_entry, entry_for, with_ticket}
 use Rattle.flume_explain.proofs.Renaming.{some_entry_of, some_without, some_again}
 use Rattle.flume_explain.proofs.Placing.{IsAlone, placed_entry, placed_without}
 use Rattle.flume_explain.proofs.LeftPlaces.{ticketed_itself, offers_kept, entries_kept}
@@ -39,17 +39,17 @@ use Rattle.flume_explain.proofs.LeftReceives.{places, absent, without_all}
 
 module _ {T A : Type 0} (events : List (Event T A)) where
   -- a mark that stands so
-  pub waiting_mark : (m : Mark T) → mark_of events standing.Waiting ≡ some_mark m → m ≡ mark.Waiting
+  pub waiting_mark : (m : Mark T) → mark_of events status.Waiting ≡ some_mark m → m ≡ mark.Waiting
   waiting_mark mark.Waiting e = refl
   waiting_mark mark.Woken e = absurd (let none : ⊥ = cc in none)
   waiting_mark (mark.Filled x) e = absurd (let none : ⊥ = cc in none)
 
-  pub woken_mark : (m : Mark T) → mark_of events standing.Woken ≡ some_mark m → m ≡ mark.Woken
+  pub woken_mark : (m : Mark T) → mark_of events status.Woken ≡ some_mark m → m ≡ mark.Woken
   woken_mark mark.Waiting e = absurd (let none : ⊥ = cc in none)
   woken_mark mark.Woken e = refl
   woken_mark (mark.Filled x) e = absurd (let none : ⊥ = cc in none)
 
-  pub filled_mark : (p : ℕ) (m : Mark T) → mark_of events (standing.Filled p) ≡ some_mark m
+  pub filled_mark : (p : ℕ) (m : Mark T) → mark_of events (status.Filled p) ≡ some_mark m
       → (x : T) × (m ≡ mark.Filled x) × (message_at events p ≡ Some x)
   filled_mark p mark.Waiting e = absurd (let none : ⊥ = cc in none)
   filled_mark p mark.Woken e = absurd (let none : ⊥ = cc in none)
@@ -63,8 +63,8 @@ module _ {T A : Type 0} (events : List (Event T A)) where
     -- the entry of the receive at a place, with the mark that it has
     pub record StandsAs (s : Channel T (Unit {0})) (place : ℕ) (r : ParkedReceive) : Type 0 where
       pub marked : Mark T
-      pub is : mark_of events r.standing ≡ some_mark marked
-      pub stands : receiver_status (tickets place) s.entries ≡ Some (status_by r.kind marked)
+      pub is : mark_of events r.status ≡ some_mark marked
+      pub represents : receiver_status (tickets place) s.entries ≡ Some (status_by r.kind marked)
       pub held : held_by (entry_of (tickets place) s.entries) ≡ held_in marked
       pub passes : passes_on (entry_of (tickets place) s.entries) ≡ is_woken marked
 
@@ -96,7 +96,7 @@ module _ {T A : Type 0} (events : List (Event T A)) where
               record {
                 marked = e.mark;
                 is = ap (λ x. x.mark) is;
-                stands = ap (option_map status_of) found ∙ ap (λ k. Some (status_by k e.mark)) (sym kind);
+                represents = ap (option_map status_of) found ∙ ap (λ k. Some (status_by k e.mark)) (sym kind);
                 held = ap held_by found;
                 passes = ap passes_on found;
               }
@@ -110,7 +110,7 @@ module _ {T A : Type 0} (events : List (Event T A)) where
         queue_is = h.queue_is;
         blocked_are = h.blocked_are;
         receives_are = placed_without events tickets place c.receives alone
-            ∙ ap (without (tickets place)) h.receives_are
+            ∙ ap (without_ticket (tickets place)) h.receives_are
             ∙ sym (some_without (tickets place) (map bare s.entries))
             ∙ ap (map some_entry) (sym (bare_without (tickets place) s.entries));
       }
@@ -126,17 +126,17 @@ module _ {T A : Type 0} (events : List (Event T A)) where
           go : (found : Option ParkedReceive) → map placed (again_here place found c.receives)
               ≡ again_as (tickets place) (option_map placed found) (map placed c.receives)
           go None = refl
-          go (Some r) = step r.standing r.kind r.place
+          go (Some r) = step r.status r.kind r.place
             where
-              step : (st : Standing) (k : Kind) (q : ℕ)
-                  → map placed (again_here place (Some (record { place = q; kind = k; standing = st })) c.receives)
-                  ≡ again_as (tickets place) (Some (placed (record { place = q; kind = k; standing = st }))) (map placed c.receives)
-              step standing.Waiting k q = refl
-              step standing.Woken k q =
-                  map_push placed (without_place place c.receives) (record { place = q; kind = k; standing = standing.Waiting })
-                  ∙ ap (λ l. l ++ placed (record { place = q; kind = k; standing = standing.Waiting }) ∷ [])
+              step : (st : Status) (k : Kind) (q : ℕ)
+                  → map placed (again_here place (Some (record { place = q; kind = k; status = st })) c.receives)
+                  ≡ again_as (tickets place) (Some (placed (record { place = q; kind = k; status = st }))) (map placed c.receives)
+              step status.Waiting k q = refl
+              step status.Woken k q =
+                  map_push placed (without_place place c.receives) (record { place = q; kind = k; status = status.Waiting })
+                  ∙ ap (λ l. l ++ placed (record { place = q; kind = k; status = status.Waiting }) ∷ [])
                   (placed_without events tickets place c.receives alone)
-              step (standing.Filled x) k q = refl
+              step (status.Filled x) k q = refl
 
       pub mirror_again : (f : Notice (Unit {0}) → Notice (Unit {0}))
           → Mirrors events tickets (with_peak (again (tickets place) (noticed_receiver f (tickets place) s.entries)) s) (ask_again place c)
@@ -156,27 +156,27 @@ module _ {T A : Type 0} (events : List (Event T A)) where
       -- no other receive is at its place
       pub others_elsewhere : (o : Opening) (log : Log T A) → Represents o log s
           → All (λ q. q ≢ place) (places (without_place place c.receives))
-      others_elsewhere o log stands =
+      others_elsewhere o log represents =
           let t = tickets place in
-          let in_log : map placed c.receives ≡ map some_entry (entries o log) = h.receives_are ∙ ap (map some_entry) stands.entries_are in
-          let gone : entry_of t (without t (entries o log)) ≡ None =
-          left_out (next_ticket o log) t (entries o log) (entries_apart o log stands.run) in
+          let in_log : map placed c.receives ≡ map some_entry (entries o log) = h.receives_are ∙ ap (map some_entry) represents.entries_are in
+          let gone : entry_of t (without_ticket t (entries o log)) ≡ None =
+          left_out (next_ticket o log) t (entries o log) (entries_apart o log represents.run) in
           let none : option_map placed (receive_of place (without_place place c.receives)) ≡ None =
           sym (placed_entry events tickets place (without_place place c.receives)
           (without_all (IsAlone events tickets place) place c.receives alone))
-          ∙ ap (entry_of t) (placed_without events tickets place c.receives alone ∙ ap (without t) in_log
+          ∙ ap (entry_of t) (placed_without events tickets place c.receives alone ∙ ap (without_ticket t) in_log
           ∙ sym (some_without t (entries o log)))
-          ∙ some_entry_of t (without t (entries o log)) ∙ ap (option_map some_entry) gone in
+          ∙ some_entry_of t (without_ticket t (entries o log)) ∙ ap (option_map some_entry) gone in
           absent place (without_place place c.receives)
           (none_mapped placed (receive_of place (without_place place c.receives)) none)
 
     -- a receive parks
     pub mirror_parked : (s : Channel T (Unit {0})) (c : State) (place : ℕ) (kind : Kind) → Mirrors events tickets s c
         → All (λ q. q ≢ place) c.blocked → All (λ r. r.place ≢ place) c.receives
-        → Mirrors events (ticketed place s.next tickets)
-        (with_peak (s.entries ++ new_receiver s.next kind tt ∷ []) (record s { next = s.next + 1 })) (parked kind place c)
+        → Mirrors events (with_ticket place s.next tickets)
+        (with_peak (s.entries ++ new_receiver s.next kind tt ∷ []) (record s { next = s.next + 1 })) (with_parked kind place c)
     mirror_parked s c place kind h blocked others =
-        let new : ParkedReceive = record { place = place; kind = kind; standing = standing.Waiting } in
+        let new : ParkedReceive = record { place = place; kind = kind; status = status.Waiting } in
         let entry : Entry T (Notice (Unit {0})) = new_receiver s.next kind tt in
         let last : ℕ → LogEntry (Option T) = λ t. record { ticket = t; kind = kind; mark = mark.Waiting; notice = tt } in
         let own_ticket = ticketed_itself place s.next tickets in
@@ -186,8 +186,8 @@ module _ {T A : Type 0} (events : List (Event T A)) where
           receivers_are = h.receivers_are;
           queue_is = h.queue_is;
           blocked_are = offers_kept events place s.next tickets c.blocked blocked ∙ h.blocked_are;
-          receives_are = map_push (entry_for events (ticketed place s.next tickets)) c.receives new
-              ∙ ap (λ l. l ++ entry_for events (ticketed place s.next tickets) new ∷ [])
+          receives_are = map_push (entry_for events (with_ticket place s.next tickets)) c.receives new
+              ∙ ap (λ l. l ++ entry_for events (with_ticket place s.next tickets) new ∷ [])
               (entries_kept events place s.next tickets c.receives others ∙ h.receives_are)
               ∙ ap (λ t. map some_entry (map bare s.entries) ++ last t ∷ []) own_ticket
               ∙ sym (ap (map some_entry) (map_push bare s.entries entry) ∙ map_push some_entry (map bare s.entries) (bare entry));

@@ -7,8 +7,8 @@ use Rattle.flume_state.specs.State.{State as Channel, bare}
 use Rattle.flume_core.proofs.Bare.{bare_some_wait}
 use Rattle.flume_concurrent.specs.declared.event.Event.{Event}
 use Rattle.flume_explain.specs.declared.configuration.ParkedReceive.{ParkedReceive}
-use Rattle.flume_explain.specs.declared.configuration.Standing.{Standing}
-use Rattle.flume_explain.specs.declared.configuration.Standing.TheVariants.{Waiting, Woken, Filled}
+use Rattle.flume_explain.specs.declared.configuration.Status.{Status}
+use Rattle.flume_explain.specs.declared.configuration.Status.TheVariants.{Waiting, Woken, Filled}
 use Rattle.flume_explain.specs.Configurations.{State, message_at}
 use Rattle.flume_explain.specs.ByPlaces.{closed_now, full_now, some_waits}
 use Rattle.flume_explain.specs.Mirrors.{Mirrors, some_entry, entry_for}
@@ -18,11 +18,11 @@ module _ {T A : Type 0} (events : List (Event T A)) where
   -- somebody waits by places as by tickets
   pub placed_some_wait : (tickets : ℕ → ℕ) (rs : List ParkedReceive) → some_wait (map (entry_for events tickets) rs) ≡ some_waits rs
   placed_some_wait tickets [] = refl
-  placed_some_wait tickets (r ∷ rs) = step r.standing (placed_some_wait tickets rs)
+  placed_some_wait tickets (r ∷ rs) = step r.status (placed_some_wait tickets rs)
     where
-      step : (s : Standing) → some_wait (map (entry_for events tickets) rs) ≡ some_waits rs
-          → some_wait (entry_for events tickets (record r { standing = s }) ∷ map (entry_for events tickets) rs)
-          ≡ some_waits (record r { standing = s } ∷ rs)
+      step : (s : Status) → some_wait (map (entry_for events tickets) rs) ≡ some_waits rs
+          → some_wait (entry_for events tickets (record r { status = s }) ∷ map (entry_for events tickets) rs)
+          ≡ some_waits (record r { status = s } ∷ rs)
       step Waiting rest = refl
       step Woken rest = rest
       step (Filled p) rest = rest

@@ -12,8 +12,8 @@ use Rattle.flume_state.specs.Effects.{after_wake_round}
 use Rattle.flume_core.proofs.Bare.{bare_round_for, bare_round_for_fills}
 use Rattle.flume_concurrent.specs.declared.event.Event.{Event}
 use Rattle.flume_explain.specs.declared.configuration.ParkedReceive.{ParkedReceive}
-use Rattle.flume_explain.specs.declared.configuration.Standing.{Standing}
-use Rattle.flume_explain.specs.declared.configuration.Standing.TheVariants.{Waiting, Woken, Filled}
+use Rattle.flume_explain.specs.declared.configuration.Status.{Status}
+use Rattle.flume_explain.specs.declared.configuration.Status.TheVariants.{Waiting, Woken, Filled}
 use Rattle.flume_explain.specs.Configurations.{State, message_at}
 use Rattle.flume_explain.specs.Receives.{round_fills_one}
 use Rattle.flume_explain.specs.ByPlaces.{round_with, fills_with, left_by_round, wake}
@@ -41,15 +41,15 @@ module _ {T A : Type 0} (events : List (Event T A)) (tickets : ℕ → ℕ) wher
   placed r = entry_for events tickets r
 
   -- a parked receive by its fields
-  abbrev parked : ℕ → Kind → Standing → ParkedReceive
-  parked p k s = record { place = p; kind = k; standing = s }
+  abbrev parked : ℕ → Kind → Status → ParkedReceive
+  parked p k s = record { place = p; kind = k; status = s }
 
   -- whether a round fills one
   pub placed_fills : (rs : List ParkedReceive) → is_some (round_fills (map placed rs)) ≡ round_fills_one rs
   placed_fills [] = refl
-  placed_fills (r ∷ rs) = step r.standing r.kind r.place (placed_fills rs)
+  placed_fills (r ∷ rs) = step r.status r.kind r.place (placed_fills rs)
     where
-      step : (s : Standing) (k : Kind) (p : ℕ) → is_some (round_fills (map placed rs)) ≡ round_fills_one rs
+      step : (s : Status) (k : Kind) (p : ℕ) → is_some (round_fills (map placed rs)) ≡ round_fills_one rs
           → is_some (round_fills (map placed (parked p k s ∷ rs))) ≡ round_fills_one (parked p k s ∷ rs)
       step Waiting Stream p rest = rest
       step Waiting Block p rest = refl

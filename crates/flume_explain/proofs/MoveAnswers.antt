@@ -13,7 +13,7 @@ use Rattle.flume_concurrent.specs.declared.event.Event.{Event}
 use Rattle.flume_explain.specs.declared.step_of.Move.{Move}
 use Rattle.flume_explain.specs.declared.step_of.Move.TheVariants as move
 use Rattle.flume_explain.specs.Configurations.{State, call_at}
-use Rattle.flume_explain.specs.Made.{made}
+use Rattle.flume_explain.specs.Outcomes.{outcome}
 use Rattle.flume_explain.specs.Mirrors.{Mirrors, Answers}
 use Rattle.flume_explain.specs.Moves.{step_for, is_refusal}
 
@@ -42,4 +42,4 @@ module _ {T A : Type 0} (events : List (Event T A)) where
       (step : Step T) (given : Reply T A) → Represents o log s → Mirrors events tickets s c → call_at events place ≡ Some call
       → step_for call (tickets place) move ≡ Some step → IsReady move tickets place c
       → IsReply (channel o log) step given → is_refusal given ≡ false
-      → Answers events o log tickets s c place step (made move place c).0 (made move place c).1
+      → Answers events o log tickets s c place step (outcome move place c).0 (outcome move place c).1

@@ -14,8 +14,8 @@ use Rattle.flume_concurrent.specs.declared.event.Event.{Event}
 use Rattle.flume_explain.specs.declared.configuration.ParkedReceive.{ParkedReceive}
 use Rattle.flume_explain.specs.declared.place_reply.PlaceReply.{PlaceReply}
 use Rattle.flume_explain.specs.Configurations.{State}
-use Rattle.flume_explain.specs.Made.{Answer}
-use Rattle.flume_explain.specs.Mirrors.{Mirrors, Answers, IsLeft, IsAlike, parks, ticketed, tickets_after}
+use Rattle.flume_explain.specs.Outcomes.{ReplyAndState}
+use Rattle.flume_explain.specs.Mirrors.{Mirrors, Answers, IsLeft, Corresponds, parks, with_ticket, tickets_after}
 use Rattle.flume_explain.proofs.MoveAnswers.{IsNew}
 
 -- each of a list has both of two properties
@@ -26,40 +26,40 @@ all_both P Q (x ∷ xs) ps qs =
     (all_both P Q xs (All-tail P x xs ps) (All-tail Q x xs qs))
 
 -- of places among which the call's isn't, each is left
-pub places_left : {joins : PlaceReply} (told : PlaceReply) (place : ℕ) (before : List ℕ) → All (λ q. q ≢ place) before
-    → All (IsLeft joins told place before) before
-places_left told place before others =
-    All-weaker (λ q. Contains before q × (q ≢ place)) (IsLeft _ told place before) (λ q both. inl (both.0, inl both.1)) before
+pub places_left : {joins : PlaceReply} (reply_by_place : PlaceReply) (place : ℕ) (before : List ℕ) → All (λ q. q ≢ place) before
+    → All (IsLeft joins reply_by_place place before) before
+places_left reply_by_place place before others =
+    All-weaker (λ q. Contains before q × (q ≢ place)) (IsLeft _ reply_by_place place before) (λ q both. inl (both.0, inl both.1)) before
     (all_both (Contains before) (λ q. q ≢ place) before (All-contains_itself before) others)
 
 -- of the parked receives too
-pub receives_stay : {joins : PlaceReply} (told : PlaceReply) (place : ℕ) (rs : List ParkedReceive) → All (λ r. r.place ≢ place) rs
-    → All (IsLeft joins told place (map (λ r. r.place) rs)) (map (λ r. r.place) rs)
-receives_stay told place rs others =
-    places_left told place (map (λ r. r.place) rs) (All-map (λ q. q ≢ place) (λ r. r.place) rs others)
+pub receives_stay : {joins : PlaceReply} (reply_by_place : PlaceReply) (place : ℕ) (rs : List ParkedReceive) → All (λ r. r.place ≢ place) rs
+    → All (IsLeft joins reply_by_place place (map (λ r. r.place) rs)) (map (λ r. r.place) rs)
+receives_stay reply_by_place place rs others =
+    places_left reply_by_place place (map (λ r. r.place) rs) (All-map (λ q. q ≢ place) (λ r. r.place) rs others)
 
 module _ {T A : Type 0} (events : List (Event T A)) where
   -- the step of the call at a place may be answered so
-  abbrev pub AnswersAs : (o : Opening) (log : Log T A) → (ℕ → ℕ) → Channel T (Unit {0}) → State → ℕ → Step T → Answer → Type 0
+  abbrev pub AnswersAs : (o : Opening) (log : Log T A) → (ℕ → ℕ) → Channel T (Unit {0}) → State → ℕ → Step T → ReplyAndState → Type 0
   AnswersAs o log tickets s c place done answer = Answers events o log tickets s c place done answer.0 answer.1
 
   -- no ticket is issued unless the call parks
-  pub same_tickets : (tickets : ℕ → ℕ) (s : Channel T (Unit {0})) (c : State) (told : PlaceReply) (place next : ℕ)
-      → parks told ≡ false → Mirrors events tickets s c → Mirrors events (tickets_after told place next tickets) s c
-  same_tickets tickets s c told place next none m =
-      subst (λ b. Mirrors events (if b then ticketed place next tickets else tickets) s c) (sym none) m
+  pub same_tickets : (tickets : ℕ → ℕ) (s : Channel T (Unit {0})) (c : State) (reply_by_place : PlaceReply) (place next : ℕ)
+      → parks reply_by_place ≡ false → Mirrors events tickets s c → Mirrors events (tickets_after reply_by_place place next tickets) s c
+  same_tickets tickets s c reply_by_place place next none m =
+      subst (λ b. Mirrors events (if b then with_ticket place next tickets else tickets) s c) (sym none) m
 
   -- a move that changes nothing
   pub changes_nothing : (o : Opening) (log : Log T A) (s : Channel T (Unit {0})) (c : State) (tickets : ℕ → ℕ) (place : ℕ)
-      (step : Step T) (told : PlaceReply) (reply : Reply T A) → Represents o log s → Mirrors events tickets s c → IsNew place c
-      → IsReply (channel o log) step reply → change log step reply ≡ Stays → parks told ≡ false
-      → IsAlike events s.next c.queue told reply → Answers events o log tickets s c place step told c
-  changes_nothing o log s c tickets place step told reply h m new lawful stays none alike = record {
+      (step : Step T) (reply_by_place : PlaceReply) (reply : Reply T A) → Represents o log s → Mirrors events tickets s c → IsNew place c
+      → IsReply (channel o log) step reply → change log step reply ≡ Stays → parks reply_by_place ≡ false
+      → Corresponds events s.next c.queue reply_by_place reply → Answers events o log tickets s c place step reply_by_place c
+  changes_nothing o log s c tickets place step reply_by_place reply h m new lawful stays none corresponds = record {
     reply = reply;
-    alike = alike;
+    corresponds = corresponds;
     state = s;
-    stands = still o log (step, reply) s s h lawful stays refl;
-    mirrors = same_tickets tickets s c told place s.next none m;
-    blocked_left = places_left told place c.blocked new.not_blocked;
-    receives_left = receives_stay told place c.receives new.not_parked;
+    represents = still o log (step, reply) s s h lawful stays refl;
+    mirrors = same_tickets tickets s c reply_by_place place s.next none m;
+    blocked_left = places_left reply_by_place place c.blocked new.not_blocked;
+    receives_left = receives_stay reply_by_place place c.receives new.not_parked;
   }

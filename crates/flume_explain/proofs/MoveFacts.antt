@@ -8,18 +8,18 @@ use Rattle.flume_model.specs.declared.step.Step.TheVariants as step
 use Rattle.flume_model.specs.declared.step.Reply.{Reply}
 use Rattle.flume_model.specs.declared.step.Reply.TheVariants as own
 use Rattle.flume_model.specs.Limits.{most}
-use Rattle.flume_model.specs.Line.{issued}
+use Rattle.flume_model.specs.Line.{tickets_issued}
 use Rattle.flume_model.specs.Log.{Log, change}
 use Rattle.flume_concurrent.specs.declared.event.Event.{Event}
-use Rattle.flume_explain.specs.Mirrors.{IsAlike, parks}
+use Rattle.flume_explain.specs.Mirrors.{Corresponds, parks}
 use Rattle.flume_concurrent.specs.declared.call.Call.{Call}
 use Rattle.flume_concurrent.specs.declared.call.Call.TheVariants as call
 use Rattle.flume_concurrent.specs.Calls.{is_send}
 use Rattle.flume_explain.specs.declared.configuration.ParkedReceive.{ParkedReceive}
 use Rattle.flume_explain.specs.declared.configuration.Progress.{Progress}
 use Rattle.flume_explain.specs.declared.configuration.Progress.TheVariants.{Begun, Tried, Parked, Refused, Done}
-use Rattle.flume_explain.specs.declared.configuration.Standing.{Standing}
-use Rattle.flume_explain.specs.declared.configuration.Standing.TheVariants.{Waiting, Woken, Filled}
+use Rattle.flume_explain.specs.declared.configuration.Status.{Status}
+use Rattle.flume_explain.specs.declared.configuration.Status.TheVariants.{Waiting, Woken, Filled}
 use Rattle.flume_explain.specs.declared.place_reply.PlaceReply.{PlaceReply}
 use Rattle.flume_explain.specs.declared.place_reply.PlaceReply.TheVariants as reply
 use Rattle.flume_explain.specs.declared.step_of.Move.{Move}
@@ -27,9 +27,9 @@ use Rattle.flume_explain.specs.declared.step_of.Move.TheVariants as move
 use Rattle.flume_explain.specs.Configurations.{State, is_parked, message_of}
 use Rattle.flume_explain.specs.Receives.{receive_of}
 use Rattle.flume_explain.specs.ByPlaces.{closed_now, full_now, some_waits, with_front, join, without_receive, ask_again, resize, end_dropped}
-use Rattle.flume_explain.specs.Made.{Answer, made, offered, taken_back, send_polled, send_withdrawn, is_blocked, received, received_from, leaves_with, looked, polled_as, polled_by, left_as, left_by, cloned, dropped, resized, parked}
+use Rattle.flume_explain.specs.Outcomes.{ReplyAndState, outcome, offer_outcome, take_back_outcome, poll_send_outcome, withdraw_send_outcome, is_blocked, receive_outcome, receive_outcome_from, leaves_with, poll_line_outcome, poll_outcome_as, poll_outcome_by, withdraw_outcome_as, withdraw_outcome_by, clone_outcome, drop_outcome, resize_outcome, with_parked}
 use Rattle.flume_explain.proofs.Stages.{IsMet}
-use Rattle.flume_explain.specs.Moves.{first_move, parking_move, next_move, other_move, move_of, step_for}
+use Rattle.flume_explain.specs.Moves.{first_move, parking_move, next_move, alternative_move, move_of, step_for}
 
 module _ {T : Type 0} where
   -- a call that is so far may make the move
@@ -71,7 +71,7 @@ module _ {T : Type 0} where
   next_allowed own Refused = inr refl
   next_allowed own Done = tt
 
-  other_allowed : (own : Call T) (p : Progress) → AreAllowed own p (other_move own p)
+  other_allowed : (own : Call T) (p : Progress) → AreAllowed own p (alternative_move own p)
   other_allowed (call.SendAsync m) Begun = refl
   other_allowed call.RecvAsync Begun = refl
   other_allowed call.RecvAsync Tried = refl
@@ -86,13 +86,13 @@ module _ {T : Type 0} where
   allowed own p false mv e = subst (AreAllowed own p) e (next_allowed own p)
 
   -- a call that has its answer makes no move
-  other_done : (own : Call T) → other_move own Done ≡ None
+  other_done : (own : Call T) → alternative_move own Done ≡ None
   other_done (call.SendAsync m) = refl
   other_done _ = refl
 
   pub not_done : (own : Call T) (p : Progress) (other : Bool) (mv : Move) → move_of own p other ≡ Some mv → p ≡ Done → ⊥
   not_done own p true mv e done =
-      let none : other_move own Done ≡ Some mv = subst (λ (q : Progress). other_move own q ≡ Some mv) done e in
+      let none : alternative_move own Done ≡ Some mv = subst (λ (q : Progress). alternative_move own q ≡ Some mv) done e in
       let gone = other_done own in
       let no : ⊥ = cc in no
   not_done own p false mv e done =
@@ -156,45 +156,45 @@ may_answer mv reply.Accepted = false
 may_answer mv reply.Waiting = false
 may_answer mv reply.Pending = false
 may_answer mv reply.Parked = false
-may_answer mv told = true
+may_answer mv reply_by_place = true
 
 -- what holds of each reply that an answer may have holds of its reply
 module _ (P : PlaceReply → Type 0) where
-  offered_has : (no_room : Answer) (place : ℕ) (c : State) → P reply.Closed → P no_room.0 → P reply.Sent → P (offered no_room place c).0
+  offered_has : (no_room : ReplyAndState) (place : ℕ) (c : State) → P reply.Closed → P no_room.0 → P reply.Sent → P (offer_outcome no_room place c).0
   offered_has no_room place c closed full sent = by_case (closed_now c) (not (some_waits c.receives) && full_now c)
     where
-      by_case : (a b : Bool) → P (let answer : Answer = if a then (reply.Closed, c) else (if b then no_room else (reply.Sent, join place c)) in answer).0
+      by_case : (a b : Bool) → P (let answer : ReplyAndState = if a then (reply.Closed, c) else (if b then no_room else (reply.Sent, join place c)) in answer).0
       by_case true b = closed
       by_case false true = full
       by_case false false = sent
 
-  back_has : (place : ℕ) (c : State) → P (reply.Returned (closed_now c)) → P (taken_back place c).0
+  back_has : (place : ℕ) (c : State) → P (reply.Returned (closed_now c)) → P (take_back_outcome place c).0
   back_has place c back = back
 
-  received_has : (none ended : Answer) (c : State) → ((p : ℕ) → P (reply.Got p)) → P none.0 → P reply.Ended → P (received none ended.1 c).0
+  received_has : (none ended : ReplyAndState) (c : State) → ((p : ℕ) → P (reply.Got p)) → P none.0 → P reply.Ended → P (receive_outcome none ended.1 c).0
   received_has none ended c got empty_ over = by_queue (with_front c).queue (closed_now c)
     where
-      by_queue : (queue : List ℕ) (b : Bool) → P (received_from queue (if b then (reply.Ended, ended.1) else none) c).0
+      by_queue : (queue : List ℕ) (b : Bool) → P (receive_outcome_from queue (if b then (reply.Ended, ended.1) else none) c).0
       by_queue [] true = over
       by_queue [] false = empty_
       by_queue (p ∷ rest) b = got p
 
-  leaves_has : (place : ℕ) (told : PlaceReply) (c : State) → P told → P (leaves_with place (told, c)).0
+  leaves_has : (place : ℕ) (reply_by_place : PlaceReply) (c : State) → P reply_by_place → P (leaves_with place (reply_by_place, c)).0
   leaves_has place (reply.Got p) c h = h
   leaves_has place _ c h = h
 
 -- whether a move may be answered so
 abbrev May : Move → PlaceReply → Type 0
-May mv told = may_answer mv told ≡ true
+May mv reply_by_place = may_answer mv reply_by_place ≡ true
 
 -- a receive that asks at the line may be answered so
-asked_may : (place : ℕ) (c : State) → May move.Poll (leaves_with place (looked place c)).0
+asked_may : (place : ℕ) (c : State) → May move.Poll (leaves_with place (poll_line_outcome place c)).0
 asked_may place c =
-    leaves_has (May move.Poll) place (looked place c).0 (looked place c).1
+    leaves_has (May move.Poll) place (poll_line_outcome place c).0 (poll_line_outcome place c).1
     (received_has (May move.Poll) (reply.Waiting, ask_again place c) (reply.Ended, without_receive place c) c (λ p. refl) refl refl)
 
 -- a parked receive that stands so and asks
-polled_may : (place : ℕ) (kind : Kind) (stands : Standing) (c : State) → May move.Poll (polled_as place kind stands c).0
+polled_may : (place : ℕ) (kind : Kind) (represents : Status) (c : State) → May move.Poll (poll_outcome_as place kind represents c).0
 polled_may place kind (Filled p) c = refl
 polled_may place Block Waiting c = refl
 polled_may place Block Woken c = asked_may place c
@@ -206,21 +206,21 @@ polled_may place Stream Woken c = asked_may place c
 polled_may place Arm Woken c = asked_may place c
 
 -- a receive that asks, parked or not
-poll_may : (place : ℕ) (found : Option ParkedReceive) (c : State) → May move.Poll (polled_by place found c).0
+poll_may : (place : ℕ) (found : Option ParkedReceive) (c : State) → May move.Poll (poll_outcome_by place found c).0
 poll_may place None c = refl
-poll_may place (Some r) c = polled_may place r.kind r.standing c
+poll_may place (Some r) c = polled_may place r.kind r.status c
 
 -- a receive that leaves and may take a message
 taken_may : (place : ℕ) (c : State)
-    → May move.Withdraw (leaves_with place (received_from (with_front c).queue (reply.Gone (closed_now c), without_receive place c) c)).0
+    → May move.Withdraw (leaves_with place (receive_outcome_from (with_front c).queue (reply.Gone (closed_now c), without_receive place c) c)).0
 taken_may place c = by_queue (with_front c).queue
   where
-    by_queue : (queue : List ℕ) → May move.Withdraw (leaves_with place (received_from queue (reply.Gone (closed_now c), without_receive place c) c)).0
+    by_queue : (queue : List ℕ) → May move.Withdraw (leaves_with place (receive_outcome_from queue (reply.Gone (closed_now c), without_receive place c) c)).0
     by_queue [] = refl
     by_queue (p ∷ rest) = refl
 
 -- a parked receive that stands so and leaves
-left_may : (place : ℕ) (kind : Kind) (stands : Standing) (c : State) → May move.Withdraw (left_as place kind stands c).0
+left_may : (place : ℕ) (kind : Kind) (represents : Status) (c : State) → May move.Withdraw (withdraw_outcome_as place kind represents c).0
 left_may place kind (Filled p) c = refl
 left_may place Block Waiting c = taken_may place c
 left_may place Block Woken c = taken_may place c
@@ -232,61 +232,61 @@ left_may place Stream Woken c = refl
 left_may place Arm Woken c = refl
 
 -- a receive that leaves, parked or not
-leave_may : (place : ℕ) (found : Option ParkedReceive) (c : State) → May move.Withdraw (left_by place found c).0
+leave_may : (place : ℕ) (found : Option ParkedReceive) (c : State) → May move.Withdraw (withdraw_outcome_by place found c).0
 leave_may place None c = refl
-leave_may place (Some r) c = left_may place r.kind r.standing c
+leave_may place (Some r) c = left_may place r.kind r.status c
 
 -- a send that withdraws
-withdrawn_may : (place : ℕ) (c : State) → May move.WithdrawSend (send_withdrawn place c).0
+withdrawn_may : (place : ℕ) (c : State) → May move.WithdrawSend (withdraw_send_outcome place c).0
 withdrawn_may place c = by_case (is_blocked place c)
   where
-    by_case : (b : Bool) → May move.WithdrawSend (let answer : Answer = if b then taken_back place c else (reply.Accepted, c) in answer).0
+    by_case : (b : Bool) → May move.WithdrawSend (let answer : ReplyAndState = if b then take_back_outcome place c else (reply.Accepted, c) in answer).0
     by_case true = refl
     by_case false = refl
 
 -- a send that asks
-send_may : (place : ℕ) (c : State) → May move.PollSend (send_polled place c).0
+send_may : (place : ℕ) (c : State) → May move.PollSend (poll_send_outcome place c).0
 send_may place c = by_case (is_blocked place c) (closed_now c)
   where
     by_case : (b k : Bool) → May move.PollSend
-        (let answer : Answer = if b then (if k then taken_back place c else (reply.Waiting, c)) else (reply.Accepted, c) in answer).0
+        (let answer : ReplyAndState = if b then (if k then take_back_outcome place c else (reply.Waiting, c)) else (reply.Accepted, c) in answer).0
     by_case true true = refl
     by_case true false = refl
     by_case false k = refl
 
 module _ (mv : Move) (done : May mv reply.Done) where
-  cloned_may : (n : ℕ) (more c : State) → May mv reply.NoEnd → May mv reply.CountFull → May mv (cloned n more c).0
+  cloned_may : (n : ℕ) (more c : State) → May mv reply.NoEnd → May mv reply.CountFull → May mv (clone_outcome n more c).0
   cloned_may n more c none full = by_case (n == 0) (n == most)
     where
-      by_case : (a b : Bool) → May mv (let answer : Answer = if a then (reply.NoEnd, c) else (if b then (reply.CountFull, c) else (reply.Done, more)) in answer).0
+      by_case : (a b : Bool) → May mv (let answer : ReplyAndState = if a then (reply.NoEnd, c) else (if b then (reply.CountFull, c) else (reply.Done, more)) in answer).0
       by_case true b = none
       by_case false true = full
       by_case false false = done
 
-  dropped_may : (n : ℕ) (fewer c : State) → May mv reply.NoEnd → May mv (dropped n fewer c).0
+  dropped_may : (n : ℕ) (fewer c : State) → May mv reply.NoEnd → May mv (drop_outcome n fewer c).0
   dropped_may n fewer c none = by_case (n == 0)
     where
-      by_case : (a : Bool) → May mv (let answer : Answer = if a then (reply.NoEnd, c) else (reply.Done, end_dropped (closed_now c) fewer) in answer).0
+      by_case : (a : Bool) → May mv (let answer : ReplyAndState = if a then (reply.NoEnd, c) else (reply.Done, end_dropped (closed_now c) fewer) in answer).0
       by_case true = none
       by_case false = done
 
 -- a capacity that is set
-resized_may : (old : Option ℕ) (n : ℕ) (c : State) → May (move.SetCapacity n) (resized old n c).0
+resized_may : (old : Option ℕ) (n : ℕ) (c : State) → May (move.SetCapacity n) (resize_outcome old n c).0
 resized_may None n c = refl
 resized_may (Some old) n c = by_case (closed_now c)
   where
-    by_case : (a : Bool) → May (move.SetCapacity n) (let answer : Answer = if a then (reply.Ended, c) else (reply.Done, resize n c) in answer).0
+    by_case : (a : Bool) → May (move.SetCapacity n) (let answer : ReplyAndState = if a then (reply.Ended, c) else (reply.Done, resize n c) in answer).0
     by_case true = refl
     by_case false = refl
 
 -- only a send is accepted, and only who asks waits on
-pub made_may : (mv : Move) (place : ℕ) (c : State) → may_answer mv (made mv place c).0 ≡ true
+pub made_may : (mv : Move) (place : ℕ) (c : State) → may_answer mv (outcome mv place c).0 ≡ true
 made_may move.TrySend p c = offered_has (May move.TrySend) (reply.Full, c) p c refl refl refl
 made_may move.Send p c = offered_has (May move.Send) (reply.Pending, record c { blocked = c.blocked ++ p ∷ [] }) p c refl refl refl
 made_may move.PollSend p c = send_may p c
 made_may move.WithdrawSend p c = withdrawn_may p c
 made_may move.TryRecv p c = received_has (May move.TryRecv) (reply.Empty, c) (reply.Ended, c) c (λ p. refl) refl refl
-made_may (move.Recv kind) p c = received_has (May (move.Recv kind)) (reply.Parked, parked kind p c) (reply.Ended, c) c (λ p. refl) refl refl
+made_may (move.Recv kind) p c = received_has (May (move.Recv kind)) (reply.Parked, with_parked kind p c) (reply.Ended, c) c (λ p. refl) refl refl
 made_may move.Poll p c = poll_may p (receive_of p c.receives) c
 made_may move.Withdraw p c = leave_may p (receive_of p c.receives) c
 made_may move.Drain p c = refl
@@ -299,8 +299,8 @@ made_may _ p c = refl
 
 module _ {T : Type 0} where
   -- so an answer of an allowed move finds the call parked, if it is one of these
-  pub met_by_move : (own : Call T) (p : Progress) (mv : Move) (told : PlaceReply) → IsAllowed own p mv → may_answer mv told ≡ true
-      → IsMet own told p
+  pub met_by_move : (own : Call T) (p : Progress) (mv : Move) (reply_by_place : PlaceReply) → IsAllowed own p mv → may_answer mv reply_by_place ≡ true
+      → IsMet own reply_by_place p
   met_by_move own p move.PollSend reply.Accepted h may = h
   met_by_move own p move.WithdrawSend reply.Accepted h may = h
   met_by_move own p move.PollSend reply.Waiting h may = h.0
@@ -319,9 +319,9 @@ module _ {T : Type 0} where
   receive_joins own p _ h may = absurd (let none : ⊥ = cc in none)
 
   -- a call parks by the step that issues its ticket
-  pub parking_issues : {A : Type 0} (past : Log T A) (step : Step T) (told : PlaceReply) (events : List (Event T A)) (n : ℕ) (queue : List ℕ)
-      (r : Reply T A) → IsAlike events n queue told r → parks told ≡ true → may_answer (move_for step) told ≡ true
-      → issued (change past step r) ≡ 1
+  pub parking_issues : {A : Type 0} (past : Log T A) (step : Step T) (reply_by_place : PlaceReply) (events : List (Event T A)) (n : ℕ) (queue : List ℕ)
+      (r : Reply T A) → Corresponds events n queue reply_by_place r → parks reply_by_place ≡ true → may_answer (move_for step) reply_by_place ≡ true
+      → tickets_issued (change past step r) ≡ 1
   parking_issues past (step.Send m) reply.Pending events n queue (own.Pending t) h parking may = refl
   parking_issues past (step.Recv kind) reply.Parked events n queue (own.Parked t) h parking may = refl
   parking_issues past (step.Send m) reply.Pending events n queue _ h parking may = absurd h

@@ -51,43 +51,43 @@ module _ {T A : Type 0} (equal : T → T → Bool) (events : List (Event T A)) w
       same : event ≡ Begins t call
       same = let k = sym there ∙ begins in let e : event ≡ Begins t call = cc in e
 
-      by : (far : Option (Call T × Stage T A)) → open_call past t ≡ far
-          → IsOpenAs equal events agrees.tickets (first_answer t (drop place events)) None far → open_call past t ≡ None
+      by : (current : Option (Call T × Stage T A)) → open_call past t ≡ current
+          → IsOpenAs equal events agrees.tickets (first_answer t (drop place events)) None current → open_call past t ≡ None
       by None is h = is
-      by (Some far) is h = absurd h
+      by (Some current) is h = absurd h
 
   -- what a call may return that is so far, if this is the first answer that is recorded of it
-  returns_so : (own : Call T) (told : Answer T A) (n : ℕ) (p : Progress) (s : Stage T A) → IsProgress equal events own (Some told) n p s
-      → may_end equal (Some own) p told ≡ true → may_return equal own s told ≡ true
-  returns_so own told n Begun stage.Begun h may = may
-  returns_so own told n Tried stage.Tried h may = may
-  returns_so own told n Parked s h may = absurd (false≢true may)
-  returns_so own told n Refused s h may = absurd (false≢true may)
-  returns_so own told n Done (stage.Answered a) h may = h
-  returns_so own told n _ _ h may = absurd h
+  returns_so : (own : Call T) (recorded_answer : Answer T A) (n : ℕ) (p : Progress) (s : Stage T A) → IsProgress equal events own (Some recorded_answer) n p s
+      → may_end equal (Some own) p recorded_answer ≡ true → may_return equal own s recorded_answer ≡ true
+  returns_so own recorded_answer n Begun stage.Begun h may = may
+  returns_so own recorded_answer n Tried stage.Tried h may = may
+  returns_so own recorded_answer n Parked s h may = absurd (false≢true may)
+  returns_so own recorded_answer n Refused s h may = absurd (false≢true may)
+  returns_so own recorded_answer n Done (stage.Answered a) h may = h
+  returns_so own recorded_answer n _ _ h may = absurd h
 
   -- the open call of a thread may return
-  pub fits_returns : (place : ℕ) (c : State) (t : ℕ) (told : Answer T A) (one : OpenCall) → event_at events place ≡ Some (Returns t told)
-      → call_by events t c.calls ≡ Some one → may_end equal (call_at events one.place) one.progress told ≡ true → EventFits equal events place c
-  fits_returns place c t told one returns_it own may o past event agrees there =
+  pub fits_returns : (place : ℕ) (c : State) (t : ℕ) (recorded_answer : Answer T A) (one : OpenCall) → event_at events place ≡ Some (Returns t recorded_answer)
+      → call_by events t c.calls ≡ Some one → may_end equal (call_at events one.place) one.progress recorded_answer ≡ true → EventFits equal events place c
+  fits_returns place c t recorded_answer one returns_it own may o past event agrees there =
       subst (λ e. Fits equal past (Happens e)) (sym same)
       (by (open_call past t)
       (subst (λ x. IsOpenAs equal events agrees.tickets (first_answer t (drop place events)) x (open_call past t)) own (agrees.calls_are t)))
     where
-      same : event ≡ Returns t told
-      same = let k = sym there ∙ returns_it in let e : event ≡ Returns t told = cc in e
+      same : event ≡ Returns t recorded_answer
+      same = let k = sym there ∙ returns_it in let e : event ≡ Returns t recorded_answer = cc in e
 
-      first : first_answer t (drop place events) ≡ Some told
-      first = ap (first_answer t) (events_from events place (Returns t told) returns_it)
-          ∙ ap (λ b. if b then Some told else first_answer t (drop (place + 1) events)) (eq-eqb t t refl)
+      first : first_answer t (drop place events) ≡ Some recorded_answer
+      first = ap (first_answer t) (events_from events place (Returns t recorded_answer) returns_it)
+          ∙ ap (λ b. if b then Some recorded_answer else first_answer t (drop (place + 1) events)) (eq-eqb t t refl)
 
-      by : (far : Option (Call T × Stage T A)) → IsOpenAs equal events agrees.tickets (first_answer t (drop place events)) (Some one) far
-          → IsTrue (returns equal far told)
+      by : (current : Option (Call T × Stage T A)) → IsOpenAs equal events agrees.tickets (first_answer t (drop place events)) (Some one) current
+          → IsTrue (returns equal current recorded_answer)
       by None h = absurd h
-      by (Some far) h =
-          returns_so far.0 told (agrees.tickets one.place) one.progress far.1
-          (subst (λ x. IsProgress equal events far.0 x (agrees.tickets one.place) one.progress far.1) first h.1)
-          (subst (λ x. may_end equal x one.progress told ≡ true) h.0 may)
+      by (Some current) h =
+          returns_so current.0 recorded_answer (agrees.tickets one.place) one.progress current.1
+          (subst (λ x. IsProgress equal events current.0 x (agrees.tickets one.place) one.progress current.1) first h.1)
+          (subst (λ x. may_end equal x one.progress recorded_answer ≡ true) h.0 may)
 
   -- the next event leads on
   pub event_reaches : (place : ℕ) (c new : State) → place < length events → EventFits equal events place c → EventLeads equal events place c new

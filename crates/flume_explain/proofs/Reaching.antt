@@ -16,7 +16,7 @@ use Rattle.flume_model.specs.Log.{Opening}
 use Rattle.flume_model.specs.Replies.{IsReply}
 use Rattle.flume_core.proofs.Views.{queue_at_log}
 use Rattle.flume_history.proofs.Wanting.{want_allowed}
-use Rattle.flume_history.specs.Wants.{handed_in}
+use Rattle.flume_history.specs.HandedIn.{handed_in}
 use Rattle.flume_concurrent.specs.declared.call.Call.{Call}
 use Rattle.flume_concurrent.specs.declared.call.Call.TheVariants as call
 use Rattle.flume_concurrent.specs.declared.call.Answer.{Answer}
@@ -25,7 +25,7 @@ use Rattle.flume_concurrent.specs.declared.event.Item.{Item}
 use Rattle.flume_concurrent.specs.declared.event.Item.TheVariants.{Makes}
 use Rattle.flume_concurrent.specs.declared.stage.Stage.{Stage}
 use Rattle.flume_concurrent.specs.declared.stage.Stage.TheVariants as stage
-use Rattle.flume_concurrent.specs.Calls.{is_send, next_step, other_step}
+use Rattle.flume_concurrent.specs.Calls.{is_send, next_step, alternative_step}
 use Rattle.flume_concurrent.specs.Explanations.{events_in, steps_in, open_call, IsNextStep}
 use Rattle.flume_concurrent.proofs.SplitItems.{told_all}
 use Rattle.flume_explain.specs.declared.configuration.OpenCall.{OpenCall}
@@ -35,10 +35,10 @@ use Rattle.flume_explain.specs.declared.place_reply.PlaceReply.TheVariants as re
 use Rattle.flume_explain.specs.declared.step_of.Move.{Move}
 use Rattle.flume_explain.specs.declared.step_of.Move.TheVariants as move
 use Rattle.flume_explain.specs.Configurations.{State, call_at, first_answer, is_parked}
-use Rattle.flume_explain.specs.Made.{made}
-use Rattle.flume_explain.specs.Mirrors.{IsAlike}
+use Rattle.flume_explain.specs.Outcomes.{outcome}
+use Rattle.flume_explain.specs.Mirrors.{Corresponds}
 use Rattle.flume_explain.specs.Agreement.{Agrees, IsOpenAs, IsOwn, IsProgress}
-use Rattle.flume_explain.specs.Moves.{first_move, parking_move, next_move, other_move, move_of, step_for, is_refusal}
+use Rattle.flume_explain.specs.Moves.{first_move, parking_move, next_move, alternative_move, move_of, step_for, is_refusal}
 use Rattle.flume_explain.specs.Leads.{IsMade, CallLeadsTo}
 use Rattle.flume_explain.specs.Reached.{IsReached, MoveReaches}
 use Rattle.flume_explain.specs.Refusals.{may_be_refused}
@@ -98,7 +98,7 @@ module _ {T : Type 0} where
   next_steps own ticket progress.Refused = (step.Withdraw ticket, refl)
   next_steps own ticket progress.Done = tt
 
-  other_steps : (own : Call T) (ticket : ℕ) (p : Progress) → AreSteps own ticket (other_move own p)
+  other_steps : (own : Call T) (ticket : ℕ) (p : Progress) → AreSteps own ticket (alternative_move own p)
   other_steps (call.SendAsync m) ticket progress.Begun = (step.TrySend m, refl)
   other_steps call.RecvAsync ticket progress.Begun = (step.TryRecv, refl)
   other_steps call.RecvAsync ticket progress.Tried = (step.TryRecv, refl)
@@ -150,16 +150,16 @@ module _ {T A : Type 0} (equal : T → T → Bool) (events : List (Event T A)) w
     opened = by (open_call r.past t) refl
         (subst (λ x. IsOpenAs equal events r.agrees.tickets (first_answer t rest) x (open_call r.past t)) mine.2 (r.agrees.calls_are t))
       where
-        by : (far : Option (Call T × Stage T A)) → open_call r.past t ≡ far → IsOpenAs equal events r.agrees.tickets (first_answer t rest) (Some one) far
+        by : (current : Option (Call T × Stage T A)) → open_call r.past t ≡ current → IsOpenAs equal events r.agrees.tickets (first_answer t rest) (Some one) current
             → IsOpenCall r.past t own (first_answer t rest) ticket one.progress
         by None is h = absurd h
-        by (Some far) is h =
-            let both : Some far.0 ≡ Some own = sym h.0 ∙ call_is in
-            let same : far.0 ≡ own = cc in
+        by (Some current) is h =
+            let both : Some current.0 ≡ Some own = sym h.0 ∙ call_is in
+            let same : current.0 ≡ own = cc in
             record {
-              stage = far.1;
-              is_open = is ∙ ap (λ (x : Call T). Some (x, far.1)) same;
-              progress_is = subst (λ (x : Call T). IsProgress equal events x (first_answer t rest) ticket one.progress far.1) same h.1;
+              stage = current.1;
+              is_open = is ∙ ap (λ (x : Call T). Some (x, current.1)) same;
+              progress_is = subst (λ (x : Call T). IsProgress equal events x (first_answer t rest) ticket one.progress current.1) same h.1;
             }
 
     made_step : (s : Step T) × (step_for own ticket mv ≡ Some s)
@@ -184,11 +184,11 @@ module _ {T A : Type 0} (equal : T → T → Bool) (events : List (Event T A)) w
     is_next : IsNextStep (open_call r.past t) made_step.0
     is_next = subst (λ f. IsNextStep f made_step.0) (sym opened.is_open) (by other so)
       where
-        so : (if other then other_step own opened.stage else next_step own opened.stage) ≡ Some made_step.0
+        so : (if other then alternative_step own opened.stage else next_step own opened.stage) ≡ Some made_step.0
         so = step_so equal events own (first_answer t rest) ticket one.progress opened.stage other opened.progress_is
             ∙ ap (step_by own ticket) chosen ∙ made_step.1
 
-        by : (b : Bool) → (if b then other_step own opened.stage else next_step own opened.stage) ≡ Some made_step.0
+        by : (b : Bool) → (if b then alternative_step own opened.stage else next_step own opened.stage) ≡ Some made_step.0
             → IsNextStep (Some (own, opened.stage)) made_step.0
         by true e = inr e
         by false e = inl e
@@ -207,7 +207,7 @@ module _ {T A : Type 0} (equal : T → T → Bool) (events : List (Event T A)) w
     -- so many events happened
     events_many : length (events_in r.past) ≤ place
     events_many =
-        let told : length (reverse (events_in r.past)) ≡ length (take place events) = ap length (told_all r.past ∙ r.events_are) in
+        let lengths : length (reverse (events_in r.past)) ≡ length (take place events) = ap length (told_all r.past ∙ r.events_are) in
         let same = length-reverse (events_in r.past) in
         let few = length-take place events in
         omega arith
@@ -227,11 +227,11 @@ module _ {T A : Type 0} (equal : T → T → Bool) (events : List (Event T A)) w
     may_so s is = subst (IsAllowed own one.progress) (sym (step_move own ticket mv s is)) (allowed own one.progress other mv chosen)
 
     -- a list of the queued messages, if there is one by places
-    module _ (n : ℕ) (found : Reply T A) (alike : IsAlike events n c.queue (made mv one.place c).0 found) where
-      listed : (r_ : Reply T A) → IsAlike events n c.queue reply.Drained r_ → MayBeGiven A (channel o (steps_in r.past)) step.Drain
+    module _ (n : ℕ) (found : Reply T A) (corresponds : Corresponds events n c.queue (outcome mv one.place c).0 found) where
+      listed : (r_ : Reply T A) → Corresponds events n c.queue reply.Drained r_ → MayBeGiven A (channel o (steps_in r.past)) step.Drain
       listed (given.Drained list) h = (
         list,
-        some_apart events own list.items r.agrees.state.queue (sym h ∙ r.agrees.channel.queue_is) ∙ sym (queue_at_log r.agrees.stands),
+        some_apart events own list.items r.agrees.state.queue (sym h ∙ r.agrees.channel.queue_is) ∙ sym (queue_at_log r.agrees.represents),
       )
       listed _ h = absurd h
 
@@ -239,7 +239,7 @@ module _ {T A : Type 0} (equal : T → T → Bool) (events : List (Event T A)) w
       may_be_given (step.Send m) is = left (may_so (step.Send m) is).0
       may_be_given (step.Recv kind) is = left (may_so (step.Recv kind) is).0
       may_be_given step.Drain is =
-          listed found (subst (λ m. IsAlike events n c.queue (made m one.place c).0 found) (sym (step_move own ticket mv step.Drain is)) alike)
+          listed found (subst (λ m. Corresponds events n c.queue (outcome m one.place c).0 found) (sym (step_move own ticket mv step.Drain is)) corresponds)
       may_be_given _ is = tt
 
       move_on : (new : State) → first_answer t rest ≡ recorded → CallLeadsTo equal events c recorded one own mv false new
@@ -250,9 +250,9 @@ module _ {T A : Type 0} (equal : T → T → Bool) (events : List (Event T A)) w
           goes_on got.0 new got.1 (leads rest t other first chosen o r.past made_step.0 got.0 (is_made false got.0 got.2 got.1))
 
     knows : (s : Step T) → step_for own ticket mv ≡ Some s
-        → KnowsMove events o (steps_in r.past) r.agrees.state c r.agrees.tickets one.place r.agrees.stands r.agrees.channel s
-    knows (step.Send m) is = subst (λ n. n < most) (sym r.agrees.stands.next_is) (left (may_so (step.Send m) is).0)
-    knows (step.Recv kind) is = subst (λ n. n < most) (sym r.agrees.stands.next_is) (left (may_so (step.Recv kind) is).0)
+        → KnowsMove events o (steps_in r.past) r.agrees.state c r.agrees.tickets one.place r.agrees.represents r.agrees.channel s
+    knows (step.Send m) is = subst (λ n. n < most) (sym r.agrees.represents.next_is) (left (may_so (step.Send m) is).0)
+    knows (step.Recv kind) is = subst (λ n. n < most) (sym r.agrees.represents.next_is) (left (may_so (step.Recv kind) is).0)
     knows (step.Poll n) is =
         let polls : move.Poll ≡ mv = step_move own ticket mv (step.Poll n) is in
         let asks : ◌≡◌ {A = Option (Step T)} (Some (step.Poll ticket)) (Some (step.Poll n)) =
@@ -269,8 +269,8 @@ module _ {T A : Type 0} (equal : T → T → Bool) (events : List (Event T A)) w
     refused_on : (new : State) → first_answer t rest ≡ recorded → may_be_refused mv one.place c ≡ true
         → CallLeadsTo equal events c recorded one own mv true new → IsReached equal events o place new
     refused_on new first may leads =
-        let lawful = want_allowed r.agrees.stands made_step.0
-        (may_want events o (steps_in r.past) r.agrees.state c r.agrees.tickets one.place r.agrees.stands r.agrees.channel made_step.0
+        let lawful = want_allowed r.agrees.represents made_step.0
+        (may_want events o (steps_in r.past) r.agrees.state c r.agrees.tickets one.place r.agrees.represents r.agrees.channel made_step.0
         (ap (λ m. may_be_refused m one.place c) (step_move own ticket mv made_step.0 made_step.1) ∙ may) (knows made_step.0 made_step.1)) in
         goes_on (NoMemory (handed_in made_step.0)) new lawful
         (leads rest t other first chosen o r.past made_step.0 (NoMemory (handed_in made_step.0))
@@ -278,11 +278,11 @@ module _ {T A : Type 0} (equal : T → T → Bool) (events : List (Event T A)) w
 
   -- a move that isn't refused, with a reply that is alike by places
   pub move_reaches : (place : ℕ) (c : State) (recorded : Option (Answer T A)) (one : OpenCall) (own : Call T) (mv : Move) (n : ℕ) (found : Reply T A)
-      (new : State) → IsAlike events n c.queue (made mv one.place c).0 found → CallLeadsTo equal events c recorded one own mv false new
+      (new : State) → Corresponds events n c.queue (outcome mv one.place c).0 found → CallLeadsTo equal events c recorded one own mv false new
       → MoveReaches equal events place c recorded one own mv new
-  move_reaches place c recorded one own mv n found new alike leads other call_is chosen within has first o r =
+  move_reaches place c recorded one own mv n found new corresponds leads other call_is chosen within has first o r =
       let own_thread = mine place c recorded one own mv other call_is chosen within has o r in
-      move_on place c recorded one own mv other call_is chosen within has o r n found alike new (first own_thread.0 own_thread.1) leads
+      move_on place c recorded one own mv other call_is chosen within has o r n found corresponds new (first own_thread.0 own_thread.1) leads
 
   -- a refused one
   pub refusal_reaches : (place : ℕ) (c : State) (recorded : Option (Answer T A)) (one : OpenCall) (own : Call T) (mv : Move) (new : State)

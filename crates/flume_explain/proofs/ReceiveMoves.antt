@@ -24,12 +24,12 @@ use Rattle.flume_core.proofs.Views.{open_at_log, closed_at_log}
 use Rattle.flume_core.proofs.Answering.{empty_line, front_line}
 use Rattle.flume_concurrent.specs.declared.event.Event.{Event}
 use Rattle.flume_explain.specs.declared.configuration.ParkedReceive.{ParkedReceive}
-use Rattle.flume_explain.specs.declared.configuration.Standing.TheVariants as standing
+use Rattle.flume_explain.specs.declared.configuration.Status.TheVariants as status
 use Rattle.flume_explain.specs.declared.place_reply.PlaceReply.TheVariants as reply
 use Rattle.flume_explain.specs.declared.step_of.Move.TheVariants as move
 use Rattle.flume_explain.specs.Configurations.{State}
 use Rattle.flume_explain.specs.ByPlaces.{closed_now, with_front, take_leaving}
-use Rattle.flume_explain.specs.Made.{Answer, made, received_from, parked}
+use Rattle.flume_explain.specs.Outcomes.{ReplyAndState, outcome, receive_outcome_from, with_parked}
 use Rattle.flume_explain.specs.Mirrors.{Mirrors, Answers, IsLeft}
 use Rattle.flume_explain.specs.Moves.{is_refusal}
 use Rattle.flume_explain.proofs.MoveAnswers.{MoveAnswers, IsNew}
@@ -55,9 +55,9 @@ module _ {T A : Type 0} (events : List (Event T A)) (o : Opening) (log : Log T A
       let taken = mirror_take events tickets s c p later mirrors front in
       record {
         reply = own.Got taken.0;
-        alike = taken.3;
+        corresponds = taken.3;
         state = after_take taken.1 s;
-        stands = leads taken.0 taken.1 _ taken.2 refl;
+        represents = leads taken.0 taken.1 _ taken.2 refl;
         mirrors = taken.4;
         blocked_left = taken_blocked (IsLeft reply.Pending (reply.Got p) place c.blocked) later c
             (all_left (reply.Got p) place c.blocked new.not_blocked);
@@ -65,10 +65,10 @@ module _ {T A : Type 0} (events : List (Event T A)) (o : Opening) (log : Log T A
       }
 
   -- a receive that doesn't wait
-  tries : Answers events o log tickets s c place TryRecv (made move.TryRecv place c).0 (made move.TryRecv place c).1
+  tries : Answers events o log tickets s c place TryRecv (outcome move.TryRecv place c).0 (outcome move.TryRecv place c).1
   tries = go (with_front c).queue refl
     where
-      Tried : Answer → Type 0
+      Tried : ReplyAndState → Type 0
       Tried answer = Answers events o log tickets s c place TryRecv answer.0 answer.1
 
       none : (with_front_there s).queue ≡ [] → (b : Bool) → closed_now c ≡ b
@@ -83,7 +83,7 @@ module _ {T A : Type 0} (events : List (Event T A)) (o : Opening) (log : Log T A
           (empty_line o log s h empty, open_at_log h is) refl
 
       go : (queue : List ℕ) → (with_front c).queue ≡ queue
-          → Tried (received_from queue (if closed_now c then (reply.Ended, c) else (reply.Empty, c)) c)
+          → Tried (receive_outcome_from queue (if closed_now c then (reply.Ended, c) else (reply.Empty, c)) c)
       go [] front = none (mirror_empty events tickets s c mirrors front) (closed_now c) refl
       go (p ∷ later) front =
           got TryRecv p later front
@@ -102,31 +102,31 @@ module _ {T A : Type 0} (events : List (Event T A)) (o : Opening) (log : Log T A
 
   -- a receive that parks if there is no message
   receives : (kind : Kind) (given : Reply T A) → IsReply (channel o log) (Recv kind) given → is_refusal given ≡ false
-      → Answers events o log tickets s c place (Recv kind) (made (move.Recv kind) place c).0 (made (move.Recv kind) place c).1
+      → Answers events o log tickets s c place (Recv kind) (outcome (move.Recv kind) place c).0 (outcome (move.Recv kind) place c).1
   receives kind given lawful granted = go (with_front c).queue refl
     where
-      Received : Answer → Type 0
+      Received : ReplyAndState → Type 0
       Received answer = Answers events o log tickets s c place (Recv kind) answer.0 answer.1
 
-      waits : (with_front_there s).queue ≡ [] → IsOpen s.senders s.receivers → Received (reply.Parked, parked kind place c)
+      waits : (with_front_there s).queue ≡ [] → IsOpen s.senders s.receivers → Received (reply.Parked, with_parked kind place c)
       waits empty open_ =
           let line_empty = empty_line o log s h empty in
           let open_there = open_at_log h open_ in
           record {
             reply = own.Parked s.next;
-            alike = refl;
+            corresponds = refl;
             state = _;
-            stands = parks o log _ s _ kind tt h
+            represents = parks o log _ s _ kind tt h
                 (line_empty, open_there, some_left kind given lawful granted line_empty open_there, h.next_is) refl refl;
             mirrors = mirror_parked events tickets s c place kind mirrors new.not_blocked new.not_parked;
             blocked_left = all_left reply.Parked place c.blocked new.not_blocked;
             receives_left =
-                let last : ParkedReceive = record { place = place; kind = kind; standing = standing.Waiting } in
+                let last : ParkedReceive = record { place = place; kind = kind; status = status.Waiting } in
                 rw (map_push (λ r. r.place) c.receives last) (one_joins reply.Parked place (places c.receives) elsewhere);
           }
 
       none : (with_front_there s).queue ≡ [] → (b : Bool) → closed_now c ≡ b
-          → Received (if b then (reply.Ended, c) else (reply.Parked, parked kind place c))
+          → Received (if b then (reply.Ended, c) else (reply.Parked, with_parked kind place c))
       none empty true closed =
           let is = closed_if s.senders s.receivers (sym (closed_same events tickets s c mirrors) ∙ closed) in
           answers_unchanged events o log s c tickets place h mirrors new (Recv kind) reply.Ended own.Ended refl tt
@@ -135,7 +135,7 @@ module _ {T A : Type 0} (events : List (Event T A)) (o : Opening) (log : Log T A
           waits empty (open_if s.senders s.receivers (sym (closed_same events tickets s c mirrors) ∙ open_))
 
       go : (queue : List ℕ) → (with_front c).queue ≡ queue
-          → Received (received_from queue (if closed_now c then (reply.Ended, c) else (reply.Parked, parked kind place c)) c)
+          → Received (receive_outcome_from queue (if closed_now c then (reply.Ended, c) else (reply.Parked, with_parked kind place c)) c)
       go [] front = none (mirror_empty events tickets s c mirrors front) (closed_now c) refl
       go (p ∷ later) front =
           got (Recv kind) p later front
@@ -146,12 +146,12 @@ module _ {T A : Type 0} (events : List (Event T A)) where
   pub answers_try_recv : MoveAnswers events move.TryRecv
   answers_try_recv o log s c tickets place call step given h mirrors at is ready lawful granted =
       let step_is : TryRecv ≡ step = cc in
-      subst (λ x. Answers events o log tickets s c place x (made move.TryRecv place c).0 (made move.TryRecv place c).1) step_is
+      subst (λ x. Answers events o log tickets s c place x (outcome move.TryRecv place c).0 (outcome move.TryRecv place c).1) step_is
       (tries events o log s c tickets place h mirrors ready)
 
   -- a receive that may park
   pub answers_recv : (kind : Kind) → MoveAnswers events (move.Recv kind)
   answers_recv kind o log s c tickets place call step given h mirrors at is ready lawful granted =
       let step_is : Recv kind ≡ step = cc in
-      subst (λ x. Answers events o log tickets s c place x (made (move.Recv kind) place c).0 (made (move.Recv kind) place c).1) step_is
+      subst (λ x. Answers events o log tickets s c place x (outcome (move.Recv kind) place c).0 (outcome (move.Recv kind) place c).1) step_is
       (receives events o log s c tickets place h mirrors ready kind given (rw (← step_is) at lawful) granted)

@@ -25,7 +25,7 @@ use Rattle.flume_explain.specs.declared.step_of.Move.{Move}
 use Rattle.flume_explain.specs.declared.step_of.Move.TheVariants as move
 use Rattle.flume_explain.specs.Configurations.{is_parked}
 use Rattle.flume_explain.specs.Moves.{is_refusal}
-use Rattle.flume_explain.specs.Progresses.{progress_of, unticketed, may_refuse}
+use Rattle.flume_explain.specs.Progresses.{progress_of, clear_ticket, may_refuse}
 use Rattle.flume_explain.proofs.Furthered.{HasTicket}
 use Rattle.flume_explain.proofs.MoveFacts.{IsAllowed, move_for}
 
@@ -109,7 +109,7 @@ module _ {T A : Type 0} where
 
   -- how far a call is that was refused
   pub record IsRefused (own : Call T) (stage : Stage T A) (r : Reply T A) : Type 0 where
-    pub leads : unticketed (stage_after own stage r) ≡ unticketed (stage_after own (unticketed stage) (NoMemory None))
+    pub leads : clear_ticket (stage_after own stage r) ≡ clear_ticket (stage_after own (clear_ticket stage) (NoMemory None))
     pub ticket : (n : ℕ) → HasTicket own n stage → HasTicket own n (stage_after own stage r)
     pub parks : is_parked (progress_of (stage_after own stage r)) ≡ is_parked (progress_of stage)
 

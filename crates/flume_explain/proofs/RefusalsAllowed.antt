@@ -14,11 +14,11 @@ use Rattle.flume_state.specs.Receivers.{receiver_status, status_by, only_leaves}
 use Rattle.flume_state.specs.Effects.{with_front}
 use Rattle.flume_state.specs.State.{State as Channel, offers_of}
 use Rattle.flume_core.specs.Represents.{Represents}
-use Rattle.flume_core.specs.Wanting.{MayWant}
+use Rattle.flume_core.specs.Wanting.{NoMemoryIsLawful}
 use Rattle.flume_concurrent.specs.declared.event.Event.{Event}
 use Rattle.flume_explain.specs.declared.configuration.ParkedReceive.{ParkedReceive}
-use Rattle.flume_explain.specs.declared.configuration.Standing.{Standing}
-use Rattle.flume_explain.specs.declared.configuration.Standing.TheVariants.{Waiting, Woken, Filled}
+use Rattle.flume_explain.specs.declared.configuration.Status.{Status}
+use Rattle.flume_explain.specs.declared.configuration.Status.TheVariants.{Waiting, Woken, Filled}
 use Rattle.flume_explain.specs.Configurations.{State}
 use Rattle.flume_explain.specs.ByPlaces.{closed_now, full_now, some_waits}
 use Rattle.flume_explain.specs.Receives.{receive_of}
@@ -69,31 +69,31 @@ empty_by [] is = refl
 empty_by (x ∷ xs) is = absurd (omega arith)
 
 module _ {T A : Type 0} (events : List (Event T A)) (o : Opening) (log : Log T A) (s : Channel T (Unit {0})) (c : State) (tickets : ℕ → ℕ)
-    (place : ℕ) (h : Represents o log s) (alike : Mirrors events tickets s c) where
+    (place : ℕ) (h : Represents o log s) (corresponds : Mirrors events tickets s c) where
   open_so : not (closed_now c) ≡ true → IsOpen s.senders s.receivers
-  open_so is = some (min s.senders s.receivers) (ap not (sym (closed_same events tickets s c alike)) ∙ is)
+  open_so is = some (min s.senders s.receivers) (ap not (sym (closed_same events tickets s c corresponds)) ∙ is)
 
   same_blocked : length c.blocked ≡ length s.blocked
   same_blocked =
-      sym (length-map c.blocked (offer_for events tickets)) ∙ ap length alike.blocked_are
+      sym (length-map c.blocked (offer_for events tickets)) ∙ ap length corresponds.blocked_are
       ∙ length-map (offers_of s.blocked) some_offer ∙ length-map s.blocked (λ b. record { message = b.message; ticket = Some b.ticket })
 
   blocked_so : some_blocked c ≡ true → 0 < length s.blocked
   blocked_so is = let same = same_blocked in let more = some (length c.blocked) is in omega arith
 
   queued_so : some_queued c ≡ true → 0 < length s.queue
-  queued_so is = let same = length_same events tickets s c alike in let more = some (length c.queue) is in omega arith
+  queued_so is = let same = length_same events tickets s c corresponds in let more = some (length c.queue) is in omega arith
 
   -- with nothing queued or blocked, nothing comes to the front
   nothing_so : not (some_queued c) ≡ true → length s.blocked ≡ 0 → (with_front s).queue ≡ []
   nothing_so off none =
-      let same = length_same events tickets s c alike in
+      let same = length_same events tickets s c corresponds in
       let empty_ = none_by (length c.queue) off in
       let queue : s.queue ≡ [] = empty_by s.queue (omega arith) in
       let blocked : s.blocked ≡ [] = empty_by s.blocked none in
       rw (queue, blocked) refl
 
-  looks_so : (k : Kind) (st : Standing) (m : Mark T) → mark_of events st ≡ some_mark m → looks k st ≡ true → only_leaves (Some (status_by k m)) ≡ true
+  looks_so : (k : Kind) (st : Status) (m : Mark T) → mark_of events st ≡ some_mark m → looks k st ≡ true → only_leaves (Some (status_by k m)) ≡ true
   looks_so k (Filled p) m is on = absurd (false≢true on)
   looks_so Block Waiting m is on = absurd (false≢true on)
   looks_so Block Woken m is on = absurd (false≢true on)
@@ -115,11 +115,11 @@ module _ {T A : Type 0} (events : List (Event T A)) (o : Opening) (log : Log T A
       → All (IsAlone events tickets place) c.receives → only_leaves (receiver_status (tickets place) s.entries) ≡ true
   looking None at on alone = absurd (false≢true on)
   looking (Some r) at on alone =
-      let entry = stands_as events tickets s c place alike alone r at in
-      ap only_leaves entry.stands ∙ looks_so r.kind r.standing entry.marked entry.is on
+      let entry = stands_as events tickets s c place corresponds alone r at in
+      ap only_leaves entry.represents ∙ looks_so r.kind r.status entry.marked entry.is on
 
   receive_so : (kind : Kind) → s.next < most → (n : ℕ) → length s.blocked ≡ n
-      → (some_blocked c ≡ true) ⊎ ((not (some_queued c) && not (closed_now c)) ≡ true) → MayWant s (step.Recv kind)
+      → (some_blocked c ≡ true) ⊎ ((not (some_queued c) && not (closed_now c)) ≡ true) → NoMemoryIsLawful s (step.Recv kind)
   receive_so kind left n is (inl some_) = inl (blocked_so some_)
   receive_so kind left zero is (inr nothing) =
       let two = both (not (some_queued c)) (not (closed_now c)) nothing in
@@ -127,12 +127,12 @@ module _ {T A : Type 0} (events : List (Event T A)) (o : Opening) (log : Log T A
   receive_so kind left (suc n) is (inr nothing) = inl (omega arith)
 
   -- a move that may be refused may want memory
-  pub may_want : (own : Step T) → may_be_refused (move_for own) place c ≡ true → KnowsMove own → MayWant s own
+  pub may_want : (own : Step T) → may_be_refused (move_for own) place c ≡ true → KnowsMove own → NoMemoryIsLawful s own
   may_want (step.TrySend m) may knows =
       let two = both (not (closed_now c)) (not (not (some_waits c.receives) && full_now c)) may in (
         open_so two.0,
-        λ finds. no_room (some_waits c.receives) (full_now c) two.1 (waits_same events tickets s c alike ∙ finds.1)
-            (full_same events tickets s c alike ∙ full_at s.capacity (length s.queue) finds.2),
+        λ finds. no_room (some_waits c.receives) (full_now c) two.1 (waits_same events tickets s c corresponds ∙ finds.1)
+            (full_same events tickets s c corresponds ∙ full_at s.capacity (length s.queue) finds.2),
       )
   may_want (step.Send m) may knows = (open_so may, λ finds. knows)
   may_want step.TryRecv may knows = blocked_so may

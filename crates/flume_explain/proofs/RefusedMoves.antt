@@ -29,8 +29,8 @@ use Rattle.flume_core.proofs.Views.{line_messages, boundary_is, waiting_at_log, 
 use Rattle.flume_concurrent.specs.declared.call.Call.{Call}
 use Rattle.flume_concurrent.specs.declared.event.Event.{Event}
 use Rattle.flume_explain.specs.declared.configuration.ParkedReceive.{ParkedReceive}
-use Rattle.flume_explain.specs.declared.configuration.Standing.{Standing}
-use Rattle.flume_explain.specs.declared.configuration.Standing.TheVariants.{Waiting, Woken, Filled}
+use Rattle.flume_explain.specs.declared.configuration.Status.{Status}
+use Rattle.flume_explain.specs.declared.configuration.Status.TheVariants.{Waiting, Woken, Filled}
 use Rattle.flume_explain.specs.declared.step_of.Move.{Move}
 use Rattle.flume_explain.specs.declared.step_of.Move.TheVariants as move
 use Rattle.flume_explain.specs.Configurations.{State}
@@ -86,18 +86,18 @@ room_or_waits false true h = absurd (false≢true (sym (h refl)))
 room_or_waits false false h = refl
 
 module _ {T A : Type 0} (events : List (Event T A)) (o : Opening) (log : Log T A) (s : Channel T (Unit {0})) (c : State) (tickets : ℕ → ℕ)
-    (place : ℕ) (h : Represents o log s) (alike : Mirrors events tickets s c) where
+    (place : ℕ) (h : Represents o log s) (corresponds : Mirrors events tickets s c) where
   -- an open channel isn't closed here
   open_here : IsOpen (senders log) (receivers log) → not (closed_now c) ≡ true
   open_here is =
       let a = h.senders_are in
       let b = h.receivers_are in
-      ap not (closed_same events tickets s c alike) ∙ some (min s.senders s.receivers) (omega arith)
+      ap not (closed_same events tickets s c corresponds) ∙ some (min s.senders s.receivers) (omega arith)
 
   -- as many sends are blocked
   same_blocked : length c.blocked ≡ length s.blocked
   same_blocked =
-      sym (length-map c.blocked (offer_for events tickets)) ∙ ap length alike.blocked_are
+      sym (length-map c.blocked (offer_for events tickets)) ∙ ap length corresponds.blocked_are
       ∙ length-map (offers_of s.blocked) some_offer ∙ length-map s.blocked (λ b. record { message = b.message; ticket = Some b.ticket })
 
   -- how long the line is
@@ -117,7 +117,7 @@ module _ {T A : Type 0} (events : List (Event T A)) (o : Opening) (log : Log T A
   -- if some of it is queued, a message is
   queued_here : 0 < boundary o log → some_queued c ≡ true
   queued_here more =
-      let a = length_same events tickets s c alike in
+      let a = length_same events tickets s c corresponds in
       let d = boundary_is h in
       some (length c.queue) (omega arith)
 
@@ -126,19 +126,19 @@ module _ {T A : Type 0} (events : List (Event T A)) (o : Opening) (log : Log T A
   none_queued none =
       let a : length (messages (line log)) ≡ 0 = ap length none in
       let b = whole in
-      let d = length_same events tickets s c alike in
+      let d = length_same events tickets s c corresponds in
       let e : length c.queue ≡ 0 = omega arith in
       ap (λ n. not (not (n == 0))) e
 
   -- a send is taken in
   room_here : TakesIn (channel o log) → not (not (some_waits c.receives) && full_now c) ≡ true
   room_here takes = room_or_waits (some_waits c.receives) (full_now c)
-      (λ none. full_same events tickets s c alike ∙ not_full s.capacity (length s.queue)
+      (λ none. full_same events tickets s c corresponds ∙ not_full s.capacity (length s.queue)
       (subst (λ n. HasRoom s.capacity n) (sym (boundary_is h)) (subst (λ n. HasRoom n (boundary o log)) (sym h.capacity_is)
-      (takes.1 (waiting_at_log h ∙ sym (waits_same events tickets s c alike) ∙ none)))))
+      (takes.1 (waiting_at_log h ∙ sym (waits_same events tickets s c corresponds) ∙ none)))))
 
   -- a parked receive that is refused memory looks at the line
-  refused_mark : (k : Kind) (st : Standing) (m : Mark T) (back : Option T) → mark_of events st ≡ some_mark m
+  refused_mark : (k : Kind) (st : Status) (m : Mark T) (back : Option T) → mark_of events st ≡ some_mark m
       → IsPolledMark {A = A} (channel o log) k m (NoMemory back) → (looks k st ≡ true) × (boundary o log < length (messages (line log)))
   refused_mark k (Filled p) m back is polled =
       let filled = filled_mark events p m is in
@@ -174,7 +174,7 @@ module _ {T A : Type 0} (events : List (Event T A)) (o : Opening) (log : Log T A
   refused_entry (Some r) (Some e) back same polled =
       let is : entry_for events tickets r ≡ some_entry e = cc in
       let kind : r.kind ≡ e.kind = ap (λ x. x.kind) is in
-      refused_mark r.kind r.standing e.mark back (ap (λ x. x.mark) is)
+      refused_mark r.kind r.status e.mark back (ap (λ x. x.mark) is)
       (subst (λ k. IsPolledMark {A = A} (channel o log) k e.mark (NoMemory back)) (sym kind) polled)
 
   -- one that asks doesn't want for tickets
@@ -214,7 +214,7 @@ module _ {T A : Type 0} (events : List (Event T A)) (o : Opening) (log : Log T A
       second (some_blocked c) (not (some_queued c) && not (closed_now c))
       (both (not (some_queued c)) (not (closed_now c)) (none_queued lawful.0) (open_here lawful.1))
   refused_here (step.Poll t) (NoMemory back) e lawful knows =
-      let found = sym (placed_entry events tickets place c.receives knows.1) ∙ ap (entry_of (tickets place)) alike.receives_are
+      let found = sym (placed_entry events tickets place c.receives knows.1) ∙ ap (entry_of (tickets place)) corresponds.receives_are
       ∙ some_entry_of (tickets place) (map bare s.entries) ∙ ap (λ l. option_map some_entry (entry_of (tickets place) l)) h.entries_are in
       let k = refused_entry (receive_of place c.receives) (entry_of (tickets place) (entries o log)) back found
       (subst (λ n. IsPolled {A = A} (channel o log) (entry_of n (entries o log)) (NoMemory back)) knows.0 lawful) in

@@ -6,12 +6,12 @@ use Rattle.flume_model.specs.declared.step.Step.{Step}
 use Rattle.flume_model.specs.declared.step.Reply.{Reply}
 use Rattle.flume_model.specs.declared.step.Reply.TheVariants.{NoMemory, Drained}
 use Rattle.flume_model.specs.Log.{Log, Opening, change}
-use Rattle.flume_model.specs.Line.{issued}
+use Rattle.flume_model.specs.Line.{tickets_issued}
 use Rattle.flume_model.specs.Channel.{channel}
 use Rattle.flume_model.specs.Replies.{IsReply, SameReply}
 use Rattle.flume_state.specs.State.{State as Channel}
 use Rattle.flume_core.specs.Represents.{Represents}
-use Rattle.flume_history.specs.SameRuns.{IsWant}
+use Rattle.flume_history.specs.SameRuns.{IsNoMemory}
 use Rattle.flume_history.proofs.OneBlocked.{one_blocked}
 use Rattle.flume_history.proofs.OneReply.{one_reply}
 use Rattle.flume_concurrent.specs.declared.call.Call.{Call}
@@ -23,7 +23,7 @@ use Rattle.flume_concurrent.specs.declared.stage.Stage.{Stage}
 use Rattle.flume_concurrent.specs.declared.stage.Stage.TheVariants as stage
 use Rattle.flume_concurrent.specs.Answers.{may_return}
 use Rattle.flume_concurrent.specs.Calls.{stage_after}
-use Rattle.flume_concurrent.specs.Explanations.{open_call, steps_in, further}
+use Rattle.flume_concurrent.specs.Explanations.{open_call, steps_in, after_reply}
 use Rattle.flume_explain.specs.declared.configuration.OpenCall.{OpenCall}
 use Rattle.flume_explain.specs.declared.configuration.ParkedReceive.{ParkedReceive}
 use Rattle.flume_explain.specs.declared.configuration.Progress.{Progress}
@@ -32,13 +32,13 @@ use Rattle.flume_explain.specs.declared.place_reply.PlaceReply.{PlaceReply}
 use Rattle.flume_explain.specs.declared.place_reply.PlaceReply.TheVariants as reply
 use Rattle.flume_explain.specs.declared.step_of.Move.{Move}
 use Rattle.flume_explain.specs.declared.step_of.Move.TheVariants as move
-use Rattle.flume_explain.specs.Configurations.{State, progressed, is_parked, call_at, call_by, first_answer}
-use Rattle.flume_explain.specs.Made.{made}
-use Rattle.flume_explain.specs.Mirrors.{Mirrors, Answers, IsAlike, IsLeft, parks, stays_parked, tickets_after}
+use Rattle.flume_explain.specs.Configurations.{State, calls_with_progress, is_parked, call_at, call_by, first_answer}
+use Rattle.flume_explain.specs.Outcomes.{outcome}
+use Rattle.flume_explain.specs.Mirrors.{Mirrors, Answers, Corresponds, IsLeft, parks, stays_parked, tickets_after}
 use Rattle.flume_explain.specs.Agreement.{Agrees, AreParked, IsOwn, IsProgress, parked_at}
 use Rattle.flume_explain.specs.Moves.{move_of, is_refusal}
 use Rattle.flume_explain.specs.Leads.{IsMade, IsWrong}
-use Rattle.flume_explain.specs.Progresses.{progress_of, unticketed, is_wrong}
+use Rattle.flume_explain.specs.Progresses.{progress_of, clear_ticket, is_wrong}
 use Rattle.flume_explain.proofs.MoveAnswers.{MoveAnswers, IsReady, IsNew, IsApart}
 use Rattle.flume_explain.proofs.CallLists.{parked_self, parked_there}
 use Rattle.flume_explain.proofs.SameReplies.{stands_same}
@@ -47,7 +47,7 @@ use Rattle.flume_explain.proofs.Furthered.{progress_is, progress_after, parked_a
 use Rattle.flume_explain.proofs.MoveFacts.{IsAllowed, allowed, move_for, step_move, may_answer, made_may, met_by_move, parking_issues}
 use Rattle.flume_explain.proofs.Parking.{IsLeftParked, tickets_if, ticket_kept, parked_if}
 use Rattle.flume_explain.proofs.Agreeing.{agrees_after}
-use Rattle.flume_explain.proofs.Answering.{same_alike, no_want, not_refused, progress_by, wrong_by, wrong_answer, placed_all, waits_on, ready}
+use Rattle.flume_explain.proofs.Answering.{same_alike, had_memory, not_refused, progress_by, wrong_by, wrong_answer, placed_all, waits_on, ready}
 use Rattle.flume_explain.proofs.Stepping.{wrong_step, mirrors_calls}
 use Rattle.flume_explain.proofs.Refusals.{IsRefused, refused_may, refused_stays, refused_leads}
 use Rattle.flume_explain.proofs.Furthered.{has_ticket, progress_right}
@@ -81,7 +81,7 @@ module _ {T A : Type 0} (equal : T → T → Bool) (events : List (Event T A))
 
   -- the stage that it leads to, and how far the call is then
   abbrev pub refused_stage : Stage T A
-  refused_stage = stage_after own (unticketed h.stage) (NoMemory None)
+  refused_stage = stage_after own (clear_ticket h.stage) (NoMemory None)
 
   -- how far the call is after this reply
   abbrev q : Progress
@@ -116,9 +116,9 @@ module _ {T A : Type 0} (equal : T → T → Bool) (events : List (Event T A))
       (refused.ticket (h.agrees.tickets one.place)
       (has_ticket equal events own (first_answer t rest) (h.agrees.tickets one.place) one.progress h.stage h.progress_is))
       (wrong_by equal own (first_answer t rest) (stage_after own h.stage reply) refused_stage refused.leads ∙ right))
-      (still o (steps_in past) (step, reply) h.agrees.state h.agrees.state h.agrees.stands h.lawful
+      (still o (steps_in past) (step, reply) h.agrees.state h.agrees.state h.agrees.represents h.lawful
       (refused_stays (steps_in past) step reply h.refused_is) refl)
-      (mirrors_calls events h.agrees.tickets h.agrees.state c (progressed one.place q c.calls) h.agrees.channel)
+      (mirrors_calls events h.agrees.tickets h.agrees.state c (calls_with_progress one.place q c.calls) h.agrees.channel)
       (parked_if events c (with_progress one.place q c) t one q h.is_own refl h.agrees.tickets h.agrees.state.next h.agrees.state.next
       h.agrees.parked (omega arith) false (λ e. absurd (let none : ⊥ = cc in none)) (λ off on. sym parks_so ∙ on)
       (All-weaker (λ p. parked_at c.calls p ≡ true) (IsLeftParked c.calls one.place q) left_parked c.blocked h.agrees.parked.blocked_parked)

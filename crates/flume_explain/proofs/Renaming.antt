@@ -10,7 +10,7 @@ use Rattle.flume_model.specs.declared.entry.Entry.{Entry}
 use Rattle.flume_model.specs.declared.entry.Mark.{Mark}
 use Rattle.flume_model.specs.declared.entry.Mark.TheVariants.{Waiting, Woken, Filled}
 use Rattle.flume_model.specs.Entries.{is_waiting, is_woken, round, round_fills, round_for, round_for_fills, all_woken, entry_of}
-use Rattle.flume_model.specs.Entries.{without, again_as, again, passes_on, after_leave, leave_fills, some_wait}
+use Rattle.flume_model.specs.Entries.{without_ticket, again_as, again, passes_on, after_leave, leave_fills, some_wait}
 use Rattle.flume_model.specs.Parked.{LogEntry, same_notice}
 use Rattle.flume_explain.specs.Mirrors.{some_mark, some_entry}
 
@@ -85,12 +85,12 @@ module _ {T : Type 0} where
       by_case false other rest = simp other rest
 
   -- the others
-  pub some_without : (t : ℕ) (es : List (LogEntry T)) → map some_entry (without t es) ≡ without t (map some_entry es)
+  pub some_without : (t : ℕ) (es : List (LogEntry T)) → map some_entry (without_ticket t es) ≡ without_ticket t (map some_entry es)
   some_without t [] = refl
   some_without t (e ∷ es) = by_case (eqb e.ticket t) refl (some_without t es)
     where
-      by_case : (b : Bool) → eqb e.ticket t ≡ b → map some_entry (without t es) ≡ without t (map some_entry es)
-          → map some_entry (without t (e ∷ es)) ≡ without t (map some_entry (e ∷ es))
+      by_case : (b : Bool) → eqb e.ticket t ≡ b → map some_entry (without_ticket t es) ≡ without_ticket t (map some_entry es)
+          → map some_entry (without_ticket t (e ∷ es)) ≡ without_ticket t (map some_entry (e ∷ es))
       by_case true same rest = simp same refl
       by_case false other rest = simp other (ap (λ l. some_entry e ∷ l) rest)
 
@@ -106,7 +106,7 @@ module _ {T : Type 0} where
               ≡ again_as t (Some (some_entry (entry u k m))) (map some_entry es)
           step Waiting k u = refl
           step Woken k u =
-              map_push some_entry (without t es) (entry u k Waiting)
+              map_push some_entry (without_ticket t es) (entry u k Waiting)
               ∙ ap (λ l. l ++ some_entry (entry u k Waiting) ∷ []) (some_without t es)
           step (Filled y) k u = refl
 
@@ -127,7 +127,7 @@ module _ {T : Type 0} where
           → map some_entry (after_leave same_notice t queue es) ≡ after_leave same_notice t (map Some queue) (map some_entry es)
       go true e =
           rw (some_passes t es, e)
-          (some_round_for queue (without t es) ∙ ap (round_for same_notice (map Some queue)) (some_without t es))
+          (some_round_for queue (without_ticket t es) ∙ ap (round_for same_notice (map Some queue)) (some_without t es))
       go false e = rw (some_passes t es, e) (some_without t es)
 
   pub some_leave_fills : (t : ℕ) (queue : List T) (es : List (LogEntry T))
@@ -137,5 +137,5 @@ module _ {T : Type 0} where
       go : (b : Bool) → passes_on (entry_of t es) ≡ b → leave_fills t (map Some queue) (map some_entry es) ≡ leave_fills t queue es
       go true e =
           rw (some_passes t es, e)
-          (ap (round_for_fills (map Some queue)) (sym (some_without t es)) ∙ some_round_for_fills queue (without t es))
+          (ap (round_for_fills (map Some queue)) (sym (some_without t es)) ∙ some_round_for_fills queue (without_ticket t es))
       go false e = rw (some_passes t es, e) refl

@@ -2,7 +2,7 @@
 use Rattle.std.proofs.Common.{◌≡◌, ℕ, ◌<◌, ◌++◌, Bool, true, false, List, [], ◌∷◌, length, take, drop, refl, sym, ◌∙◌, ap}
 use Rattle.std.proofs.Common.{set, suc, ◌⊎◌, inl, inr}
 use Rattle.flume_model.specs.declared.step.Kind.TheVariants.{Block, Plain, Arm}
-use Rattle.flume_explain.specs.declared.configuration.Standing.TheVariants.{Woken, Filled}
+use Rattle.flume_explain.specs.declared.configuration.Status.TheVariants.{Woken, Filled}
 use Rattle.std.proofs.lemmas.List.{set_split}
 use Rattle.flume_explain.specs.declared.configuration.ParkedReceive.{ParkedReceive}
 use Rattle.flume_explain.specs.Receives.{waits, round_of}
@@ -15,13 +15,13 @@ ends_here front i cur all new r lt is at met =
     set_split cur i new lt ∙ ap (λ l. take i cur ++ l) (sym (ap (round_of front) at ∙ met)) ∙ sym is
 
 -- a waiting receive that blocks is filled
-pub meets_block : (front : ℕ) (r : ParkedReceive) (rs : List ParkedReceive) → waits r.standing ≡ true → r.kind ≡ Block
-    → round_of front (r ∷ rs) ≡ record { place = r.place; kind = r.kind; standing = Filled front } ∷ rs
+pub meets_block : (front : ℕ) (r : ParkedReceive) (rs : List ParkedReceive) → waits r.status ≡ true → r.kind ≡ Block
+    → round_of front (r ∷ rs) ≡ record { place = r.place; kind = r.kind; status = Filled front } ∷ rs
 meets_block front r rs waiting kind = simp (waiting, kind) refl
 
 -- one that is neither a stream nor blocks is woken
-pub meets_plain : (front : ℕ) (r : ParkedReceive) (rs : List ParkedReceive) → waits r.standing ≡ true
+pub meets_plain : (front : ℕ) (r : ParkedReceive) (rs : List ParkedReceive) → waits r.status ≡ true
     → (r.kind ≡ Plain) ⊎ (r.kind ≡ Arm)
-    → round_of front (r ∷ rs) ≡ record { place = r.place; kind = r.kind; standing = Woken } ∷ rs
+    → round_of front (r ∷ rs) ≡ record { place = r.place; kind = r.kind; status = Woken } ∷ rs
 meets_plain front r rs waiting (inl kind) = simp (waiting, kind) refl
 meets_plain front r rs waiting (inr kind) = simp (waiting, kind) refl

@@ -9,12 +9,12 @@ use Rattle.flume_explain.specs.declared.configuration.OpenCall.{OpenCall}
 use Rattle.flume_explain.specs.declared.configuration.ParkedReceive.{ParkedReceive}
 use Rattle.flume_explain.specs.declared.configuration.Progress.{Progress}
 use Rattle.flume_explain.specs.declared.configuration.Progress.TheVariants.{Begun, Tried, Parked, Refused, Done}
-use Rattle.flume_explain.specs.declared.configuration.Standing.{Standing}
-use Rattle.flume_explain.specs.declared.configuration.Standing.TheVariants.{Waiting, Woken, Filled}
+use Rattle.flume_explain.specs.declared.configuration.Status.{Status}
+use Rattle.flume_explain.specs.declared.configuration.Status.TheVariants.{Waiting, Woken, Filled}
 use Rattle.flume_explain.specs.contracts.configuration.OpenCallPartialEq.TheImpl as calls
 use Rattle.flume_explain.specs.contracts.configuration.ParkedReceivePartialEq.TheImpl as receives
 use Rattle.flume_explain.specs.contracts.configuration.ProgressPartialEq.TheImpl as progresses
-use Rattle.flume_explain.specs.contracts.configuration.StandingPartialEq.TheImpl as standings
+use Rattle.flume_explain.specs.contracts.configuration.StatusPartialEq.TheImpl as standings
 
 -- lists are the same if each element is the one in its place
 pub same_lists : {X : Type 0} (E : X → X → Bool) → ((x y : X) → E x y ≡ true → x ≡ y) → (xs ys : List X) → pointwise E xs ys ≡ true → xs ≡ ys
@@ -34,7 +34,7 @@ same_kind Arm Arm is = refl
 same_kind _ _ is = absurd (false≢true is)
 
 -- how receives stand
-same_standing : (s u : Standing) → standings.eq-value.it s u ≡ true → s ≡ u
+same_standing : (s u : Status) → standings.eq-value.it s u ≡ true → s ≡ u
 same_standing Waiting Waiting is = refl
 same_standing Woken Woken is = refl
 same_standing (Filled p) (Filled q) is = ap Filled (eqb-true p q is)
@@ -52,11 +52,11 @@ same_progress _ _ is = absurd (false≢true is)
 -- receives
 same_receive : (x y : ParkedReceive) → receives.eq-value.it x y ≡ true → x ≡ y
 same_receive x y is =
-    let places = and_parts (x.place == y.place) (kinds.eq-value.it x.kind y.kind && standings.eq-value.it x.standing y.standing) is in
-    let rest = and_parts (kinds.eq-value.it x.kind y.kind) (standings.eq-value.it x.standing y.standing) places.1 in
-    ap (λ p. record { place = p; kind = x.kind; standing = x.standing }) (eqb-true x.place y.place places.0)
-    ∙ ap (λ k. record { place = y.place; kind = k; standing = x.standing }) (same_kind x.kind y.kind rest.0)
-    ∙ ap (λ s. record { place = y.place; kind = y.kind; standing = s }) (same_standing x.standing y.standing rest.1)
+    let places = and_parts (x.place == y.place) (kinds.eq-value.it x.kind y.kind && standings.eq-value.it x.status y.status) is in
+    let rest = and_parts (kinds.eq-value.it x.kind y.kind) (standings.eq-value.it x.status y.status) places.1 in
+    ap (λ p. record { place = p; kind = x.kind; status = x.status }) (eqb-true x.place y.place places.0)
+    ∙ ap (λ k. record { place = y.place; kind = k; status = x.status }) (same_kind x.kind y.kind rest.0)
+    ∙ ap (λ s. record { place = y.place; kind = y.kind; status = s }) (same_standing x.status y.status rest.1)
 
 -- calls
 same_call : (x y : OpenCall) → calls.eq-value.it x y ≡ true → x ≡ y

@@ -47,13 +47,13 @@ module _ {T A : Type 0} where
       → all_returned (equal first) (take sent before) ≡ true → begins_send (equal first) (drop sent before) ≡ false
       → begins_send (equal second) (take sent before) ≡ false → IsOutOfOrder equal events
   out_of_order equal events before last at_received at_begun sent received begun thread other call first second parts last_is above below within
-      received_at received_is begun_at begun_is returned no_first no_second =
+      received_at received_is new_call begun_is returned no_first no_second =
       let late = drop sent before in
       let at : sent + (begun - sent) ≡ begun = omega arith in
       let size : length late ≡ length before - sent = length-drop sent before in
       let is_received : Returns other (Got second) ≡ get_or before received (Returns other (Got second)) =
       subst (λ e. e ≡ get_or before received e) received_is received_at in
-      let is_begun : Begins thread call ≡ get_or before begun (Begins thread call) = subst (λ e. e ≡ get_or before begun e) begun_is begun_at in
+      let is_begun : Begins thread call ≡ get_or before begun (Begins thread call) = subst (λ e. e ≡ get_or before begun e) begun_is new_call in
       let begins : Begins thread call ≡ get_or late (begun - sent) (Begins thread call) =
       is_begun ∙ ap (λ n. get_or before n (Begins thread call)) (sym at) ∙ sym (get_or-drop sent before (begun - sent) (Begins thread call)) in
       let between = take (begun - sent) late in

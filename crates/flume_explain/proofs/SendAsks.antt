@@ -28,7 +28,7 @@ use Rattle.flume_explain.specs.declared.place_reply.PlaceReply.TheVariants as re
 use Rattle.flume_explain.specs.declared.step_of.Move.TheVariants as move
 use Rattle.flume_explain.specs.Configurations.{State}
 use Rattle.flume_explain.specs.ByPlaces.{closed_now}
-use Rattle.flume_explain.specs.Made.{made, is_blocked, taken_back, send_polled, send_withdrawn}
+use Rattle.flume_explain.specs.Outcomes.{outcome, is_blocked, take_back_outcome, poll_send_outcome, withdraw_send_outcome}
 use Rattle.flume_explain.specs.Mirrors.{Mirrors, Answers, IsLeft}
 use Rattle.flume_explain.proofs.MoveAnswers.{MoveAnswers, IsReady}
 use Rattle.flume_explain.proofs.MirrorViews.{closed_same}
@@ -56,7 +56,7 @@ accepted_live (Some send) is = by send.accepted refl
     by false e = absurd (let none : ⊥ = cc in none)
 
 module _ {T A : Type 0} (events : List (Event T A)) (o : Opening) (log : Log T A) (s : Channel T (Unit {0})) (c : State) (tickets : ℕ → ℕ)
-    (place : ℕ) (h : Represents o log s) (alike : Mirrors events tickets s c) (ready : IsReady move.PollSend tickets place c) where
+    (place : ℕ) (h : Represents o log s) (corresponds : Mirrors events tickets s c) (ready : IsReady move.PollSend tickets place c) where
   -- what answers a step of the call
   abbrev IsAnswered : Step T → PlaceReply × State → Type 0
   IsAnswered step a = Answers events o log tickets s c place step a.0 a.1
@@ -64,7 +64,7 @@ module _ {T A : Type 0} (events : List (Event T A)) (o : Opening) (log : Log T A
   -- a send is blocked by places as by tickets
   blocked_same : has_ticket (tickets place) (offers_of s.blocked) ≡ is_blocked place c
   blocked_same =
-      sym (has_ticket_some (tickets place) (offers_of s.blocked)) ∙ sym (ap (has_ticket (tickets place)) alike.blocked_are)
+      sym (has_ticket_some (tickets place) (offers_of s.blocked)) ∙ sym (ap (has_ticket (tickets place)) corresponds.blocked_are)
       ∙ placed_ticket events tickets place c.blocked ready.0.from_blocked
 
   -- so it is by the live sends
@@ -78,25 +78,25 @@ module _ {T A : Type 0} (events : List (Event T A)) (o : Opening) (log : Log T A
   -- a blocked send takes its message back
   answers_taken_back : (step : Step T) (closed : Bool) → is_blocked place c ≡ true → closed_now c ≡ closed
       → ((m : T) → IsBlocked (channel o log) (tickets place) m → IsReply {A = A} (channel o log) step (own.Returned m closed))
-      → ((m : T) → change log step (own.Returned m closed) ≡ Withdraws (tickets place)) → IsAnswered step (taken_back place c)
+      → ((m : T) → change log step (own.Returned m closed) ≡ Withdraws (tickets place)) → IsAnswered step (take_back_outcome place c)
   answers_taken_back step closed blocked_ closed_is lawful changes =
-      let at = is_found events tickets place c.blocked s.blocked alike.blocked_are blocked_ in
+      let at = is_found events tickets place c.blocked s.blocked corresponds.blocked_are blocked_ in
       let t = tickets place in
       let new_state = record s { blocked = at.before ++ at.later; sends = remove s.sends t } in
       record {
         reply = own.Returned at.message closed;
-        alike = closed_is;
+        corresponds = closed_is;
         state = new_state;
-        stands = withdraws o log (step, own.Returned at.message closed) s new_state t at.message at.before at.later h
+        represents = withdraws o log (step, own.Returned at.message closed) s new_state t at.message at.before at.later h
             (lawful at.message (blocked_at_log h t at.message at.before at.later at.found (is_pending blocked_).0))
             (changes at.message) at.found refl;
         mirrors = record {
-          capacity_is = alike.capacity_is;
-          senders_are = alike.senders_are;
-          receivers_are = alike.receivers_are;
-          queue_is = alike.queue_is;
+          capacity_is = corresponds.capacity_is;
+          senders_are = corresponds.senders_are;
+          receivers_are = corresponds.receivers_are;
+          queue_is = corresponds.queue_is;
           blocked_are = left_offers events tickets place c.blocked s.blocked at;
-          receives_are = alike.receives_are;
+          receives_are = corresponds.receives_are;
         };
         blocked_left = left_without events tickets place (reply.Returned (closed_now c)) c.blocked s.blocked at
             (apart_blocked h at.before (record { ticket = t; message = at.message }) at.later at.found);
@@ -122,26 +122,26 @@ module _ {T A : Type 0} (events : List (Event T A)) (o : Opening) (log : Log T A
       by : (accepted_at s (tickets place) ≡ None) ⊎ (accepted_at s (tickets place) ≡ Some true) → IsAnswered step (reply.Accepted, c)
       by (inl none) = record {
         reply = own.NoTicket;
-        alike = tt;
+        corresponds = tt;
         state = s;
-        stands = still o log (step, own.NoTicket) s s h (gone (unknown o log s (tickets place) h none)) stays refl;
-        mirrors = alike;
+        represents = still o log (step, own.NoTicket) s s h (gone (unknown o log s (tickets place) h none)) stays refl;
+        mirrors = corresponds;
         blocked_left = blocked_kept;
         receives_left = receives_kept;
       }
       by (inr known_) = record {
         reply = own.Accepted;
-        alike = tt;
+        corresponds = tt;
         state = record s { sends = remove s.sends (tickets place) };
-        stands = accepts o log (step, own.Accepted) s (record s { sends = remove s.sends (tickets place) }) (tickets place) h
+        represents = accepts o log (step, own.Accepted) s (record s { sends = remove s.sends (tickets place) }) (tickets place) h
             (accepted_ (known o log s (tickets place) h known_)) accepts_ refl;
         mirrors = record {
-          capacity_is = alike.capacity_is;
-          senders_are = alike.senders_are;
-          receivers_are = alike.receivers_are;
-          queue_is = alike.queue_is;
-          blocked_are = alike.blocked_are;
-          receives_are = alike.receives_are;
+          capacity_is = corresponds.capacity_is;
+          senders_are = corresponds.senders_are;
+          receivers_are = corresponds.receivers_are;
+          queue_is = corresponds.queue_is;
+          blocked_are = corresponds.blocked_are;
+          receives_are = corresponds.receives_are;
         };
         blocked_left = blocked_kept;
         receives_left = receives_kept;
@@ -151,46 +151,46 @@ module _ {T A : Type 0} (events : List (Event T A)) (o : Opening) (log : Log T A
   answers_waiting : is_blocked place c ≡ true → closed_now c ≡ false → IsAnswered (step.PollSend (tickets place)) (reply.Waiting, c)
   answers_waiting blocked_ open_ = record {
     reply = own.Waiting;
-    alike = tt;
+    corresponds = tt;
     state = s;
-    stands = still o log (step.PollSend (tickets place), own.Waiting) s s h
-        (is_pending blocked_, open_at_log h (open_if _ _ (sym (closed_same events tickets s c alike) ∙ open_))) refl refl;
-    mirrors = alike;
+    represents = still o log (step.PollSend (tickets place), own.Waiting) s s h
+        (is_pending blocked_, open_at_log h (open_if _ _ (sym (closed_same events tickets s c corresponds) ∙ open_))) refl refl;
+    mirrors = corresponds;
     blocked_left = all_stay reply.Waiting place c.blocked refl;
     receives_left = all_stay reply.Waiting place (map (λ r. r.place) c.receives) refl;
   }
 
   -- a parked send asks how it stands
-  poll_send_answers : IsAnswered (step.PollSend (tickets place)) (send_polled place c)
+  poll_send_answers : IsAnswered (step.PollSend (tickets place)) (poll_send_outcome place c)
   poll_send_answers =
       let t = tickets place in
       cond_both (is_blocked place c) _ _ (IsAnswered (step.PollSend t))
       (λ blocked_. cond_both (closed_now c) _ _ (IsAnswered (step.PollSend t))
       (λ shut. answers_taken_back (step.PollSend t) true blocked_ shut
-      (λ m at. (at, closed_at_log h (closed_if _ _ (sym (closed_same events tickets s c alike) ∙ shut)), refl)) (λ m. refl))
+      (λ m at. (at, closed_at_log h (closed_if _ _ (sym (closed_same events tickets s c corresponds) ∙ shut)), refl)) (λ m. refl))
       (λ open_. answers_waiting blocked_ open_))
       (λ unblocked. answers_accepted (step.PollSend t) unblocked (λ is. is) refl (λ none. none) refl)
 
   -- a parked send takes its message back
-  withdraw_send_answers : IsAnswered (step.WithdrawSend (tickets place)) (send_withdrawn place c)
+  withdraw_send_answers : IsAnswered (step.WithdrawSend (tickets place)) (withdraw_send_outcome place c)
   withdraw_send_answers =
       let t = tickets place in
       cond_both (is_blocked place c) _ _ (IsAnswered (step.WithdrawSend t))
       (λ blocked_. answers_taken_back (step.WithdrawSend t) (closed_now c) blocked_ refl
-      (λ m at. (at, closed_same events tickets s c alike ∙ closed_as o log s h)) (λ m. refl))
+      (λ m at. (at, closed_same events tickets s c corresponds ∙ closed_as o log s h)) (λ m. refl))
       (λ unblocked. answers_accepted (step.WithdrawSend t) unblocked (λ is. is) refl (λ none. none) refl)
 
 module _ {T A : Type 0} (events : List (Event T A)) where
   -- a parked send asks how it stands
   pub answers_poll_send : MoveAnswers events move.PollSend
-  answers_poll_send o log s c tickets place call made_step given h alike is_call is_step ready lawful memory =
+  answers_poll_send o log s c tickets place call made_step given h corresponds is_call is_step ready lawful memory =
       let same : made_step ≡ step.PollSend (tickets place) = cc in
-      subst (λ x. Answers events o log tickets s c place x (made move.PollSend place c).0 (made move.PollSend place c).1) (sym same)
-      (poll_send_answers events o log s c tickets place h alike ready)
+      subst (λ x. Answers events o log tickets s c place x (outcome move.PollSend place c).0 (outcome move.PollSend place c).1) (sym same)
+      (poll_send_answers events o log s c tickets place h corresponds ready)
 
   -- a parked send takes its message back
   pub answers_withdraw_send : MoveAnswers events move.WithdrawSend
-  answers_withdraw_send o log s c tickets place call made_step given h alike is_call is_step ready lawful memory =
+  answers_withdraw_send o log s c tickets place call made_step given h corresponds is_call is_step ready lawful memory =
       let same : made_step ≡ step.WithdrawSend (tickets place) = cc in
-      subst (λ x. Answers events o log tickets s c place x (made move.WithdrawSend place c).0 (made move.WithdrawSend place c).1) (sym same)
-      (withdraw_send_answers events o log s c tickets place h alike ready)
+      subst (λ x. Answers events o log tickets s c place x (outcome move.WithdrawSend place c).0 (outcome move.WithdrawSend place c).1) (sym same)
+      (withdraw_send_answers events o log s c tickets place h corresponds ready)

@@ -16,7 +16,7 @@ use Rattle.flume_model.specs.Entries.{some_wait, round_fills, round_for_fills}
 use Rattle.flume_model.specs.Parked.{entries}
 use Rattle.flume_model.specs.Replies.{IsReply}
 use Rattle.flume_state.specs.State.{State as Channel, offers_of}
-use Rattle.flume_state.specs.Sends.{blocked as blocked_send}
+use Rattle.flume_state.specs.Sends.{newly_blocked as blocked_send}
 use Rattle.flume_state.specs.Effects.{after_wake_round}
 use Rattle.std.specs.FinMap.{insert}
 use Rattle.flume_core.specs.Represents.{Represents}
@@ -30,8 +30,8 @@ use Rattle.flume_explain.specs.declared.place_reply.PlaceReply.TheVariants as re
 use Rattle.flume_explain.specs.declared.step_of.Move.TheVariants as move
 use Rattle.flume_explain.specs.Configurations.{State, message_at, message_of}
 use Rattle.flume_explain.specs.ByPlaces.{closed_now, full_now, some_waits, join}
-use Rattle.flume_explain.specs.Made.{made, offered}
-use Rattle.flume_explain.specs.Mirrors.{Mirrors, Answers, offer_for, some_offer, ticketed, parks, IsLeft, IsAlike}
+use Rattle.flume_explain.specs.Outcomes.{outcome, offer_outcome}
+use Rattle.flume_explain.specs.Mirrors.{Mirrors, Answers, offer_for, some_offer, with_ticket, parks, IsLeft, Corresponds}
 use Rattle.flume_explain.specs.Moves.{is_refusal}
 use Rattle.flume_explain.proofs.MoveAnswers.{MoveAnswers, IsNew}
 use Rattle.flume_explain.proofs.MirrorViews.{closed_same, full_same, waits_same}
@@ -78,7 +78,7 @@ module _ {T A : Type 0} (events : List (Event T A)) (tickets : ℕ → ℕ) wher
   -- one more send is blocked, under a new ticket
   mirror_block : (s : Channel T (Unit {0})) (c : State) (place : ℕ) (m : T) → Mirrors events tickets s c → message_at events place ≡ Some m
       → IsNew place c
-      → Mirrors events (ticketed place s.next tickets) (record s {
+      → Mirrors events (with_ticket place s.next tickets) (record s {
         blocked = s.blocked ++ record { ticket = s.next; message = m } ∷ [];
         sends = insert s.sends s.next (blocked_send tt);
         next = s.next + 1;
@@ -90,7 +90,7 @@ module _ {T A : Type 0} (events : List (Event T A)) (tickets : ℕ → ℕ) wher
         senders_are = h.senders_are;
         receivers_are = h.receivers_are;
         queue_is = h.queue_is;
-        blocked_are = map_push (offer_for events (ticketed place s.next tickets)) c.blocked place
+        blocked_are = map_push (offer_for events (with_ticket place s.next tickets)) c.blocked place
             ∙ ap₂ (λ l x. l ++ x ∷ []) (offers_kept events place s.next tickets c.blocked new.not_blocked ∙ h.blocked_are)
             (ap₂ (λ x t. record { message = x; ticket = Some t }) sent own_ticket)
             ∙ sym (map_push some_offer (offers_of s.blocked) (record { message = m; ticket = Some s.next }))
@@ -99,22 +99,22 @@ module _ {T A : Type 0} (events : List (Event T A)) (tickets : ℕ → ℕ) wher
       }
 
 module _ {T A : Type 0} (events : List (Event T A)) (o : Opening) (log : Log T A) (s : Channel T (Unit {0})) (c : State) (tickets : ℕ → ℕ)
-    (place : ℕ) (h : Represents o log s) (alike : Mirrors events tickets s c) (new : IsNew place c) where
+    (place : ℕ) (h : Represents o log s) (corresponds : Mirrors events tickets s c) (new : IsNew place c) where
   -- what answers a step of the call
   abbrev IsAnswered : Step T → PlaceReply × State → Type 0
   IsAnswered step a = Answers events o log tickets s c place step a.0 a.1
 
   -- nothing changes
-  pub answers_unchanged : (step : Step T) (told : PlaceReply) (back : Reply T A) → parks told ≡ false → IsAlike events s.next c.queue told back
-      → IsReply (channel o log) step back → change log step back ≡ Stays → IsAnswered step (told, c)
-  answers_unchanged step told back none alike_ lawful stays = record {
+  pub answers_unchanged : (step : Step T) (reply_by_place : PlaceReply) (back : Reply T A) → parks reply_by_place ≡ false → Corresponds events s.next c.queue reply_by_place back
+      → IsReply (channel o log) step back → change log step back ≡ Stays → IsAnswered step (reply_by_place, c)
+  answers_unchanged step reply_by_place back none alike_ lawful stays = record {
     reply = back;
-    alike = alike_;
+    corresponds = alike_;
     state = s;
-    stands = still o log (step, back) s s h lawful stays refl;
-    mirrors = subst (λ ts. Mirrors events ts s c) (sym (cond-false (parks told) (ticketed place s.next tickets) tickets none)) alike;
-    blocked_left = all_left told place c.blocked new.not_blocked;
-    receives_left = all_left told place (map (λ r. r.place) c.receives) (none_of place c.receives new.not_parked);
+    represents = still o log (step, back) s s h lawful stays refl;
+    mirrors = subst (λ ts. Mirrors events ts s c) (sym (cond-false (parks reply_by_place) (with_ticket place s.next tickets) tickets none)) corresponds;
+    blocked_left = all_left reply_by_place place c.blocked new.not_blocked;
+    receives_left = all_left reply_by_place place (map (λ r. r.place) c.receives) (none_of place c.receives new.not_parked);
   }
 
   -- a message is offered: the channel is closed, or there is no room, or it is taken in
@@ -124,20 +124,20 @@ module _ {T A : Type 0} (events : List (Event T A)) (o : Opening) (log : Log T A
       → ((filled : Option ℕ) → TakesIn (channel o log) → filled ≡ round_fills (entries o log)
       → IsReply {A = A} (channel o log) step (own.Sent filled))
       → ((filled : Option ℕ) → change log step (own.Sent filled) ≡ Queues m filled)
-      → IsAnswered step (offered no_room place c)
+      → IsAnswered step (offer_outcome no_room place c)
   offered_answers step m no_room sent shut none_in lawful changes =
-      cond_both (closed_now c) _ _ (IsAnswered step) (λ closed. shut (closed_if _ _ (sym (closed_same events tickets s c alike) ∙ closed)))
+      cond_both (closed_now c) _ _ (IsAnswered step) (λ closed. shut (closed_if _ _ (sym (closed_same events tickets s c corresponds) ∙ closed)))
       (λ open_. cond_both (not (some_waits c.receives) && full_now c) _ _ (IsAnswered step)
       (λ full. none_in (no_room_now (open_now open_) (and_parts _ _ full)))
       (λ room. joins (open_now open_) (and_cases _ _ room)))
     where
       open_now : closed_now c ≡ false → IsOpen s.senders s.receivers
-      open_now open_ = open_if _ _ (sym (closed_same events tickets s c alike) ∙ open_)
+      open_now open_ = open_if _ _ (sym (closed_same events tickets s c corresponds) ∙ open_)
 
       no_room_now : IsOpen s.senders s.receivers → (not (some_waits c.receives) ≡ true) × (full_now c ≡ true) → TakesNoneIn (channel o log)
       no_room_now open_ full =
-          takes_none_in h open_ (sym (waits_same events tickets s c alike) ∙ not-true _ full.0)
-          (full_if _ _ (sym (full_same events tickets s c alike) ∙ full.1))
+          takes_none_in h open_ (sym (waits_same events tickets s c corresponds) ∙ not-true _ full.0)
+          (full_if _ _ (sym (full_same events tickets s c corresponds) ∙ full.1))
 
       joins : IsOpen s.senders s.receivers → (not (some_waits c.receives) ≡ false) ⊎ (full_now c ≡ false)
           → IsAnswered step (reply.Sent, join place c)
@@ -146,12 +146,12 @@ module _ {T A : Type 0} (events : List (Event T A)) (o : Opening) (log : Log T A
           let fills = fills_at_log h m in
           record {
             reply = own.Sent filled;
-            alike = tt;
+            corresponds = tt;
             state = after_wake_round (record s { queue = s.queue ++ m ∷ [] });
-            stands = queues o log (step, own.Sent filled) s (after_wake_round (record s { queue = s.queue ++ m ∷ [] })) m filled s.space h
+            represents = queues o log (step, own.Sent filled) s (after_wake_round (record s { queue = s.queue ++ m ∷ [] })) m filled s.space h
                 (lawful filled (takes_in h open_ (has_room room)) fills) (changes filled) refl refl;
             mirrors = mirror_wake events tickets (record s { queue = s.queue ++ m ∷ [] }) (record c { queue = c.queue ++ place ∷ [] })
-                (mirror_push events tickets s c place m alike sent);
+                (mirror_push events tickets s c place m corresponds sent);
             blocked_left = all_left reply.Sent place c.blocked new.not_blocked;
             receives_left = All-same (IsLeft reply.Parked reply.Sent place (map (λ r. r.place) c.receives)) _ _
                 (round_with_places (c.queue ++ place ∷ []) c.receives)
@@ -162,9 +162,9 @@ module _ {T A : Type 0} (events : List (Event T A)) (o : Opening) (log : Log T A
               → HasRoom s.capacity (length s.queue)
           has_room (inl some) none =
               let waits : some_waits c.receives ≡ true = not-false _ some in
-              let same = waits_same events tickets s c alike in
+              let same = waits_same events tickets s c corresponds in
               absurd (let never : ⊥ = cc in never)
-          has_room (inr room) none = room_if _ _ (sym (full_same events tickets s c alike) ∙ room)
+          has_room (inr room) none = room_if _ _ (sym (full_same events tickets s c corresponds) ∙ room)
 
   -- there is no room, so the message comes back
   answers_full : (m : T) → TakesNoneIn (channel o log) → IsAnswered (step.TrySend m) (reply.Full, c)
@@ -181,11 +181,11 @@ module _ {T A : Type 0} (events : List (Event T A)) (o : Opening) (log : Log T A
       } in
       record {
         reply = own.Pending s.next;
-        alike = refl;
+        corresponds = refl;
         state = new_state;
-        stands = blocks o log (step.Send m, own.Pending s.next) s new_state m tt s.space h
+        represents = blocks o log (step.Send m, own.Pending s.next) s new_state m tt s.space h
             (none_in, omega (arith, h.next_is, left), h.next_is) refl refl;
-        mirrors = mirror_block events tickets s c place m alike sent new;
+        mirrors = mirror_block events tickets s c place m corresponds sent new;
         blocked_left = one_joins reply.Pending place c.blocked new.not_blocked;
         receives_left = all_left reply.Pending place (map (λ r. r.place) c.receives) (none_of place c.receives new.not_parked);
       }
@@ -203,7 +203,7 @@ module _ {T A : Type 0} (events : List (Event T A)) (o : Opening) (log : Log T A
   ticket_left m _ lawful memory none_in = absurd lawful
 
   -- a send that doesn't wait
-  try_send_answers : (m : T) → message_at events place ≡ Some m → IsAnswered (step.TrySend m) (offered (reply.Full, c) place c)
+  try_send_answers : (m : T) → message_at events place ≡ Some m → IsAnswered (step.TrySend m) (offer_outcome (reply.Full, c) place c)
   try_send_answers m sent =
       offered_answers (step.TrySend m) m (reply.Full, c) sent
       (λ shut. answers_unchanged (step.TrySend m) reply.Closed (own.Closed m) refl tt (closed_at_log h shut, refl) refl) (answers_full m)
@@ -212,7 +212,7 @@ module _ {T A : Type 0} (events : List (Event T A)) (o : Opening) (log : Log T A
   -- a send that may be blocked
   send_answers : (m : T) (given : Reply T A) → message_at events place ≡ Some m → IsReply (channel o log) (step.Send m) given
       → is_refusal given ≡ false
-      → IsAnswered (step.Send m) (offered (reply.Pending, record c { blocked = c.blocked ++ place ∷ [] }) place c)
+      → IsAnswered (step.Send m) (offer_outcome (reply.Pending, record c { blocked = c.blocked ++ place ∷ [] }) place c)
   send_answers m given sent lawful memory =
       offered_answers (step.Send m) m _ sent
       (λ shut. answers_unchanged (step.Send m) reply.Closed (own.Closed m) refl tt (closed_at_log h shut, refl) refl)
@@ -222,15 +222,15 @@ module _ {T A : Type 0} (events : List (Event T A)) (o : Opening) (log : Log T A
 module _ {T A : Type 0} (events : List (Event T A)) where
   -- a send that doesn't wait
   pub answers_try_send : MoveAnswers events move.TrySend
-  answers_try_send o log s c tickets place call made_step given h alike is_call is_step ready lawful memory =
+  answers_try_send o log s c tickets place call made_step given h corresponds is_call is_step ready lawful memory =
       let sent = sends step.TrySend (message_of call) made_step is_step in
-      subst (λ x. Answers events o log tickets s c place x (made move.TrySend place c).0 (made move.TrySend place c).1) (sym sent.2)
-      (try_send_answers events o log s c tickets place h alike ready sent.0 (ap (option_and_then message_of) is_call ∙ sent.1))
+      subst (λ x. Answers events o log tickets s c place x (outcome move.TrySend place c).0 (outcome move.TrySend place c).1) (sym sent.2)
+      (try_send_answers events o log s c tickets place h corresponds ready sent.0 (ap (option_and_then message_of) is_call ∙ sent.1))
 
   -- a send that may be blocked
   pub answers_send : MoveAnswers events move.Send
-  answers_send o log s c tickets place call made_step given h alike is_call is_step ready lawful memory =
+  answers_send o log s c tickets place call made_step given h corresponds is_call is_step ready lawful memory =
       let sent = sends step.Send (message_of call) made_step is_step in
-      subst (λ x. Answers events o log tickets s c place x (made move.Send place c).0 (made move.Send place c).1) (sym sent.2)
-      (send_answers events o log s c tickets place h alike ready sent.0 given (ap (option_and_then message_of) is_call ∙ sent.1)
+      subst (λ x. Answers events o log tickets s c place x (outcome move.Send place c).0 (outcome move.Send place c).1) (sym sent.2)
+      (send_answers events o log s c tickets place h corresponds ready sent.0 given (ap (option_and_then message_of) is_call ∙ sent.1)
       (subst (λ x. IsReply (channel o log) x given) sent.2 lawful) memory)

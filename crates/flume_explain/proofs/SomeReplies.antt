@@ -153,8 +153,8 @@ module _ {T : Type 0} where
   find_blocked t [] has = absurd (let none : ⊥ = cc in none)
   find_blocked t (x ∷ xs) has = by x.ticket refl has (λ k. find_blocked t xs k)
     where
-      further : Blocked t xs → Blocked t (x ∷ xs)
-      further found = (found.0, x ∷ found.1, found.2, ap (λ l. x ∷ l) found.3)
+      after_reply : Blocked t xs → Blocked t (x ∷ xs)
+      after_reply found = (found.0, x ∷ found.1, found.2, ap (λ l. x ∷ l) found.3)
 
       own : (u : ℕ) → x.ticket ≡ Some u → (b : Bool) → (u == t) ≡ b → (b || has_ticket t xs) ≡ true → (has_ticket t xs ≡ true → Blocked t xs)
           → Blocked t (x ∷ xs)
@@ -164,11 +164,11 @@ module _ {T : Type 0} where
         xs,
         ap (λ (k : Option ℕ). let y : Offer T = record { message = x.message; ticket = k } in y ∷ xs) (at ∙ ap Some (eqb-true u t same)),
       )
-      own u at false same on rest = further (rest on)
+      own u at false same on rest = after_reply (rest on)
 
       by : (ticket : Option ℕ) → x.ticket ≡ ticket → (is_ticket t ticket || has_ticket t xs) ≡ true → (has_ticket t xs ≡ true → Blocked t xs)
           → Blocked t (x ∷ xs)
-      by None at on rest = further (rest on)
+      by None at on rest = after_reply (rest on)
       by (Some u) at on rest = own u at (u == t) refl on rest
 
 module _ {T : Type 0} (c : Channel T) where

@@ -15,8 +15,8 @@ use Rattle.flume_explain.specs.declared.configuration.Progress.TheVariants as pr
 use Rattle.flume_explain.specs.declared.place_reply.PlaceReply.{PlaceReply}
 use Rattle.flume_explain.specs.declared.place_reply.PlaceReply.TheVariants as reply
 use Rattle.flume_explain.specs.Configurations.{message_at}
-use Rattle.flume_explain.specs.Mirrors.{IsAlike}
-use Rattle.flume_explain.specs.Progresses.{progress_of, unticketed}
+use Rattle.flume_explain.specs.Mirrors.{Corresponds}
+use Rattle.flume_explain.specs.Progresses.{progress_of, clear_ticket}
 
 module _ {T : Type 0} where
   -- a call that is answered so is parked; a send, if it was accepted
@@ -36,7 +36,7 @@ module _ {T A : Type 0} (events : List (Event T A)) (call : Call T) where
       let rest : map Some xs ≡ map Some ys = cc in
       ap₂ (λ a l. a ∷ l) first (some_apart xs ys rest)
 
-  again : (stage : Stage T A) → unticketed stage ≡ unticketed (unticketed stage)
+  again : (stage : Stage T A) → clear_ticket stage ≡ clear_ticket (clear_ticket stage)
   again Begun = refl
   again Tried = refl
   again (Parked t) = refl
@@ -44,7 +44,7 @@ module _ {T A : Type 0} (events : List (Event T A)) (call : Call T) where
   again (Answered a) = refl
 
   accepted : (stage : Stage T A) (r : Reply T A) → progress_of stage ≡ progress.Parked → is_send call ≡ true
-      → IsAlike events 0 [] reply.Accepted r → stage_after call stage r ≡ Answered answer.Sent
+      → Corresponds events 0 [] reply.Accepted r → stage_after call stage r ≡ Answered answer.Sent
   accepted stage own.Accepted at sends h = refl
   accepted (Parked t) own.NoTicket at sends h = ap (λ b. Answered (if b then answer.Sent else answer.Disconnected)) sends
   accepted Begun own.NoTicket at sends h = let none : ⊥ = cc in absurd none
@@ -53,7 +53,7 @@ module _ {T A : Type 0} (events : List (Event T A)) (call : Call T) where
   accepted (Answered a) own.NoTicket at sends h = let none : ⊥ = cc in absurd none
   accepted stage _ at sends h = absurd h
 
-  none_taken : (stage : Stage T A) → stage_after call stage own.NoTicket ≡ stage_after call (unticketed stage) own.NoTicket
+  none_taken : (stage : Stage T A) → stage_after call stage own.NoTicket ≡ stage_after call (clear_ticket stage) own.NoTicket
   none_taken Begun = refl
   none_taken Tried = refl
   none_taken (Parked t) = refl
@@ -63,7 +63,7 @@ module _ {T A : Type 0} (events : List (Event T A)) (call : Call T) where
 module _ {T A : Type 0} where
   -- what depends on the call, the stage and the reply's case alone
   gone : (call : Call T) (closed : Bool) (filled other : Option ℕ) (stage : Stage T A)
-      → stage_after call stage (own.Gone closed filled) ≡ stage_after call (unticketed stage) (own.Gone closed other)
+      → stage_after call stage (own.Gone closed filled) ≡ stage_after call (clear_ticket stage) (own.Gone closed other)
   gone RecvTimeout true filled other (Parked t) = refl
   gone RecvTimeout false filled other (Parked t) = refl
   gone RecvTimeout closed filled other Begun = refl
@@ -90,54 +90,54 @@ module _ {T A : Type 0} where
 module _ {T A : Type 0} (events : List (Event T A)) (call : Call T) where
   -- replies that are alike by places lead as far
   abbrev Leads : PlaceReply → Stage T A → Reply T A → Reply T A → Type 0
-  Leads told stage r s = unticketed (stage_after call stage r) ≡ unticketed (stage_after call (unticketed stage) s)
+  Leads reply_by_place stage r s = clear_ticket (stage_after call stage r) ≡ clear_ticket (stage_after call (clear_ticket stage) s)
 
-  pub alike_leads : (n m : ℕ) (queue : List ℕ) (told : PlaceReply) (r s : Reply T A) → IsAlike events n queue told r
-      → IsAlike events m queue told s → (stage : Stage T A) → IsMet call told (progress_of stage) → Leads told stage r s
+  pub alike_leads : (n m : ℕ) (queue : List ℕ) (reply_by_place : PlaceReply) (r s : Reply T A) → Corresponds events n queue reply_by_place r
+      → Corresponds events m queue reply_by_place s → (stage : Stage T A) → IsMet call reply_by_place (progress_of stage) → Leads reply_by_place stage r s
   alike_leads n m queue reply.Sent (own.Sent a) (own.Sent b) h k stage met = refl
   alike_leads n m queue reply.Sent (own.Sent a) _ h k stage met = absurd k
-  alike_leads n m queue reply.Full (own.Full a) (own.Full b) h k stage met = ap unticketed (full call a b stage (unticketed stage))
+  alike_leads n m queue reply.Full (own.Full a) (own.Full b) h k stage met = ap clear_ticket (full call a b stage (clear_ticket stage))
   alike_leads n m queue reply.Full (own.Full a) _ h k stage met = absurd k
   alike_leads n m queue reply.Closed (own.Closed a) (own.Closed b) h k stage met = refl
   alike_leads n m queue reply.Closed (own.Closed a) _ h k stage met = absurd k
   alike_leads n m queue reply.Pending (own.Pending a) (own.Pending b) h k stage met = refl
   alike_leads n m queue reply.Pending (own.Pending a) _ h k stage met = absurd k
   alike_leads n m queue reply.Accepted r s h k stage met =
-      ap unticketed (accepted events call stage r met.0 met.1 (either n r h))
-      ∙ sym (ap unticketed (accepted events call (unticketed stage) s (still stage ∙ met.0) met.1 (either m s k)))
+      ap clear_ticket (accepted events call stage r met.0 met.1 (either n r h))
+      ∙ sym (ap clear_ticket (accepted events call (clear_ticket stage) s (still stage ∙ met.0) met.1 (either m s k)))
     where
-      still : (stage : Stage T A) → progress_of (unticketed stage) ≡ progress_of stage
+      still : (stage : Stage T A) → progress_of (clear_ticket stage) ≡ progress_of stage
       still Begun = refl
       still Tried = refl
       still (Parked t) = refl
       still (Refused t) = refl
       still (Answered a) = refl
 
-      either : (i : ℕ) (r : Reply T A) → IsAlike events i queue reply.Accepted r → IsAlike events 0 [] reply.Accepted r
+      either : (i : ℕ) (r : Reply T A) → Corresponds events i queue reply.Accepted r → Corresponds events 0 [] reply.Accepted r
       either i own.Accepted h = h
       either i own.NoTicket h = h
       either i _ h = absurd h
   alike_leads n m queue reply.Waiting own.Waiting own.Waiting h k stage met = again events call stage
   alike_leads n m queue reply.Waiting own.Waiting _ h k stage met = absurd k
   alike_leads n m queue (reply.Returned closed) (own.Returned a x) (own.Returned b y) h k stage met =
-      ap (λ c. unticketed (stage_after call stage (own.Returned a c))) (sym h ∙ k)
-      ∙ ap unticketed (returned call y a b stage (unticketed stage))
+      ap (λ c. clear_ticket (stage_after call stage (own.Returned a c))) (sym h ∙ k)
+      ∙ ap clear_ticket (returned call y a b stage (clear_ticket stage))
   alike_leads n m queue (reply.Returned closed) (own.Returned a x) _ h k stage met = absurd k
-  alike_leads n m queue reply.NoTicket own.NoTicket own.NoTicket h k stage met = ap unticketed (none_taken events call stage)
+  alike_leads n m queue reply.NoTicket own.NoTicket own.NoTicket h k stage met = ap clear_ticket (none_taken events call stage)
   alike_leads n m queue reply.NoTicket own.NoTicket _ h k stage met = absurd k
   alike_leads n m queue (reply.Got p) (own.Got a) (own.Got b) h k stage met =
       let both : Some a ≡ Some b = sym h ∙ k in
       let same : a ≡ b = cc in
       ap (λ x. Answered (answer.Got x)) same
   alike_leads n m queue (reply.Got p) (own.Got a) _ h k stage met = absurd k
-  alike_leads n m queue reply.Empty own.Empty own.Empty h k stage met = ap unticketed (empty call stage (unticketed stage))
+  alike_leads n m queue reply.Empty own.Empty own.Empty h k stage met = ap clear_ticket (empty call stage (clear_ticket stage))
   alike_leads n m queue reply.Empty own.Empty _ h k stage met = absurd k
   alike_leads n m queue reply.Ended own.Ended own.Ended h k stage met = refl
   alike_leads n m queue reply.Ended own.Ended _ h k stage met = absurd k
   alike_leads n m queue reply.Parked (own.Parked a) (own.Parked b) h k stage met = refl
   alike_leads n m queue reply.Parked (own.Parked a) _ h k stage met = absurd k
   alike_leads n m queue (reply.Gone closed) (own.Gone x f) (own.Gone y g) h k stage met =
-      ap (λ c. unticketed (stage_after call stage (own.Gone c f))) (sym h ∙ k) ∙ ap unticketed (gone call y f g stage)
+      ap (λ c. clear_ticket (stage_after call stage (own.Gone c f))) (sym h ∙ k) ∙ ap clear_ticket (gone call y f g stage)
   alike_leads n m queue (reply.Gone closed) (own.Gone x f) _ h k stage met = absurd k
   alike_leads n m queue reply.Drained (own.Drained a) (own.Drained b) h k stage met =
       ap (λ l. Answered (answer.Drained l)) (some_apart events call a.items b.items (sym h ∙ k))

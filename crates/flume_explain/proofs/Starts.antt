@@ -44,7 +44,7 @@ module _ {T A : Type 0} (equal : T → T → Bool) (events : List (Event T A)) w
   pub start_agrees : (capacity : Option ℕ) (first : ℕ) → Agrees equal events (opens capacity first) [] events (start_of capacity)
   start_agrees capacity first = record {
     state = new_state (opens capacity first);
-    stands = new_stands (opens capacity first);
+    represents = new_stands (opens capacity first);
     tickets = λ p. 0;
     channel = record {
       capacity_is = refl;

@@ -16,7 +16,7 @@ use Rattle.flume_concurrent.specs.declared.event.Item.{Item}
 use Rattle.flume_concurrent.specs.declared.event.Item.TheVariants.{Happens, Makes}
 use Rattle.flume_concurrent.specs.declared.stage.Stage.{Stage}
 use Rattle.flume_concurrent.specs.declared.stage.Stage.TheVariants as stage
-use Rattle.flume_concurrent.specs.Calls.{is_send, first_step, parking_step, next_step, other_step}
+use Rattle.flume_concurrent.specs.Calls.{is_send, first_step, parking_step, next_step, alternative_step}
 use Rattle.flume_concurrent.specs.Explanations.{open_call, steps_in}
 use Rattle.flume_explain.specs.declared.configuration.OpenCall.{OpenCall}
 use Rattle.flume_explain.specs.declared.configuration.Progress.{Progress}
@@ -25,7 +25,7 @@ use Rattle.flume_explain.specs.declared.step_of.Move.{Move}
 use Rattle.flume_explain.specs.declared.step_of.Move.TheVariants as move
 use Rattle.flume_explain.specs.Configurations.{State, call_at, thread_at, call_by, first_answer}
 use Rattle.flume_explain.specs.Agreement.{Agrees, IsOpenAs, IsOwn, IsProgress}
-use Rattle.flume_explain.specs.Moves.{first_move, parking_move, next_move, other_move, move_of, step_for, is_refusal, IsStepOf, IsMove}
+use Rattle.flume_explain.specs.Moves.{first_move, parking_move, next_move, alternative_move, move_of, step_for, is_refusal, IsStepOf, IsMove}
 use Rattle.flume_explain.specs.Leads.{IsMade, LeadsTo, LeadsNowhere, MoveLeadsTo, MoveLeadsNowhere}
 
 module _ {T : Type 0} where
@@ -59,7 +59,7 @@ module _ {T A : Type 0} (equal : T → T → Bool) (events : List (Event T A)) w
   next_so own recorded ticket _ _ h = absurd h
 
   other_so : (own : Call T) (recorded : Option (Answer T A)) (ticket : ℕ) (p : Progress) (s : Stage T A)
-      → IsProgress equal events own recorded ticket p s → other_step own s ≡ step_by own ticket (other_move own p)
+      → IsProgress equal events own recorded ticket p s → alternative_step own s ≡ step_by own ticket (alternative_move own p)
   other_so (call.SendAsync m) recorded ticket progress.Parked (stage.Parked t) h = ap (λ u. Some (step.WithdrawSend u)) h
   other_so (call.SendTimeout m) recorded ticket progress.Parked (stage.Parked t) h = ap (λ u. Some (step.WithdrawSend u)) h
   other_so call.RecvTimeout recorded ticket progress.Parked (stage.Parked t) h = ap (λ u. Some (step.Withdraw u)) h
@@ -74,7 +74,7 @@ module _ {T A : Type 0} (equal : T → T → Bool) (events : List (Event T A)) w
   -- the step that a call makes is that of its move
   pub step_so : (own : Call T) (recorded : Option (Answer T A)) (ticket : ℕ) (p : Progress) (s : Stage T A) (other : Bool)
       → IsProgress equal events own recorded ticket p s
-      → (if other then other_step own s else next_step own s) ≡ step_by own ticket (move_of own p other)
+      → (if other then alternative_step own s else next_step own s) ≡ step_by own ticket (move_of own p other)
   step_so own recorded ticket p s true h = other_so own recorded ticket p s h
   step_so own recorded ticket p s false h = next_so own recorded ticket p s h
 
@@ -84,7 +84,7 @@ module _ {T A : Type 0} (equal : T → T → Bool) (events : List (Event T A)) w
     pub own : Call T
     pub call_is : call_at events one.place ≡ Some own
     pub moves : move_of own one.progress other ≡ None → ⊥
-    pub made : (mv : Move) → move_of own one.progress other ≡ Some mv → IsMade equal events c rest t one own mv refused o past step reply
+    pub outcome : (mv : Move) → move_of own one.progress other ≡ Some mv → IsMade equal events c rest t one own mv refused o past step reply
 
   pub found : (c : State) (rest : List (Event T A)) (t : ℕ) (one : OpenCall) (other refused : Bool) (o : Opening)
       (past : List (Item T A)) (step : Step T) (reply : Reply T A) (u : ℕ) → Contains c.calls one → thread_at events one.place ≡ Some t
@@ -101,27 +101,27 @@ module _ {T A : Type 0} (equal : T → T → Bool) (events : List (Event T A)) w
           let same : mine.0 ≡ t = cc in
           ap (λ v. call_by events v c.calls) (sym same) ∙ mine.2
 
-      by_call : (far : Option (Call T × Stage T A)) → open_call past t ≡ far
-          → IsOpenAs equal events agrees.tickets (first_answer t rest) (Some one) far → IsStepOf other (open_call past t) step
+      by_call : (current : Option (Call T × Stage T A)) → open_call past t ≡ current
+          → IsOpenAs equal events agrees.tickets (first_answer t rest) (Some one) current → IsStepOf other (open_call past t) step
           → IsFound c rest t one other refused o past step reply
       by_call None opened h stepped = absurd h
-      by_call (Some far) opened h stepped =
-          let of : IsStepOf other (Some far) step = subst (λ x. IsStepOf other x step) opened stepped in
-          let so : step_by far.0 (agrees.tickets one.place) (move_of far.0 one.progress other) ≡ Some step =
-          sym (step_so far.0 (first_answer t rest) (agrees.tickets one.place) one.progress far.1 other h.1) ∙ of in
+      by_call (Some current) opened h stepped =
+          let of : IsStepOf other (Some current) step = subst (λ x. IsStepOf other x step) opened stepped in
+          let so : step_by current.0 (agrees.tickets one.place) (move_of current.0 one.progress other) ≡ Some step =
+          sym (step_so current.0 (first_answer t rest) (agrees.tickets one.place) one.progress current.1 other h.1) ∙ of in
           record {
-            own = far.0;
+            own = current.0;
             call_is = h.0;
-            moves = λ none. let gone : step_by far.0 (agrees.tickets one.place) (move_of far.0 one.progress other) ≡ None =
-                ap (λ (m : Option Move). step_by far.0 (agrees.tickets one.place) m) none in let no : ⊥ = cc in no;
-            made = λ mv chosen. record {
+            moves = λ none. let gone : step_by current.0 (agrees.tickets one.place) (move_of current.0 one.progress other) ≡ None =
+                ap (λ (m : Option Move). step_by current.0 (agrees.tickets one.place) m) none in let no : ⊥ = cc in no;
+            outcome = λ mv chosen. record {
               agrees = agrees;
               is_own = is_own;
               call_is = h.0;
-              stage = far.1;
+              stage = current.1;
               is_open = opened;
               progress_is = h.1;
-              step_is = sym (ap (λ (m : Option Move). step_by far.0 (agrees.tickets one.place) m) chosen) ∙ so;
+              step_is = sym (ap (λ (m : Option Move). step_by current.0 (agrees.tickets one.place) m) chosen) ∙ so;
               refused_is = moved.1;
               lawful = run.0;
             };

@@ -8,7 +8,7 @@ use Rattle.flume_concurrent.specs.declared.event.Event.{Event}
 use Rattle.flume_explain.specs.declared.configuration.OpenCall.{OpenCall}
 use Rattle.flume_explain.specs.Configurations.{thread_at, call_by, is_thread, is_parked}
 use Rattle.flume_explain.specs.Agreement.{parked_at}
-use Rattle.flume_explain.specs.Happens.{begun_at}
+use Rattle.flume_explain.specs.Happens.{new_call}
 
 -- the first of two options that is there
 abbrev or_else : {X : Type 0} → Option X → Option X → Option X
@@ -109,9 +109,9 @@ module _ {T A : Type 0} (events : List (Event T A)) where
       by false is on = kept is (is_thread t (thread_at events one.place)) refl on
 
 -- a call that begins isn't parked
-pub parked_at-begun : (calls : List OpenCall) (place p : ℕ) → parked_at (calls ++ begun_at place ∷ []) p ≡ parked_at calls p
+pub parked_at-begun : (calls : List OpenCall) (place p : ℕ) → parked_at (calls ++ new_call place ∷ []) p ≡ parked_at calls p
 parked_at-begun calls place p =
-    list_any-append (λ (call : OpenCall). call.place == p && is_parked call.progress) calls (begun_at place ∷ []) ∙ by (parked_at calls p) (place == p)
+    list_any-append (λ (call : OpenCall). call.place == p && is_parked call.progress) calls (new_call place ∷ []) ∙ by (parked_at calls p) (place == p)
   where
     by : (a b : Bool) → (a || ((b && false) || false)) ≡ a
     by true true = refl

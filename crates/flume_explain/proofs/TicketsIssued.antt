@@ -12,7 +12,7 @@ use Rattle.flume_model.specs.declared.step.Reply.TheVariants as reply
 use Rattle.flume_model.specs.Asking.{IsPolledMark, IsPolled, IsGoneMark, IsGone}
 use Rattle.flume_model.specs.Channel.{Channel, channel}
 use Rattle.flume_model.specs.Entries.{entry_of}
-use Rattle.flume_model.specs.Line.{issued, next_ticket}
+use Rattle.flume_model.specs.Line.{tickets_issued, next_ticket}
 use Rattle.flume_model.specs.Log.{Log, Opening, Change, Takes, Collects, change, was_filled}
 use Rattle.flume_model.specs.Parked.{LogEntry}
 use Rattle.flume_model.specs.Replies.{IsReply, IsRun}
@@ -23,12 +23,12 @@ use Rattle.flume_concurrent.specs.declared.event.Item.{Item}
 use Rattle.flume_concurrent.specs.declared.event.Item.TheVariants.{Happens, Makes}
 use Rattle.flume_concurrent.specs.declared.stage.Stage.{Stage}
 use Rattle.flume_concurrent.specs.declared.stage.Stage.TheVariants.{Begun, Tried, Parked, Refused, Answered}
-use Rattle.flume_concurrent.specs.Calls.{is_send, next_step, other_step, stage_after}
-use Rattle.flume_concurrent.specs.Explanations.{events_in, steps_in, open_call, further, IsNextStep, AreCalls}
+use Rattle.flume_concurrent.specs.Calls.{is_send, next_step, alternative_step, stage_after}
+use Rattle.flume_concurrent.specs.Explanations.{events_in, steps_in, open_call, after_reply, IsNextStep, AreCalls}
 
 module _ {T : Type 0} where
   -- a message that is taken issues none
-  got_none : (b : Bool) (t : ℕ) (m : T) → issued (let c : Change T = if b then Collects t else Takes m (Some t) in c) ≡ 0
+  got_none : (b : Bool) (t : ℕ) (m : T) → tickets_issued (let c : Change T = if b then Collects t else Takes m (Some t) in c) ≡ 0
   got_none true t m = refl
   got_none false t m = refl
 
@@ -55,7 +55,7 @@ module _ {T A : Type 0} where
   -- how many an open call may, if there is one
   abbrev pub to_park : Option (Call T × Stage T A) → ℕ
   to_park None = 0
-  to_park (Some far) = to_take far.1
+  to_park (Some current) = to_take current.1
 
   take_most : (s : Stage T A) → to_take s ≤ 1
   take_most Begun = omega arith
@@ -64,9 +64,9 @@ module _ {T A : Type 0} where
   take_most (Refused t) = omega arith
   take_most (Answered a) = omega arith
 
-  park_most : (far : Option (Call T × Stage T A)) → to_park far ≤ 1
+  park_most : (current : Option (Call T × Stage T A)) → to_park current ≤ 1
   park_most None = omega arith
-  park_most (Some far) = take_most far.1
+  park_most (Some current) = take_most current.1
 
   -- a reply that issues a ticket
   abbrev IsParking : Reply T A → Type 0
@@ -76,7 +76,7 @@ module _ {T A : Type 0} where
 
   -- a step issues no ticket, or one by such a reply
   abbrev Issues : Change T → Reply T A → Type 0
-  Issues c r = (issued c ≡ 0) ⊎ ((issued c ≡ 1) × IsParking r)
+  Issues c r = (tickets_issued c ≡ 0) ⊎ ((tickets_issued c ≡ 1) × IsParking r)
 
   issues : (log : Log T A) (s : Step T) (r : Reply T A) → Issues (change log s r) r
   issues log (step.Send m) (reply.Pending t) = inr (refl, tt)
@@ -132,7 +132,7 @@ module _ {T A : Type 0} where
   next_asks own (Refused t) off = tt
   next_asks own (Answered a) off = tt
 
-  other_asks : (own : Call T) (s : Stage T A) → to_take s ≡ 0 → AreAsking (other_step own s)
+  other_asks : (own : Call T) (s : Stage T A) → to_take s ≡ 0 → AreAsking (alternative_step own s)
   other_asks own Begun off = absurd (let no : ⊥ = cc in no)
   other_asks own Tried off = absurd (let no : ⊥ = cc in no)
   other_asks (call.SendTimeout m) (Parked t) off = tt
@@ -145,7 +145,7 @@ module _ {T A : Type 0} where
   other_asks (call.SendAsync m) (Answered a) off = tt
   other_asks _ (Answered a) off = tt
 
-  asking_none : (log : Log T A) (s : Step T) (r : Reply T A) → IsAsking s → issued (change log s r) ≡ 0
+  asking_none : (log : Log T A) (s : Step T) (r : Reply T A) → IsAsking s → tickets_issued (change log s r) ≡ 0
   asking_none log (step.PollSend t) reply.Accepted h = refl
   asking_none log (step.PollSend t) (reply.Returned m closed) h = refl
   asking_none log (step.PollSend t) _ h = refl
@@ -261,24 +261,24 @@ module _ {T : Type 0} (A : Type 0) (c : Channel T) where
 
 module _ {T A : Type 0} where
   -- a step takes a ticket only if its call might
-  takes : (log : Log T A) (c : Channel T) (far : Option (Call T × Stage T A)) (s : Step T) (r : Reply T A) → IsNextStep far s → IsReply c s r
-      → issued (change log s r) + to_park (further r far) ≤ to_park far
+  takes : (log : Log T A) (c : Channel T) (current : Option (Call T × Stage T A)) (s : Step T) (r : Reply T A) → IsNextStep current s → IsReply c s r
+      → tickets_issued (change log s r) + to_park (after_reply r current) ≤ to_park current
   takes log c None s r next lawful = absurd next
-  takes log c (Some far) s r next lawful = by (to_take far.1) refl
+  takes log c (Some current) s r next lawful = by (to_take current.1) refl
     where
-      either : Issues (change log s r) r → issued (change log s r) + to_take (stage_after far.0 far.1 r) ≤ 1
-      either (inl none) = let most = take_most (stage_after far.0 far.1 r) in omega arith
-      either (inr one) = let off = parking_far far.0 far.1 r one.1 in let is = one.0 in omega arith
+      either : Issues (change log s r) r → tickets_issued (change log s r) + to_take (stage_after current.0 current.1 r) ≤ 1
+      either (inl none) = let most = take_most (stage_after current.0 current.1 r) in omega arith
+      either (inr one) = let off = parking_far current.0 current.1 r one.1 in let is = one.0 in omega arith
 
-      asks : to_take far.1 ≡ 0 → IsNextStep (Some far) s → IsAsking s
-      asks off (inl e) = subst AreAsking e (next_asks far.0 far.1 off)
-      asks off (inr e) = subst AreAsking e (other_asks far.0 far.1 off)
+      asks : to_take current.1 ≡ 0 → IsNextStep (Some current) s → IsAsking s
+      asks off (inl e) = subst AreAsking e (next_asks current.0 current.1 off)
+      asks off (inr e) = subst AreAsking e (other_asks current.0 current.1 off)
 
-      by : (n : ℕ) → to_take far.1 ≡ n → issued (change log s r) + to_take (stage_after far.0 far.1 r) ≤ to_take far.1
+      by : (n : ℕ) → to_take current.1 ≡ n → tickets_issued (change log s r) + to_take (stage_after current.0 current.1 r) ≤ to_take current.1
       by zero off =
           let asking = asks off next in
           let none = asking_none log s r asking in
-          let far_none = far_off far.0 far.1 r off (no_try A c s r asking lawful) in
+          let far_none = far_off current.0 current.1 r off (no_try A c s r asking lawful) in
           omega arith
       by (suc n) on = let most = either (issues log s r) in omega arith
 
@@ -361,11 +361,11 @@ module _ {T A : Type 0} (equal : T → T → Bool) (o : Opening) where
   tickets_within [] calls run ts apart = let none = none_yet T A ts in omega arith
   tickets_within (Makes u s r ∷ past) calls run ts apart =
       let fact = takes (steps_in past) (channel o (steps_in past)) (open_call past u) s r calls.0 run.0 in
-      let own : open_call (Makes u s r ∷ past) u ≡ further r (open_call past u) =
-      ap (λ b. if b then further r (open_call past u) else open_call past u) (eq-eqb u u refl) in
+      let own : open_call (Makes u s r ∷ past) u ≡ after_reply r (open_call past u) =
+      ap (λ b. if b then after_reply r (open_call past u) else open_call past u) (eq-eqb u u refl) in
       let same = ap to_park own in
-      let so = one_more past (Makes u s r ∷ past) u (λ t off. ap (λ b. if b then further r (open_call past t) else open_call past t) off)
-      (next_ticket o (steps_in past)) (o.first + length (events_in past)) (issued (change (steps_in past) s r)) 0 (omega arith)
+      let so = one_more past (Makes u s r ∷ past) u (λ t off. ap (λ b. if b then after_reply r (open_call past t) else open_call past t) off)
+      (next_ticket o (steps_in past)) (o.first + length (events_in past)) (tickets_issued (change (steps_in past) s r)) 0 (omega arith)
       (λ l k. tickets_within past calls.1 run.1 l k) (omega arith) ts apart in
       omega arith
   tickets_within (Happens (Begins u own) ∷ past) calls run ts apart =
@@ -374,9 +374,9 @@ module _ {T A : Type 0} (equal : T → T → Bool) (o : Opening) where
       (next_ticket o (steps_in past)) (o.first + length (events_in past)) 0 1 (omega arith)
       (λ l k. tickets_within past calls.1 run l k) (omega arith) ts apart in
       omega arith
-  tickets_within (Happens (Returns u told) ∷ past) calls run ts apart =
-      let most = park_most (open_call (Happens (Returns u told) ∷ past) u) in
-      let so = one_more past (Happens (Returns u told) ∷ past) u (λ t off. ap (λ b. if b then None else open_call past t) off)
+  tickets_within (Happens (Returns u recorded_answer) ∷ past) calls run ts apart =
+      let most = park_most (open_call (Happens (Returns u recorded_answer) ∷ past) u) in
+      let so = one_more past (Happens (Returns u recorded_answer) ∷ past) u (λ t off. ap (λ b. if b then None else open_call past t) off)
       (next_ticket o (steps_in past)) (o.first + length (events_in past)) 0 1 (omega arith)
       (λ l k. tickets_within past calls.1 run l k) (omega arith) ts apart in
       omega arith

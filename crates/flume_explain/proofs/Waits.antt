@@ -30,51 +30,51 @@ module _ {T A : Type 0} (equal : T → T → Bool) (events : List (Event T A)) w
       same : event ≡ Begins t call
       same = let k = sym there ∙ begins in let e : event ≡ Begins t call = cc in e
 
-      by : (far : Option (Call T × Stage T A)) → far ≡ None
-          → IsOpenAs equal events agrees.tickets (first_answer t (drop place events)) (Some one) far → ⊥
+      by : (current : Option (Call T × Stage T A)) → current ≡ None
+          → IsOpenAs equal events agrees.tickets (first_answer t (drop place events)) (Some one) current → ⊥
       by None none h = h
-      by (Some far) none h = let gone : ⊥ = cc in gone
+      by (Some current) none h = let gone : ⊥ = cc in gone
 
   -- a thread that has none open returns nothing
-  pub waits_none : (place : ℕ) (c : State) (t : ℕ) (told : Answer T A) → event_at events place ≡ Some (Returns t told)
+  pub waits_none : (place : ℕ) (c : State) (t : ℕ) (recorded_answer : Answer T A) → event_at events place ≡ Some (Returns t recorded_answer)
       → call_by events t c.calls ≡ None → EventWaits equal events place c
-  waits_none place c t told returns_it none o past event agrees there fits =
+  waits_none place c t recorded_answer returns_it none o past event agrees there fits =
       by (open_call past t) (subst (λ e. Fits equal past (Happens e)) same fits)
       (subst (λ x. IsOpenAs equal events agrees.tickets (first_answer t (drop place events)) x (open_call past t)) none (agrees.calls_are t))
     where
-      same : event ≡ Returns t told
-      same = let k = sym there ∙ returns_it in let e : event ≡ Returns t told = cc in e
+      same : event ≡ Returns t recorded_answer
+      same = let k = sym there ∙ returns_it in let e : event ≡ Returns t recorded_answer = cc in e
 
-      by : (far : Option (Call T × Stage T A)) → IsTrue (returns equal far told)
-          → IsOpenAs equal events agrees.tickets (first_answer t (drop place events)) None far → ⊥
+      by : (current : Option (Call T × Stage T A)) → IsTrue (returns equal current recorded_answer)
+          → IsOpenAs equal events agrees.tickets (first_answer t (drop place events)) None current → ⊥
       by None may h = false≢true may
-      by (Some far) may h = h
+      by (Some current) may h = h
 
   -- a call that is so far returns this only if it may
-  pub may_end-may_return : (call : Call T) (recorded : Option (Answer T A)) (ticket : ℕ) (told : Answer T A) (progress : Progress) (far : Stage T A)
-      → IsProgress equal events call recorded ticket progress far → may_return equal call far told ≡ true
-      → may_end equal (Some call) progress told ≡ true
-  may_end-may_return call recorded ticket told Begun stage.Begun h may = may
-  may_end-may_return call recorded ticket told Tried stage.Tried h may = may
-  may_end-may_return call recorded ticket told Parked (stage.Parked n) h may = may
-  may_end-may_return call recorded ticket told Refused (stage.Refused n) h may = may
-  may_end-may_return call recorded ticket told Done (stage.Answered own) h may = refl
-  may_end-may_return call recorded ticket told _ _ h may = absurd h
+  pub may_end-may_return : (call : Call T) (recorded : Option (Answer T A)) (ticket : ℕ) (recorded_answer : Answer T A) (progress : Progress) (current : Stage T A)
+      → IsProgress equal events call recorded ticket progress current → may_return equal call current recorded_answer ≡ true
+      → may_end equal (Some call) progress recorded_answer ≡ true
+  may_end-may_return call recorded ticket recorded_answer Begun stage.Begun h may = may
+  may_end-may_return call recorded ticket recorded_answer Tried stage.Tried h may = may
+  may_end-may_return call recorded ticket recorded_answer Parked (stage.Parked n) h may = may
+  may_end-may_return call recorded ticket recorded_answer Refused (stage.Refused n) h may = may
+  may_end-may_return call recorded ticket recorded_answer Done (stage.Answered own) h may = refl
+  may_end-may_return call recorded ticket recorded_answer _ _ h may = absurd h
 
   -- an open call returns nothing that it may not
-  pub waits_call : (place : ℕ) (c : State) (t : ℕ) (told : Answer T A) (one : OpenCall) → event_at events place ≡ Some (Returns t told)
-      → call_by events t c.calls ≡ Some one → may_end equal (call_at events one.place) one.progress told ≡ false
+  pub waits_call : (place : ℕ) (c : State) (t : ℕ) (recorded_answer : Answer T A) (one : OpenCall) → event_at events place ≡ Some (Returns t recorded_answer)
+      → call_by events t c.calls ≡ Some one → may_end equal (call_at events one.place) one.progress recorded_answer ≡ false
       → EventWaits equal events place c
-  waits_call place c t told one returns_it own never o past event agrees there fits =
+  waits_call place c t recorded_answer one returns_it own never o past event agrees there fits =
       by (open_call past t) (subst (λ e. Fits equal past (Happens e)) same fits)
       (subst (λ x. IsOpenAs equal events agrees.tickets (first_answer t (drop place events)) x (open_call past t)) own (agrees.calls_are t))
     where
-      same : event ≡ Returns t told
-      same = let k = sym there ∙ returns_it in let e : event ≡ Returns t told = cc in e
+      same : event ≡ Returns t recorded_answer
+      same = let k = sym there ∙ returns_it in let e : event ≡ Returns t recorded_answer = cc in e
 
-      by : (far : Option (Call T × Stage T A)) → IsTrue (returns equal far told)
-          → IsOpenAs equal events agrees.tickets (first_answer t (drop place events)) (Some one) far → ⊥
+      by : (current : Option (Call T × Stage T A)) → IsTrue (returns equal current recorded_answer)
+          → IsOpenAs equal events agrees.tickets (first_answer t (drop place events)) (Some one) current → ⊥
       by None may h = h
-      by (Some far) may h =
-          false≢true (sym never ∙ ap (λ x. may_end equal x one.progress told) h.0
-          ∙ may_end-may_return far.0 (first_answer t (drop place events)) (agrees.tickets one.place) told one.progress far.1 h.1 may)
+      by (Some current) may h =
+          false≢true (sym never ∙ ap (λ x. may_end equal x one.progress recorded_answer) h.0
+          ∙ may_end-may_return current.0 (first_answer t (drop place events)) (agrees.tickets one.place) recorded_answer one.progress current.1 h.1 may)

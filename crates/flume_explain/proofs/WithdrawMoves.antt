@@ -14,7 +14,7 @@ use Rattle.flume_state.specs.declared.entries.ReceiverStatus.{ReceiverStatus}
 use Rattle.flume_state.specs.declared.entries.ReceiverStatus.TheVariants.{BlockWaiting, BlockWoken}
 use Rattle.flume_state.specs.declared.entries.ReceiverStatus.TheVariants.{Waiting as IsWaiting}
 use Rattle.flume_state.specs.declared.entries.ReceiverStatus.TheVariants.{Woken as IsWoken}
-use Rattle.flume_state.specs.Receivers.{receiver_status, status_by, blocks}
+use Rattle.flume_state.specs.Receivers.{receiver_status, status_by, is_unfilled_block}
 use Rattle.flume_state.specs.State.{State as Channel}
 use Rattle.flume_state.specs.Effects.{without_receiver, after_withdrawal}
 use Rattle.flume_core.specs.Represents.{Represents}
@@ -22,15 +22,15 @@ use Rattle.flume_core.proofs.Asked.{withdraw_none, withdraw_collects, withdraw_t
 use Rattle.flume_core.proofs.Asked.{withdraw_passes}
 use Rattle.flume_concurrent.specs.declared.event.Event.{Event}
 use Rattle.flume_explain.specs.declared.configuration.ParkedReceive.{ParkedReceive}
-use Rattle.flume_explain.specs.declared.configuration.Standing.{Standing}
-use Rattle.flume_explain.specs.declared.configuration.Standing.TheVariants as standing
+use Rattle.flume_explain.specs.declared.configuration.Status.{Status}
+use Rattle.flume_explain.specs.declared.configuration.Status.TheVariants as status
 use Rattle.flume_explain.specs.declared.place_reply.PlaceReply.TheVariants as reply
 use Rattle.flume_explain.specs.declared.step_of.Move.TheVariants as move
 use Rattle.flume_explain.specs.Configurations.{State}
 use Rattle.flume_explain.specs.ByPlaces.{closed_now, with_front, without_receive, leave, wake}
 use Rattle.flume_explain.specs.ByPlaces.{passes_on as passes_on_here}
 use Rattle.flume_explain.specs.Receives.{receive_of, without_place}
-use Rattle.flume_explain.specs.Made.{Answer, made, received_from, leaves_with, left_as, left_by}
+use Rattle.flume_explain.specs.Outcomes.{ReplyAndState, outcome, receive_outcome_from, leaves_with, withdraw_outcome_as, withdraw_outcome_by}
 use Rattle.flume_explain.specs.Mirrors.{Mirrors, Answers, IsLeft, mark_of, some_mark}
 use Rattle.flume_explain.proofs.MoveAnswers.{MoveAnswers, IsApart}
 use Rattle.flume_explain.proofs.MirrorViews.{closed_same}
@@ -46,17 +46,17 @@ module _ {T A : Type 0} (events : List (Event T A)) (o : Opening) (log : Log T A
     (place : ℕ) (h : Represents o log s) (mirrors : Mirrors events tickets s c) (apart : IsApart tickets place c)
     (unblocked : All (λ q. q ≢ place) c.blocked) where
   -- a receive that leaves is answered so
-  abbrev Withdrawn : Answer → Type 0
+  abbrev Withdrawn : ReplyAndState → Type 0
   Withdrawn answer = Answers events o log tickets s c place (Withdraw (tickets place)) answer.0 answer.1
 
   -- one that stands so, and blocks, leaves with the front of the line, or with no message
-  blocking : (st : ReceiverStatus) → receiver_status (tickets place) s.entries ≡ Some st → blocks (Some st) ≡ true
+  blocking : (st : ReceiverStatus) → receiver_status (tickets place) s.entries ≡ Some st → is_unfilled_block (Some st) ≡ true
       → Withdrawn (leaves_with place
-      (received_from (with_front c).queue (reply.Gone (closed_now c), without_receive place c) c))
+      (receive_outcome_from (with_front c).queue (reply.Gone (closed_now c), without_receive place c) c))
   blocking st is blocks_ = go (with_front c).queue refl
     where
       go : (queue : List ℕ) → (with_front c).queue ≡ queue
-          → Withdrawn (leaves_with place (received_from queue (reply.Gone (closed_now c), without_receive place c) c))
+          → Withdrawn (leaves_with place (receive_outcome_from queue (reply.Gone (closed_now c), without_receive place c) c))
       go [] front =
           leaves events o log s c tickets place h mirrors apart unblocked (Withdraw (tickets place)) (reply.Gone (closed_now c))
           (own.Gone (is_closed s.senders s.receivers) None) refl (closed_same events tickets s c mirrors)
@@ -73,11 +73,11 @@ module _ {T A : Type 0} (events : List (Event T A)) (o : Opening) (log : Log T A
             (leave_fills (tickets place) s.queue s.entries),
       ) ∷ log) (after_withdrawal (tickets place) s)
       → Withdrawn (reply.Gone (closed_now c), leave place c)
-  departs woken here there stands = record {
+  departs woken here there represents = record {
     reply = own.Gone (is_closed s.senders s.receivers) (leave_fills (tickets place) s.queue s.entries);
-    alike = closed_same events tickets s c mirrors;
+    corresponds = closed_same events tickets s c mirrors;
     state = after_withdrawal (tickets place) s;
-    stands = stands;
+    represents = represents;
     mirrors = mirror_leave woken here there;
     blocked_left = left_blocked woken here;
     receives_left = left_receives woken here;
@@ -107,67 +107,67 @@ module _ {T A : Type 0} (events : List (Event T A)) (o : Opening) (log : Log T A
       left_receives false a = rw a others
 
   -- one that waits, and doesn't block
-  waiting : (k : Kind) (q : ℕ) (m : Mark T) → mark_of events standing.Waiting ≡ some_mark m
+  waiting : (k : Kind) (q : ℕ) (m : Mark T) → mark_of events status.Waiting ≡ some_mark m
       → passes_on (entry_of (tickets place) s.entries) ≡ is_woken m
-      → receive_of place c.receives ≡ Some (record { place = q; kind = k; standing = standing.Waiting })
+      → receive_of place c.receives ≡ Some (record { place = q; kind = k; status = status.Waiting })
       → receiver_status (tickets place) s.entries ≡ Some IsWaiting → Withdrawn (reply.Gone (closed_now c), leave place c)
   waiting k q m marked passes found is =
       departs false (ap passes_on_here found) (passes ∙ ap is_woken (waiting_mark events m marked))
       (withdraw_passes o log s _ (tickets place) IsWaiting _ _ h is (inl refl) refl refl refl)
 
   -- one that was woken, and doesn't block
-  woken : (k : Kind) (q : ℕ) (m : Mark T) → mark_of events standing.Woken ≡ some_mark m
+  woken : (k : Kind) (q : ℕ) (m : Mark T) → mark_of events status.Woken ≡ some_mark m
       → passes_on (entry_of (tickets place) s.entries) ≡ is_woken m
-      → receive_of place c.receives ≡ Some (record { place = q; kind = k; standing = standing.Woken })
+      → receive_of place c.receives ≡ Some (record { place = q; kind = k; status = status.Woken })
       → receiver_status (tickets place) s.entries ≡ Some IsWoken → Withdrawn (reply.Gone (closed_now c), leave place c)
   woken k q m marked passes found is =
       departs true (ap passes_on_here found) (passes ∙ ap is_woken (woken_mark events m marked))
       (withdraw_passes o log s _ (tickets place) IsWoken _ _ h is (inr refl) refl refl refl)
 
   -- one with this mark leaves
-  withdraws : (k : Kind) (st : Standing) (q : ℕ) (m : Mark T) → mark_of events st ≡ some_mark m
+  withdraws : (k : Kind) (st : Status) (q : ℕ) (m : Mark T) → mark_of events st ≡ some_mark m
       → receiver_status (tickets place) s.entries ≡ Some (status_by k m) → held_by (entry_of (tickets place) s.entries) ≡ held_in m
       → passes_on (entry_of (tickets place) s.entries) ≡ is_woken m
-      → receive_of place c.receives ≡ Some (record { place = q; kind = k; standing = st }) → Withdrawn (left_as place k st c)
-  withdraws k (standing.Filled p) q m marked is held passes found =
+      → receive_of place c.receives ≡ Some (record { place = q; kind = k; status = st }) → Withdrawn (withdraw_outcome_as place k st c)
+  withdraws k (status.Filled p) q m marked is held passes found =
       let filled = filled_mark events p m marked in
       leaves events o log s c tickets place h mirrors apart unblocked (Withdraw (tickets place)) (reply.Got p) (own.Got filled.0) refl
       filled.2
       (withdraw_collects o log s _ (tickets place) (own.Got filled.0) h (is ∙ ap (λ x. Some (status_by k x)) filled.1)
       (filled.0, held ∙ ap held_in filled.1, refl) refl)
-  withdraws Block standing.Waiting q m marked is held passes found =
+  withdraws Block status.Waiting q m marked is held passes found =
       blocking BlockWaiting (is ∙ ap (λ x. Some (status_by Block x)) (waiting_mark events m marked)) refl
-  withdraws Block standing.Woken q m marked is held passes found =
+  withdraws Block status.Woken q m marked is held passes found =
       blocking BlockWoken (is ∙ ap (λ x. Some (status_by Block x)) (woken_mark events m marked)) refl
-  withdraws Plain standing.Waiting q m marked is held passes found =
+  withdraws Plain status.Waiting q m marked is held passes found =
       waiting Plain q m marked passes found (is ∙ ap (λ x. Some (status_by Plain x)) (waiting_mark events m marked))
-  withdraws Stream standing.Waiting q m marked is held passes found =
+  withdraws Stream status.Waiting q m marked is held passes found =
       waiting Stream q m marked passes found (is ∙ ap (λ x. Some (status_by Stream x)) (waiting_mark events m marked))
-  withdraws Arm standing.Waiting q m marked is held passes found =
+  withdraws Arm status.Waiting q m marked is held passes found =
       waiting Arm q m marked passes found (is ∙ ap (λ x. Some (status_by Arm x)) (waiting_mark events m marked))
-  withdraws Plain standing.Woken q m marked is held passes found =
+  withdraws Plain status.Woken q m marked is held passes found =
       woken Plain q m marked passes found (is ∙ ap (λ x. Some (status_by Plain x)) (woken_mark events m marked))
-  withdraws Stream standing.Woken q m marked is held passes found =
+  withdraws Stream status.Woken q m marked is held passes found =
       woken Stream q m marked passes found (is ∙ ap (λ x. Some (status_by Stream x)) (woken_mark events m marked))
-  withdraws Arm standing.Woken q m marked is held passes found =
+  withdraws Arm status.Woken q m marked is held passes found =
       woken Arm q m marked passes found (is ∙ ap (λ x. Some (status_by Arm x)) (woken_mark events m marked))
 
   -- it leaves
-  leaving : Withdrawn (made move.Withdraw place c)
+  leaving : Withdrawn (outcome move.Withdraw place c)
   leaving = go (receive_of place c.receives) refl
     where
-      go : (found : Option ParkedReceive) → receive_of place c.receives ≡ found → Withdrawn (left_by place found c)
+      go : (found : Option ParkedReceive) → receive_of place c.receives ≡ found → Withdrawn (withdraw_outcome_by place found c)
       go None none =
           gone events o log s c tickets place h mirrors apart unblocked (Withdraw (tickets place)) none
           (withdraw_none o log s s (tickets place) h (stands_none events tickets s c place mirrors apart.from_parked none) refl)
       go (Some r) found =
           let own_entry = stands_as events tickets s c place mirrors apart.from_parked r found in
-          withdraws r.kind r.standing r.place own_entry.marked own_entry.is own_entry.stands own_entry.held own_entry.passes found
+          withdraws r.kind r.status r.place own_entry.marked own_entry.is own_entry.represents own_entry.held own_entry.passes found
 
 module _ {T A : Type 0} (events : List (Event T A)) where
   -- a parked receive leaves
   pub answers_withdraw : MoveAnswers events move.Withdraw
   answers_withdraw o log s c tickets place call step given h mirrors at is ready lawful granted =
       let step_is : Withdraw (tickets place) ≡ step = cc in
-      subst (λ x. Answers events o log tickets s c place x (made move.Withdraw place c).0 (made move.Withdraw place c).1) step_is
+      subst (λ x. Answers events o log tickets s c place x (outcome move.Withdraw place c).0 (outcome move.Withdraw place c).1) step_is
       (leaving events o log s c tickets place h mirrors ready.0 ready.1)

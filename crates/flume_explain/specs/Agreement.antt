@@ -32,8 +32,8 @@ module _ {T A : Type 0} (events : List (Event T A)) where
   abbrev pub is_send_at : ℕ → Bool
   is_send_at p = option_map_or is_send (call_at events p) false
 
-  -- Who is parked: the parked calls have tickets of their own, all below the next one. Who is blocked
-  -- is a parked send, and who has an entry is parked and no send.
+  -- the parked calls have tickets of their own, all below the next one; a blocked one is a send,
+  -- and one that has an entry is none
   pub record AreParked (tickets : ℕ → ℕ) (next : ℕ) (c : State) : Type 0 where
     pub tickets_apart : (p q : ℕ) → parked_at c.calls p ≡ true → parked_at c.calls q ≡ true
         → tickets p ≡ tickets q → p ≡ q
@@ -47,11 +47,12 @@ module _ {T A : Type 0} where
   -- whether a call that has come to an answer may return what is recorded, if anything is
   abbrev pub may_as_recorded : (T → T → Bool) → Call T → Answer T A → Option (Answer T A) → Bool
   may_as_recorded equal call own None = true
-  may_as_recorded equal call own (Some told) = may_return equal call (stage.Answered own) told
+  may_as_recorded equal call own (Some recorded) =
+      may_return equal call (stage.Answered own) recorded
 
--- the events that were recorded, where `equal` compares messages
+-- the recorded events; `equal` compares messages
 module _ {T A : Type 0} (equal : T → T → Bool) (events : List (Event T A)) where
-  -- the progress is that of this stage, for a call with this ticket that is recorded to return so
+  -- the progress is that of this stage, for a call with this ticket that is recorded to return this
   abbrev pub IsProgress : Call T → Option (Answer T A) → ℕ → Progress → Stage T A → Type 0
   IsProgress call recorded ticket Begun stage.Begun = Unit {0}
   IsProgress call recorded ticket Tried stage.Tried = Unit {0}
@@ -61,13 +62,13 @@ module _ {T A : Type 0} (equal : T → T → Bool) (events : List (Event T A)) w
       may_as_recorded equal call own recorded ≡ true
   IsProgress call recorded ticket _ _ = ⊥
 
-  -- the open call of a thread is this one, and so far
+  -- this is the open call of a thread, at its progress
   abbrev pub IsOpenAs : (ℕ → ℕ) → Option (Answer T A) → Option OpenCall
       → Option (Call T × Stage T A) → Type 0
   IsOpenAs tickets recorded None None = Unit {0}
-  IsOpenAs tickets recorded (Some one) (Some far) =
-      (call_at events one.place ≡ Some far.0)
-      × IsProgress far.0 recorded (tickets one.place) one.progress far.1
+  IsOpenAs tickets recorded (Some one) (Some current) =
+      (call_at events one.place ≡ Some current.0)
+      × IsProgress current.0 recorded (tickets one.place) one.progress current.1
   IsOpenAs tickets recorded _ _ = ⊥
 
   -- the open call is the one that its thread has among these
@@ -75,14 +76,13 @@ module _ {T A : Type 0} (equal : T → T → Bool) (events : List (Event T A)) w
   IsOwn calls one =
       (t : ℕ) × (thread_at events one.place ≡ Some t) × (call_by events t calls ≡ Some one)
 
-  -- The configuration agrees with the items so far, the newest first, of which `rest` are the events
-  -- that come next.
+  -- the configuration agrees with the items so far, the newest first; `rest` are the next events
   pub record Agrees (opening : Opening) (past : List (Item T A)) (rest : List (Event T A))
       (c : State) : Type 0 where
-    -- a state that the steps lead to
+    -- the state after the steps
     pub state : Channel T (Unit {0})
-    pub stands : Represents opening (steps_in past) state
-    -- a ticket for each call that is parked, by its place
+    pub represents : Represents opening (steps_in past) state
+    -- the tickets of the parked calls, by their places
     pub tickets : ℕ → ℕ
     pub channel : Mirrors events tickets state c
     pub calls_are : (t : ℕ) → IsOpenAs tickets (first_answer t rest) (call_by events t c.calls)

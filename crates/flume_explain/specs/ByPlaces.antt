@@ -5,16 +5,16 @@ use Rattle.std.specs.Prelude.{List, [], ◌∷◌, ◌++◌, map, length, Option
 use Rattle.std.specs.List.{list_any}
 use Rattle.flume_model.specs.Limits.{is_closed, is_full}
 use Rattle.flume_explain.specs.declared.configuration.ParkedReceive.{ParkedReceive}
-use Rattle.flume_explain.specs.declared.configuration.Standing.TheVariants.{Waiting, Woken}
+use Rattle.flume_explain.specs.declared.configuration.Status.TheVariants.{Waiting, Woken}
 use Rattle.flume_explain.specs.Configurations.{State}
-use Rattle.flume_explain.specs.Receives.{waits, is_awake, standing_as, round_of, round_fills_one}
+use Rattle.flume_explain.specs.Receives.{waits, is_awake, with_status, round_of, round_fills_one}
 use Rattle.flume_explain.specs.Receives.{receive_of, without_place}
 
 -- whether some receive waits
 abbrev pub some_waits : List ParkedReceive → Bool
-some_waits rs = list_any (λ r. waits r.standing) rs
+some_waits rs = list_any (λ r. waits r.status) rs
 
--- whether all senders or all receivers are gone
+-- whether all senders or all receivers have been dropped
 abbrev pub closed_now : State → Bool
 closed_now c = is_closed c.senders c.receivers
 
@@ -44,11 +44,11 @@ front_of (p ∷ rest) c = c
 abbrev pub with_front : State → State
 with_front c = front_of c.queue c
 
--- the front of the line was handed out, which left this of the queue
+-- the front of the line was taken, which left this of the queue
 abbrev pub take_leaving : List ℕ → State → State
 take_leaving rest c = refill (record (with_front c) { queue = rest })
 
--- of these blocked sends, the first ones join the queue while it has room
+-- these blocked sends join the queue, the first ones first, while it has room
 abbrev pub admit_all_of : List ℕ → State → State
 admit_all_of [] c = c
 admit_all_of (p ∷ later) c =
@@ -94,22 +94,23 @@ join place c = wake (record c { queue = c.queue ++ place ∷ [] })
 abbrev pub without_receive : ℕ → State → State
 without_receive place c = record c { receives = without_place place c.receives }
 
--- the receives, if this is the one at a place: if it was woken, it waits again, behind all others
+-- the receives, if this is the one at a place: if it was notified, it waits again, behind all
+-- others
 abbrev pub again_as : ℕ → Option ParkedReceive → List ParkedReceive → List ParkedReceive
 again_as place None rs = rs
 again_as place (Some r) rs =
-    if is_awake r.standing then without_place place rs ++ standing_as Waiting r ∷ [] else rs
+    if is_awake r.status then without_place place rs ++ with_status Waiting r ∷ [] else rs
 
 -- the receive at this place asked, and waits on
 abbrev pub ask_again : ℕ → State → State
 ask_again place c = record c { receives = again_as place (receive_of place c.receives) c.receives }
 
--- whether a wake is passed on as this receive leaves
+-- whether this receive passes its notification on as it leaves
 abbrev pub passes_on : Option ParkedReceive → Bool
 passes_on None = false
-passes_on (Some r) = is_awake r.standing
+passes_on (Some r) = is_awake r.status
 
--- the receive at this place leaves with no message, and its wake is passed on
+-- the receive at this place leaves without a message, and passes its notification on
 abbrev pub leave : ℕ → State → State
 leave place c =
     if passes_on (receive_of place c.receives) then wake (without_receive place c)
@@ -120,11 +121,12 @@ abbrev pub without_send : ℕ → List ℕ → List ℕ
 without_send place [] = []
 without_send place (p ∷ ps) = if p == place then ps else p ∷ without_send place ps
 
--- a receive, woken if it waits
+-- a receive, notified if it waits
 abbrev pub woken_if_waiting : ParkedReceive → ParkedReceive
-woken_if_waiting r = if waits r.standing then standing_as Woken r else r
+woken_if_waiting r = if waits r.status then with_status Woken r else r
 
--- an end left: with the last end all is gone; and if the channel closes, each waiting receive wakes
+-- an end was dropped: with the last end all is gone; if the channel closes, each waiting receive is
+-- notified
 abbrev pub end_dropped : Bool → State → State
 end_dropped was_closed c =
     if c.senders + c.receivers == 0 then record c { queue = []; blocked = []; receives = [] }

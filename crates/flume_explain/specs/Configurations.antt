@@ -1,6 +1,7 @@
--- What a search for an explanation knows of the items so far: the channel and the open calls,
--- without tickets. A call goes by its place: that of the event by which it began.
-use Rattle.std.specs.Prelude.{ℕ, zero, suc, ◌==◌, Bool, true, false, if◌then◌else◌, List, [], ◌∷◌, map}
+-- The channel and the open calls after some items, without tickets. A call goes by its place, that
+-- of the event by which it began.
+use Rattle.std.specs.Prelude.{ℕ, zero, suc, ◌==◌, Bool, true, false, if◌then◌else◌, List, [], ◌∷◌}
+use Rattle.std.specs.Prelude.{map}
 use Rattle.std.specs.Prelude.{Option, Some, None}
 use Rattle.std.specs.Option.{option_and_then, option_map}
 use Rattle.flume_concurrent.specs.declared.call.Call.{Call}
@@ -19,26 +20,25 @@ pub record State : Type 0 where
   pub capacity : Option ℕ
   pub senders : ℕ
   pub receivers : ℕ
-  -- the places of the sends whose messages are queued, and of those that are blocked, in order
+  -- the places of the sends whose messages are queued, and of the blocked ones, in order
   pub queue : List ℕ
   pub blocked : List ℕ
-  -- the parked receives
   pub receives : List ParkedReceive
   -- the open calls, in the order in which they began
   pub calls : List OpenCall
 
--- the open call, which is so far now if it is the one at this place
-abbrev pub once : ℕ → Progress → OpenCall → OpenCall
-once place progress call =
+-- the open call, with this progress if it is the one at this place
+abbrev pub call_with_progress : ℕ → Progress → OpenCall → OpenCall
+call_with_progress place progress call =
     if call.place == place then record { place = call.place; progress = progress } else call
 
--- the open calls, the one at this place being so far now
-abbrev pub progressed : ℕ → Progress → List OpenCall → List OpenCall
-progressed place progress calls = map (once place progress) calls
+-- the open calls, the one at this place with this progress
+abbrev pub calls_with_progress : ℕ → Progress → List OpenCall → List OpenCall
+calls_with_progress place progress calls = map (call_with_progress place progress) calls
 
--- the configuration with the open call at this place so far
+-- the configuration, the open call at this place with this progress
 abbrev pub with_progress : ℕ → Progress → State → State
-with_progress place progress c = record c { calls = progressed place progress c.calls }
+with_progress place progress c = record c { calls = calls_with_progress place progress c.calls }
 
 -- the configuration of a new channel
 abbrev pub start_of : Option ℕ → State
@@ -52,7 +52,7 @@ start_of capacity = record {
   calls = [];
 }
 
--- whether a call that is so far is parked
+-- whether a call is parked
 abbrev pub is_parked : Progress → Bool
 is_parked Parked = true
 is_parked Refused = true
@@ -64,7 +64,7 @@ is_thread t None = false
 is_thread t (Some u) = u == t
 
 module _ {T : Type 0} where
-  -- the message that a call sends, if it sends one
+  -- the message that a call sends
   abbrev pub message_of : Call T → Option T
   message_of (Send m) = Some m
   message_of (SendTimeout m) = Some m
@@ -79,7 +79,7 @@ module _ {T A : Type 0} where
   event_at (event ∷ events) zero = Some event
   event_at (event ∷ events) (suc p) = event_at events p
 
-  -- the call that an event begins, if it begins one
+  -- the call that an event begins
   abbrev pub call_of : Event T A → Option (Call T)
   call_of (Begins t call) = Some call
   call_of (Returns t answer) = None

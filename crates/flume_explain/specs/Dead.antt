@@ -1,4 +1,4 @@
--- Configurations from which no explanation goes on, whatever the items were that led there.
+-- Configurations from which no explanation goes on, whichever items led there.
 use Rattle.std.specs.Prelude.{◌≡◌, ◌≤◌, ◌⊎◌, ℕ, ◌+◌, Bool, List, [], ◌∷◌, drop, length, Some}
 use Rattle.std.specs.List.{Contains}
 use Rattle.flume_model.specs.Log.{Opening}
@@ -20,10 +20,10 @@ module _ {T A : Type 0} where
   onto [] past = past
   onto (item ∷ items) past = onto items (item ∷ past)
 
--- the events that were recorded, where `equal` compares messages
+-- the recorded events; `equal` compares messages
 module _ {T A : Type 0} (equal : T → T → Bool) (events : List (Event T A)) where
-  -- items, the oldest first, go on from others to an explanation with the events from a place on,
-  -- whose steps stand late
+  -- after `past`, these items, the oldest first, complete an explanation with the events from a
+  -- place on, whose steps come late
   pub record GoOn (opening : Opening) (past : List (Item T A)) (place : ℕ) (items : List (Item T A))
       : Type 0 where
     pub events_are : events_in items ≡ drop place events
@@ -35,33 +35,33 @@ module _ {T A : Type 0} (equal : T → T → Bool) (events : List (Event T A)) w
   IsDead place c = (opening : Opening) (past items : List (Item T A))
       → Agrees equal events opening past (drop place events) c → GoOn opening past place items → ⊥
 
-  -- none of at most so many
+  -- no items go on that are at most this many
   abbrev pub IsDeadWithin : ℕ → ℕ → State → Type 0
   IsDeadWithin n place c = (opening : Opening) (past items : List (Item T A)) → length items ≤ n
       → Agrees equal events opening past (drop place events) c → GoOn opening past place items → ⊥
 
-  -- the item is one of this choice: an event, or such a step of this open call
-  abbrev pub IsOf : State → List (Item T A) → Choice → Item T A → Type 0
-  IsOf c past TakeEvent item = (event : Event T A) × (item ≡ Happens event)
-  IsOf c past (MakeStep call other refused) item = (t : ℕ) × Contains c.calls call
+  -- the item is one of this choice: an event, or a step of this open call
+  abbrev pub IsItemOf : State → List (Item T A) → Choice → Item T A → Type 0
+  IsItemOf c past TakeEvent item = (event : Event T A) × (item ≡ Happens event)
+  IsItemOf c past (MakeStep call other refused) item = (t : ℕ) × Contains c.calls call
       × (thread_at events call.place ≡ Some t) × IsMove past t other refused item
 
-  -- What may come next is one of these choices; unless the same configuration goes on by fewer
-  -- items.
+  -- what may come next is one of these choices, unless the same configuration goes on by fewer
+  -- items
   abbrev pub AreLeft : ℕ → State → List Choice → Type 0
   AreLeft place c choices = (opening : Opening) (past : List (Item T A)) (item : Item T A)
       (items : List (Item T A)) → Agrees equal events opening past (drop place events) c
       → IsDeadWithin (length items) place c → GoOn opening past place (item ∷ items)
-      → (choice : Choice) × Contains choices choice × IsOf c past choice item
+      → (choice : Choice) × Contains choices choice × IsItemOf c past choice item
 
-  -- Nothing of this choice may come next; unless the same configuration goes on by fewer items.
+  -- nothing of this choice may come next, unless the same configuration goes on by fewer items
   abbrev pub IsSpent : ℕ → State → Choice → Type 0
   IsSpent place c choice = (opening : Opening) (past : List (Item T A)) (item : Item T A)
       (items : List (Item T A)) → Agrees equal events opening past (drop place events) c
       → IsDeadWithin (length items) place c → GoOn opening past place (item ∷ items)
-      → IsOf c past choice item → ⊥
+      → IsItemOf c past choice item → ⊥
 
-  -- the next event leads to what agrees with the new configuration
+  -- the next event leads to items that agree with the new configuration
   abbrev pub EventLeads : ℕ → State → State → Type 0
   EventLeads place c new = (opening : Opening) (past : List (Item T A)) (event : Event T A)
       → Agrees equal events opening past (drop place events) c → event_at events place ≡ Some event
@@ -79,7 +79,7 @@ abbrev pub AreSteps : List Choice → List OpenCall → Type 0
 AreSteps choices calls = (call : OpenCall) (other refused : Bool) → Contains calls call
     → Contains choices (MakeStep call other refused)
 
--- they have each step of each of these open calls, but of this one
+-- the choices have each step of each of these open calls but this one
 abbrev pub AreStepsBut : OpenCall → List Choice → List OpenCall → Type 0
 AreStepsBut own choices calls = (call : OpenCall) (other refused : Bool) → Contains calls call
     → Contains choices (MakeStep call other refused) ⊎ (call ≡ own)

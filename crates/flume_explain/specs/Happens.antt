@@ -11,24 +11,26 @@ use Rattle.flume_explain.specs.declared.configuration.Progress.TheVariants as pr
 use Rattle.flume_explain.specs.Configurations.{State}
 
 -- the call that begins by the event at a place
-abbrev pub begun_at : ℕ → OpenCall
-begun_at place = record { place = place; progress = progress.Begun }
+abbrev pub new_call : ℕ → OpenCall
+new_call place = record { place = place; progress = progress.Begun }
 
--- the configuration once it is open
+-- the configuration after its begin
 abbrev pub with_call : ℕ → State → State
-with_call place c = record c { calls = c.calls ++ begun_at place ∷ [] }
+with_call place c = record c { calls = c.calls ++ new_call place ∷ [] }
 
 -- the configuration without the open call at a place
 abbrev pub without_call : ℕ → State → State
 without_call place c = record c { calls = filter (λ call. not (call.place == place)) c.calls }
 
 module _ {T A : Type 0} where
-  -- Whether an open call that is so far may return this, if this is the first answer that is recorded
-  -- of it. One that has its answer has this one.
+  -- whether an open call may return this, if this is the first answer that is recorded of it: one
+  -- that has its answer returns this one
   abbrev pub may_end : (T → T → Bool) → Option (Call T) → Progress → Answer T A → Bool
-  may_end equal None far told = false
-  may_end equal (Some call) progress.Begun told = may_return equal call stage.Begun told
-  may_end equal (Some call) progress.Tried told = may_return equal call stage.Tried told
-  may_end equal (Some call) progress.Parked told = false
-  may_end equal (Some call) progress.Refused told = false
-  may_end equal (Some call) progress.Done told = true
+  may_end equal None current recorded_answer = false
+  may_end equal (Some call) progress.Begun recorded_answer =
+      may_return equal call stage.Begun recorded_answer
+  may_end equal (Some call) progress.Tried recorded_answer =
+      may_return equal call stage.Tried recorded_answer
+  may_end equal (Some call) progress.Parked recorded_answer = false
+  may_end equal (Some call) progress.Refused recorded_answer = false
+  may_end equal (Some call) progress.Done recorded_answer = true

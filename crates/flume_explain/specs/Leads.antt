@@ -1,4 +1,4 @@
--- Where a move of an open call leads a configuration.
+-- The configuration after a move of an open call.
 use Rattle.std.specs.Prelude.{◌≡◌, ℕ, Bool, false, List, ◌∷◌, Option, Some}
 use Rattle.flume_model.specs.declared.step.Step.{Step}
 use Rattle.flume_model.specs.declared.step.Reply.{Reply}
@@ -20,22 +20,22 @@ use Rattle.flume_explain.specs.Configurations.{State, first_answer, call_by, cal
 use Rattle.flume_explain.specs.Agreement.{Agrees, IsProgress}
 use Rattle.flume_explain.specs.Moves.{move_of, step_for, is_refusal, IsMove}
 
--- the events that were recorded, where `equal` compares messages
+-- the recorded events; `equal` compares messages
 module _ {T A : Type 0} (equal : T → T → Bool) (events : List (Event T A)) where
-  -- the open call, which is recorded to return so, has come to another answer
+  -- the open call has come to another answer than the recorded one
   abbrev pub IsWrong : Option (Call T × Stage T A) → Option (Answer T A) → Type 0
-  IsWrong (Some far) (Some told) = (may_return equal far.0 far.1 told ≡ false)
-      × ((own : Answer T A) × (far.1 ≡ Answered own))
+  IsWrong (Some current) (Some recorded) = (may_return equal current.0 current.1 recorded ≡ false)
+      × ((own : Answer T A) × (current.1 ≡ Answered own))
   IsWrong _ _ = ⊥
 
-  -- such a move leads to items that agree with the new configuration
+  -- a move leads to items that agree with the new configuration
   abbrev pub LeadsTo : State → List (Event T A) → ℕ → (other refused : Bool) → State → Type 0
   LeadsTo c rest t other refused new =
       (opening : Opening) (past : List (Item T A)) (item : Item T A)
       → Agrees equal events opening past rest c → IsMove past t other refused item
       → IsRun opening (steps_in (item ∷ past)) → Agrees equal events opening (item ∷ past) rest new
 
-  -- it leads to no explanation: no channel answers so, or the call comes to a wrong answer
+  -- a move leads to no explanation: no channel answers so, or the call comes to a wrong answer
   abbrev pub LeadsNowhere : State → List (Event T A) → ℕ → (other refused : Bool) → Type 0
   LeadsNowhere c rest t other refused =
       (opening : Opening) (past : List (Item T A)) (item : Item T A)
@@ -43,8 +43,8 @@ module _ {T A : Type 0} (equal : T → T → Bool) (events : List (Event T A)) w
       → IsRun opening (steps_in (item ∷ past))
       → IsWrong (open_call (item ∷ past) t) (first_answer t rest)
 
-  -- The open call of a thread makes this move, which is this step, and is answered so, memory being
-  -- refused or not.
+  -- the open call of a thread makes this move, which is this step with this reply, memory being
+  -- refused or not
   pub record IsMade (c : State) (rest : List (Event T A)) (t : ℕ) (one : OpenCall) (own : Call T)
       (move : Move) (refused : Bool) (opening : Opening) (past : List (Item T A))
       (step : Step T) (reply : Reply T A) : Type 0 where
@@ -59,7 +59,7 @@ module _ {T A : Type 0} (equal : T → T → Bool) (events : List (Event T A)) w
     pub refused_is : is_refusal reply ≡ refused
     pub lawful : IsReply (channel opening (steps_in past)) step reply
 
-  -- the open call's move, made so, leads to items that agree with the new configuration
+  -- this move of the open call leads to items that agree with the new configuration
   abbrev pub MoveLeadsTo : State → List (Event T A) → ℕ → OpenCall → Call T → Move → Bool → State
       → Type 0
   MoveLeadsTo c rest t one own move refused new =
@@ -67,7 +67,7 @@ module _ {T A : Type 0} (equal : T → T → Bool) (events : List (Event T A)) w
       → IsMade c rest t one own move refused opening past step reply
       → Agrees equal events opening (Makes t step reply ∷ past) rest new
 
-  -- the open call's move, made so, leads to no explanation: the call comes to a wrong answer
+  -- this move of the open call leads to no explanation: the call comes to a wrong answer
   abbrev pub MoveLeadsNowhere : State → List (Event T A) → ℕ → OpenCall → Call T → Move → Bool
       → Type 0
   MoveLeadsNowhere c rest t one own move refused =
@@ -75,7 +75,7 @@ module _ {T A : Type 0} (equal : T → T → Bool) (events : List (Event T A)) w
       → IsMade c rest t one own move refused opening past step reply
       → IsWrong (open_call (Makes t step reply ∷ past) t) (first_answer t rest)
 
-  -- such a move of a call that is recorded to return so leads to the new configuration
+  -- a move of a call that is recorded to return this leads to the new configuration
   abbrev pub CallLeadsTo : State → Option (Answer T A) → OpenCall → Call T → Move → Bool → State
       → Type 0
   CallLeadsTo c recorded one own move refused new =
@@ -83,7 +83,7 @@ module _ {T A : Type 0} (equal : T → T → Bool) (events : List (Event T A)) w
       → move_of own one.progress other ≡ Some move
       → MoveLeadsTo c rest t one own move refused new
 
-  -- such a move of a call that is recorded to return so leads to no explanation
+  -- a move of a call that is recorded to return this leads to no explanation
   abbrev pub CallLeadsNowhere : State → Option (Answer T A) → OpenCall → Call T → Move → Bool
       → Type 0
   CallLeadsNowhere c recorded one own move refused =

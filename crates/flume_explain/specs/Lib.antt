@@ -2,7 +2,7 @@ pub mod Configurations
 pub mod Receives
 pub mod ByPlaces
 pub mod Taken
-pub mod Made
+pub mod Outcomes
 pub mod Mirrors
 pub mod Agreement
 pub mod Progresses

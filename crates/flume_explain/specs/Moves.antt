@@ -11,7 +11,7 @@ use Rattle.flume_concurrent.specs.declared.call.Call.TheVariants as call
 use Rattle.flume_concurrent.specs.declared.event.Item.{Item}
 use Rattle.flume_concurrent.specs.declared.event.Item.TheVariants.{Happens, Makes}
 use Rattle.flume_concurrent.specs.declared.stage.Stage.{Stage}
-use Rattle.flume_concurrent.specs.Calls.{next_step, other_step, is_send}
+use Rattle.flume_concurrent.specs.Calls.{next_step, alternative_step, is_send}
 use Rattle.flume_concurrent.specs.Explanations.{open_call}
 use Rattle.flume_explain.specs.declared.configuration.Progress.{Progress}
 use Rattle.flume_explain.specs.declared.configuration.Progress.TheVariants as progress
@@ -53,7 +53,7 @@ module _ {T : Type 0} where
   parking_move call.RecvAsync = Some (move.Recv Plain)
   parking_move _ = None
 
-  -- the move that a call makes next that is so far
+  -- the next move of a call with this progress
   abbrev pub next_move : Call T → Progress → Option Move
   next_move call progress.Begun = Some (first_move call)
   next_move call progress.Tried = parking_move call
@@ -61,24 +61,23 @@ module _ {T : Type 0} where
   next_move call progress.Refused = Some move.Withdraw
   next_move call progress.Done = None
 
-  -- the other move that a call that is so far may make instead, if there is one
-  abbrev pub other_move : Call T → Progress → Option Move
-  other_move (call.SendAsync m) progress.Begun = Some move.TrySend
-  other_move call.RecvAsync progress.Begun = Some move.TryRecv
-  other_move call.RecvAsync progress.Tried = Some move.TryRecv
-  other_move (call.SendTimeout m) progress.Parked = Some move.WithdrawSend
-  other_move (call.SendAsync m) progress.Parked = Some move.WithdrawSend
-  other_move call.RecvTimeout progress.Parked = Some move.Withdraw
-  other_move call.RecvAsync progress.Parked = Some move.Withdraw
-  other_move _ _ = None
+  -- the other move that a call may make instead
+  abbrev pub alternative_move : Call T → Progress → Option Move
+  alternative_move (call.SendAsync m) progress.Begun = Some move.TrySend
+  alternative_move call.RecvAsync progress.Begun = Some move.TryRecv
+  alternative_move call.RecvAsync progress.Tried = Some move.TryRecv
+  alternative_move (call.SendTimeout m) progress.Parked = Some move.WithdrawSend
+  alternative_move (call.SendAsync m) progress.Parked = Some move.WithdrawSend
+  alternative_move call.RecvTimeout progress.Parked = Some move.Withdraw
+  alternative_move call.RecvAsync progress.Parked = Some move.Withdraw
+  alternative_move _ _ = None
 
-  -- the next move of a call that is so far, or the other one
+  -- the next move of a call, or the other one
   abbrev pub move_of : Call T → Progress → Bool → Option Move
   move_of call progress other =
-      if other then other_move call progress else next_move call progress
+      if other then alternative_move call progress else next_move call progress
 
-  -- the step that such a move of a call is, if this is the call's ticket; none if the call has
-  -- no message to send
+  -- the step of a move of a call that has this ticket; none if the call has no message to send
   abbrev pub step_for : Call T → ℕ → Move → Option (Step T)
   step_for call ticket move.TrySend = option_map step.TrySend (message_of call)
   step_for call ticket move.Send = option_map step.Send (message_of call)
@@ -103,19 +102,20 @@ module _ {T : Type 0} where
   step_for call ticket move.IsDisconnected = Some step.IsDisconnected
 
 module _ {T A : Type 0} where
-  -- whether memory was refused, or every ticket was issued
+  -- whether memory was refused, or no ticket was left
   abbrev pub is_refusal : Reply T A → Bool
   is_refusal (NoMemory back) = true
   is_refusal (Spent back) = true
   is_refusal _ = false
 
-  -- the step is one that the open call, if there is one, makes next, or the other one that it may make
+  -- the step is the next one of the open call, or the other one that it may make
   abbrev pub IsStepOf : (other : Bool) → Option (Call T × Stage T A) → Step T → Type 0
   IsStepOf other None step = ⊥
-  IsStepOf other (Some far) step =
-      (if other then other_step far.0 far.1 else next_step far.0 far.1) ≡ Some step
+  IsStepOf other (Some current) step =
+      (if other then alternative_step current.0 current.1 else next_step current.0 current.1)
+      ≡ Some step
 
-  -- the item is such a step of the open call of this thread, which was refused memory or not
+  -- the item is a step of the open call of this thread, which was refused memory or not
   abbrev pub IsMove : List (Item T A) → ℕ → (other refused : Bool) → Item T A → Type 0
   IsMove past t other refused (Happens event) = ⊥
   IsMove past t other refused (Makes u step reply) =

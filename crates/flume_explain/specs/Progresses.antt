@@ -1,4 +1,4 @@
--- How far a call is, by its stage and without its ticket; and which moves may be refused.
+-- The progress of a call is its stage without the ticket; and which moves may be refused.
 use Rattle.std.specs.Prelude.{Bool, true, false, not, Option, Some}
 use Rattle.flume_concurrent.specs.declared.call.Call.{Call}
 use Rattle.flume_concurrent.specs.declared.call.Answer.{Answer}
@@ -11,7 +11,7 @@ use Rattle.flume_explain.specs.declared.step_of.Move.{Move}
 use Rattle.flume_explain.specs.declared.step_of.Move.TheVariants as move
 
 module _ {T A : Type 0} where
-  -- how far a call at a stage is
+  -- the progress of a call at a stage
   abbrev pub progress_of : Stage T A → Progress
   progress_of stage.Begun = progress.Begun
   progress_of stage.Tried = progress.Tried
@@ -20,19 +20,18 @@ module _ {T A : Type 0} where
   progress_of (stage.Answered own) = progress.Done
 
   -- the stage with the ticket 0 in the place of its own
-  abbrev pub unticketed : Stage T A → Stage T A
-  unticketed (stage.Parked t) = stage.Parked 0
-  unticketed (stage.Refused t) = stage.Refused 0
-  unticketed stage = stage
+  abbrev pub clear_ticket : Stage T A → Stage T A
+  clear_ticket (stage.Parked t) = stage.Parked 0
+  clear_ticket (stage.Refused t) = stage.Refused 0
+  clear_ticket stage = stage
 
-  -- whether a call has come to another answer than the recorded one, if one is, where `equal`
-  -- compares messages
+  -- whether a call has come to another answer than the recorded one; `equal` compares messages
   abbrev pub is_wrong : (T → T → Bool) → Call T → Option (Answer T A) → Stage T A → Bool
-  is_wrong equal call (Some told) (stage.Answered own) =
-      not (may_return equal call (stage.Answered own) told)
+  is_wrong equal call (Some reply_by_place) (stage.Answered own) =
+      not (may_return equal call (stage.Answered own) reply_by_place)
   is_wrong equal call _ _ = false
 
--- whether the step that a move is may be refused, for want of memory or of tickets
+-- whether a move may be refused memory or a ticket
 abbrev pub may_refuse : Move → Bool
 may_refuse move.TrySend = true
 may_refuse move.Send = true

@@ -1,4 +1,4 @@
--- Configurations to which an explanation of the first events leads.
+-- Configurations after an explanation of the first events.
 use Rattle.std.specs.Prelude.{◌≡◌, ◌≤◌, ◌<◌, ℕ, Bool, List, reverse, take, drop, length}
 use Rattle.std.specs.Prelude.{Option, Some}
 use Rattle.std.specs.List.{All, Contains}
@@ -17,10 +17,10 @@ use Rattle.flume_explain.specs.Configurations.{State, event_at, thread_at, call_
 use Rattle.flume_explain.specs.Agreement.{Agrees}
 use Rattle.flume_explain.specs.Moves.{move_of}
 
--- the events that were recorded, where `equal` compares messages
+-- the recorded events; `equal` compares messages
 module _ {T A : Type 0} (equal : T → T → Bool) (events : List (Event T A)) where
-  -- The configuration is reached at a place: it agrees with an explanation of the events before
-  -- that, by a channel whose tickets are issued from 1 on, or from 0.
+  -- the configuration agrees with an explanation of the events before a place, by a channel whose
+  -- tickets begin at 1 or at 0
   pub record IsReached (opening : Opening) (place : ℕ) (c : State) : Type 0 where
     pub past : List (Item T A)
     pub events_are : events_in (reverse past) ≡ take place events
@@ -28,7 +28,7 @@ module _ {T A : Type 0} (equal : T → T → Bool) (events : List (Event T A)) w
     pub agrees : Agrees equal events opening past (drop place events) c
     pub first_is : opening.first ≤ 1
 
-  -- where the one configuration is reached at a place, the other one is at another place
+  -- if the one configuration is reached at a place, the other one is at another place
   abbrev pub Reaches : ℕ → State → ℕ → State → Type 0
   Reaches place c at new =
       (opening : Opening) → IsReached opening place c → IsReached opening at new
@@ -52,13 +52,13 @@ module _ {T A : Type 0} (equal : T → T → Bool) (events : List (Event T A)) w
       → Agrees equal events opening past (drop place events) c → event_at events place ≡ Some event
       → Fits equal past (Happens event)
 
-  -- so many events are explained
+  -- this many events are explained
   pub record AreExplained (opening : Opening) (count : ℕ) : Type 0 where
     pub within : count ≤ length events
     pub explained : IsExplained equal opening (take count events)
 
-  -- each configuration on the way is reached at its place, and the events before the furthest place
-  -- are explained
+  -- each configuration on the way is reached at its place; the events before `furthest` are
+  -- explained
   pub record HasReached (opening : Opening) (search : Search A) : Type 0 where
     pub frames : All (λ f. IsReached opening f.place f.configuration) search.frames.items
     pub furthest : AreExplained opening search.furthest

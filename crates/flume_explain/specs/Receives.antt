@@ -1,41 +1,42 @@
--- What a wake round does to parked receives, and how one asks again or leaves, by the places of calls.
-use Rattle.std.specs.Prelude.{ℕ, ◌==◌, Bool, true, false, if◌then◌else◌, List, [], ◌∷◌, ◌++◌, Option}
+-- How a wake round, an ask and a withdrawal change the parked receives, by the places of calls.
+use Rattle.std.specs.Prelude.{ℕ, ◌==◌, Bool, true, false, if◌then◌else◌, List, [], ◌∷◌, ◌++◌}
+use Rattle.std.specs.Prelude.{Option}
 use Rattle.std.specs.Prelude.{Some, None}
 use Rattle.flume_model.specs.declared.step.Kind.{Kind}
 use Rattle.flume_model.specs.declared.step.Kind.TheVariants.{Block, Stream}
 use Rattle.flume_explain.specs.declared.configuration.ParkedReceive.{ParkedReceive}
-use Rattle.flume_explain.specs.declared.configuration.Standing.{Standing}
-use Rattle.flume_explain.specs.declared.configuration.Standing.TheVariants.{Waiting, Woken, Filled}
+use Rattle.flume_explain.specs.declared.configuration.Status.{Status}
+use Rattle.flume_explain.specs.declared.configuration.Status.TheVariants.{Waiting, Woken, Filled}
 
 -- whether a receive waits
-abbrev pub waits : Standing → Bool
+abbrev pub waits : Status → Bool
 waits Waiting = true
 waits _ = false
 
--- whether a receive was woken
-abbrev pub is_awake : Standing → Bool
+-- whether a receive was notified
+abbrev pub is_awake : Status → Bool
 is_awake Woken = true
 is_awake _ = false
 
--- a receive that stands so from now on
-abbrev pub standing_as : Standing → ParkedReceive → ParkedReceive
-standing_as standing r = record r { standing = standing }
+-- a receive in this state from now on
+abbrev pub with_status : Status → ParkedReceive → ParkedReceive
+with_status status r = record r { status = status }
 
--- a waiting receive that a wake round meets, with those behind it: as they are if the round ends
--- here, as it leaves them if it goes on
+-- the first waiting receive in a wake round and those behind it: `rest` as it is if the round ends
+-- here, and as the round leaves it if it goes on
 abbrev pub met_by : Kind → ℕ → ParkedReceive → List ParkedReceive → List ParkedReceive
     → List ParkedReceive
-met_by Stream front r as_are goes_on = standing_as Woken r ∷ goes_on
-met_by Block front r as_are goes_on = standing_as (Filled front) r ∷ as_are
-met_by kind front r as_are goes_on = standing_as Woken r ∷ as_are
+met_by Stream front r as_are goes_on = with_status Woken r ∷ goes_on
+met_by Block front r as_are goes_on = with_status (Filled front) r ∷ as_are
+met_by kind front r as_are goes_on = with_status Woken r ∷ as_are
 
 -- the receives after a wake round, if the send at this place is the front of the queue
 abbrev pub round_of : ℕ → List ParkedReceive → List ParkedReceive
 round_of front [] = []
 round_of front (r ∷ rs) =
-    if waits r.standing then met_by r.kind front r rs (round_of front rs) else r ∷ round_of front rs
+    if waits r.status then met_by r.kind front r rs (round_of front rs) else r ∷ round_of front rs
 
--- whether a round that meets such a waiting receive fills one, if behind that it would or not
+-- whether a round fills one that comes to such a waiting receive, if behind that it would or not
 abbrev pub fills_at : Kind → Bool → Bool
 fills_at Stream on = on
 fills_at Block on = true
@@ -45,7 +46,7 @@ fills_at kind on = false
 abbrev pub round_fills_one : List ParkedReceive → Bool
 round_fills_one [] = false
 round_fills_one (r ∷ rs) =
-    if waits r.standing then fills_at r.kind (round_fills_one rs) else round_fills_one rs
+    if waits r.status then fills_at r.kind (round_fills_one rs) else round_fills_one rs
 
 -- the first receive with a place
 abbrev pub receive_of : ℕ → List ParkedReceive → Option ParkedReceive

@@ -1,10 +1,11 @@
--- Whether a move may be refused, for want of memory or of tickets, by a configuration.
-use Rattle.std.specs.Prelude.{ℕ, ◌==◌, Bool, true, false, not, ◌&&◌, ◌||◌, length, Option, Some, None}
+-- Whether a configuration may refuse a move memory or a ticket.
+use Rattle.std.specs.Prelude.{ℕ, ◌==◌, Bool, true, false, not, ◌&&◌, ◌||◌, length, Option, Some}
+use Rattle.std.specs.Prelude.{None}
 use Rattle.flume_model.specs.declared.step.Kind.{Kind}
 use Rattle.flume_model.specs.declared.step.Kind.TheVariants.{Block}
 use Rattle.flume_explain.specs.declared.configuration.ParkedReceive.{ParkedReceive}
-use Rattle.flume_explain.specs.declared.configuration.Standing.{Standing}
-use Rattle.flume_explain.specs.declared.configuration.Standing.TheVariants.{Filled}
+use Rattle.flume_explain.specs.declared.configuration.Status.{Status}
+use Rattle.flume_explain.specs.declared.configuration.Status.TheVariants.{Filled}
 use Rattle.flume_explain.specs.declared.step_of.Move.{Move}
 use Rattle.flume_explain.specs.declared.step_of.Move.TheVariants as move
 use Rattle.flume_explain.specs.Configurations.{State}
@@ -19,19 +20,19 @@ some_blocked c = not (length c.blocked == 0)
 abbrev pub some_queued : State → Bool
 some_queued c = not (length c.queue == 0)
 
--- whether a receive of this kind that stands so asks by looking at the line
-abbrev pub looks : Kind → Standing → Bool
+-- whether a receive of this kind in this state asks by looking at the line
+abbrev pub looks : Kind → Status → Bool
 looks kind (Filled p) = false
-looks Block standing = false
-looks kind standing = true
+looks Block status = false
+looks kind status = true
 
 -- whether a parked receive does, if there is one
 abbrev pub is_looking : Option ParkedReceive → Bool
 is_looking None = false
-is_looking (Some r) = looks r.kind r.standing
+is_looking (Some r) = looks r.kind r.status
 
--- Whether the move of the call at a place may be refused: a send may if it is taken in or parks, a
--- receive if it parks, and if a blocked send is to join the queue for it.
+-- whether the move of the call at a place may be refused: a send may if it is accepted or parks, a
+-- receive if it parks, and any if a blocked send is to join the queue for it
 abbrev pub may_be_refused : Move → ℕ → State → Bool
 may_be_refused move.TrySend place c =
     not (closed_now c) && not (not (some_waits c.receives) && full_now c)

@@ -1,4 +1,4 @@
--- What a search knows: the configurations on the way, and those from which nothing comes.
+-- What a search knows: the configurations on the way, and the dead ones.
 use Rattle.std.specs.Prelude.{◌≡◌, ◌<◌, ℕ, ◌+◌, Bool, List, [], ◌∷◌, length, take}
 use Rattle.std.specs.List.{All}
 use Rattle.flume_model.specs.Log.{Opening}
@@ -15,27 +15,27 @@ use Rattle.flume_explain.specs.Dead.{AreLeft, IsDead}
 abbrev pub dead_at : {A : Type 0} → ℕ → State → Dead A
 dead_at place c = record { configuration = c; place = place }
 
--- the events that were recorded, where `equal` compares messages
+-- the recorded events; `equal` compares messages
 module _ {T A : Type 0} (equal : T → T → Bool) (events : List (Event T A)) where
   -- what is left of a frame is all that may come next
   abbrev pub IsLeft : Frame A → Type 0
   IsLeft frame = AreLeft equal events frame.place frame.configuration frame.choices.items
 
-  -- The frames, the first of them first. If the first is dead, so is the start. If the next one is
-  -- dead, what is left of a frame is all that may come next; of the last frame, if `last` holds.
+  -- if the first frame is dead, so is the start; if the next one is dead, what is left of a frame
+  -- is all that may come next; of the last frame, if `last` holds
   abbrev pub AreOnTheWay : (start : Type 0) → List (Frame A) → (last : Type 0) → Type 0
   AreOnTheWay start [] last = last → start
   AreOnTheWay start (frame ∷ frames) last = (frame.place < length events)
       × (IsDead equal events frame.place frame.configuration → start)
       × AreOnTheWay (IsLeft frame) frames last
 
-  -- The search looks for what goes on from this configuration. It is dead, if nothing is left of the
-  -- frames and `last` holds. What is remembered is dead.
+  -- the configuration is dead if nothing is left of the frames and `last` holds; what is remembered
+  -- is dead
   pub record Searches (start : State) (last : Type 0) (search : Search A) : Type 0 where
     pub way : AreOnTheWay (IsDead equal events 0 start) search.frames.items last
     pub dead : All (λ d. IsDead equal events d.place d.configuration) search.dead.dead.items
 
-  -- the search looks for what goes on from some configuration
+  -- the search is one for what goes on from some configuration
   abbrev pub IsGoing : Search A → Type 0
   IsGoing search = (start : State) × Searches start (Unit {0}) search
 
@@ -44,14 +44,14 @@ module _ {T A : Type 0} where
   abbrev pub HasTaken : List (Event T A) → Replay T A → Type 0
   HasTaken events replay = events_in replay.items.items ≡ take replay.place events
 
-  -- so many of the events are explained, and with the next one they aren't
+  -- this many of the events are explained, and with the next one they aren't
   pub record BreaksAfter (equal : T → T → Bool) (opening : Opening) (events : List (Event T A))
       (count : ℕ) : Type 0 where
     pub is_within : count < length events
     pub before : IsExplained equal opening (take count events)
     pub not_on : IsExplained equal opening (take (count + 1) events) → ⊥
 
-  -- so many of the events are explained, and all of them aren't
+  -- this many of the events are explained, and all of them aren't
   pub record UnexplainedAfter (equal : T → T → Bool) (opening : Opening)
       (events : List (Event T A)) (count : ℕ) : Type 0 where
     pub is_within : count < length events

@@ -1,10 +1,10 @@
--- How a message is handed out.
+-- Takes the front of the line.
 use Rattle.std.specs.Prelude.{ℕ, List, [], ◌∷◌, Option, Some, None}
 use Rattle.flume_explain.specs.Configurations.{State}
 use Rattle.flume_explain.specs.ByPlaces.{with_front, take_leaving}
 
--- the front of the line, if there is one, and the configuration once it was handed out, if this is
--- the queue with the front of the line in it
+-- the front of the line, if any, and the configuration without it, if this is the queue with the
+-- front of the line in it
 abbrev pub taken_front_of : List ℕ → State → Option ℕ × State
 taken_front_of [] c = (None, c)
 taken_front_of (p ∷ rest) c = (Some p, take_leaving rest c)

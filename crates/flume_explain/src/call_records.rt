@@ -1,5 +1,5 @@
-//! What the events tell of each call: when it returns, and who receives its message.
-use crate::configuration::{Configuration, OpenCall, ParkedReceive, Progress, Standing};
+//! When each call returns, and who receives its message, by the events.
+use crate::configuration::{Configuration, OpenCall, ParkedReceive, Progress, Status};
 use flume_concurrent::call::{Answer, Call};
 use flume_concurrent::event::Event;
 use std::alloc::Allocator;
@@ -7,7 +7,7 @@ use std::alloc::Allocator;
 /// There is no such event.
 pub const NEVER: usize = usize::MAX;
 
-/// What the events tell of a call, by places of events.
+/// What the events say of a call, by places of events.
 #[derive(Clone, Copy, Debug, Drop)]
 pub struct CallRecord {
     /// The event by which it returns, or `NEVER`.
@@ -18,20 +18,19 @@ pub struct CallRecord {
     pub received: usize,
 }
 
-/// What the events tell of each call, by the place of the event by which it begins.
+/// What the events say of each call, by the place of the event by which it begins.
 #[derive(Drop)]
 pub struct CallRecords<A: Allocator> {
-    // By the place of an event.
     records: Vec<CallRecord, A>,
-    // The places of the sends whose messages weren't received yet.
+    // The sends whose messages weren't received yet.
     sends: Vec<usize, A>,
-    // The open calls so far: a thread and a place each.
+    // A thread and a place of each open call.
     open: Vec<(usize, usize), A>,
 }
 
 impl<A: Allocator + Copy> CallRecords<A> {
-    /// What these events tell; none if there was no memory. Of two sends of equal messages, the one
-    /// that began first is taken to be the one whose message is received first.
+    /// What these events say; `None` if an allocation failed. Of two sends of equal messages, the
+    /// first is taken to be the one whose message is received first.
     pub fn new<T: Copy + Eq + Drop>(alloc: A, events: &[Event<T, A>]) -> Option<Self> {
         let mut records = CallRecords {
             records: Vec::new(alloc),
@@ -46,12 +45,12 @@ impl<A: Allocator + Copy> CallRecords<A> {
         Some(records)
     }
 
-    /// What is told of the call that begins at a place.
+    /// What is known of the call that begins at a place.
     pub fn of(&self, place: usize) -> CallRecord {
         self.records.get(place).copied().unwrap_or(UNKNOWN)
     }
 
-    // Takes the next event. `false`: there was no memory.
+    // `false`: an allocation failed.
     fn add<T: Copy + Eq + Drop>(&mut self, events: &[Event<T, A>], place: usize) -> bool {
         if self.records.push(UNKNOWN).is_err() {
             return false;
@@ -71,7 +70,7 @@ impl<A: Allocator + Copy> CallRecords<A> {
         }
     }
 
-    // The thread's call ends: the place of the event by which it began.
+    // The place at which the thread's call began, which returns now.
     fn end(&mut self, thread: usize) -> Option<usize> {
         for index in 0..self.open.len() {
             if let Some((own, begin)) = self.open.get(index).copied() {
@@ -84,7 +83,6 @@ impl<A: Allocator + Copy> CallRecords<A> {
         None
     }
 
-    // The call that began at a place returns this answer at another one.
     fn add_answer<T: Copy + Eq + Drop>(
         &mut self,
         events: &[Event<T, A>],
@@ -109,7 +107,6 @@ impl<A: Allocator + Copy> CallRecords<A> {
         }
     }
 
-    // The call that began at a place receives this message, at another one.
     fn receive<T: Copy + Eq + Drop>(
         &mut self,
         events: &[Event<T, A>],
@@ -135,9 +132,9 @@ impl<A: Allocator + Copy> CallRecords<A> {
         }
     }
 
-    /// Whether a configuration before the event at a place likely leads to no explanation: a receive
-    /// was handed a message that it doesn't return, a send has come to another answer than its own,
-    /// or messages are in another order than that in which they are received.
+    /// Whether a configuration before the event at a place likely leads to no explanation: a
+    /// receive was filled with a message that it doesn't return, a send has come to another answer
+    /// than its own, or messages are in another order than that in which they are received.
     pub fn are_against<T: Copy + Eq + Drop>(
         &self,
         events: &[Event<T, A>],
@@ -154,8 +151,8 @@ impl<A: Allocator + Copy> CallRecords<A> {
             || self.has_wrong_send(events, configuration.calls.as_slice())
     }
 
-    // The latest begin of a receive of these messages, in their order, if each of them may be received
-    // after this place and behind those before it.
+    // The latest begin of a receive of these messages, if each of them may be received after this
+    // place and behind those before it.
     fn latest(&self, line: &[usize], place: usize) -> Option<usize> {
         let mut latest = place;
         for send in line {
@@ -170,14 +167,13 @@ impl<A: Allocator + Copy> CallRecords<A> {
         Some(latest)
     }
 
-    // Whether one of these receives was handed a message that it doesn't return.
     fn has_wrong_receive<T: Copy + Eq + Drop>(
         &self,
         events: &[Event<T, A>],
         receives: &[ParkedReceive],
     ) -> bool {
         for receive in receives {
-            if let Standing::Filled(send) = receive.standing {
+            if let Status::Filled(send) = receive.status {
                 if !self.may_receive(events, receive.place, send) {
                     return true;
                 }
@@ -186,8 +182,7 @@ impl<A: Allocator + Copy> CallRecords<A> {
         false
     }
 
-    // Whether the receive that begins at a place may have the message of this send. One that is
-    // dropped may, if no other one returns the message.
+    // A dropped receive may have the message if no other one returns it.
     fn may_receive<T: Copy + Eq + Drop>(
         &self,
         events: &[Event<T, A>],
@@ -202,8 +197,7 @@ impl<A: Allocator + Copy> CallRecords<A> {
         }
     }
 
-    // Whether one of these calls is a future that found no room, and returns that its message was
-    // sent, or that the channel is closed.
+    // A future whose send found no room can't park: it returns `NoMemory`, or is dropped.
     fn has_wrong_send<T: Copy + Eq + Drop>(
         &self,
         events: &[Event<T, A>],
@@ -220,14 +214,13 @@ impl<A: Allocator + Copy> CallRecords<A> {
         false
     }
 
-    /// Whether the answer is recorded of the call that begins at a place, and is that there was no
-    /// memory.
+    /// Whether the call that begins at a place is recorded to return `NoMemory`.
     pub fn is_refused<T: Copy + Drop>(&self, events: &[Event<T, A>], place: usize) -> bool {
         matches!(self.answer(events, place), Some(Answer::NoMemory))
     }
 
-    /// Whether a receive that is dropped took the message that was first in line, though another one
-    /// returns it.
+    /// Whether a receive that is dropped took the message that was first in line, though another
+    /// one returns it.
     pub fn is_taken_away<T: Copy + Eq + Drop>(
         &self,
         events: &[Event<T, A>],
@@ -243,7 +236,6 @@ impl<A: Allocator + Copy> CallRecords<A> {
             && !after.has_message_of(front)
     }
 
-    // What the call that begins at a place returns.
     fn answer<'e, T: Drop>(
         &self,
         events: &'e [Event<T, A>],
@@ -256,7 +248,6 @@ impl<A: Allocator + Copy> CallRecords<A> {
     }
 }
 
-// Nothing is told of a call.
 const UNKNOWN: CallRecord = CallRecord {
     returned: NEVER,
     receive: NEVER,
@@ -264,7 +255,6 @@ const UNKNOWN: CallRecord = CallRecord {
 };
 
 impl<A: Allocator + Copy> Configuration<A> {
-    // The send whose message is the first in line.
     fn front(&self) -> Option<usize> {
         match self.queue.first() {
             Some(front) => Some(*front),
@@ -272,15 +262,14 @@ impl<A: Allocator + Copy> Configuration<A> {
         }
     }
 
-    // Whether the message of this send is queued, blocked, or handed to a parked receive.
+    // Whether the message of this send is queued, blocked, or fills a parked receive.
     fn has_message_of(&self, send: usize) -> bool {
         self.queue.contains(&send) || self.blocked.contains(&send) || self.is_handed_out(send)
     }
 
-    // Whether the message of this send is handed to a parked receive.
     fn is_handed_out(&self, send: usize) -> bool {
         for receive in self.receives.as_slice() {
-            if receive.standing == Standing::Filled(send) {
+            if receive.status == Status::Filled(send) {
                 return true;
             }
         }
@@ -288,7 +277,7 @@ impl<A: Allocator + Copy> Configuration<A> {
     }
 }
 
-/// The message that a call sends, if it sends one.
+/// The message that a call sends.
 pub fn message_of<T: Copy>(call: &Call<T>) -> Option<T> {
     match *call {
         Call::Send(message)
@@ -299,7 +288,6 @@ pub fn message_of<T: Copy>(call: &Call<T>) -> Option<T> {
     }
 }
 
-// Whether the call that begins at a place sends this message.
 fn sends_this<T: Copy + Eq + Drop, A: Allocator>(
     events: &[Event<T, A>],
     begin: usize,
@@ -314,7 +302,6 @@ fn sends_this<T: Copy + Eq + Drop, A: Allocator>(
     }
 }
 
-// Whether the call that begins at a place is a send by a future.
 fn is_send_async<T: Drop, A: Allocator>(events: &[Event<T, A>], place: usize) -> bool {
     match events.get(place) {
         Some(Event::Begins { call, .. }) => matches!(call, Call::SendAsync(_)),
@@ -322,7 +309,6 @@ fn is_send_async<T: Drop, A: Allocator>(events: &[Event<T, A>], place: usize) ->
     }
 }
 
-// Whether the call that begins at a place is a receive by a future.
 fn is_recv_async<T: Drop, A: Allocator>(events: &[Event<T, A>], place: usize) -> bool {
     match events.get(place) {
         Some(Event::Begins { call, .. }) => matches!(call, Call::RecvAsync),

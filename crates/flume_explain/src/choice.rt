@@ -1,5 +1,6 @@
 //! What may come next in an explanation.
-ghost use Rattle.std.specs.Prelude.{◌≡◌, ◌<◌, ◌++◌, ◌⊎◌, ◌∷◌, [], ℕ, true, false, length, Bool, List, IfSome, IfNone, IsTrue, slice_get};
+ghost use Rattle.std.specs.Prelude.{◌≡◌, ◌<◌, ◌++◌, ◌⊎◌, ◌∷◌, [], ℕ, true, false, length, Bool};
+ghost use Rattle.std.specs.Prelude.{List, IfSome, IfNone, IsTrue, slice_get};
 ghost use Rattle.std.specs.List.{Contains};
 ghost use Rattle.flume_explain.specs.Dead.{AreLeft, AreSteps};
 ghost use Rattle.flume_explain.specs.declared.configuration.OpenCall.{OpenCall};
@@ -12,7 +13,6 @@ use std::alloc::Allocator;
 /// What comes next: the next event, or a step.
 #[derive(Clone, Copy, Debug, Drop)]
 pub enum Choice {
-    /// The next event.
     TakeEvent,
     /// A step of this open call: its next one or the other one, with memory or refused it.
     MakeStep {
@@ -23,9 +23,8 @@ pub enum Choice {
 }
 
 impl<A: Allocator + Copy> Configuration<A> {
-    /// The open call that the event at a place returns, while that call hasn't its answer. None: only
-    /// the event may come next. It begins a call, or returns one that has its answer, or none that is
-    /// open.
+    /// The open call that the event at a place returns, if it hasn't its answer. `None`: only the
+    /// event may come next.
     pub fn returning_call<T: Copy + Eq + Drop>(
         &self,
         events: &[Event<T, A>],
@@ -44,8 +43,8 @@ impl<A: Allocator + Copy> Configuration<A> {
         }
     }
 
-    /// What may come next, the last to be tried first: the steps of the open calls, those of the call
-    /// that is to return, and the event. None: there was no memory.
+    /// What may come next, the last to be tried first: the steps of the other open calls, of this
+    /// one, and the event. `None`: an allocation failed.
     pub fn choices(&self, alloc: A, own: OpenCall) -> Option<Vec<Choice, A>>
         ensures event { IfSome result (λ choices. Contains choices.items Choice.TakeEvent) }
         ensures steps { IfSome result (λ choices. AreSteps choices.items self.now.calls) }
@@ -54,7 +53,6 @@ impl<A: Allocator + Copy> Configuration<A> {
     }
 }
 
-// Whether a call that is so far has its answer.
 fn is_done(progress: Progress) -> bool
     ensures done { IsTrue result → progress ≡ Progress.Done }
 {
@@ -64,7 +62,6 @@ fn is_done(progress: Progress) -> bool
     }
 }
 
-// The steps of the other open calls, then those of the call that is to return, and the event.
 fn all_choices<A: Allocator + Copy>(
     alloc: A,
     calls: &[OpenCall],
@@ -86,7 +83,7 @@ fn all_choices<A: Allocator + Copy>(
     }
 }
 
-// Adds the steps of this open call, unless it is the other one. `false`: there was no memory.
+// `false`: an allocation failed.
 fn push_steps_unless<A: Allocator + Copy>(
     choices: &mut Vec<Choice, A>,
     call: OpenCall,
@@ -100,7 +97,7 @@ fn push_steps_unless<A: Allocator + Copy>(
     call == own || push_steps(choices, call)
 }
 
-// Adds the steps of this open call. `false`: there was no memory.
+// `false`: an allocation failed.
 fn push_steps<A: Allocator + Copy>(choices: &mut Vec<Choice, A>, call: OpenCall) -> bool
     ensures steps { IsTrue result → choices.new.items ≡ choices.old.items
         ++ (Choice.MakeStep call true true ∷ Choice.MakeStep call false true

@@ -1,9 +1,9 @@
-//! What a search for an explanation knows of the items so far: the channel and the open calls,
-//! without tickets. A call goes by its place: that of the event by which it began. So does the
-//! message that it sends.
+//! The channel and the open calls after some items, without tickets. A call goes by its place, that
+//! of the event by which it began, and so does the message that it sends.
 
 ghost use Rattle.std.specs.Prelude.{◌≡◌, IfOk, IfSome};
-ghost use Rattle.flume_explain.specs.Configurations.{once, progressed, with_progress, start_of};
+ghost use Rattle.flume_explain.specs.Configurations.{call_with_progress, calls_with_progress};
+ghost use Rattle.flume_explain.specs.Configurations.{with_progress, start_of};
 
 use flume_model::step::Kind;
 use std::alloc::{AllocError, Allocator, Global};
@@ -12,63 +12,53 @@ use std::marker::Model;
 /// How far an open call is.
 #[derive(Clone, Copy, Debug, PartialEq, Eq, Drop)]
 pub enum Progress {
-    /// It has made no step.
     Begun,
-    /// It found no room, or no message: it may park.
+    /// It found no room or no message, and may park.
     Tried,
-    /// It is parked.
     Parked,
-    /// It is parked, and was refused memory: it withdraws.
+    /// It is parked and was refused memory: it withdraws.
     Refused,
-    /// It has made its last step. If an answer of it was recorded, the call may return that.
+    /// It has made its last step, and may return its recorded answer.
     Done,
 }
 
 /// An open call.
 #[derive(Clone, Copy, Debug, PartialEq, Eq, Drop)]
 pub struct OpenCall {
-    /// The place of the event by which it began.
     pub place: usize,
-    /// How far it is.
     pub progress: Progress,
 }
 
-/// How a parked receive stands.
+/// The state of a parked receive.
 #[derive(Clone, Copy, Debug, PartialEq, Eq, Drop)]
-pub enum Standing {
-    /// It waits.
+pub enum Status {
     Waiting,
-    /// It was woken, and is to ask again.
+    /// It was notified, and is to ask again.
     Woken,
-    /// It was handed the message of the send at this place.
+    /// It has the message of the send at this place.
     Filled(usize),
 }
 
 /// A parked receive.
 #[derive(Clone, Copy, Debug, PartialEq, Eq, Drop)]
 pub struct ParkedReceive {
-    /// The place of its call.
     pub place: usize,
-    /// How it receives.
     pub kind: Kind,
-    /// How it stands.
-    pub standing: Standing,
+    pub status: Status,
 }
 
 /// The channel and the open calls after some items of an explanation, by the places of calls.
 #[derive(Drop)]
 pub struct Configuration<A: Allocator = Global> {
-    /// The capacity, or none if unbounded.
+    /// `None` if unbounded.
     pub capacity: Option<usize>,
-    /// How many senders live.
     pub senders: usize,
-    /// How many receivers live.
     pub receivers: usize,
     /// The sends whose messages are queued, the front first.
     pub queue: Vec<usize, A>,
-    /// The sends that are blocked, in order.
+    /// The blocked sends, in order.
     pub blocked: Vec<usize, A>,
-    /// The receives that are parked. The waiting ones stand in the order in which they began to wait.
+    /// The parked receives, the waiting ones in the order in which they began to wait.
     pub receives: Vec<ParkedReceive, A>,
     /// The open calls, in the order in which they began.
     pub calls: Vec<OpenCall, A>,
@@ -91,9 +81,8 @@ impl<A: Allocator> Model for Configuration<A> {
 }
 
 impl OpenCall {
-    // This call, which is so far now if it has this place.
-    fn once(self, place: usize, progress: Progress) -> OpenCall
-        ensures { result ≡ once place progress self }
+    fn call_with_progress(self, place: usize, progress: Progress) -> OpenCall
+        ensures { result ≡ call_with_progress place progress self }
     {
         if self.place == place {
             OpenCall {
@@ -107,7 +96,7 @@ impl OpenCall {
 }
 
 impl<A: Allocator + Copy> Configuration<A> {
-    /// The configuration of a new channel with this capacity, or with none: no call is open.
+    /// The configuration of a new channel of this capacity (`None`: unbounded).
     pub fn new(alloc: A, capacity: Option<usize>) -> Self
         ensures start { result ≡ start_of capacity }
     {
@@ -122,7 +111,7 @@ impl<A: Allocator + Copy> Configuration<A> {
         }
     }
 
-    /// A copy, or none if there was no memory.
+    /// A copy; `None` if an allocation failed.
     pub fn try_clone(&self, alloc: A) -> Option<Self>
         ensures same { IfSome result (λ copy. copy ≡ self.now) }
     {
@@ -149,12 +138,14 @@ impl<A: Allocator + Copy> Configuration<A> {
         })
     }
 
-    /// A copy in which the open call at this place is so far, or none if there was no memory.
+    /// A copy in which the open call at this place has this progress; `None` if an allocation
+    /// failed.
     pub fn with_progress(&self, alloc: A, place: usize, progress: Progress) -> Option<Self>
-        ensures progressed { IfSome result (λ new. new ≡ with_progress place progress self.now) }
+        ensures calls_with_progress { IfSome result (λ new.
+            new ≡ with_progress place progress self.now) }
     {
         match (
-            progressed(self.calls.as_slice(), alloc, place, progress),
+            calls_with_progress(self.calls.as_slice(), alloc, place, progress),
             self.try_clone(alloc),
         ) {
             (Ok(calls), Some(copy)) => Some(Configuration { calls, ..copy }),
@@ -163,17 +154,18 @@ impl<A: Allocator + Copy> Configuration<A> {
     }
 }
 
-// The open calls, the one at this place being so far now; none if there was no memory.
-pub(crate) fn progressed<A: Allocator + Copy>(
+// `None` if an allocation failed.
+pub(crate) fn calls_with_progress<A: Allocator + Copy>(
     calls: &[OpenCall],
     alloc: A,
     place: usize,
     progress: Progress,
 ) -> Result<Vec<OpenCall, A>, AllocError>
-    ensures progressed { IfOk result (λ new. new.items ≡ progressed place progress calls.now) }
+    ensures calls_with_progress { IfOk result (λ new.
+        new.items ≡ calls_with_progress place progress calls.now) }
 {
     calls
         .iter()
-        .map(|call| call.once(place, progress))
+        .map(|call| call.call_with_progress(place, progress))
         .collect(alloc)
 }

@@ -1,35 +1,33 @@
-//! Configurations from which nothing comes, remembered.
+//! Remembers configurations from which no explanation is found.
 ghost use Rattle.std.specs.Prelude.{◌≡◌, ◌++◌, ◌∷◌, [], IsTrue};
 ghost use Rattle.std.specs.List.{Contains};
 ghost use Rattle.flume_explain.specs.Search.{dead_at};
 
-use crate::configuration::{Configuration, OpenCall, ParkedReceive, Progress, Standing};
+use crate::configuration::{Configuration, OpenCall, ParkedReceive, Progress, Status};
 use flume_model::step::Kind;
 use std::alloc::Allocator;
 use std::collections::HashMap;
 use std::hash::{BuildHasherDefault, FoldHasher};
 
-/// A configuration from which nothing comes, and its place.
+/// A configuration from which no explanation is found.
 #[derive(Drop)]
 pub struct Dead<A: Allocator> {
-    /// The configuration.
     pub configuration: Configuration<A>,
-    /// The place of the event that comes next.
+    /// The place of the next event.
     pub place: usize,
 }
 
-/// Configurations from which nothing comes, found by their hashes. One is found no more if another
-/// one with its hash was remembered after it.
+/// A table by hashes. Of two configurations with one hash only the later one is found.
 #[derive(Drop)]
 pub struct DeadTable<A: Allocator> {
-    /// All of them, in the order in which they were remembered.
+    /// In the order in which they were remembered.
     pub dead: Vec<Dead<A>, A>,
-    // Where the one with a hash stands.
+    // An index of `dead`, by the hash.
     by_hash: HashMap<u64, usize, BuildHasherDefault<FoldHasher>, A>,
 }
 
 impl<A: Allocator + Copy> DeadTable<A> {
-    /// None is remembered. Takes no memory.
+    /// An empty table. Doesn't allocate.
     pub fn new(alloc: A) -> Self
         ensures none { result.dead.items ≡ [] }
     {
@@ -39,7 +37,7 @@ impl<A: Allocator + Copy> DeadTable<A> {
         }
     }
 
-    /// Whether this one is remembered, and is found.
+    /// Whether this configuration is remembered at this place, and found.
     pub fn has(&self, configuration: &Configuration<A>, place: usize) -> bool
         ensures has { IsTrue result
             → Contains self.now.dead.items (dead_at place configuration.now) }
@@ -53,7 +51,6 @@ impl<A: Allocator + Copy> DeadTable<A> {
         }
     }
 
-    // Whether this one is remembered at an index.
     fn is_at(&self, at: usize, configuration: &Configuration<A>, place: usize) -> bool
         ensures has { IsTrue result
             → Contains self.now.dead.items (dead_at place configuration.now) }
@@ -64,7 +61,7 @@ impl<A: Allocator + Copy> DeadTable<A> {
         }
     }
 
-    /// Remembers this one. `false`: there was no memory.
+    /// `false`: an allocation failed.
     pub fn remember(&mut self, configuration: Configuration<A>, place: usize) -> bool
         ensures kept { IsTrue result → self.new.dead.items
             ≡ self.old.dead.items ++ dead_at place configuration ∷ [] }
@@ -82,14 +79,12 @@ impl<A: Allocator + Copy> DeadTable<A> {
 }
 
 impl<A: Allocator + Copy> Configuration<A> {
-    // Whether the other one is the same.
     pub(crate) fn is_same(&self, other: &Configuration<A>) -> bool
         ensures same { IsTrue result → self.now ≡ other.now }
     {
         self.has_same_ends(other) && self.has_same_line(other) && self.has_same_calls(other)
     }
 
-    // Whether it has the same capacity, senders and receivers.
     fn has_same_ends(&self, other: &Configuration<A>) -> bool
         ensures capacity { IsTrue result → self.now.capacity ≡ other.now.capacity }
         ensures senders { IsTrue result → self.now.senders ≡ other.now.senders }
@@ -100,7 +95,6 @@ impl<A: Allocator + Copy> Configuration<A> {
             && self.receivers == other.receivers
     }
 
-    // Whether the same sends are queued and blocked.
     fn has_same_line(&self, other: &Configuration<A>) -> bool
         ensures queue { IsTrue result → self.now.queue ≡ other.now.queue }
         ensures blocked { IsTrue result → self.now.blocked ≡ other.now.blocked }
@@ -108,7 +102,6 @@ impl<A: Allocator + Copy> Configuration<A> {
         self.queue == other.queue && self.blocked == other.blocked
     }
 
-    // Whether the same calls are open, and the same receives parked.
     fn has_same_calls(&self, other: &Configuration<A>) -> bool
         ensures calls { IsTrue result → self.now.calls ≡ other.now.calls }
         ensures receives { IsTrue result → self.now.receives ≡ other.now.receives }
@@ -117,7 +110,6 @@ impl<A: Allocator + Copy> Configuration<A> {
             && are_same_receives(self.receives.as_slice(), other.receives.as_slice())
     }
 
-    // A number for a configuration at a place.
     fn hash_at(&self, place: usize) -> u64 {
         let hash = mixed(mixed(mixed(0, place), self.senders), self.receivers);
         let hash = match self.capacity {
@@ -131,56 +123,48 @@ impl<A: Allocator + Copy> Configuration<A> {
     }
 }
 
-// Whether the other calls are the same.
 fn are_same_calls(these: &[OpenCall], those: &[OpenCall]) -> bool
     ensures same { IsTrue result → these.now ≡ those.now }
 {
     these == those
 }
 
-// Whether the other receives are the same.
 fn are_same_receives(these: &[ParkedReceive], those: &[ParkedReceive]) -> bool
     ensures same { IsTrue result → these.now ≡ those.now }
 {
     these == those
 }
 
-// A number for a hash and what comes next.
 fn mixed(hash: u64, next: usize) -> u64 {
     let product = (hash ^ next as u64).wrapping_mul(0x9E37_79B9_7F4A_7C15);
     product ^ (product >> 32)
 }
 
-// A number for a hash and these places.
 fn with_places(hash: u64, places: &[usize]) -> u64 {
     places.iter().fold(hash, |hash, place| mixed(hash, *place))
 }
 
-// A number for a hash and these calls.
 fn with_calls(hash: u64, calls: &[OpenCall]) -> u64 {
     calls.iter().fold(hash, |hash, call| {
         mixed(mixed(hash, call.place), number_of_progress(call.progress))
     })
 }
 
-// A number for a hash and these receives.
 fn with_receives(hash: u64, receives: &[ParkedReceive]) -> u64 {
     receives.iter().fold(hash, |hash, receive| {
         let hash = mixed(mixed(hash, receive.place), number_of_kind(receive.kind));
-        match receive.standing {
-            Standing::Waiting => mixed(hash, 0),
-            Standing::Woken => mixed(hash, 1),
-            Standing::Filled(place) => mixed(mixed(hash, 2), place),
+        match receive.status {
+            Status::Waiting => mixed(hash, 0),
+            Status::Woken => mixed(hash, 1),
+            Status::Filled(place) => mixed(mixed(hash, 2), place),
         }
     })
 }
 
-// A number for how far a call is.
 fn number_of_progress(progress: Progress) -> usize {
     progress as usize
 }
 
-// A number for how a receive receives.
 fn number_of_kind(kind: Kind) -> usize {
     kind as usize
 }

@@ -1,18 +1,17 @@
 //! The ends of a configuration's channel, and its capacity.
 ghost use Rattle.std.specs.Prelude.{◌≡◌, IfOk, map};
 ghost use Rattle.flume_explain.specs.ByPlaces.{end_dropped, woken_if_waiting};
-ghost use Rattle.flume_explain.specs.Made.{made};
+ghost use Rattle.flume_explain.specs.Outcomes.{outcome};
 ghost use Rattle.flume_explain.specs.declared.step_of.Move.{Move};
 
-use crate::configuration::{Configuration, ParkedReceive, Standing};
+use crate::configuration::{Configuration, ParkedReceive, Status};
 use crate::place_reply::PlaceReply;
 use crate::step_of::Move;
 use std::alloc::{AllocError, Allocator};
 
 impl<A: Allocator + Copy> Configuration<A> {
-    // One more sender.
     pub(crate) fn clone_sender(&mut self, place: usize) -> PlaceReply
-        ensures made { (result, self.new) ≡ made Move.CloneSender place self.old }
+        ensures outcome { (result, self.new) ≡ outcome Move.CloneSender place self.old }
     {
         match self.senders {
             0 => PlaceReply::NoEnd,
@@ -24,9 +23,8 @@ impl<A: Allocator + Copy> Configuration<A> {
         }
     }
 
-    // One more receiver.
     pub(crate) fn clone_receiver(&mut self, place: usize) -> PlaceReply
-        ensures made { (result, self.new) ≡ made Move.CloneReceiver place self.old }
+        ensures outcome { (result, self.new) ≡ outcome Move.CloneReceiver place self.old }
     {
         match self.receivers {
             0 => PlaceReply::NoEnd,
@@ -38,9 +36,8 @@ impl<A: Allocator + Copy> Configuration<A> {
         }
     }
 
-    // One sender less.
     pub(crate) fn drop_sender(&mut self, place: usize) -> PlaceReply
-        ensures made { (result, self.new) ≡ made Move.DropSender place self.old }
+        ensures outcome { (result, self.new) ≡ outcome Move.DropSender place self.old }
     {
         if self.senders == 0 {
             return PlaceReply::NoEnd;
@@ -51,9 +48,8 @@ impl<A: Allocator + Copy> Configuration<A> {
         PlaceReply::Done
     }
 
-    // One receiver less.
     pub(crate) fn drop_receiver(&mut self, place: usize) -> PlaceReply
-        ensures made { (result, self.new) ≡ made Move.DropReceiver place self.old }
+        ensures outcome { (result, self.new) ≡ outcome Move.DropReceiver place self.old }
     {
         if self.receivers == 0 {
             return PlaceReply::NoEnd;
@@ -64,8 +60,8 @@ impl<A: Allocator + Copy> Configuration<A> {
         PlaceReply::Done
     }
 
-    // An end left, which is counted no more: with the last one all is gone, and if the channel
-    // closes, each waiting receive wakes.
+    // An end was dropped and its count is lower: with the last one all is gone, and if the channel
+    // closes, each waiting receive is notified.
     fn drop_end(&mut self, was_closed: bool)
         ensures left { self.new ≡ end_dropped was_closed self.old }
     {
@@ -78,14 +74,13 @@ impl<A: Allocator + Copy> Configuration<A> {
         }
     }
 
-    // Sets the capacity.
     pub(crate) fn set_capacity(
         &mut self,
         capacity: usize,
         place: usize,
     ) -> Result<PlaceReply, AllocError>
-        ensures made { IfOk result (λ told.
-            (told, self.new) ≡ made (Move.SetCapacity capacity) place self.old) }
+        ensures outcome { IfOk result (λ reply.
+            (reply, self.new) ≡ outcome (Move.SetCapacity capacity) place self.old) }
     {
         if self.capacity.is_none() {
             return Ok(PlaceReply::Unbounded);
@@ -98,9 +93,9 @@ impl<A: Allocator + Copy> Configuration<A> {
         Ok(PlaceReply::Done)
     }
 
-    // Hands out all that is queued.
     pub(crate) fn drain(&mut self, place: usize) -> Result<PlaceReply, AllocError>
-        ensures made { IfOk result (λ told. (told, self.new) ≡ made Move.Drain place self.old) }
+        ensures outcome { IfOk result (λ reply.
+            (reply, self.new) ≡ outcome Move.Drain place self.old) }
     {
         self.queue.clear();
         self.admit_all()?;
@@ -109,13 +104,12 @@ impl<A: Allocator + Copy> Configuration<A> {
 }
 
 impl ParkedReceive {
-    // This receive, woken if it waits.
     fn woken_if_waiting(self) -> ParkedReceive
         ensures woken { result ≡ woken_if_waiting self }
     {
         if self.waits() {
             ParkedReceive {
-                standing: Standing::Woken,
+                status: Status::Woken,
                 ..self
             }
         } else {
@@ -124,7 +118,6 @@ impl ParkedReceive {
     }
 }
 
-// Wakes each waiting receive.
 fn wake_all(receives: &mut [ParkedReceive])
     ensures woken { receives.new ≡ map woken_if_waiting receives.old }
 {

@@ -1,9 +1,9 @@
-//! What explains the events that threads recorded.
+//! Looks for an explanation of the events that threads recorded.
 ghost use Rattle.std.specs.Prelude.{◌≡◌, ◌≤◌, ◌<◌, ◌+◌, ℕ, length, take};
 ghost use Rattle.std.specs.declared.vec.Vec.{Vec};
 ghost use Rattle.flume_model.specs.Log.{opens};
 ghost use Rattle.flume_concurrent.specs.Explanations.{events_in, IsExplained};
-ghost use Rattle.flume_concurrent.specs.Told.{TellExplanation};
+ghost use Rattle.flume_concurrent.specs.Descriptions.{DescribeExplanation};
 ghost use Rattle.flume_concurrent.specs.declared.event.Item.{Item};
 ghost use Rattle.flume_explain.specs.Reached.{AreExplained};
 ghost use Rattle.flume_explain.specs.Search.{BreaksAfter, UnexplainedAfter};
@@ -18,42 +18,40 @@ use flume_concurrent::explanation::{Explained, check_explanation};
 use flume_core::error::NoMemory;
 use std::alloc::Allocator;
 
-// If an explanation isn't found in so many configurations, patterns are looked for first.
-const SOON: usize = 100_000;
+// If no explanation is found in this many configurations, patterns are looked for first.
+const PATTERNS_AFTER: usize = 100_000;
 
-/// What a search for an explanation came to.
+/// The result of a search for an explanation.
 #[derive(Drop)]
 pub enum Explanation<T, A: Allocator> {
     /// These items explain the events.
     Explained(Vec<Item<T, A>, A>),
-    /// Nothing explains them.
     Unexplained,
-    /// There was no memory: nothing is known of the events.
+    /// Out of memory: nothing is known of the events.
     NoMemory,
-    /// The search was given up. So many events are explained; of all of them nothing is known. If
+    /// The limit was reached. This many events are explained; of all of them nothing is known. If
     /// these are all, they are explained, but the items weren't found.
     GaveUp(usize),
 }
 
-/// How far the events that threads recorded are explained.
+/// How far recorded events are explained.
 #[derive(Clone, Copy, Debug, PartialEq, Eq, Drop)]
 pub enum Checked {
-    /// All of them are.
     Explained,
-    /// So many events are, and with the next one they aren't.
+    /// This many events are explained, and with the next one they aren't.
     Breaks(usize),
-    /// So many events are, and all of them aren't. The search for the event with which they stop
-    /// being explained was given up.
+    /// This many events are explained, and all of them aren't. The first that isn't wasn't found
+    /// within the limit.
     Unexplained(usize),
-    /// There was no memory: nothing is known of the events.
+    /// Out of memory: nothing is known of the events.
     NoMemory,
-    /// The search was given up. So many events are explained; of all of them nothing is known.
+    /// The limit was reached. This many events are explained; of all of them nothing is known.
     GaveUp(usize),
 }
 
-/// Looks for an explanation of the events, the oldest first, on a channel that was opened with this
-/// capacity, or with none. Enters at most so many configurations after the first one, and as many
-/// before that in a guess, which leaves much out.
+/// Looks for an explanation of the events, the oldest first, on a channel of this capacity (`None`:
+/// unbounded). Enters at most `limit` configurations after the first one, and as many in a guess
+/// before, which leaves much out.
 pub fn explain<T: Copy + Eq + Drop, A: Allocator + Copy>(
     alloc: A,
     capacity: Option<usize>,
@@ -63,7 +61,7 @@ pub fn explain<T: Copy + Eq + Drop, A: Allocator + Copy>(
     ensures events { (items : Vec (Item T A) A) → result ≡ Explanation.Explained items
         → events_in items.items ≡ events.now }
     ensures explains { (items : Vec (Item T A) A) → result ≡ Explanation.Explained items
-        → TellExplanation T.eq (opens capacity 1) items.items }
+        → DescribeExplanation T.eq (opens capacity 1) items.items }
     ensures explained { (items : Vec (Item T A) A) → result ≡ Explanation.Explained items
         → IsExplained T.eq (opens capacity 1) events.now }
     ensures unexplained { result ≡ Explanation.Unexplained
@@ -79,13 +77,11 @@ pub fn explain<T: Copy + Eq + Drop, A: Allocator + Copy>(
     }
 }
 
-/// Finds how many events are explained, the oldest first, on a channel that was opened with this
-/// capacity, or with none. The search for an explanation of all of them enters at most so many
-/// configurations after the first one. If there is none, each search for one of fewer events
-/// enters at most a tenth of that. If the first 100,000 configurations lead to none, patterns are
-/// looked for by which the events aren't explained; if there is no such pattern, the search begins
-/// anew. Before each search comes a guess, which leaves much out, and enters no more
-/// configurations than it may.
+/// Finds how many events are explained, the oldest first, on a channel of this capacity (`None`:
+/// unbounded). The search for all of them enters at most `limit` configurations after the first
+/// one; if there is no explanation, each search for fewer events enters at most a tenth. If the
+/// first 100,000 lead to none, patterns that have no explanation are looked for; without any, the
+/// search begins anew. A guess comes before each search, within the same limit.
 pub fn check_calls<T: Copy + Eq + Drop, A: Allocator + Copy>(
     alloc: A,
     capacity: Option<usize>,
@@ -101,14 +97,12 @@ pub fn check_calls<T: Copy + Eq + Drop, A: Allocator + Copy>(
     ensures gave_up { (count : ℕ) → result ≡ Checked.GaveUp count
         → AreExplained T.eq events.now (opens capacity 1) count }
 {
-    match check_within(alloc, capacity, events, limit, limit.min(SOON)) {
+    match check_within(alloc, capacity, events, limit, limit.min(PATTERNS_AFTER)) {
         Checked::GaveUp(_) => check_long(alloc, capacity, events, limit),
         checked => checked,
     }
 }
 
-// As `check_calls`. The search for an explanation of all events enters at most so many
-// configurations.
 fn check_within<T: Copy + Eq + Drop, A: Allocator + Copy>(
     alloc: A,
     capacity: Option<usize>,
@@ -133,7 +127,7 @@ fn check_within<T: Copy + Eq + Drop, A: Allocator + Copy>(
     }
 }
 
-// As `check_calls`, of events of which an explanation isn't found soon: looks for a pattern first.
+// No explanation is found soon: patterns are cheaper than a long search.
 fn check_long<T: Copy + Eq + Drop, A: Allocator + Copy>(
     alloc: A,
     capacity: Option<usize>,
@@ -156,7 +150,7 @@ fn check_long<T: Copy + Eq + Drop, A: Allocator + Copy>(
     }
 }
 
-// How many of the events are explained, if those up to this place aren't.
+// The events up to this place aren't explained.
 fn check_refuted<T: Copy + Eq + Drop, A: Allocator + Copy>(
     alloc: A,
     capacity: Option<usize>,
@@ -176,7 +170,7 @@ fn check_refuted<T: Copy + Eq + Drop, A: Allocator + Copy>(
     find_break(alloc, capacity, &events[..=place], limit / 10, place)
 }
 
-// The explanation that these choices make, if they make one. The events have one.
+// The events have an explanation.
 fn explained_by<T: Copy + Eq + Drop, A: Allocator + Copy>(
     alloc: A,
     capacity: Option<usize>,
@@ -187,7 +181,7 @@ fn explained_by<T: Copy + Eq + Drop, A: Allocator + Copy>(
     ensures events { (items : Vec (Item T A) A) → result ≡ Explanation.Explained items
         → events_in items.items ≡ events.now }
     ensures explains { (items : Vec (Item T A) A) → result ≡ Explanation.Explained items
-        → TellExplanation T.eq (opens capacity 1) items.items }
+        → DescribeExplanation T.eq (opens capacity 1) items.items }
     ensures explained { (items : Vec (Item T A) A) → result ≡ Explanation.Explained items
         → IsExplained T.eq (opens capacity 1) events.now }
     ensures gave_up { (count : ℕ) → result ≡ Explanation.GaveUp count
@@ -206,8 +200,7 @@ fn explained_by<T: Copy + Eq + Drop, A: Allocator + Copy>(
     }
 }
 
-// How many of the events are explained, which all together aren't. Tries so many first, and goes on
-// by doubling the step and then by halving what is left.
+// All events together aren't explained. Doubles the step, and then halves what is left.
 fn find_break<T: Copy + Eq + Drop, A: Allocator + Copy>(
     alloc: A,
     capacity: Option<usize>,
@@ -246,7 +239,6 @@ fn find_break<T: Copy + Eq + Drop, A: Allocator + Copy>(
     Checked::Breaks(low)
 }
 
-// The step, but no more than half of what is left.
 fn half_at_most(step: usize, left: usize) -> usize
     ensures half { result ≤ left }
 {

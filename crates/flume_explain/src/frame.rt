@@ -7,18 +7,17 @@ ghost use Rattle.flume_explain.specs.declared.choice.Choice.{Choice};
 
 use crate::choice::Choice;
 use crate::configuration::Configuration;
-use crate::tries::Tried;
+use crate::tries::ChoiceOutcome;
 use flume_concurrent::event::Event;
 use std::alloc::Allocator;
 
-/// A configuration on the way, and what is left to try from it.
+/// A configuration on the way of a search, and what is left to try from it.
 #[derive(Drop)]
 pub struct Frame<A: Allocator> {
-    /// The configuration.
     pub configuration: Configuration<A>,
-    /// The place of the event that comes next.
+    /// The place of the next event.
     pub place: usize,
-    /// What may come next and was not tried yet, the last to be tried first.
+    /// Not tried yet, the last to be tried first.
     pub choices: Vec<Choice, A>,
     /// How many choices led here.
     pub depth: usize,
@@ -29,9 +28,8 @@ pub struct Frame<A: Allocator> {
 pub enum Next<A: Allocator> {
     /// By this choice, at this configuration and this place.
     Leads(Choice, Configuration<A>, usize),
-    /// Nowhere: nothing is left to try.
+    /// Nothing is left to try.
     Nowhere,
-    /// There was no memory.
     NoMemory,
 }
 
@@ -58,9 +56,9 @@ impl<A: Allocator + Copy> Frame<A> {
                 .configuration
                 .try_choice(alloc, events, self.place, choice)
             {
-                Tried::Leads(new, at) => return Next::Leads(choice, new, at),
-                Tried::Spent => {}
-                Tried::NoMemory => return Next::NoMemory,
+                ChoiceOutcome::Leads(new, at) => return Next::Leads(choice, new, at),
+                ChoiceOutcome::Spent => {}
+                ChoiceOutcome::NoMemory => return Next::NoMemory,
             }
         }
         Next::Nowhere

@@ -1,30 +1,27 @@
-//! A search that leaves out what likely leads to no explanation. So it is soon at one, if there is
-//! one; if it finds none, that says nothing.
+//! A search that leaves out what likely leads to no explanation. It is fast if it finds one; if it
+//! finds none, that says nothing.
 use crate::choice::Choice;
 use crate::configuration::{Configuration, OpenCall, Progress};
 use crate::dead::DeadTable;
 use crate::frame::{Frame, Next};
 use crate::happens::Forced;
 use crate::order::Order;
-use crate::tries::Tried;
+use crate::tries::ChoiceOutcome;
 use flume_concurrent::event::Event;
 use std::alloc::Allocator;
 
-// A search, depth first.
 #[derive(Drop)]
 struct Guess<A: Allocator> {
-    // The configurations on the way, the first of them first.
+    // From the first to the last configuration on the way.
     frames: Vec<Frame<A>, A>,
-    // What was chosen so far, in order.
     chosen: Vec<Choice, A>,
-    // The configurations from which nothing was found.
+    // From these nothing was found.
     left: DeadTable<A>,
-    // What is tried first.
     order: Order<A>,
 }
 
-/// Choices that lead from this configuration past all the events, if some are found before so many
-/// configurations are entered.
+/// Choices that lead from this configuration past all the events, if any are found within this many
+/// configurations.
 pub fn guess_path<T: Copy + Eq + Drop, A: Allocator + Copy>(
     alloc: A,
     start: Configuration<A>,
@@ -48,8 +45,8 @@ pub fn guess_path<T: Copy + Eq + Drop, A: Allocator + Copy>(
 }
 
 impl<A: Allocator + Copy> Guess<A> {
-    // Takes the events that only may come next. Whether that led past the last one; if not, leaves a
-    // frame with all choices, unless the configuration likely leads nowhere. None: no memory.
+    // Takes the events that have no alternative, and leaves a frame, unless the configuration
+    // likely leads nowhere. Whether that led past the last event; `None`: an allocation failed.
     fn enter<T: Copy + Eq + Drop>(
         &mut self,
         alloc: A,
@@ -70,7 +67,6 @@ impl<A: Allocator + Copy> Guess<A> {
         }
     }
 
-    // Whether nothing is looked for from this configuration.
     fn is_left<T: Copy + Eq + Drop>(
         &self,
         events: &[Event<T, A>],
@@ -84,7 +80,7 @@ impl<A: Allocator + Copy> Guess<A> {
                 .are_against(events, configuration, place)
     }
 
-    // Leaves a frame with all choices. None: no memory.
+    // `None`: an allocation failed.
     fn push_frame<T: Copy + Eq + Drop>(
         &mut self,
         alloc: A,
@@ -110,15 +106,14 @@ impl<A: Allocator + Copy> Guess<A> {
         self.frames.push(frame).ok()
     }
 
-    // Tries what is left, the newest frame first, until a choice leads on: where to. None: nothing is
-    // left, or no memory.
+    // Tries the newest frame first. `None`: nothing is left, or an allocation failed.
     fn next<T: Copy + Eq + Drop>(
         &mut self,
         alloc: A,
         events: &[Event<T, A>],
     ) -> Option<(Configuration<A>, usize)> {
         while let Some(mut frame) = self.frames.pop() {
-            match self.tried(alloc, events, &mut frame) {
+            match self.try_frame(alloc, events, &mut frame) {
                 Next::Leads(choice, new, at) => {
                     self.chosen.truncate(frame.depth);
                     self.chosen.push(choice).ok()?;
@@ -136,8 +131,7 @@ impl<A: Allocator + Copy> Guess<A> {
         None
     }
 
-    // Tries the choices of a frame, until one leads on.
-    fn tried<T: Copy + Eq + Drop>(
+    fn try_frame<T: Copy + Eq + Drop>(
         &self,
         alloc: A,
         events: &[Event<T, A>],
@@ -149,21 +143,21 @@ impl<A: Allocator + Copy> Guess<A> {
                     .configuration
                     .try_choice(alloc, events, frame.place, choice)
                 {
-                    Tried::Leads(new, at) => {
+                    ChoiceOutcome::Leads(new, at) => {
                         if !self.is_against(events, choice, &frame.configuration, &new) {
                             return Next::Leads(choice, new, at);
                         }
                     }
-                    Tried::Spent => {}
-                    Tried::NoMemory => return Next::NoMemory,
+                    ChoiceOutcome::Spent => {}
+                    ChoiceOutcome::NoMemory => return Next::NoMemory,
                 }
             }
         }
         Next::Nowhere
     }
 
-    // Whether a choice may lead on: a call that has its answer makes no step, and one whose answer
-    // isn't that there was no memory is likely refused none.
+    // A call that has its answer makes no step, and one whose answer isn't `NoMemory` is likely
+    // refused none.
     fn is_likely<T: Copy + Eq + Drop>(&self, events: &[Event<T, A>], choice: Choice) -> bool {
         match choice {
             Choice::TakeEvent => true,

@@ -1,4 +1,4 @@
-//! The next event, and where it leads a configuration.
+//! Takes the next event.
 ghost use Rattle.std.specs.Prelude.{◌≡◌, ◌<◌, ℕ, false, IsTrue, length};
 ghost use Rattle.flume_explain.specs.Configurations.{call_at};
 ghost use Rattle.flume_model.specs.Log.{Opening};
@@ -16,17 +16,15 @@ use flume_concurrent::event::Event;
 use flume_concurrent::stage::Stage;
 use std::alloc::Allocator;
 
-/// Where the events lead that only may come next.
+/// Where the events that have no alternative lead.
 #[derive(Clone, Copy, Debug, Drop)]
 pub enum Forced {
     /// Past the last event.
     AtEnd,
-    /// To this place, where there are other choices: the event returns this open call, which hasn't
-    /// its answer.
+    /// To this place: the event returns this open call, which hasn't its answer.
     Stops(usize, OpenCall),
     /// To this place, where the event can't come.
     Dead(usize),
-    /// There was no memory.
     NoMemory,
 }
 
@@ -50,7 +48,7 @@ impl<A: Allocator + Copy> Configuration<A> {
         }
     }
 
-    /// Takes the event at a place. `false`: there was no memory.
+    /// Takes the event at a place. `false`: an allocation failed.
     pub fn take_event<T: Copy + Eq + Drop>(&mut self, events: &[Event<T, A>], place: usize) -> bool
         requires { place < length events.now }
         ensures leads { IsTrue result → EventLeads T.eq events.now place self.old self.new }
@@ -66,7 +64,7 @@ impl<A: Allocator + Copy> Configuration<A> {
         }
     }
 
-    // A call begins by the event at this place. `false`: there was no memory.
+    // `false`: an allocation failed.
     fn begin_call(&mut self, place: usize) -> bool
         ensures begun { IsTrue result → self.new ≡ with_call place self.old }
     {
@@ -78,15 +76,13 @@ impl<A: Allocator + Copy> Configuration<A> {
             .is_ok()
     }
 
-    // The open call at this place returns.
     fn end_call(&mut self, place: usize)
         ensures ended { self.new ≡ without_call place self.old }
     {
         self.calls.retain(|call| call.place != place);
     }
 
-    /// Takes the events from a place on, as long as only they may come next, and adds them to what
-    /// was chosen.
+    /// Takes the events from a place on that have no alternative, and adds them to `chosen`.
     pub fn take_forced<T: Copy + Eq + Drop>(
         &mut self,
         events: &[Event<T, A>],
@@ -104,7 +100,7 @@ impl<A: Allocator + Copy> Configuration<A> {
             → IsExplained T.eq opening events.now }
         ensures reaches { (next : ℕ) (own : OpenCall) → result ≡ Forced.Stops next own
             → Reaches T.eq events.now place self.old next self.new }
-        ensures far { (next : ℕ) → result ≡ Forced.Dead next → (opening : Opening)
+        ensures explained_before { (next : ℕ) → result ≡ Forced.Dead next → (opening : Opening)
             → IsReached T.eq events.now opening place self.old
             → AreExplained T.eq events.now opening next }
     {
@@ -123,21 +119,21 @@ impl<A: Allocator + Copy> Configuration<A> {
     }
 }
 
-// Whether an open call may return this now, if this is the first answer that is recorded of it.
+// If this is the first answer that is recorded of the call.
 fn may_return<T: Copy + Eq + Drop, A: Allocator + Copy>(
     one: OpenCall,
     events: &[Event<T, A>],
-    told: &Answer<T, A>,
+    recorded_answer: &Answer<T, A>,
 ) -> bool
     ensures may { result
-        ≡ may_end T.eq (call_at events.now one.place) one.progress told.now }
+        ≡ may_end T.eq (call_at events.now one.place) one.progress recorded_answer.now }
 {
     let Some(call) = call_at(events, one.place) else {
         return false;
     };
     match one.progress {
-        Progress::Begun => call.may_return(&Stage::Begun, told),
-        Progress::Tried => call.may_return(&Stage::Tried, told),
+        Progress::Begun => call.may_return(&Stage::Begun, recorded_answer),
+        Progress::Tried => call.may_return(&Stage::Tried, recorded_answer),
         Progress::Parked | Progress::Refused => false,
         Progress::Done => true,
     }

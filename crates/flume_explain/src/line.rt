@@ -9,14 +9,12 @@ use crate::configuration::Configuration;
 use std::alloc::{AllocError, Allocator};
 
 impl<A: Allocator + Copy> Configuration<A> {
-    // Whether all senders or all receivers are gone.
     pub(crate) fn is_closed(&self) -> bool
         ensures closed { result ≡ closed_now self.now }
     {
         self.senders.min(self.receivers) == 0
     }
 
-    // Whether the queue is at its capacity.
     pub(crate) fn is_full(&self) -> bool
         ensures full { result ≡ full_now self.now }
     {
@@ -26,7 +24,6 @@ impl<A: Allocator + Copy> Configuration<A> {
         }
     }
 
-    // The first blocked send, if one is blocked, joins the queue.
     fn admit(&mut self) -> Result<(), AllocError>
         ensures admitted { OnOk result (self.new ≡ admit self.old) }
     {
@@ -36,14 +33,12 @@ impl<A: Allocator + Copy> Configuration<A> {
         }
     }
 
-    // It does if the queue has room.
     fn refill(&mut self) -> Result<(), AllocError>
         ensures refilled { OnOk result (self.new ≡ refill self.old) }
     {
         if self.is_full() { Ok(()) } else { self.admit() }
     }
 
-    // It does if no message is queued.
     fn bring_front(&mut self) -> Result<(), AllocError>
         ensures front { OnOk result (self.new ≡ with_front self.old) }
     {
@@ -54,7 +49,7 @@ impl<A: Allocator + Copy> Configuration<A> {
         }
     }
 
-    // Hands out the front of the line, if there is one.
+    // The front of the line is the first queued message, or else the first blocked one.
     pub(crate) fn take(&mut self) -> Result<Option<usize>, AllocError>
         ensures taken { IfOk result (λ front. (front, self.new) ≡ taken_front self.old) }
     {
@@ -68,7 +63,6 @@ impl<A: Allocator + Copy> Configuration<A> {
         }
     }
 
-    // Blocked sends join the queue while it has room.
     pub(crate) fn admit_all(&mut self) -> Result<(), AllocError>
         ensures admitted { OnOk result (self.new ≡ admit_all self.old) }
     {
@@ -82,7 +76,6 @@ impl<A: Allocator + Copy> Configuration<A> {
     }
 }
 
-// Takes the first of these places out, if there is one.
 fn take_first<A: Allocator + Copy>(places: &mut Vec<usize, A>) -> Option<usize>
     ensures none { IfNone result (places.old.items ≡ []) }
     ensures nothing { IfNone result (places.new.items ≡ []) }

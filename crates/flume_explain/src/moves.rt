@@ -1,14 +1,15 @@
-//! What an open call may do next, and where that leads a configuration.
+//! What an open call may do next, and the configuration after it.
 ghost use Rattle.std.specs.Prelude.{◌≡◌, ℕ, IfSome, List, Option, Some, true, false};
-ghost use Rattle.flume_explain.specs.Mirrors.{IsAlike};
+ghost use Rattle.flume_explain.specs.Mirrors.{Corresponds};
 ghost use Rattle.std.specs.Option.{option_copied};
 ghost use Rattle.std.specs.List.{Contains};
 ghost use Rattle.flume_concurrent.specs.declared.event.Event.{Event};
-ghost use Rattle.flume_explain.specs.Configurations.{State, thread_at, first_answer, progressed};
+ghost use Rattle.flume_explain.specs.Configurations.{State, thread_at, first_answer};
+ghost use Rattle.flume_explain.specs.Configurations.{calls_with_progress};
 ghost use Rattle.flume_explain.specs.Leads.{LeadsTo, LeadsNowhere, CallLeadsTo, CallLeadsNowhere};
 ghost use Rattle.flume_explain.specs.Reached.{StepReaches, MoveReaches};
 
-use crate::configuration::{Configuration, OpenCall, Progress, progressed};
+use crate::configuration::{Configuration, OpenCall, Progress, calls_with_progress};
 use crate::place_reply::PlaceReply;
 use crate::places::call_at;
 use crate::progress::{is_wrong, progress_of};
@@ -20,22 +21,20 @@ use flume_concurrent::stage::stage_after;
 use flume_model::step::Reply;
 use std::alloc::Allocator;
 
-/// Where a move leads a configuration.
+/// The result of a move.
 #[derive(Drop)]
 pub enum Outcome<A: Allocator> {
-    /// To this one.
     Leads(Configuration<A>),
-    /// To the same one.
+    /// The configuration stays.
     Same,
-    /// To no explanation.
+    /// No explanation has this move.
     Nowhere,
-    /// There was no memory for the new configuration.
     NoMemory,
 }
 
 impl<A: Allocator + Copy> Configuration<A> {
-    /// Where a move of this open call leads: its next step, or the other one that it may make, with
-    /// memory or refused it. `recorded` is what the call is recorded to return, if it is.
+    /// The result of a move of this open call: its next step or the other one, with memory or
+    /// refused it. `recorded` is what the call is recorded to return, if it is.
     pub fn after<T: Copy + Eq + Drop>(
         &self,
         alloc: A,
@@ -47,17 +46,20 @@ impl<A: Allocator + Copy> Configuration<A> {
     ) -> Outcome<A>
         ensures leads { (new : State) → result ≡ Outcome.Leads new
             → (rest : List (Event T A)) (t : ℕ) → Contains self.now.calls one
-            → thread_at events.now one.place ≡ Some t → first_answer t rest ≡ option_copied recorded.entry
+            → thread_at events.now one.place ≡ Some t
+            → first_answer t rest ≡ option_copied recorded.entry
             → LeadsTo T.eq events.now self.now rest t other refused new }
         ensures reaches { (new : State) → result ≡ Outcome.Leads new → (place : ℕ)
             → StepReaches T.eq events.now place self.now (option_copied recorded.entry) one new }
         ensures same { result ≡ Outcome.Same
             → (rest : List (Event T A)) (t : ℕ) → Contains self.now.calls one
-            → thread_at events.now one.place ≡ Some t → first_answer t rest ≡ option_copied recorded.entry
+            → thread_at events.now one.place ≡ Some t
+            → first_answer t rest ≡ option_copied recorded.entry
             → LeadsTo T.eq events.now self.now rest t other refused self.now }
         ensures nowhere { result ≡ Outcome.Nowhere
             → (rest : List (Event T A)) (t : ℕ) → Contains self.now.calls one
-            → thread_at events.now one.place ≡ Some t → first_answer t rest ≡ option_copied recorded.entry
+            → thread_at events.now one.place ≡ Some t
+            → first_answer t rest ≡ option_copied recorded.entry
             → LeadsNowhere T.eq events.now self.now rest t other refused }
     {
         let Some(call) = call_at(events, one.place) else {
@@ -73,7 +75,7 @@ impl<A: Allocator + Copy> Configuration<A> {
         }
     }
 
-    // Where a refused move leads: the channel stays.
+    // The channel stays.
     fn after_refusal<T: Copy + Eq + Drop>(
         &self,
         alloc: A,
@@ -83,7 +85,8 @@ impl<A: Allocator + Copy> Configuration<A> {
         mv: Move,
     ) -> Outcome<A>
         ensures leads { (events : List (Event T A)) (new : State) → result ≡ Outcome.Leads new
-            → CallLeadsTo T.eq events self.now (option_copied recorded.entry) one call.now mv true new }
+            → CallLeadsTo T.eq events self.now (option_copied recorded.entry) one call.now mv true
+            new }
         ensures reaches { (events : List (Event T A)) (new : State) → result ≡ Outcome.Leads new
             → (place : ℕ) → MoveReaches T.eq events place self.now (option_copied recorded.entry)
             one call.now mv new }
@@ -111,7 +114,6 @@ impl<A: Allocator + Copy> Configuration<A> {
         }
     }
 
-    // Where a move leads that isn't refused.
     fn after_move<T: Copy + Eq + Drop>(
         &self,
         alloc: A,
@@ -137,10 +139,10 @@ impl<A: Allocator + Copy> Configuration<A> {
         let Some(mut left) = self.try_clone(alloc) else {
             return Outcome::NoMemory;
         };
-        let Some(told) = left.make(mv, one.place) else {
+        let Some(reply_by_place) = left.make(mv, one.place) else {
             return Outcome::NoMemory;
         };
-        let Some(reply) = self.reply_to(alloc, told, events, call) else {
+        let Some(reply) = self.reply_to(alloc, reply_by_place, events, call) else {
             return Outcome::NoMemory;
         };
         let stage = stage_after(call, one.progress.stage(), reply);
@@ -157,29 +159,35 @@ impl<A: Allocator + Copy> Configuration<A> {
         }
     }
 
-    // A reply of a channel that this is by places, of a step that this call makes; none if there was
-    // no memory, or if a message is wanted that isn't sent.
+    // A channel's reply to this step that is this one by places. `None`: an allocation failed, or
+    // the reply has a message that no call sends.
     fn reply_to<T: Copy + Eq + Drop>(
         &self,
         alloc: A,
-        told: PlaceReply,
+        reply_by_place: PlaceReply,
         events: &[Event<T, A>],
         call: &Call<T>,
     ) -> Option<Reply<T, A>>
-        ensures alike { IfSome result (λ reply. IsAlike events.now 0 self.now.queue told reply) }
+        ensures corresponds { IfSome result (λ reply.
+            Corresponds events.now 0 self.now.queue reply_by_place reply) }
     {
-        reply_for(alloc, told, message_of(call), events, self.queue.as_slice())
+        reply_for(
+            alloc,
+            reply_by_place,
+            message_of(call),
+            events,
+            self.queue.as_slice(),
+        )
     }
 
-    // The open calls, the one at this place being so far; none if there was no memory.
+    // `None`: an allocation failed.
     fn calls_with(&self, alloc: A, place: usize, progress: Progress) -> Option<Vec<OpenCall, A>>
-        ensures progressed { IfSome result (λ calls.
-            calls.items ≡ progressed place progress self.now.calls) }
+        ensures calls_with_progress { IfSome result (λ calls.
+            calls.items ≡ calls_with_progress place progress self.now.calls) }
     {
-        progressed(self.calls.as_slice(), alloc, place, progress).ok()
+        calls_with_progress(self.calls.as_slice(), alloc, place, progress).ok()
     }
 
-    // The channel with these open calls.
     fn with_calls(self, calls: Vec<OpenCall, A>) -> Self
         ensures calls { result ≡ record self { calls = calls.items } }
     {

@@ -1,5 +1,4 @@
-//! Which choices are tried first. In any order the search is right; in this one it is soon at an
-//! explanation, if there is one.
+//! Which choices are tried first. Any order is correct; this one finds an explanation sooner.
 ghost use Rattle.std.specs.Prelude.{◌≡◌, IsTrue};
 ghost use Rattle.std.specs.List.{Contains};
 ghost use Rattle.flume_explain.specs.declared.choice.Choice.{Choice};
@@ -10,20 +9,20 @@ use crate::configuration::{Configuration, OpenCall, Progress};
 use flume_concurrent::event::Event;
 use std::alloc::Allocator;
 
-/// What is tried first, by what the events tell of each call.
+/// What is tried first, by what the events say of each call.
 #[derive(Drop)]
 pub struct Order<A: Allocator> {
     records: CallRecords<A>,
 }
 
 impl<A: Allocator + Copy> Order<A> {
-    /// The order for these events; none if there was no memory.
+    /// The order for these events; `None` if an allocation failed.
     pub fn new<T: Copy + Eq + Drop>(alloc: A, events: &[Event<T, A>]) -> Option<Self> {
         let records = CallRecords::new(alloc, events)?;
         Some(Order { records })
     }
 
-    /// What the events tell of each call.
+    /// What the events say of each call.
     pub fn records(&self) -> &CallRecords<A> {
         &self.records
     }
@@ -33,7 +32,7 @@ impl<A: Allocator + Copy> Order<A> {
         self.records.of(call.place).received
     }
 
-    // The open call, other than this one, whose message is returned first, if it can still be made.
+    // The other open call whose message is returned first, if it can still be made.
     fn first_send<T: Copy + Eq + Drop>(
         &self,
         events: &[Event<T, A>],
@@ -57,7 +56,7 @@ impl<A: Allocator + Copy> Order<A> {
         first
     }
 
-    // The open call, other than this one, with which it shares its message.
+    // The other open call with the same message.
     fn partner(&self, calls: &[OpenCall], own: OpenCall) -> Option<OpenCall> {
         let shared = self.of(own);
         if shared == NEVER {
@@ -71,7 +70,7 @@ impl<A: Allocator + Copy> Order<A> {
         None
     }
 
-    /// Adds the steps that are to be tried first, once more. `false`: there was no memory.
+    /// Adds the steps that are to be tried first, once more. `false`: an allocation failed.
     pub fn push_first<T: Copy + Eq + Drop>(
         &self,
         events: &[Event<T, A>],
@@ -88,8 +87,7 @@ impl<A: Allocator + Copy> Order<A> {
         push_both(choices, first, self.partner(calls, own)) && push_both(choices, Some(own), sooner)
     }
 
-    // This send, if its message is returned before that of the other call, and it is taken in at
-    // once.
+    // This send, if its message is returned before that of the other call, and it has room at once.
     fn sooner(
         &self,
         first: Option<OpenCall>,
@@ -107,7 +105,7 @@ impl<A: Allocator + Copy> Order<A> {
     }
 }
 
-// Adds the next steps of these open calls, if there are any. `false`: there was no memory.
+// `false`: an allocation failed.
 fn push_both<A: Allocator + Copy>(
     choices: &mut Vec<Choice, A>,
     one: Option<OpenCall>,
@@ -119,7 +117,7 @@ fn push_both<A: Allocator + Copy>(
     push_step(choices, one) && push_step(choices, other)
 }
 
-// Adds the next step of this open call, if there is one. `false`: there was no memory.
+// `false`: an allocation failed.
 fn push_step<A: Allocator + Copy>(choices: &mut Vec<Choice, A>, call: Option<OpenCall>) -> bool
     ensures kept { IsTrue result → (choice : Choice) → Contains choices.old.items choice
         → Contains choices.new.items choice }

@@ -15,14 +15,14 @@ use flume_concurrent::event::Event;
 use flume_concurrent::explanation::{Explained, check_explanation};
 use std::alloc::Allocator;
 
-// How many configurations an event a guess may enter, and how many more.
-const GUESSED: usize = 10;
+// How many configurations a guess may enter for each event, and how many more.
+const GUESSES_PER_EVENT: usize = 10;
 
 const GUESSED_AT_LEAST: usize = 10_000;
 
-/// Looks for choices that lead past all the events, on a channel that was opened with this
-/// capacity, or with none. A guess comes first, and enters at most so many configurations. If it
-/// finds none, the search that leaves nothing out enters at most so many after the first one.
+/// Choices that lead past all the events, on a channel of this capacity (`None`: unbounded). First
+/// comes a guess, which enters at most `limit` configurations; then a search that leaves nothing
+/// out, which enters at most `limit` after the first one.
 pub fn find_choices<T: Copy + Eq + Drop, A: Allocator + Copy>(
     alloc: A,
     capacity: Option<usize>,
@@ -36,15 +36,14 @@ pub fn find_choices<T: Copy + Eq + Drop, A: Allocator + Copy>(
     ensures gave_up { (furthest : ℕ) → result ≡ Found.GaveUp furthest
         → AreExplained T.eq events.now (opens capacity 1) furthest }
 {
-    if let Some(path) = guessed(alloc, capacity, events, limit) {
+    if let Some(path) = guess_choices(alloc, capacity, events, limit) {
         return Found::Path(path);
     }
     let start = Configuration::new(alloc, capacity);
     find_path(alloc, start, events, limit)
 }
 
-// Choices that explain the events, if some are guessed.
-fn guessed<T: Copy + Eq + Drop, A: Allocator + Copy>(
+fn guess_choices<T: Copy + Eq + Drop, A: Allocator + Copy>(
     alloc: A,
     capacity: Option<usize>,
     events: &[Event<T, A>],
@@ -55,7 +54,7 @@ fn guessed<T: Copy + Eq + Drop, A: Allocator + Copy>(
 {
     let most = events
         .len()
-        .saturating_mul(GUESSED)
+        .saturating_mul(GUESSES_PER_EVENT)
         .saturating_add(GUESSED_AT_LEAST);
     let start = Configuration::new(alloc, capacity);
     let path = guess_path(alloc, start, events, limit.min(most))?;
@@ -66,7 +65,6 @@ fn guessed<T: Copy + Eq + Drop, A: Allocator + Copy>(
     }
 }
 
-// Whether the events are explained by these choices, as they are made on a channel.
 fn are_explained_by<T: Copy + Eq + Drop, A: Allocator + Copy>(
     alloc: A,
     capacity: Option<usize>,

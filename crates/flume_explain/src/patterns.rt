@@ -1,4 +1,4 @@
-//! Patterns of events that no channel explains, seen without a search.
+//! Patterns of events that have no explanation, found without a search.
 ghost use Rattle.std.specs.Prelude.{◌≡◌, ◌≤◌, ◌∷◌, ◌↔◌, ℕ, [], false, true, length, take, drop};
 ghost use Rattle.std.specs.Prelude.{IfNone, IfSome, IsTrue, None};
 ghost use Rattle.flume_concurrent.specs.Patterns.{all_returned as all_return};
@@ -14,27 +14,25 @@ use flume_concurrent::call::{Answer, Call};
 use flume_concurrent::event::Event;
 use std::alloc::Allocator;
 
-/// That a thread received a message.
+/// A thread received a message.
 #[derive(Clone, Copy, Debug, Drop)]
 pub struct Received<T> {
-    /// The thread.
     pub thread: usize,
-    /// The message.
     pub message: T,
 }
 
-/// Where two messages may have been received out of order.
+/// Places at which two messages may have been received out of order.
 #[derive(Clone, Copy, Debug, Drop)]
 pub struct Overtaking {
-    /// The place of the event that begins a send of the second message.
+    /// The event that begins a send of the second message.
     pub sent: usize,
-    /// The place of the event by which the second message is received.
+    /// The event by which the second message is received.
     pub received: usize,
-    /// The place of the event that begins the receive of the first message.
+    /// The event that begins the receive of the first message.
     pub begun: usize,
 }
 
-/// Whether the last event is that a message is received of which no send has begun.
+/// Whether the last event receives a message of which no send has begun.
 pub fn is_unsent<T: Copy + Eq + Drop, A: Allocator>(events: &[Event<T, A>]) -> bool
     ensures unsent { IsTrue result → IsUnsent T.eq events.now }
 {
@@ -47,8 +45,7 @@ pub fn is_unsent<T: Copy + Eq + Drop, A: Allocator>(events: &[Event<T, A>]) -> b
     }
 }
 
-/// Whether the last event is that the first of two messages is received, which are out of order at
-/// these places.
+/// Whether the last event receives the first of two messages that are out of order at these places.
 pub fn is_out_of_order<T: Copy + Eq + Drop, A: Allocator>(
     events: &[Event<T, A>],
     at: Overtaking,
@@ -71,7 +68,7 @@ pub fn is_out_of_order<T: Copy + Eq + Drop, A: Allocator>(
         && is_sent_first(before, at.sent, first.message, second.message)
 }
 
-/// If the event is that a message is received, the thread and the message.
+/// The thread and the message, if the event receives one.
 pub fn got<T: Copy + Drop, A: Allocator>(event: &Event<T, A>) -> Option<Received<T>>
     ensures got { IfSome result (λ own.
         event.now ≡ Event.Returns own.thread (Answer.Got own.message)) }
@@ -101,7 +98,7 @@ pub fn begins<T: Drop, A: Allocator>(event: &Event<T, A>, own: usize) -> bool
 }
 
 // Whether each send of the first message returns before this place, and no send of the second
-// message begins before it.
+// begins before it.
 fn is_sent_first<T: Copy + Eq + Drop, A: Allocator>(
     events: &[Event<T, A>],
     place: usize,
@@ -117,14 +114,13 @@ fn is_sent_first<T: Copy + Eq + Drop, A: Allocator>(
     all_returned(early, first) && is_never_sent(late, first) && is_never_sent(early, second)
 }
 
-// Whether none of these events begins a send of this message.
 fn is_never_sent<T: Copy + Eq + Drop, A: Allocator>(events: &[Event<T, A>], message: T) -> bool
     ensures none { IsTrue result → some_begins (T.eq message) events.now ≡ false }
 {
     last_send(events, message).is_none()
 }
 
-/// The place of the last of these events that begins a send of this message, if one does.
+/// The place of the last of these events that begins a send of this message.
 pub fn last_send<T: Copy + Eq + Drop, A: Allocator>(
     events: &[Event<T, A>],
     message: T,
@@ -140,7 +136,6 @@ pub fn last_send<T: Copy + Eq + Drop, A: Allocator>(
     None
 }
 
-// Whether this event begins a send of this message.
 fn begins_send<T: Copy + Eq + Drop, A: Allocator>(event: &Event<T, A>, message: T) -> bool
     ensures value { result ≡ some_begins (T.eq message) (event.now ∷ []) }
 {
@@ -165,7 +160,6 @@ fn all_returned<T: Copy + Eq + Drop, A: Allocator>(events: &[Event<T, A>], messa
     true
 }
 
-// Whether a call of this thread returns in these events.
 fn returns_in<T: Drop, A: Allocator>(events: &[Event<T, A>], own: usize) -> bool
     ensures value { result ≡ some_returns own events.now }
 {
@@ -179,7 +173,6 @@ fn returns_in<T: Drop, A: Allocator>(events: &[Event<T, A>], own: usize) -> bool
     false
 }
 
-// Whether a call sends this message.
 fn sends<T: Copy + Eq>(call: &Call<T>, message: T) -> bool
     ensures value { result ≡ sends_such (T.eq message) call.now }
 {

@@ -8,7 +8,7 @@ use flume_concurrent::call::Call;
 use flume_concurrent::event::Event;
 use std::alloc::Allocator;
 
-/// The open call of a thread, of these, if it has one.
+/// Which of these open calls is this thread's.
 pub fn call_of<T: Copy + Eq + Drop, A: Allocator + Copy>(
     calls: &[OpenCall],
     events: &[Event<T, A>],
@@ -24,7 +24,6 @@ pub fn call_of<T: Copy + Eq + Drop, A: Allocator + Copy>(
     None
 }
 
-// Whether the call is of this thread.
 fn is_of<T: Copy + Eq + Drop, A: Allocator + Copy>(
     call: OpenCall,
     events: &[Event<T, A>],
@@ -38,7 +37,7 @@ fn is_of<T: Copy + Eq + Drop, A: Allocator + Copy>(
     }
 }
 
-/// The thread of the event at a place, if there is one.
+/// The thread of the event at a place.
 pub fn thread_at<T: Copy + Eq + Drop, A: Allocator + Copy>(
     events: &[Event<T, A>],
     place: usize,
@@ -51,7 +50,7 @@ pub fn thread_at<T: Copy + Eq + Drop, A: Allocator + Copy>(
     }
 }
 
-/// The call that began at a place, if one did.
+/// The call that began at a place.
 pub fn call_at<T: Copy + Eq + Drop, A: Allocator + Copy>(
     events: &[Event<T, A>],
     place: usize,

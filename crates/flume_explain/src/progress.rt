@@ -1,8 +1,8 @@
-//! How far a call is, by its stage and without its ticket.
+//! The progress of a call is its stage without the ticket.
 ghost use Rattle.std.specs.Prelude.{◌≡◌};
 ghost use Rattle.std.specs.Option.{option_copied};
 ghost use Rattle.flume_concurrent.specs.declared.stage.Stage.{Stage};
-ghost use Rattle.flume_explain.specs.Progresses.{progress_of, unticketed, is_wrong};
+ghost use Rattle.flume_explain.specs.Progresses.{progress_of, clear_ticket, is_wrong};
 
 use crate::configuration::Progress;
 use flume_concurrent::call::{Answer, Call};
@@ -10,10 +10,10 @@ use flume_concurrent::stage::Stage;
 use std::alloc::Allocator;
 
 impl Progress {
-    /// The stage of a call that is so far and has no answer yet, with the ticket 0.
+    /// The stage of a call that has no answer yet, with the ticket 0.
     pub fn stage<T, A: Allocator>(self) -> Stage<T, A>
         ensures stage { (own : Stage T A) → progress_of own ≡ self → (self ≡ Progress.Done → ⊥)
-            → result ≡ unticketed own }
+            → result ≡ clear_ticket own }
     {
         match self {
             Progress::Begun => Stage::Begun,
@@ -25,7 +25,7 @@ impl Progress {
     }
 }
 
-/// How far a call at this stage is.
+/// The progress of a call at this stage.
 pub fn progress_of<T, A: Allocator>(stage: &Stage<T, A>) -> Progress
     ensures progress { result ≡ progress_of stage.now }
 {
@@ -47,7 +47,7 @@ pub fn is_wrong<T: Copy + Eq, A: Allocator>(
     ensures wrong { result ≡ is_wrong T.eq call.now (option_copied recorded.entry) stage.now }
 {
     match (recorded, stage) {
-        (Some(told), Stage::Answered(_)) => !call.may_return(stage, told),
+        (Some(recorded_answer), Stage::Answered(_)) => !call.may_return(stage, recorded_answer),
         _ => false,
     }
 }

@@ -3,13 +3,14 @@ ghost use Rattle.std.specs.Prelude.{◌≡◌, IfOk};
 ghost use Rattle.std.specs.Result.{OnOk};
 ghost use Rattle.flume_explain.specs.ByPlaces.{wake, ask_again, leave, without_receive, with_front};
 ghost use Rattle.flume_explain.specs.ByPlaces.{closed_now};
-ghost use Rattle.flume_explain.specs.Made.{made, polled_as, left_as, leaves_with, looked};
-ghost use Rattle.flume_explain.specs.Made.{received_from};
+ghost use Rattle.flume_explain.specs.Outcomes.{outcome, poll_outcome_as, withdraw_outcome_as};
+ghost use Rattle.flume_explain.specs.Outcomes.{leaves_with, poll_line_outcome};
+ghost use Rattle.flume_explain.specs.Outcomes.{receive_outcome_from};
 ghost use Rattle.flume_explain.specs.declared.place_reply.PlaceReply.{PlaceReply};
 ghost use Rattle.flume_explain.specs.Receives.{receive_of, without_place};
 ghost use Rattle.flume_explain.specs.declared.step_of.Move.{Move};
 
-use crate::configuration::{Configuration, ParkedReceive, Standing};
+use crate::configuration::{Configuration, ParkedReceive, Status};
 use crate::place_reply::PlaceReply;
 use crate::step_of::Move;
 use crate::wakes::wake_round;
@@ -17,7 +18,6 @@ use flume_model::step::Kind;
 use std::alloc::{AllocError, Allocator};
 
 impl<A: Allocator + Copy> Configuration<A> {
-    // A wake round.
     pub(crate) fn wake(&mut self)
         ensures woken { self.new ≡ wake self.old }
     {
@@ -29,9 +29,9 @@ impl<A: Allocator + Copy> Configuration<A> {
         }
     }
 
-    // Receives, without waiting.
     pub(crate) fn try_recv(&mut self, place: usize) -> Result<PlaceReply, AllocError>
-        ensures made { IfOk result (λ told. (told, self.new) ≡ made Move.TryRecv place self.old) }
+        ensures outcome { IfOk result (λ reply.
+            (reply, self.new) ≡ outcome Move.TryRecv place self.old) }
     {
         match self.take()? {
             Some(message) => Ok(PlaceReply::Got(message)),
@@ -40,10 +40,9 @@ impl<A: Allocator + Copy> Configuration<A> {
         }
     }
 
-    // Receives, and parks if there is no message.
     pub(crate) fn recv(&mut self, kind: Kind, place: usize) -> Result<PlaceReply, AllocError>
-        ensures made { IfOk result (λ told.
-            (told, self.new) ≡ made (Move.Recv kind) place self.old) }
+        ensures outcome { IfOk result (λ reply.
+            (reply, self.new) ≡ outcome (Move.Recv kind) place self.old) }
     {
         match self.take()? {
             Some(message) => Ok(PlaceReply::Got(message)),
@@ -52,47 +51,45 @@ impl<A: Allocator + Copy> Configuration<A> {
                 self.receives.push(ParkedReceive {
                     place,
                     kind,
-                    standing: Standing::Waiting,
+                    status: Status::Waiting,
                 })?;
                 Ok(PlaceReply::Parked)
             }
         }
     }
 
-    // The parked receive asks.
     pub(crate) fn poll(&mut self, place: usize) -> Result<PlaceReply, AllocError>
-        ensures made { IfOk result (λ told. (told, self.new) ≡ made Move.Poll place self.old) }
+        ensures outcome { IfOk result (λ reply.
+            (reply, self.new) ≡ outcome Move.Poll place self.old) }
     {
         match receive_of(self.receives.as_slice(), place) {
             None => Ok(PlaceReply::NoTicket),
-            Some(receive) => self.poll_as(place, receive.kind, receive.standing),
+            Some(receive) => self.poll_as(place, receive.kind, receive.status),
         }
     }
 
-    // It does, standing so.
     fn poll_as(
         &mut self,
         place: usize,
         kind: Kind,
-        standing: Standing,
+        status: Status,
     ) -> Result<PlaceReply, AllocError>
-        ensures asked { IfOk result (λ told.
-            (told, self.new) ≡ polled_as place kind standing self.old) }
+        ensures asked { IfOk result (λ reply.
+            (reply, self.new) ≡ poll_outcome_as place kind status self.old) }
     {
-        match (kind, standing) {
-            (_, Standing::Filled(message)) => {
+        match (kind, status) {
+            (_, Status::Filled(message)) => {
                 self.remove_receive(place);
                 Ok(PlaceReply::Got(message))
             }
-            (Kind::Block, Standing::Waiting) => Ok(PlaceReply::Waiting),
+            (Kind::Block, Status::Waiting) => Ok(PlaceReply::Waiting),
             _ => self.look(place),
         }
     }
 
-    // It looks at the line.
     fn look(&mut self, place: usize) -> Result<PlaceReply, AllocError>
-        ensures looked { IfOk result (λ told.
-            (told, self.new) ≡ leaves_with place (looked place self.old)) }
+        ensures poll_line_outcome { IfOk result (λ reply.
+            (reply, self.new) ≡ leaves_with place (poll_line_outcome place self.old)) }
     {
         if let Some(message) = self.take()? {
             self.remove_receive(place);
@@ -106,7 +103,7 @@ impl<A: Allocator + Copy> Configuration<A> {
         Ok(PlaceReply::Waiting)
     }
 
-    // It waits on: if it was woken, behind all others.
+    // If it was notified, it waits behind all others.
     fn ask_again(&mut self, place: usize) -> Result<(), AllocError>
         ensures asked { OnOk result (self.new ≡ ask_again place self.old) }
     {
@@ -114,7 +111,7 @@ impl<A: Allocator + Copy> Configuration<A> {
             Some(receive) if receive.is_awake() => {
                 self.remove_receive(place);
                 self.receives.push(ParkedReceive {
-                    standing: Standing::Waiting,
+                    status: Status::Waiting,
                     ..receive
                 })?;
                 Ok(())
@@ -123,28 +120,27 @@ impl<A: Allocator + Copy> Configuration<A> {
         }
     }
 
-    // The parked receive leaves.
     pub(crate) fn withdraw(&mut self, place: usize) -> Result<PlaceReply, AllocError>
-        ensures made { IfOk result (λ told. (told, self.new) ≡ made Move.Withdraw place self.old) }
+        ensures outcome { IfOk result (λ reply.
+            (reply, self.new) ≡ outcome Move.Withdraw place self.old) }
     {
         match receive_of(self.receives.as_slice(), place) {
             None => Ok(PlaceReply::NoTicket),
-            Some(receive) => self.withdraw_as(place, receive.kind, receive.standing),
+            Some(receive) => self.withdraw_as(place, receive.kind, receive.status),
         }
     }
 
-    // It does, standing so.
     fn withdraw_as(
         &mut self,
         place: usize,
         kind: Kind,
-        standing: Standing,
+        status: Status,
     ) -> Result<PlaceReply, AllocError>
-        ensures left { IfOk result (λ told.
-            (told, self.new) ≡ left_as place kind standing self.old) }
+        ensures left { IfOk result (λ reply.
+            (reply, self.new) ≡ withdraw_outcome_as place kind status self.old) }
     {
-        match (kind, standing) {
-            (_, Standing::Filled(message)) => {
+        match (kind, status) {
+            (_, Status::Filled(message)) => {
                 self.remove_receive(place);
                 Ok(PlaceReply::Got(message))
             }
@@ -157,11 +153,11 @@ impl<A: Allocator + Copy> Configuration<A> {
         }
     }
 
-    // It does that blocks, and takes the front of the line, if there is one.
+    // A blocking receive takes the front of the line, if there is one.
     fn withdraw_block(&mut self, place: usize) -> Result<PlaceReply, AllocError>
-        ensures left { IfOk result (λ told.
-            (told, self.new) ≡ leaves_with place
-            (received_from (with_front self.old).queue
+        ensures left { IfOk result (λ reply.
+            (reply, self.new) ≡ leaves_with place
+            (receive_outcome_from (with_front self.old).queue
             (PlaceReply.Gone (closed_now self.old), without_receive place self.old) self.old)) }
     {
         let front = self.take()?;
@@ -173,7 +169,7 @@ impl<A: Allocator + Copy> Configuration<A> {
         }
     }
 
-    // It leaves with no message, and its wake is passed on.
+    // The notification is passed on.
     fn leave(&mut self, place: usize)
         ensures left { self.new ≡ leave place self.old }
     {
@@ -186,7 +182,6 @@ impl<A: Allocator + Copy> Configuration<A> {
         }
     }
 
-    // It is parked no more.
     fn remove_receive(&mut self, place: usize)
         ensures removed { self.new ≡ without_receive place self.old }
     {
@@ -194,7 +189,6 @@ impl<A: Allocator + Copy> Configuration<A> {
     }
 }
 
-// The parked receive at a place, if there is one.
 pub(crate) fn receive_of(receives: &[ParkedReceive], place: usize) -> Option<ParkedReceive>
     ensures first { result ≡ receive_of place receives.now }
 {
@@ -206,7 +200,6 @@ pub(crate) fn receive_of(receives: &[ParkedReceive], place: usize) -> Option<Par
     None
 }
 
-// Takes the first parked receive at a place out, if there is one.
 fn remove_receive<A: Allocator + Copy>(receives: &mut Vec<ParkedReceive, A>, place: usize)
     ensures removed { receives.new.items ≡ without_place place receives.old.items }
 {

@@ -1,16 +1,16 @@
-//! Which moves may be refused.
+//! Which moves may be refused memory or a ticket.
 ghost use Rattle.std.specs.Prelude.{◌≡◌};
 ghost use Rattle.flume_explain.specs.Receives.{receive_of};
-ghost use Rattle.flume_explain.specs.Refusals.{is_looking, looks, may_be_refused, some_blocked, some_queued};
+ghost use Rattle.flume_explain.specs.Refusals.{is_looking, looks, may_be_refused, some_blocked};
+ghost use Rattle.flume_explain.specs.Refusals.{some_queued};
 
-use crate::configuration::{Configuration, ParkedReceive, Standing};
+use crate::configuration::{Configuration, ParkedReceive, Status};
 use crate::receives::receive_of;
 use crate::step_of::Move;
 use flume_model::step::Kind;
 use std::alloc::Allocator;
 
 impl<A: Allocator + Copy> Configuration<A> {
-    /// Whether the move of the call at a place may be refused, for want of memory or of tickets.
     pub(crate) fn may_refuse(&self, mv: Move, place: usize) -> bool
         ensures may { result ≡ may_be_refused mv place self.now }
     {
@@ -25,21 +25,18 @@ impl<A: Allocator + Copy> Configuration<A> {
         }
     }
 
-    // Whether a send is blocked.
     fn some_blocked(&self) -> bool
         ensures some { result ≡ some_blocked self.now }
     {
         !self.blocked.is_empty()
     }
 
-    // Whether a message is queued.
     fn some_queued(&self) -> bool
         ensures some { result ≡ some_queued self.now }
     {
         !self.queue.is_empty()
     }
 
-    // Whether a receive is parked at a place that asks by looking at the line.
     fn is_looking(&self, place: usize) -> bool
         ensures looks { result ≡ is_looking (receive_of place self.now.receives) }
     {
@@ -51,13 +48,12 @@ impl<A: Allocator + Copy> Configuration<A> {
 }
 
 impl ParkedReceive {
-    // Whether it asks by looking at the line.
     fn looks(&self) -> bool
-        ensures looks { result ≡ looks self.now.kind self.now.standing }
+        ensures looks { result ≡ looks self.now.kind self.now.status }
     {
-        match self.standing {
-            Standing::Filled(_) => false,
-            Standing::Waiting | Standing::Woken => !matches!(self.kind, Kind::Block),
+        match self.status {
+            Status::Filled(_) => false,
+            Status::Waiting | Status::Woken => !matches!(self.kind, Kind::Block),
         }
     }
 }

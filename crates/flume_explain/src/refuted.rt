@@ -9,17 +9,17 @@ use flume_concurrent::laws::{messages_are_received_in_order, only_what_was_sent_
 use flume_core::error::NoMemory;
 use std::alloc::{AllocError, Allocator};
 
-// The receive so far whose message was begun to be sent last.
+// The receive so far whose message was sent last.
 #[derive(Clone, Copy, Debug, Drop)]
 struct Latest {
-    // The place of the event that begins the send.
+    // The event that begins the send.
     sent: usize,
-    // The place of the event by which the message is received.
+    // The event by which the message is received.
     received: usize,
 }
 
-/// The first place at which a pattern is seen by which the events up to this one, itself included,
-/// aren't explained. `NoMemory`: there was no memory.
+/// The first place at which a pattern shows that the events up to it, itself included, aren't
+/// explained. `NoMemory`: an allocation failed.
 pub fn refuted_at<T: Copy + Eq + Drop, A: Allocator + Copy>(
     alloc: A,
     events: &[Event<T, A>],
@@ -28,7 +28,7 @@ pub fn refuted_at<T: Copy + Eq + Drop, A: Allocator + Copy>(
     ensures refuted { (opening : Opening) → IfOk result (λ found. IfSome found (λ place.
         IsExplained T.eq opening (take (place + 1) events.now) → ⊥)) }
 {
-    // By the place of an event: what was so before it.
+    // By the place of an event: the latest receive before it.
     let mut latest: Vec<Option<Latest>, A> = Vec::new(alloc);
     let mut last = None;
     for place in 0..events.len() {
@@ -41,7 +41,6 @@ pub fn refuted_at<T: Copy + Eq + Drop, A: Allocator + Copy>(
     Ok(None)
 }
 
-// Whether a pattern is seen at the last event, if these are the latest ones by places.
 fn is_refuted<T: Copy + Eq + Drop, A: Allocator>(
     events: &[Event<T, A>],
     latest: &[Option<Latest>],
@@ -60,8 +59,7 @@ fn is_refuted<T: Copy + Eq + Drop, A: Allocator>(
     }
 }
 
-// Where the message of the last event may be out of order: after the message that was received,
-// before the receive began, of those sent last.
+// Among the messages received before this receive began, the one that was sent last.
 fn overtaking<T: Copy + Eq + Drop, A: Allocator>(
     events: &[Event<T, A>],
     latest: &[Option<Latest>],
@@ -71,7 +69,7 @@ fn overtaking<T: Copy + Eq + Drop, A: Allocator>(
     let begun = begun_by(before, own.thread)?;
     let latest = latest.get(begun).copied()??;
     let sent = last_send(before, own.message)?;
-    // Else its send had not returned.
+    // Else its send hadn't returned.
     if sent < latest.sent {
         Some(Overtaking {
             sent: latest.sent,
@@ -83,7 +81,6 @@ fn overtaking<T: Copy + Eq + Drop, A: Allocator>(
     }
 }
 
-// If the event at a place is that a message is received, where the last send of it before began.
 fn latest_at<T: Copy + Eq + Drop, A: Allocator>(
     events: &[Event<T, A>],
     received: usize,
@@ -93,7 +90,6 @@ fn latest_at<T: Copy + Eq + Drop, A: Allocator>(
     Some(Latest { sent, received })
 }
 
-// The one of two whose send began later.
 fn later(first: Option<Latest>, second: Option<Latest>) -> Option<Latest> {
     match (first, second) {
         (Some(one), Some(other)) if one.sent < other.sent => Some(other),
@@ -102,7 +98,6 @@ fn later(first: Option<Latest>, second: Option<Latest>) -> Option<Latest> {
     }
 }
 
-// The place of the last of these events that begins a call of this thread, if one does.
 fn begun_by<T: Drop, A: Allocator>(events: &[Event<T, A>], own: usize) -> Option<usize> {
     for back in 0..events.len() {
         let place = events.len() - 1 - back;

@@ -1,4 +1,4 @@
-//! The choices of a search, made on a channel.
+//! Makes the choices of a search on a channel.
 ghost use Rattle.std.specs.Prelude.{◌≡◌, OnOk, IfOk, []};
 ghost use Rattle.flume_concurrent.specs.Explanations.{events_in};
 
@@ -14,7 +14,6 @@ use std::collections::BTreeMap;
 /// Why choices weren't made.
 #[derive(Clone, Copy, Debug, PartialEq, Eq, Drop)]
 pub enum Failure {
-    /// There was no memory.
     NoMemory,
     /// One of them can't be made, or they end before the last event.
     NoPath,
@@ -32,22 +31,19 @@ impl<T: Drop> From<AllocFailed<T>> for Failure {
     }
 }
 
-/// Choices that are made one after the other.
+/// A channel on which choices are made.
 #[derive(Drop)]
 pub struct Replay<T, A: Allocator> {
     /// How many events were taken.
     pub place: usize,
-    /// The items so far.
     pub items: Vec<Item<T, A>, A>,
-    // The channel.
     chan: Chan<T, (), A>,
-    // The stages of the open calls that have made a step and are to make another one, by the places
-    // of the events by which they began.
+    // Of open calls that have made a step and are to make another, by their places.
     stages: BTreeMap<usize, Stage<T, A>, A>,
 }
 
-/// The items that come of these choices: the events, and the steps with the replies of a channel
-/// that was opened with this capacity.
+/// The items of these choices: the events, and the steps with the replies of a channel of this
+/// capacity (`None`: unbounded).
 pub fn make_choices<T: Copy + Eq + Drop, A: Allocator + Copy>(
     alloc: A,
     capacity: Option<usize>,
@@ -70,7 +66,6 @@ pub fn make_choices<T: Copy + Eq + Drop, A: Allocator + Copy>(
 impl<T: Copy + Eq + Drop, A: Allocator + Copy> Replay<T, A> {
     ghost use Rattle.flume_explain.specs.Search.{HasTaken};
 
-    // None is made yet.
     fn new(alloc: A, capacity: Option<usize>) -> Self
         ensures place { result.place ≡ 0 }
         ensures items { result.items.items ≡ [] }
@@ -83,7 +78,6 @@ impl<T: Copy + Eq + Drop, A: Allocator + Copy> Replay<T, A> {
         }
     }
 
-    // Makes a choice.
     fn make(&mut self, alloc: A, events: &[Event<T, A>], choice: Choice) -> Result<(), Failure>
         ensures taken { OnOk result (HasTaken events.now self.old → HasTaken events.now self.new) }
     {
@@ -97,7 +91,6 @@ impl<T: Copy + Eq + Drop, A: Allocator + Copy> Replay<T, A> {
         }
     }
 
-    // Takes the next event.
     fn take_event(&mut self, alloc: A, events: &[Event<T, A>]) -> Result<(), Failure>
         ensures taken { OnOk result (HasTaken events.now self.old → HasTaken events.now self.new) }
     {
@@ -110,7 +103,6 @@ impl<T: Copy + Eq + Drop, A: Allocator + Copy> Replay<T, A> {
         Ok(())
     }
 
-    // The open call that began by the event at this place makes its next step, or the other one.
     fn make_step(
         &mut self,
         events: &[Event<T, A>],
@@ -142,7 +134,6 @@ impl<T: Copy + Eq + Drop, A: Allocator + Copy> Replay<T, A> {
     }
 }
 
-// What the channel answers to a step, memory being refused or not.
 fn reply_to<T: Copy + Eq + Drop, A: Allocator + Copy>(
     chan: &mut Chan<T, (), A>,
     step: Step<T>,
@@ -157,7 +148,7 @@ fn reply_to<T: Copy + Eq + Drop, A: Allocator + Copy>(
     }
 }
 
-// Keeps the stage of the call that began by the event at this place, unless it has its answer.
+// A call that has its answer needs no stage.
 fn keep_stage<T: Copy + Eq + Drop, A: Allocator + Copy>(
     stages: &mut BTreeMap<usize, Stage<T, A>, A>,
     place: usize,
@@ -169,20 +160,18 @@ fn keep_stage<T: Copy + Eq + Drop, A: Allocator + Copy>(
     Ok(())
 }
 
-// The next step of a call, or the other one.
 fn step_of<T: Copy, A: Allocator>(
     call: &Call<T>,
     stage: &Stage<T, A>,
     other: bool,
 ) -> Option<Step<T>> {
     if other {
-        call.other_step(stage)
+        call.alternative_step(stage)
     } else {
         call.next_step(stage)
     }
 }
 
-// The message that a step hands in.
 fn message_of<T: Copy>(step: &Step<T>) -> Option<T> {
     match *step {
         Step::TrySend(message) | Step::Send(message) => Some(message),
@@ -190,7 +179,6 @@ fn message_of<T: Copy>(step: &Step<T>) -> Option<T> {
     }
 }
 
-// A copy of an event.
 fn copy_of_event<T: Copy + Drop, A: Allocator + Copy>(
     alloc: A,
     event: &Event<T, A>,
@@ -209,7 +197,6 @@ fn copy_of_event<T: Copy + Drop, A: Allocator + Copy>(
     }
 }
 
-// A copy of an answer.
 fn copy_of_answer<T: Copy + Drop, A: Allocator + Copy>(
     alloc: A,
     answer: &Answer<T, A>,

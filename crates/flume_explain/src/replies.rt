@@ -1,8 +1,8 @@
-//! Replies of a channel, made of replies by the places of calls.
+//! Replies of a channel, from replies by places.
 ghost use Rattle.std.specs.Prelude.{◌≡◌, ℕ, IfSome, List, Some, map};
 ghost use Rattle.flume_concurrent.specs.declared.event.Event.{Event};
 ghost use Rattle.flume_explain.specs.Configurations.{message_at, message_of};
-ghost use Rattle.flume_explain.specs.Mirrors.{IsAlike};
+ghost use Rattle.flume_explain.specs.Mirrors.{Corresponds};
 
 use crate::place_reply::PlaceReply;
 use crate::places::call_at;
@@ -11,19 +11,20 @@ use flume_concurrent::event::Event;
 use flume_model::step::Reply;
 use std::alloc::Allocator;
 
-/// A reply of a channel that is this one by places, with the ticket 0: of a call that sends this
-/// message, if it sends one, while these are the sends whose messages are queued. None if there was no
-/// memory, or if a message is wanted that isn't sent.
+/// The channel's reply, with the ticket 0, that is this one by places. `message` is that of the
+/// call; `queue` are the sends whose messages are queued. `None`: an allocation failed, or the
+/// reply has a message that no call sends.
 pub fn reply_for<T: Copy + Eq + Drop, A: Allocator + Copy>(
     alloc: A,
-    told: PlaceReply,
+    reply_by_place: PlaceReply,
     message: Option<T>,
     events: &[Event<T, A>],
     queue: &[usize],
 ) -> Option<Reply<T, A>>
-    ensures alike { IfSome result (λ reply. IsAlike events.now 0 queue.now told reply) }
+    ensures corresponds { IfSome result (λ reply.
+        Corresponds events.now 0 queue.now reply_by_place reply) }
 {
-    match told {
+    match reply_by_place {
         PlaceReply::Got(place) => Some(Reply::Got(message_at(events, place)?)),
         PlaceReply::Drained => Some(Reply::Drained(messages_at(alloc, events, queue)?)),
         PlaceReply::Full => Some(Reply::Full(message?)),
@@ -32,16 +33,16 @@ pub fn reply_for<T: Copy + Eq + Drop, A: Allocator + Copy>(
             message: message?,
             closed,
         }),
-        _ => plain_reply(told),
+        _ => plain_reply(reply_by_place),
     }
 }
 
-// The same, if no message is told of.
-fn plain_reply<T, A: Allocator>(told: PlaceReply) -> Option<Reply<T, A>>
-    ensures alike { (events : List (Event T A)) (queue : List ℕ)
-        → IfSome result (λ reply. IsAlike events 0 queue told reply) }
+// A reply without a message.
+fn plain_reply<T, A: Allocator>(reply_by_place: PlaceReply) -> Option<Reply<T, A>>
+    ensures corresponds { (events : List (Event T A)) (queue : List ℕ)
+        → IfSome result (λ reply. Corresponds events 0 queue reply_by_place reply) }
 {
-    match told {
+    match reply_by_place {
         PlaceReply::Sent => Some(Reply::Sent { filled: None }),
         PlaceReply::Pending => Some(Reply::Pending(0)),
         PlaceReply::Accepted => Some(Reply::Accepted),
@@ -65,7 +66,7 @@ fn plain_reply<T, A: Allocator>(told: PlaceReply) -> Option<Reply<T, A>>
     }
 }
 
-/// The message that a call sends, if it sends one.
+/// The message that a call sends.
 pub fn message_of<T: Copy>(call: &Call<T>) -> Option<T>
     ensures message { result ≡ message_of call.now }
 {
@@ -78,7 +79,6 @@ pub fn message_of<T: Copy>(call: &Call<T>) -> Option<T>
     }
 }
 
-// The message that the call sends that began at a place.
 fn message_at<T: Copy + Eq + Drop, A: Allocator + Copy>(
     events: &[Event<T, A>],
     place: usize,
@@ -88,7 +88,7 @@ fn message_at<T: Copy + Eq + Drop, A: Allocator + Copy>(
     message_of(call_at(events, place)?)
 }
 
-// The messages of some sends; none if there was no memory, or if one of them sends none.
+// `None`: an allocation failed, or a call sends no message.
 fn messages_at<T: Copy + Eq + Drop, A: Allocator + Copy>(
     alloc: A,
     events: &[Event<T, A>],

@@ -17,51 +17,47 @@ use crate::order::Order;
 use flume_concurrent::event::Event;
 use std::alloc::Allocator;
 
-/// What a search found.
+/// The result of a search.
 #[derive(Drop)]
 pub enum Found<A: Allocator> {
     /// These choices, in order, lead past the last event.
     Path(Vec<Choice, A>),
-    /// Nothing does. A configuration before the event at this place was the furthest.
+    /// No choices do. The furthest configuration was before the event at this place.
     Nothing(usize),
-    /// There was no memory.
     NoMemory,
-    /// It would have entered more configurations than it may. A configuration before the event at
-    /// this place was the furthest.
+    /// The limit was reached. The furthest configuration was before the event at this place.
     GaveUp(usize),
 }
 
-/// What came of entering a configuration.
+/// The result of entering a configuration.
 #[derive(Clone, Copy, Debug, Drop)]
-enum Turn {
-    // There may be choices left.
+enum Entered {
+    // Choices may be left.
     GoesOn,
     // It is past the last event.
     AtEnd,
     // Nothing is left to try.
     Nowhere,
-    // There was no memory.
     NoMemory,
 }
 
-/// A search, depth first.
+/// A depth-first search.
 #[derive(Drop)]
 pub struct Search<A: Allocator> {
-    /// The configurations on the way, the first of them first.
+    /// From the first to the last configuration on the way.
     pub frames: Vec<Frame<A>, A>,
     /// What was chosen so far, in order.
     pub chosen: Vec<Choice, A>,
-    /// The configurations from which nothing comes.
+    /// The configurations from which no explanation is found.
     pub dead: DeadTable<A>,
     /// The furthest place so far.
     pub furthest: usize,
-    // What is tried first.
     order: Order<A>,
 }
 
-/// Looks for choices that lead from this configuration past all the events. Enters at most so many
-/// configurations after the first one. Events that only may come next are taken at once: by them no
-/// configuration is entered.
+/// Choices that lead from this configuration past all the events. Enters at most `limit`
+/// configurations after the first one. Events that have no alternative are taken at once: they
+/// enter none.
 pub fn find_path<T: Copy + Eq + Drop, A: Allocator + Copy>(
     alloc: A,
     start: Configuration<A>,
@@ -83,25 +79,24 @@ pub fn find_path<T: Copy + Eq + Drop, A: Allocator + Copy>(
         return Found::NoMemory;
     };
     let mut search = Search::new(alloc, order);
-    let mut turn = search.enter(alloc, events, start, 0);
+    let mut advance = search.enter(alloc, events, start, 0);
     for _ in 0..limit {
-        if !matches!(turn, Turn::GoesOn) {
+        if !matches!(advance, Entered::GoesOn) {
             break;
         }
-        turn = search.turn(alloc, events);
+        advance = search.advance(alloc, events);
     }
-    match turn {
-        Turn::GoesOn => Found::GaveUp(search.furthest),
-        Turn::AtEnd => Found::Path(search.chosen),
-        Turn::Nowhere => Found::Nothing(search.furthest),
-        Turn::NoMemory => Found::NoMemory,
+    match advance {
+        Entered::GoesOn => Found::GaveUp(search.furthest),
+        Entered::AtEnd => Found::Path(search.chosen),
+        Entered::Nowhere => Found::Nothing(search.furthest),
+        Entered::NoMemory => Found::NoMemory,
     }
 }
 
 impl<A: Allocator + Copy> Search<A> {
     ghost use Rattle.flume_explain.specs.Search.{IsGoing, Searches};
 
-    // Nothing was chosen yet.
     fn new(alloc: A, order: Order<A>) -> Self
         ensures no_frames { result.frames.items ≡ [] }
         ensures none_dead { result.dead.dead.items ≡ [] }
@@ -116,38 +111,37 @@ impl<A: Allocator + Copy> Search<A> {
         }
     }
 
-    // Tries what is left, and enters the configuration to which that leads.
-    fn turn<T: Copy + Eq + Drop>(&mut self, alloc: A, events: &[Event<T, A>]) -> Turn
+    fn advance<T: Copy + Eq + Drop>(&mut self, alloc: A, events: &[Event<T, A>]) -> Entered
         requires going { IsGoing T.eq events.now self.old }
-        ensures goes_on { result ≡ Turn.GoesOn → (start : State)
+        ensures goes_on { result ≡ Entered.GoesOn → (start : State)
             → Searches T.eq events.now start (Unit {0}) self.old
             → Searches T.eq events.now start (Unit {0}) self.new }
-        ensures reached { result ≡ Turn.GoesOn → (opening : Opening)
+        ensures reached { result ≡ Entered.GoesOn → (opening : Opening)
             → HasReached T.eq events.now opening self.old
             → HasReached T.eq events.now opening self.new }
-        ensures at_end { result ≡ Turn.AtEnd → (opening : Opening)
+        ensures at_end { result ≡ Entered.AtEnd → (opening : Opening)
             → HasReached T.eq events.now opening self.old → IsExplained T.eq opening events.now }
-        ensures furthest { result ≡ Turn.Nowhere → (opening : Opening)
+        ensures furthest { result ≡ Entered.Nowhere → (opening : Opening)
             → HasReached T.eq events.now opening self.old
             → AreExplained T.eq events.now opening self.new.furthest }
-        ensures nowhere { result ≡ Turn.Nowhere → (start : State)
+        ensures nowhere { result ≡ Entered.Nowhere → (start : State)
             → Searches T.eq events.now start (Unit {0}) self.old
             → IsDead T.eq events.now 0 start }
     {
         match self.next(alloc, events) {
             Next::Leads(choice, new, at) => {
                 if self.chosen.push(choice).is_err() {
-                    return Turn::NoMemory;
+                    return Entered::NoMemory;
                 }
                 self.enter(alloc, events, new, at)
             }
-            Next::Nowhere => Turn::Nowhere,
-            Next::NoMemory => Turn::NoMemory,
+            Next::Nowhere => Entered::Nowhere,
+            Next::NoMemory => Entered::NoMemory,
         }
     }
 
-    // Tries what is left, the newest frame first, until a choice leads on. A frame of which nothing
-    // is left is remembered as dead.
+    // Tries the newest frame first. If nothing is left of it, its configuration is remembered as
+    // dead.
     fn next<T: Copy + Eq + Drop>(&mut self, alloc: A, events: &[Event<T, A>]) -> Next<A>
         requires going { IsGoing T.eq events.now self.old }
         ensures leads { (choice : Choice) (new : State) (at : ℕ)
@@ -187,43 +181,41 @@ impl<A: Allocator + Copy> Search<A> {
         Next::Nowhere
     }
 
-    // Enters a configuration: takes the events that only may come next, and then, unless it is past
-    // the last event or dead, leaves a frame with all its choices.
+    // Takes the events that have no alternative. Leaves a frame, unless the configuration is past
+    // the last event or dead.
     fn enter<T: Copy + Eq + Drop>(
         &mut self,
         alloc: A,
         events: &[Event<T, A>],
         mut configuration: Configuration<A>,
         place: usize,
-    ) -> Turn
-        ensures goes_on { result ≡ Turn.GoesOn → (start : State)
+    ) -> Entered
+        ensures goes_on { result ≡ Entered.GoesOn → (start : State)
             → Searches T.eq events.now start (IsDead T.eq events.now place configuration) self.old
             → Searches T.eq events.now start (Unit {0}) self.new }
-        ensures reached { result ≡ Turn.GoesOn → (opening : Opening)
+        ensures reached { result ≡ Entered.GoesOn → (opening : Opening)
             → HasReached T.eq events.now opening self.old
             → IsReached T.eq events.now opening place configuration
             → HasReached T.eq events.now opening self.new }
-        ensures at_end { result ≡ Turn.AtEnd → (opening : Opening)
+        ensures at_end { result ≡ Entered.AtEnd → (opening : Opening)
             → IsReached T.eq events.now opening place configuration
             → IsExplained T.eq opening events.now }
-        ensures goes { (result ≡ Turn.Nowhere) → ⊥ }
+        ensures goes { (result ≡ Entered.Nowhere) → ⊥ }
     {
         match configuration.take_forced(events, place, &mut self.chosen) {
-            Forced::AtEnd => Turn::AtEnd,
+            Forced::AtEnd => Entered::AtEnd,
             Forced::Stops(at, own) => {
                 self.furthest = self.furthest.max(at);
                 self.stop(alloc, events, configuration, at, own)
             }
             Forced::Dead(at) => {
                 self.furthest = self.furthest.max(at);
-                Turn::GoesOn
+                Entered::GoesOn
             }
-            Forced::NoMemory => Turn::NoMemory,
+            Forced::NoMemory => Entered::NoMemory,
         }
     }
 
-    // Leaves a frame for the configuration, unless it is dead. The event at the place returns this
-    // call.
     fn stop<T: Copy + Eq + Drop>(
         &mut self,
         alloc: A,
@@ -231,29 +223,29 @@ impl<A: Allocator + Copy> Search<A> {
         configuration: Configuration<A>,
         place: usize,
         own: OpenCall,
-    ) -> Turn
+    ) -> Entered
         requires { place < length events.now }
-        ensures goes_on { result ≡ Turn.GoesOn → (start : State)
+        ensures goes_on { result ≡ Entered.GoesOn → (start : State)
             → Searches T.eq events.now start (IsDead T.eq events.now place configuration) self.old
             → Searches T.eq events.now start (Unit {0}) self.new }
-        ensures reached { result ≡ Turn.GoesOn → (opening : Opening)
+        ensures reached { result ≡ Entered.GoesOn → (opening : Opening)
             → HasReached T.eq events.now opening self.old
             → IsReached T.eq events.now opening place configuration
             → HasReached T.eq events.now opening self.new }
-        ensures goes { (result ≡ Turn.Nowhere) → ⊥ }
-        ensures goes_on_only { (result ≡ Turn.AtEnd) → ⊥ }
+        ensures goes { (result ≡ Entered.Nowhere) → ⊥ }
+        ensures goes_on_only { (result ≡ Entered.AtEnd) → ⊥ }
     {
         if self.dead.has(&configuration, place) {
-            return Turn::GoesOn;
+            return Entered::GoesOn;
         }
         let Some(mut choices) = configuration.choices(alloc, own) else {
-            return Turn::NoMemory;
+            return Entered::NoMemory;
         };
         if !self
             .order
             .push_first(events, &configuration, own, &mut choices)
         {
-            return Turn::NoMemory;
+            return Entered::NoMemory;
         }
         let frame = Frame {
             configuration,
@@ -262,8 +254,8 @@ impl<A: Allocator + Copy> Search<A> {
             depth: self.chosen.len(),
         };
         if self.frames.push(frame).is_err() {
-            return Turn::NoMemory;
+            return Entered::NoMemory;
         }
-        Turn::GoesOn
+        Entered::GoesOn
     }
 }

@@ -3,7 +3,7 @@ ghost use Rattle.std.specs.Prelude.{◌≡◌, ◌==◌, ◌&&◌, not, IfOk};
 ghost use Rattle.std.specs.Result.{OnOk};
 ghost use Rattle.std.specs.List.{list_any};
 ghost use Rattle.flume_explain.specs.ByPlaces.{some_waits, full_now, join, without_send};
-ghost use Rattle.flume_explain.specs.Made.{made, taken_back};
+ghost use Rattle.flume_explain.specs.Outcomes.{outcome, take_back_outcome};
 ghost use Rattle.flume_explain.specs.declared.step_of.Move.{Move};
 
 use crate::configuration::{Configuration, ParkedReceive};
@@ -12,14 +12,12 @@ use crate::step_of::Move;
 use std::alloc::{AllocError, Allocator};
 
 impl<A: Allocator + Copy> Configuration<A> {
-    // Whether no receive waits and the queue is at its capacity.
     pub(crate) fn has_no_room(&self) -> bool
         ensures room { result ≡ (not (some_waits self.now.receives) && full_now self.now) }
     {
         !some_wait(self.receives.as_slice()) && self.is_full()
     }
 
-    // The send joins the queue, and a wake round follows.
     fn join(&mut self, place: usize) -> Result<(), AllocError>
         ensures joined { OnOk result (self.new ≡ join place self.old) }
     {
@@ -28,9 +26,9 @@ impl<A: Allocator + Copy> Configuration<A> {
         Ok(())
     }
 
-    // Sends, without waiting.
     pub(crate) fn try_send(&mut self, place: usize) -> Result<PlaceReply, AllocError>
-        ensures made { IfOk result (λ told. (told, self.new) ≡ made Move.TrySend place self.old) }
+        ensures outcome { IfOk result (λ reply.
+            (reply, self.new) ≡ outcome Move.TrySend place self.old) }
     {
         if self.is_closed() {
             return Ok(PlaceReply::Closed);
@@ -42,9 +40,9 @@ impl<A: Allocator + Copy> Configuration<A> {
         Ok(PlaceReply::Sent)
     }
 
-    // Sends, and is blocked if there is no room.
     pub(crate) fn send(&mut self, place: usize) -> Result<PlaceReply, AllocError>
-        ensures made { IfOk result (λ told. (told, self.new) ≡ made Move.Send place self.old) }
+        ensures outcome { IfOk result (λ reply.
+            (reply, self.new) ≡ outcome Move.Send place self.old) }
     {
         if self.is_closed() {
             return Ok(PlaceReply::Closed);
@@ -57,9 +55,8 @@ impl<A: Allocator + Copy> Configuration<A> {
         Ok(PlaceReply::Sent)
     }
 
-    // Asks how the send stands, and takes its message back if the channel is closed.
     pub(crate) fn poll_send(&mut self, place: usize) -> PlaceReply
-        ensures made { (result, self.new) ≡ made Move.PollSend place self.old }
+        ensures outcome { (result, self.new) ≡ outcome Move.PollSend place self.old }
     {
         if !has_place(self.blocked.as_slice(), place) {
             PlaceReply::Accepted
@@ -70,9 +67,8 @@ impl<A: Allocator + Copy> Configuration<A> {
         }
     }
 
-    // Takes the message of the send back.
     pub(crate) fn withdraw_send(&mut self, place: usize) -> PlaceReply
-        ensures made { (result, self.new) ≡ made Move.WithdrawSend place self.old }
+        ensures outcome { (result, self.new) ≡ outcome Move.WithdrawSend place self.old }
     {
         if has_place(self.blocked.as_slice(), place) {
             self.take_back(place)
@@ -81,16 +77,14 @@ impl<A: Allocator + Copy> Configuration<A> {
         }
     }
 
-    // Takes the message of the blocked send back.
     fn take_back(&mut self, place: usize) -> PlaceReply
-        ensures back { (result, self.new) ≡ taken_back place self.old }
+        ensures back { (result, self.new) ≡ take_back_outcome place self.old }
     {
         remove_place(&mut self.blocked, place);
         PlaceReply::Returned(self.is_closed())
     }
 }
 
-// Whether some receive waits.
 fn some_wait(receives: &[ParkedReceive]) -> bool
     ensures waits { result ≡ some_waits receives.now }
 {
@@ -102,7 +96,6 @@ fn some_wait(receives: &[ParkedReceive]) -> bool
     false
 }
 
-// Whether one of these is the place.
 fn has_place(places: &[usize], place: usize) -> bool
     ensures has { result ≡ list_any (λ p. p == place) places.now }
 {
@@ -114,7 +107,6 @@ fn has_place(places: &[usize], place: usize) -> bool
     false
 }
 
-// Takes out the first that is the place, if there is one.
 fn remove_place<A: Allocator + Copy>(places: &mut Vec<usize, A>, place: usize)
     ensures removed { places.new.items ≡ without_send place places.old.items }
 {

@@ -1,6 +1,6 @@
 //! The moves of an open call.
 ghost use Rattle.std.specs.Prelude.{◌≡◌};
-ghost use Rattle.flume_explain.specs.Moves.{first_move, parking_move, next_move, other_move};
+ghost use Rattle.flume_explain.specs.Moves.{first_move, parking_move, next_move, alternative_move};
 ghost use Rattle.flume_explain.specs.Moves.{move_of};
 ghost use Rattle.flume_concurrent.specs.Calls.{is_send};
 
@@ -11,62 +11,40 @@ use flume_model::step::Kind;
 /// A step of an open call, without its ticket and without the message that it sends.
 #[derive(Clone, Copy, Debug, PartialEq, Eq, Drop)]
 pub enum Move {
-    /// Send, without waiting.
     TrySend,
-    /// Send, and park if that is not taken in at once.
     Send,
-    /// Ask how the blocked send stands.
     PollSend,
-    /// Take the blocked send back.
     WithdrawSend,
-    /// Receive, without waiting.
     TryRecv,
-    /// Receive, and park if there is no message.
     Recv(Kind),
-    /// Ask again, as the parked receive.
     Poll,
-    /// Leave, as the parked receive.
     Withdraw,
-    /// Receive all queued messages.
     Drain,
-    /// One more sender.
     CloneSender,
-    /// One more receiver.
     CloneReceiver,
-    /// One sender leaves.
     DropSender,
-    /// One receiver leaves.
     DropReceiver,
-    /// Set the capacity.
     SetCapacity(usize),
-    /// Ask how many messages are queued.
     Len,
-    /// Ask whether no message is queued.
     IsEmpty,
-    /// Ask whether the queue is at or past its capacity.
     IsFull,
-    /// Ask for the capacity.
     Capacity,
-    /// Ask how many senders live.
     SenderCount,
-    /// Ask how many receivers live.
     ReceiverCount,
-    /// Ask whether the channel is closed.
     IsDisconnected,
 }
 
-/// The move that a call makes that is so far: its next one, or the other one that it may make.
+/// The move of a call with this progress: its next one, or the other one that it may make.
 pub fn move_of<T>(call: &Call<T>, progress: Progress, other: bool) -> Option<Move>
     ensures moves { result ≡ move_of call.now progress other }
 {
     if other {
-        other_move(call, progress)
+        alternative_move(call, progress)
     } else {
         next_move(call, progress)
     }
 }
 
-// The move that a call makes next, if it makes one.
 fn next_move<T>(call: &Call<T>, progress: Progress) -> Option<Move>
     ensures moves { result ≡ next_move call.now progress }
 {
@@ -80,9 +58,8 @@ fn next_move<T>(call: &Call<T>, progress: Progress) -> Option<Move>
     }
 }
 
-// The move that it may make instead, if there is one.
-fn other_move<T>(call: &Call<T>, progress: Progress) -> Option<Move>
-    ensures moves { result ≡ other_move call.now progress }
+fn alternative_move<T>(call: &Call<T>, progress: Progress) -> Option<Move>
+    ensures moves { result ≡ alternative_move call.now progress }
 {
     match (call, progress) {
         (Call::SendAsync(_), Progress::Begun) => Some(Move::TrySend),
@@ -93,7 +70,6 @@ fn other_move<T>(call: &Call<T>, progress: Progress) -> Option<Move>
     }
 }
 
-// The first move of a call.
 fn first_move<T>(call: &Call<T>) -> Move
     ensures first { result ≡ first_move call.now }
 {
@@ -118,7 +94,6 @@ fn first_move<T>(call: &Call<T>) -> Move
     }
 }
 
-// The move by which a call parks that has tried, if it does.
 fn parking_move<T>(call: &Call<T>) -> Option<Move>
     ensures parks { result ≡ parking_move call.now }
 {
@@ -130,7 +105,6 @@ fn parking_move<T>(call: &Call<T>) -> Option<Move>
     }
 }
 
-// Whether it is a send that waits.
 fn is_send<T>(call: &Call<T>) -> bool
     ensures send { result ≡ is_send call.now }
 {

@@ -16,32 +16,32 @@ use flume_concurrent::call::Answer;
 use flume_concurrent::event::Event;
 use std::alloc::Allocator;
 
-/// Where a choice leads.
+/// The result of a choice.
 #[derive(Drop)]
-pub enum Tried<A: Allocator> {
-    /// To this configuration, at this place.
+pub enum ChoiceOutcome<A: Allocator> {
+    /// This configuration comes next, at this place.
     Leads(Configuration<A>, usize),
-    /// To nothing that the search need look at.
+    /// Nothing that the search has to look at.
     Spent,
-    /// There was no memory.
     NoMemory,
 }
 
 impl<A: Allocator + Copy> Configuration<A> {
-    /// Where a choice leads a configuration at a place.
+    /// The result of a choice from a configuration at a place.
     pub fn try_choice<T: Copy + Eq + Drop>(
         &self,
         alloc: A,
         events: &[Event<T, A>],
         place: usize,
         choice: Choice,
-    ) -> Tried<A>
+    ) -> ChoiceOutcome<A>
         requires { place < length events.now }
-        ensures leads { (new : State) (at : ℕ) → result ≡ Tried.Leads new at
+        ensures leads { (new : State) (at : ℕ) → result ≡ ChoiceOutcome.Leads new at
             → IsDead T.eq events.now at new → IsSpent T.eq events.now place self.now choice }
-        ensures reaches { (new : State) (at : ℕ) → result ≡ Tried.Leads new at
+        ensures reaches { (new : State) (at : ℕ) → result ≡ ChoiceOutcome.Leads new at
             → Reaches T.eq events.now place self.now at new }
-        ensures spent { result ≡ Tried.Spent → IsSpent T.eq events.now place self.now choice }
+        ensures spent { result ≡ ChoiceOutcome.Spent
+            → IsSpent T.eq events.now place self.now choice }
     {
         match choice {
             Choice::TakeEvent => self.try_event(alloc, events, place),
@@ -53,36 +53,34 @@ impl<A: Allocator + Copy> Configuration<A> {
         }
     }
 
-    // Where the next event leads.
     fn try_event<T: Copy + Eq + Drop>(
         &self,
         alloc: A,
         events: &[Event<T, A>],
         place: usize,
-    ) -> Tried<A>
+    ) -> ChoiceOutcome<A>
         requires { place < length events.now }
-        ensures leads { (new : State) (at : ℕ) → result ≡ Tried.Leads new at
+        ensures leads { (new : State) (at : ℕ) → result ≡ ChoiceOutcome.Leads new at
             → IsDead T.eq events.now at new
             → IsSpent T.eq events.now place self.now Choice.TakeEvent }
-        ensures reaches { (new : State) (at : ℕ) → result ≡ Tried.Leads new at
+        ensures reaches { (new : State) (at : ℕ) → result ≡ ChoiceOutcome.Leads new at
             → Reaches T.eq events.now place self.now at new }
-        ensures spent { result ≡ Tried.Spent
+        ensures spent { result ≡ ChoiceOutcome.Spent
             → IsSpent T.eq events.now place self.now Choice.TakeEvent }
     {
         if !self.may_take_event(events, place) {
-            return Tried::Spent;
+            return ChoiceOutcome::Spent;
         }
         let Some(mut new) = self.try_clone(alloc) else {
-            return Tried::NoMemory;
+            return ChoiceOutcome::NoMemory;
         };
         if new.take_event(events, place) {
-            Tried::Leads(new, place + 1)
+            ChoiceOutcome::Leads(new, place + 1)
         } else {
-            Tried::NoMemory
+            ChoiceOutcome::NoMemory
         }
     }
 
-    // Where a step leads.
     fn try_step<T: Copy + Eq + Drop>(
         &self,
         alloc: A,
@@ -91,30 +89,29 @@ impl<A: Allocator + Copy> Configuration<A> {
         call: OpenCall,
         other: bool,
         refused: bool,
-    ) -> Tried<A>
+    ) -> ChoiceOutcome<A>
         requires { place < length events.now }
-        ensures leads { (new : State) (at : ℕ) → result ≡ Tried.Leads new at
+        ensures leads { (new : State) (at : ℕ) → result ≡ ChoiceOutcome.Leads new at
             → IsDead T.eq events.now at new
             → IsSpent T.eq events.now place self.now (Choice.MakeStep call other refused) }
-        ensures reaches { (new : State) (at : ℕ) → result ≡ Tried.Leads new at
+        ensures reaches { (new : State) (at : ℕ) → result ≡ ChoiceOutcome.Leads new at
             → Reaches T.eq events.now place self.now at new }
-        ensures spent { result ≡ Tried.Spent
+        ensures spent { result ≡ ChoiceOutcome.Spent
             → IsSpent T.eq events.now place self.now (Choice.MakeStep call other refused) }
     {
         if !has_call(self.calls.as_slice(), call) {
-            return Tried::Spent;
+            return ChoiceOutcome::Spent;
         }
         let recorded = recorded(events, place, call);
         match self.after(alloc, events, recorded, call, other, refused) {
-            Outcome::Leads(new) => Tried::Leads(new, place),
-            Outcome::Same => Tried::Spent,
-            Outcome::Nowhere => Tried::Spent,
-            Outcome::NoMemory => Tried::NoMemory,
+            Outcome::Leads(new) => ChoiceOutcome::Leads(new, place),
+            Outcome::Same => ChoiceOutcome::Spent,
+            Outcome::Nowhere => ChoiceOutcome::Spent,
+            Outcome::NoMemory => ChoiceOutcome::NoMemory,
         }
     }
 }
 
-// Whether one of these open calls is this one.
 fn has_call(calls: &[OpenCall], call: OpenCall) -> bool
     ensures has { IsTrue result → Contains calls.now call }
     ensures no { result ≡ false → Contains calls.now call → ⊥ }
@@ -122,7 +119,7 @@ fn has_call(calls: &[OpenCall], call: OpenCall) -> bool
     calls.contains(&call)
 }
 
-// What an open call is recorded to return, by the events from a place on.
+// What the call is recorded to return, by the events from a place on.
 fn recorded<T: Copy + Eq + Drop, A: Allocator + Copy>(
     events: &[Event<T, A>],
     place: usize,

@@ -1,29 +1,27 @@
-//! How parked receives stand, and the round that wakes them.
+//! The states of parked receives, and the round that notifies them.
 ghost use Rattle.std.specs.Prelude.{◌≡◌};
 ghost use Rattle.flume_explain.specs.Receives.{waits, is_awake, round_of, round_fills_one};
 
-use crate::configuration::{ParkedReceive, Standing};
+use crate::configuration::{ParkedReceive, Status};
 use flume_model::step::Kind;
 
 impl ParkedReceive {
-    // Whether it waits.
     pub(crate) fn waits(&self) -> bool
-        ensures waits { result ≡ waits self.now.standing }
+        ensures waits { result ≡ waits self.now.status }
     {
-        matches!(self.standing, Standing::Waiting)
+        matches!(self.status, Status::Waiting)
     }
 
-    // Whether it was woken.
     pub(crate) fn is_awake(&self) -> bool
-        ensures awake { result ≡ is_awake self.now.standing }
+        ensures awake { result ≡ is_awake self.now.status }
     {
-        matches!(self.standing, Standing::Woken)
+        matches!(self.status, Status::Woken)
     }
 }
 
-/// A wake round. The send at this place is the front of the queue. Wakes each waiting stream, until it
-/// meets a waiting receive of another kind: that is woken, or, if it blocks, filled. Whether one was
-/// filled: then the front leaves the queue.
+// `front` is the front of the queue. Notifies each waiting stream up to the first waiting receive
+// of another kind, which is notified, or filled if it blocks. Whether one was filled: then the
+// front leaves the queue.
 pub(crate) fn wake_round(receives: &mut [ParkedReceive], front: usize) -> bool
     ensures round { receives.new ≡ round_of front receives.old }
     ensures fills { result ≡ round_fills_one receives.old }
@@ -33,12 +31,12 @@ pub(crate) fn wake_round(receives: &mut [ParkedReceive], front: usize) -> bool
         if receive.waits() {
             match receive.kind {
                 Kind::Block => {
-                    receives[place].standing = Standing::Filled(front);
+                    receives[place].status = Status::Filled(front);
                     return true;
                 }
-                Kind::Stream => receives[place].standing = Standing::Woken,
+                Kind::Stream => receives[place].status = Status::Woken,
                 Kind::Plain | Kind::Arm => {
-                    receives[place].standing = Standing::Woken;
+                    receives[place].status = Status::Woken;
                     return false;
                 }
             }

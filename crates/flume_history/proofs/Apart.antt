@@ -7,7 +7,7 @@ use Rattle.flume_model.specs.Log.{Offer}
 use Rattle.flume_model.specs.Limits.{HasRoom, IsAtCapacity, IsOpen, IsClosed, IsBounded, most}
 use Rattle.flume_model.specs.Channel.{Channel, TakesIn, TakesNoneIn, IsFront, IsBlocked, has_ticket}
 use Rattle.flume_model.specs.Replies.{SameReply}
-use Rattle.flume_history.specs.SameRuns.{IsWant}
+use Rattle.flume_history.specs.SameRuns.{IsNoMemory}
 
 -- a queue has no room at its capacity
 room_or_full : (capacity : Option ℕ) (n : ℕ) → HasRoom capacity n → IsAtCapacity capacity n → ⊥
@@ -65,5 +65,5 @@ module _ {T : Type 0} (A : Type 0) where
   -- they are the same
   abbrev pub Determines : (Reply T A → Type 0) → Type 0
   Determines P =
-      (reply other : Reply T A) → P reply → P other → (IsWant reply → ⊥) → (IsWant other → ⊥)
+      (reply other : Reply T A) → P reply → P other → (IsNoMemory reply → ⊥) → (IsNoMemory other → ⊥)
       → SameReply reply other

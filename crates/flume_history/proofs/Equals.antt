@@ -11,7 +11,7 @@ use Rattle.flume_model.specs.Log.{Log}
 use Rattle.flume_model.specs.Replies.{SameReply}
 use Rattle.flume_history.specs.Equal.{Equals}
 use Rattle.flume_history.specs.Histories.{IsSaidOf}
-use Rattle.flume_history.specs.SameRuns.{IsWant}
+use Rattle.flume_history.specs.SameRuns.{IsNoMemory}
 use Rattle.flume_history.proofs.OneRun.{want_or_not}
 
 -- false isn't true
@@ -24,46 +24,46 @@ both b c first second = ap₂ (λ x y. x && y) first second
 
 module _ {T A : Type 0} (equal : T → T → Bool) where
   -- what equals `NoMemory` is it
-  want : (told reply : Reply T A) → IsWant told → Equals equal told reply → IsWant reply
+  want : (recorded reply : Reply T A) → IsNoMemory recorded → Equals equal recorded reply → IsNoMemory reply
   want (NoMemory back) (NoMemory other) w h = tt
   want (NoMemory back) _ w h = absurd (never h)
   want _ reply w h = absurd w
 
   -- what isn't `NoMemory` equals none
-  no_want : (told reply : Reply T A) → (IsWant told → ⊥) → Equals equal told reply → IsWant reply → ⊥
-  no_want told (NoMemory other) none h w = against told none h
+  had_memory : (recorded reply : Reply T A) → (IsNoMemory recorded → ⊥) → Equals equal recorded reply → IsNoMemory reply → ⊥
+  had_memory recorded (NoMemory other) none h w = against recorded none h
     where
-      against : (told : Reply T A) → (IsWant told → ⊥) → Equals equal told (NoMemory other) → ⊥
+      against : (recorded : Reply T A) → (IsNoMemory recorded → ⊥) → Equals equal recorded (NoMemory other) → ⊥
       against (NoMemory back) none h = none tt
       against _ none h = never h
-  no_want told _ none h w = w
+  had_memory recorded _ none h w = w
 
   -- of two equal replies both are `NoMemory` or neither is
-  pub same_want : (told reply : Reply T A) → Equals equal told reply → IsWant told ↔ IsWant reply
-  same_want told reply h = by_want (want_or_not told)
+  pub same_want : (recorded reply : Reply T A) → Equals equal recorded reply → IsNoMemory recorded ↔ IsNoMemory reply
+  same_want recorded reply h = by_want (want_or_not recorded)
     where
-      by_want : IsWant told ⊎ (IsWant told → ⊥) → IsWant told ↔ IsWant reply
-      by_want (inl w) = (λ v. want told reply w h, λ v. w)
-      by_want (inr none) = (λ w. absurd (none w), λ w. absurd (no_want told reply none h w))
+      by_want : IsNoMemory recorded ⊎ (IsNoMemory recorded → ⊥) → IsNoMemory recorded ↔ IsNoMemory reply
+      by_want (inl w) = (λ v. want recorded reply w h, λ v. w)
+      by_want (inr none) = (λ w. absurd (none w), λ w. absurd (had_memory recorded reply none h w))
 
   -- of two replies that equal one both are `NoMemory` or neither is
-  pub tells_want : (told reply other : Reply T A) → Equals equal told reply → Equals equal told other → IsWant reply ↔ IsWant other
-  tells_want told reply other h k = (
-    λ w. (same_want told other k).0 ((same_want told reply h).1 w),
-    λ w. (same_want told reply h).0 ((same_want told other k).1 w),
+  pub tells_want : (recorded reply other : Reply T A) → Equals equal recorded reply → Equals equal recorded other → IsNoMemory reply ↔ IsNoMemory other
+  tells_want recorded reply other h k = (
+    λ w. (same_want recorded other k).0 ((same_want recorded reply h).1 w),
+    λ w. (same_want recorded reply h).0 ((same_want recorded other k).1 w),
   )
 
   -- what equals a drained list equals one with the same messages
-  drained : (told : Reply T A) (list other : Vec T A) → list.items ≡ other.items → Equals equal told (Drained list)
-      → Equals equal told (Drained other)
-  drained (Drained told) list other same h = rw same at h
+  drained : (recorded : Reply T A) (list other : Vec T A) → list.items ≡ other.items → Equals equal recorded (Drained list)
+      → Equals equal recorded (Drained other)
+  drained (Drained recorded) list other same h = rw same at h
   drained _ list other same h = absurd (never h)
 
   -- what equals a reply equals the same one
-  pub goes_by_messages : (told reply other : Reply T A) → SameReply reply other → Equals equal told reply → Equals equal told other
-  goes_by_messages told (Drained list) (Drained other) same h = drained told list other same h
-  goes_by_messages told (Drained list) _ same h = subst (λ r. Equals equal told r) same h
-  goes_by_messages told _ other same h = subst (λ r. Equals equal told r) same h
+  pub goes_by_messages : (recorded reply other : Reply T A) → SameReply reply other → Equals equal recorded reply → Equals equal recorded other
+  goes_by_messages recorded (Drained list) (Drained other) same h = drained recorded list other same h
+  goes_by_messages recorded (Drained list) _ same h = subst (λ r. Equals equal recorded r) same h
+  goes_by_messages recorded _ other same h = subst (λ r. Equals equal recorded r) same h
 
 module _ {T A : Type 0} (equal : T → T → Bool) (laws : IsEquivalence equal) where
   -- a reply equals itself

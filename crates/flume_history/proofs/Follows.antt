@@ -13,10 +13,10 @@ use Rattle.flume_model.specs.Replies.{IsReply, IsRun}
 use Rattle.flume_model.specs.Replies.{SameReply}
 use Rattle.flume_state.specs.State.{State}
 use Rattle.flume_core.specs.Represents.{Represents}
-use Rattle.flume_core.specs.Wanting.{MayWant}
-use Rattle.flume_history.specs.SameRuns.{IsWant, SameSteps}
+use Rattle.flume_core.specs.Wanting.{NoMemoryIsLawful}
+use Rattle.flume_history.specs.SameRuns.{IsNoMemory, SameSteps}
 use Rattle.flume_history.specs.Histories.{IsSaidOf, IsHistory, BreaksAt}
-use Rattle.flume_history.specs.Wants.{handed_in}
+use Rattle.flume_history.specs.HandedIn.{handed_in}
 use Rattle.flume_history.proofs.OneBlocked.{one_blocked}
 use Rattle.flume_history.proofs.OneReply.{one_reply}
 use Rattle.flume_history.proofs.OneRun.{one_run}
@@ -25,7 +25,7 @@ use Rattle.flume_history.proofs.Wanting.{want_only}
 
 module _ {T A : Type 0} where
   -- a reply that is no such one isn't `NoMemory`
-  pub not_want : (reply : Reply T A) → ((back : Option T) → reply ≡ NoMemory back → ⊥) → IsWant reply → ⊥
+  pub not_want : (reply : Reply T A) → ((back : Option T) → reply ≡ NoMemory back → ⊥) → IsNoMemory reply → ⊥
   not_want (NoMemory back) none w = none back refl
   not_want _ none w = w
 
@@ -37,7 +37,7 @@ module _ {T A : Type 0} where
 module _ {T A X : Type 0} (says : X → Reply T A → Type 0) where
   -- what is said of two replies is `NoMemory` in both or in neither
   abbrev pub TellsWant : Type 0
-  TellsWant = (x : X) (reply other : Reply T A) → says x reply → says x other → IsWant reply ↔ IsWant other
+  TellsWant = (x : X) (reply other : Reply T A) → says x reply → says x other → IsNoMemory reply ↔ IsNoMemory other
 
   -- what is said of a reply is said of the same one, wherever a drained list is kept
   abbrev pub GoesByMessages : Type 0
@@ -69,7 +69,7 @@ module _ {T A X : Type 0} (says : X → Reply T A → Type 0) (tells : TellsWant
 module _ {T A X : Type 0} (says : X → Reply T A → Type 0) (goes : GoesByMessages says) where
   -- apart from `NoMemory`, nothing else is lawful than what the channel answered
   pub no_other : (o : Opening) (log : Log T A) (x : X) (step : Step T) (own : Reply T A) → IsRun o log → IsReply (channel o log) step own
-      → (IsWant own → ⊥) → (says x own → ⊥) → (other : Reply T A) → IsReply (channel o log) step other → (IsWant other → ⊥)
+      → (IsNoMemory own → ⊥) → (says x own → ⊥) → (other : Reply T A) → IsReply (channel o log) step other → (IsNoMemory other → ⊥)
       → says x other → ⊥
   no_other o log x step own run is wanted unsaid other also other_wanted said =
       unsaid (goes x other own (one_reply (channel o log) (one_blocked o log run) step other own also is other_wanted wanted) said)
@@ -77,8 +77,8 @@ module _ {T A X : Type 0} (says : X → Reply T A → Type 0) (goes : GoesByMess
 module _ {T A X : Type 0} (says : X → Reply T A → Type 0) where
   -- if memory may not be needed, or not so, no `NoMemory` is lawful that this is said of
   pub no_other_want : {S : Type 0} {o : Opening} {log : Log T A} {s : State T S} → Represents o log s → (x : X) (step : Step T)
-      → (MayWant s step → says x (NoMemory (handed_in step)) → ⊥)
-      → (reply : Reply T A) → IsReply (channel o log) step reply → says x reply → IsWant reply → ⊥
+      → (NoMemoryIsLawful s step → says x (NoMemory (handed_in step)) → ⊥)
+      → (reply : Reply T A) → IsReply (channel o log) step reply → says x reply → IsNoMemory reply → ⊥
   no_other_want {S} {o} {log} {s} h x step none (NoMemory back) is said w =
       let only = want_only h step back is in
       none only.0 (subst (λ b. says x (NoMemory b)) only.1 said)

@@ -37,21 +37,21 @@ parts list place e within at =
     ∙ ap (λ later. take place list ++ later) (drop-cons list place e within ∙ ap (λ x. x ∷ drop (suc place) list) (sym at))
 
 -- after each run of the same pairs the same is lawful
-shown_after : {A : Type 0} (o : Opening) (said : List Pair) (log : Log ℕ A) (step : Step ℕ) (should : List ℕ) → IsRun o log
-    → IsSaidOf Says said log → Shows A (channel o log) step should → (other : Log ℕ A) → IsRun o other → IsSaidOf Says said other
-    → Shows A (channel o other) step should
-shown_after {A} o said log step should run so shows other run' so' =
-    subst (λ c. Shows A c step should)
+shown_after : {A : Type 0} (o : Opening) (said : List Pair) (log : Log ℕ A) (step : Step ℕ) (expected : List ℕ) → IsRun o log
+    → IsSaidOf Says said log → Shows A (channel o log) step expected → (other : Log ℕ A) → IsRun o other → IsSaidOf Says said other
+    → Shows A (channel o other) step expected
+shown_after {A} o said log step expected run so shows other run' so' =
+    subst (λ c. Shows A c step expected)
     (channel_same o log other (one_run o log other run run' (same_steps Says tells_want said log other so so'))) shows
 
 -- if what was said isn't lawful, the history breaks
 pub told_break : {A : Type 0} (input : List ℕ) (capacity : Option ℕ) (history : List Pair) (place : ℕ) (step : Step ℕ) (said : List ℕ)
     → IsHistoryText (lines input) capacity history → place < length history
     → (step, said) ≡ get_or history place (step, said) → (log : Log ℕ A) → IsRun (opens capacity 1) log
-    → IsSaidOf Says (reverse (take place history)) log → (should : List ℕ)
-    → Shows A (channel (opens capacity 1) log) step should × (IsLawfulText A (channel (opens capacity 1) log) step said → ⊥)
-    → (text : List ℕ) (status : ℕ) → text ≡ break_text (place + 2) said should → status ≡ 1 → Breaks A input text status
-told_break {A} input capacity history place step said reads within at log run so should shows text status text_is status_is =
+    → IsSaidOf Says (reverse (take place history)) log → (expected : List ℕ)
+    → Shows A (channel (opens capacity 1) log) step expected × (IsLawfulText A (channel (opens capacity 1) log) step said → ⊥)
+    → (text : List ℕ) (status : ℕ) → text ≡ break_text (place + 2) said expected → status ≡ 1 → Breaks A input text status
+told_break {A} input capacity history place step said reads within at log run so expected shows text status text_is status_is =
     let cut = parts history place (step, said) within at in
     let count : length (take place history) ≡ place = length-take-le place history (omega arith) in
     record {
@@ -63,9 +63,9 @@ told_break {A} input capacity history place step said reads within at log run so
       reads = subst (IsHistoryText (lines input) capacity) cut reads;
       breaks = subst₂ (BreaksAt {A = A} Says (opens capacity 1)) cut (sym count)
           (breaks_at Says tells_want (opens capacity 1) history place (step, said) log within at run so
-          (λ reply lawful told. shows.1 (reply, lawful, told)));
-      should = should;
-      shows = shown_after (opens capacity 1) (reverse (take place history)) log step should run so shows.0;
-      text_is = text_is ∙ ap (λ n. break_text (n + 2) said should) (sym count);
+          (λ reply lawful recorded. shows.1 (reply, lawful, recorded)));
+      expected = expected;
+      shows = shown_after (opens capacity 1) (reverse (take place history)) log step expected run so shows.0;
+      text_is = text_is ∙ ap (λ n. break_text (n + 2) said expected) (sym count);
       status_is = status_is;
     }

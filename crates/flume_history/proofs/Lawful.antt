@@ -9,11 +9,11 @@ use Rattle.flume_model.specs.Channel.{channel}
 use Rattle.flume_model.specs.Replies.{IsReply}
 use Rattle.flume_state.specs.State.{State}
 use Rattle.flume_core.specs.Represents.{Represents}
-use Rattle.flume_core.specs.Wanting.{MayWant}
+use Rattle.flume_core.specs.Wanting.{NoMemoryIsLawful}
 use Rattle.flume_script.specs.ReplyTexts.{reply_text}
-use Rattle.flume_history.specs.SameRuns.{IsWant}
+use Rattle.flume_history.specs.SameRuns.{IsNoMemory}
 use Rattle.flume_history.specs.HistoryText.{IsLawfulText, Shows}
-use Rattle.flume_history.specs.Wants.{handed_in}
+use Rattle.flume_history.specs.HandedIn.{handed_in}
 use Rattle.flume_history.proofs.OneBlocked.{one_blocked}
 use Rattle.flume_history.proofs.OneReply.{one_reply}
 use Rattle.flume_history.proofs.OneRun.{want_or_not}
@@ -21,25 +21,25 @@ use Rattle.flume_history.proofs.ReplyWants.{same_want, same_text}
 use Rattle.flume_history.proofs.Wanting.{want_allowed, want_only}
 
 module _ {A S : Type 0} {o : Opening} {log : Log ℕ A} {s : State ℕ S} (h : Represents o log s) (step : Step ℕ) (own : Reply ℕ A)
-    (lawful : IsReply (channel o log) step own) (no_want : IsWant own → ⊥) where
+    (lawful : IsReply (channel o log) step own) (had_memory : IsNoMemory own → ⊥) where
   -- a lawful reply that isn't `NoMemory` has the text of the channel's own
-  own_text : (reply : Reply ℕ A) → IsReply (channel o log) step reply → (IsWant reply → ⊥) → reply_text reply ≡ reply_text own
+  own_text : (reply : Reply ℕ A) → IsReply (channel o log) step reply → (IsNoMemory reply → ⊥) → reply_text reply ≡ reply_text own
   own_text reply is none =
-      same_text reply own (one_reply (channel o log) (one_blocked o log h.run) step reply own is lawful none no_want)
+      same_text reply own (one_reply (channel o log) (one_blocked o log h.run) step reply own is lawful none had_memory)
 
   -- a lawful `NoMemory` hands in what the step does
-  want_text : (reply : Reply ℕ A) → IsReply (channel o log) step reply → IsWant reply
-      → MayWant s step × (reply_text reply ≡ reply_text {A = A} (NoMemory (handed_in step)))
+  want_text : (reply : Reply ℕ A) → IsReply (channel o log) step reply → IsNoMemory reply
+      → NoMemoryIsLawful s step × (reply_text reply ≡ reply_text {A = A} (NoMemory (handed_in step)))
   want_text (NoMemory back) is w =
       let only = want_only h step back is in
       (only.0, ap (λ back. reply_text {A = A} (NoMemory back)) only.1)
   want_text _ is w = absurd w
 
   -- if memory may not be needed, each lawful text is the channel's own
-  only_own : (MayWant s step → ⊥) → (text : List ℕ) → IsLawfulText A (channel o log) step text → text ≡ reply_text own
+  only_own : (NoMemoryIsLawful s step → ⊥) → (text : List ℕ) → IsLawfulText A (channel o log) step text → text ≡ reply_text own
   only_own never text is = by_want (want_or_not is.0)
     where
-      by_want : IsWant is.0 ⊎ (IsWant is.0 → ⊥) → text ≡ reply_text own
+      by_want : IsNoMemory is.0 ⊎ (IsNoMemory is.0 → ⊥) → text ≡ reply_text own
       by_want (inl w) = absurd (never (want_text is.0 is.1 w).0)
       by_want (inr none) = is.2 ∙ own_text is.0 is.1 none
 
@@ -48,24 +48,24 @@ module _ {A S : Type 0} {o : Opening} {log : Log ℕ A} {s : State ℕ S} (h : R
       → IsLawfulText A (channel o log) step text → (text ≡ reply_text own) ⊎ (Some want ≡ Some text)
   own_or_want want text want_is is = by_want (want_or_not is.0)
     where
-      by_want : IsWant is.0 ⊎ (IsWant is.0 → ⊥) → (text ≡ reply_text own) ⊎ (Some want ≡ Some text)
+      by_want : IsNoMemory is.0 ⊎ (IsNoMemory is.0 → ⊥) → (text ≡ reply_text own) ⊎ (Some want ≡ Some text)
       by_want (inl w) = inr (ap Some (want_is ∙ sym (want_text is.0 is.1 w).1 ∙ sym is.2))
       by_want (inr none) = inl (is.2 ∙ own_text is.0 is.1 none)
 
   -- so that text alone is shown
-  pub shows_own : (should said : List ℕ) → should ≡ reply_text own → (MayWant s step → ⊥) → (said ≡ should → ⊥)
-      → Shows A (channel o log) step should × (IsLawfulText A (channel o log) step said → ⊥)
-  shows_own should said should_is never unlike = (
+  pub shows_own : (expected said : List ℕ) → expected ≡ reply_text own → (NoMemoryIsLawful s step → ⊥) → (said ≡ expected → ⊥)
+      → Shows A (channel o log) step expected × (IsLawfulText A (channel o log) step said → ⊥)
+  shows_own expected said expected_is never unlike = (
     record {
       own = own;
       other = None;
-      should_is = should_is;
+      expected_is = expected_is;
       is_lawful = lawful;
-      no_want = no_want;
+      had_memory = had_memory;
       is_another = λ e. let no : ⊥ = cc in no;
       are_all = λ text. (λ (is : IsLawfulText A (channel o log) step text). inl (only_own never text is), back text);
     },
-    λ is. unlike (only_own never said is ∙ sym should_is),
+    λ is. unlike (only_own never said is ∙ sym expected_is),
   )
     where
       back : (text : List ℕ) → (text ≡ reply_text own) ⊎ (None ≡ Some text) → IsLawfulText A (channel o log) step text
@@ -73,18 +73,18 @@ module _ {A S : Type 0} {o : Opening} {log : Log ℕ A} {s : State ℕ S} (h : R
       back text (inr e) = absurd (let no : ⊥ = cc in no)
 
   -- or the two
-  pub shows_both : (want should said : List ℕ) → want ≡ reply_text {A = A} (NoMemory (handed_in step))
-      → should ≡ reply_text own ++ codes " or " ++ want → MayWant s step → (said ≡ reply_text own → ⊥) → (want ≡ said → ⊥)
-      → Shows A (channel o log) step should × (IsLawfulText A (channel o log) step said → ⊥)
-  shows_both want should said want_is should_is may unlike unwanted = (
+  pub shows_both : (want expected said : List ℕ) → want ≡ reply_text {A = A} (NoMemory (handed_in step))
+      → expected ≡ reply_text own ++ codes " or " ++ want → NoMemoryIsLawful s step → (said ≡ reply_text own → ⊥) → (want ≡ said → ⊥)
+      → Shows A (channel o log) step expected × (IsLawfulText A (channel o log) step said → ⊥)
+  shows_both want expected said want_is expected_is may unlike unwanted = (
     record {
       own = own;
       other = Some want;
-      should_is = should_is;
+      expected_is = expected_is;
       is_lawful = lawful;
-      no_want = no_want;
+      had_memory = had_memory;
       is_another = λ e.
-          no_want (same_want {A = A} (NoMemory (handed_in step)) own (let same : want ≡ reply_text own = cc in sym want_is ∙ same) tt);
+          had_memory (same_want {A = A} (NoMemory (handed_in step)) own (let same : want ≡ reply_text own = cc in sym want_is ∙ same) tt);
       are_all = λ text. (λ (is : IsLawfulText A (channel o log) step text). own_or_want want text want_is is, back text);
     },
     λ is. neither (own_or_want want said want_is is),

@@ -17,7 +17,7 @@ use Rattle.flume_model.specs.Asking.{IsPolledMark, IsPolled}
 use Rattle.flume_model.specs.Asking.{IsGoneMark, IsGone}
 use Rattle.flume_model.specs.Replies.{IsReply, IsRun}
 use Rattle.flume_model.specs.Replies.{SameReply}
-use Rattle.flume_history.specs.SameRuns.{IsWant, SameLog, SameSteps}
+use Rattle.flume_history.specs.SameRuns.{IsNoMemory, SameLog, SameSteps}
 use Rattle.flume_history.proofs.OneBlocked.{one_blocked}
 use Rattle.flume_history.proofs.OneReply.{one_reply}
 use Rattle.flume_history.proofs.SameLogs.{channel_same}
@@ -64,13 +64,13 @@ module _ {T : Type 0} (A : Type 0) (c : Channel T) (back other : Option T) where
 
 module _ {T A : Type 0} where
   -- a reply is `NoMemory` or not
-  pub want_or_not : (reply : Reply T A) → IsWant reply ⊎ (IsWant reply → ⊥)
+  pub want_or_not : (reply : Reply T A) → IsNoMemory reply ⊎ (IsNoMemory reply → ⊥)
   want_or_not (NoMemory back) = inl tt
   want_or_not _ = inr (λ want. want)
 
   -- two replies that are both `NoMemory` are the same
   both_wants : (c : Channel T) (step : Step T) (reply other : Reply T A) → IsReply c step reply
-      → IsReply c step other → IsWant reply → IsWant other → SameReply reply other
+      → IsReply c step other → IsNoMemory reply → IsNoMemory other → SameReply reply other
   both_wants c step (NoMemory back) (NoMemory other) h k w v =
       ap (λ back. NoMemory back) (one_want A c back other step h k)
   both_wants c step (NoMemory back) _ h k w v = absurd v
@@ -78,7 +78,7 @@ module _ {T A : Type 0} where
 
   -- if all before was the same, so is the reply to the same step
   same_reply : (o : Opening) (past other : Log T A) → IsRun o past → SameLog past other
-      → (p q : Step T × Reply T A) → p.0 ≡ q.0 → (IsWant p.1 ↔ IsWant q.1)
+      → (p q : Step T × Reply T A) → p.0 ≡ q.0 → (IsNoMemory p.1 ↔ IsNoMemory q.1)
       → IsReply (channel o past) p.0 p.1 → IsReply (channel o other) q.0 q.1 → SameReply p.1 q.1
   same_reply o past other run same p q e wants h k = by_want (want_or_not p.1)
     where
@@ -87,7 +87,7 @@ module _ {T A : Type 0} where
           subst (λ c. IsReply c p.0 q.1) (sym (channel_same o past other same))
           (subst (λ step. IsReply (channel o other) step q.1) (sym e) k)
 
-      by_want : IsWant p.1 ⊎ (IsWant p.1 → ⊥) → SameReply p.1 q.1
+      by_want : IsNoMemory p.1 ⊎ (IsNoMemory p.1 → ⊥) → SameReply p.1 q.1
       by_want (inl want) = both_wants (channel o past) p.0 p.1 q.1 h here want (wants.0 want)
       by_want (inr none) =
           one_reply (channel o past) (one_blocked o past run) p.0 p.1 q.1 h here none

@@ -14,7 +14,7 @@ use Rattle.flume_model.specs.declared.step.Step.{Step}
 use Rattle.flume_model.specs.declared.step.Step.TheVariants.{TrySend, Send, PollSend, WithdrawSend, TryRecv, Recv, Poll, Withdraw, Drain}
 use Rattle.flume_model.specs.declared.step.Step.TheVariants.{CloneSender, CloneReceiver, DropSender, DropReceiver, Len, IsEmpty, IsFull, SetCapacity}
 use Rattle.flume_model.specs.declared.step.Step.TheVariants.{Capacity, SenderCount, ReceiverCount, IsDisconnected}
-use Rattle.flume_script.specs.Script.{IsCall, IsStepLine}
+use Rattle.flume_script.specs.Script.{IsWordWithNumber, IsStepLine}
 
 -- no byte is a hyphen
 abbrev pub NoHyphen : List ℕ → Type 0
@@ -57,7 +57,7 @@ digits_plain (c ∷ digits) all = (other (eqb c 45) refl, digits_plain digits al
     other true e = absurd (let is : c ≡ 45 = grind (arith, nat_tests) in let digit = rw is at all.0 in omega arith)
 
 -- a call of a word has none
-call_plain : (line word : List ℕ) (n : ℕ) → IsPlain word → IsCall line word n → NoHyphen line
+call_plain : (line word : List ℕ) (n : ℕ) → IsPlain word → IsWordWithNumber line word n → NoHyphen line
 call_plain line word n is_plain call =
     subst NoHyphen (sym call.line_is)
     (All-append (λ x. eqb x 45 ≡ false) word call.digits (plain word is_plain) (plain call.digits (digits_plain call.digits call.numeral.1)))
@@ -111,9 +111,9 @@ at_arrow line before after line_is first text said none is =
     (sym line_is ∙ is ∙ arrow text said)
 
 -- two texts with no hyphen before the arrow of one line are the same
-pub one_arrow : (text other said told : List ℕ) → NoHyphen text → NoHyphen other
-    → text ++ codes " -> " ++ said ≡ other ++ codes " -> " ++ told → text ≡ other
-one_arrow text other said told none none' e =
+pub one_arrow : (text other said recorded : List ℕ) → NoHyphen text → NoHyphen other
+    → text ++ codes " -> " ++ said ≡ other ++ codes " -> " ++ recorded → text ≡ other
+one_arrow text other said recorded none none' e =
     append_cancel_right text other (codes " ")
     (at_arrow (text ++ codes " -> " ++ said) (text ++ codes " ") (codes "> " ++ said) (arrow text said)
-    (All-append (λ x. eqb x 45 ≡ false) text (codes " ") none space) other told none' e).0
+    (All-append (λ x. eqb x 45 ≡ false) text (codes " ") none space) other recorded none' e).0

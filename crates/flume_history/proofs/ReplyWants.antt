@@ -12,7 +12,7 @@ use Rattle.flume_model.specs.declared.step.Reply.TheVariants.{NoEnd, CountFull, 
 use Rattle.flume_model.specs.declared.step.Reply.TheVariants.{Capacity as Bound, Unbounded}
 use Rattle.flume_model.specs.Replies.{SameReply}
 use Rattle.flume_script.specs.ReplyTexts.{reply_text}
-use Rattle.flume_history.specs.SameRuns.{IsWant}
+use Rattle.flume_history.specs.SameRuns.{IsNoMemory}
 
 -- the text begins as that of `NoMemory` does, and as no other
 abbrev Begins : List ℕ → Type 0
@@ -46,19 +46,19 @@ unfolding digits
 decimal_other n = onto_other 64 n [] (λ later e. let no : ⊥ = cc in no)
 
 -- a text that begins with another byte begins not as that of `NoMemory`
-no_want : (text : List ℕ) → Other text → Begins text → ⊥
-no_want [] other e = let no : ⊥ = cc in no
-no_want (x ∷ text) other e = other text (ap (λ y. y ∷ text) (let same : x ≡ 110 = cc in same))
+had_memory : (text : List ℕ) → Other text → Begins text → ⊥
+had_memory [] other e = let no : ⊥ = cc in no
+had_memory (x ∷ text) other e = other text (ap (λ y. y ∷ text) (let same : x ≡ 110 = cc in same))
 
 module _ {A : Type 0} where
   -- the text of `NoMemory` begins so
-  begins : (reply : Reply ℕ A) → IsWant reply → Begins (reply_text reply)
+  begins : (reply : Reply ℕ A) → IsNoMemory reply → Begins (reply_text reply)
   begins (NoMemory None) w = refl
   begins (NoMemory (Some message)) w = refl
   begins _ w = absurd w
 
   -- and no other does
-  only_want : (reply : Reply ℕ A) → Begins (reply_text reply) → IsWant reply
+  only_want : (reply : Reply ℕ A) → Begins (reply_text reply) → IsNoMemory reply
   only_want (NoMemory back) e = tt
   only_want (Sent None) e = absurd (search rules)
   only_want (Sent (Some ticket)) e = absurd (search rules)
@@ -84,15 +84,15 @@ module _ {A : Type 0} where
   only_want Done e = absurd (search rules)
   only_want NoEnd e = absurd (search rules)
   only_want CountFull e = absurd (search rules)
-  only_want (Number number) e = absurd (no_want (decimal number) (decimal_other number) e)
+  only_want (Number number) e = absurd (had_memory (decimal number) (decimal_other number) e)
   only_want (Truth true) e = absurd (search rules)
   only_want (Truth false) e = absurd (search rules)
   only_want (Bound None) e = absurd (search rules)
-  only_want (Bound (Some capacity)) e = absurd (no_want (decimal capacity) (decimal_other capacity) e)
+  only_want (Bound (Some capacity)) e = absurd (had_memory (decimal capacity) (decimal_other capacity) e)
   only_want Unbounded e = absurd (search rules)
 
   -- of two replies with one text both are `NoMemory` or neither is
-  pub same_want : (reply other : Reply ℕ A) → reply_text reply ≡ reply_text other → IsWant reply → IsWant other
+  pub same_want : (reply other : Reply ℕ A) → reply_text reply ≡ reply_text other → IsNoMemory reply → IsNoMemory other
   same_want reply other e w = only_want other (ap (take 3) (sym e) ∙ begins reply w)
 
   -- the same reply has the same text

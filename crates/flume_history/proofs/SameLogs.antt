@@ -12,9 +12,9 @@ use Rattle.flume_model.specs.Log.{Log, Opening, Offer, Change, Collects, Takes, 
 use Rattle.flume_model.specs.Log.{change, filled_by, was_filled, is_ticket}
 use Rattle.flume_model.specs.Counts.{senders, receivers, senders_after, receivers_after, is_over}
 use Rattle.flume_model.specs.Limits.{is_closed}
-use Rattle.flume_model.specs.Offers.{offers, offered, withdrawn, withdraws, kept, handed_out, handed}
+use Rattle.flume_model.specs.Offers.{offers, offers_made, withdrawn, withdraws, kept, handed_out, hands_out}
 use Rattle.flume_model.specs.Line.{line, capacity, capacity_after, boundary, boundary_after, queue}
-use Rattle.flume_model.specs.Line.{blocked, messages, next_ticket, issued, is_live, issues, spends}
+use Rattle.flume_model.specs.Line.{blocked, messages, next_ticket, tickets_issued, is_live, issues, spends}
 use Rattle.flume_model.specs.Parked.{LogEntry, entries, entries_after, is_closed_after}
 use Rattle.flume_model.specs.Channel.{Channel, channel}
 use Rattle.flume_model.specs.Replies.{SameReply}
@@ -132,7 +132,7 @@ module _ {T A : Type 0} (o : Opening) where
 
   -- the same offers are kept, and as many were handed out
   offers_same : (log other : Log T A) → SameChanges log other → offers log ≡ offers other
-  offers_same = by_changes offers (λ before done. before ++ offered done) (λ p past. refl)
+  offers_same = by_changes offers (λ before done. before ++ offers_made done) (λ p past. refl)
 
   withdrawn_same : (log other : Log T A) → SameChanges log other → withdrawn log ≡ withdrawn other
   withdrawn_same =
@@ -145,7 +145,7 @@ module _ {T A : Type 0} (o : Opening) where
       (offers_same log other h)
 
   handed_out_same : (log other : Log T A) → SameChanges log other → handed_out log ≡ handed_out other
-  handed_out_same = by_changes handed_out (λ before done. before ++ handed done) (λ p past. refl)
+  handed_out_same = by_changes handed_out (λ before done. before ++ hands_out done) (λ p past. refl)
 
   -- so the line is the same
   line_same : (log other : Log T A) → SameChanges log other → line log ≡ line other
@@ -158,7 +158,7 @@ module _ {T A : Type 0} (o : Opening) where
 
   next_same : (log other : Log T A) → SameChanges log other
       → next_ticket o log ≡ next_ticket o other
-  next_same = by_changes (next_ticket o) (λ next done. next + issued done) (λ p past. refl)
+  next_same = by_changes (next_ticket o) (λ next done. next + tickets_issued done) (λ p past. refl)
 
   -- as much of it is queued
   boundary_same : (log other : Log T A) → SameChanges log other → boundary o log ≡ boundary o other

@@ -27,10 +27,10 @@ use Rattle.flume_state.specs.Receivers.{status_by, status_of, only_leaves}
 use Rattle.flume_state.specs.State.{State, bare}
 use Rattle.flume_core.specs.Represents.{Represents}
 use Rattle.flume_core.specs.Waiting.{FindsNoRoom}
-use Rattle.flume_core.specs.Wanting.{MayWant}
+use Rattle.flume_core.specs.Wanting.{NoMemoryIsLawful}
 use Rattle.flume_core.proofs.Answering.{takes_in, takes_none_in, empty_line}
 use Rattle.flume_core.proofs.Views.{boundary_is, open_at_log, room_at_state, waiting_at_log, line_messages, entry_at_log, room_or_full}
-use Rattle.flume_history.specs.Wants.{handed_in}
+use Rattle.flume_history.specs.HandedIn.{handed_in}
 
 -- a queue has room or is at capacity
 room_else : (capacity : Option ℕ) (n : ℕ) → (IsAtCapacity capacity n → ⊥) → HasRoom capacity n
@@ -148,7 +148,7 @@ module _ {T S : Type 0} (A : Type 0) (c : Channel T) where
 
 module _ {T A S : Type 0} {o : Opening} {log : Log T A} {s : State T S} (h : Represents o log s) where
   -- if the state says that memory may be needed, the abstract channel may answer so
-  pub want_allowed : (step : Step T) → MayWant s step → IsReply {A = A} (channel o log) step (NoMemory (handed_in step))
+  pub want_allowed : (step : Step T) → NoMemoryIsLawful s step → IsReply {A = A} (channel o log) step (NoMemory (handed_in step))
   want_allowed (TrySend m) may =
       (takes_in h may.0 (λ none. room_else s.capacity (length s.queue) (λ full. may.1 (may.0, none, full))), refl)
   want_allowed (Send m) may = (
@@ -169,7 +169,7 @@ module _ {T A S : Type 0} {o : Opening} {log : Log T A} {s : State T S} (h : Rep
 
   -- and only there, with the message that was handed in
   pub want_only : (step : Step T) (back : Option T) → IsReply {A = A} (channel o log) step (NoMemory back)
-      → MayWant s step × (back ≡ handed_in step)
+      → NoMemoryIsLawful s step × (back ≡ handed_in step)
   want_only (TrySend m) back is = (
     (
       open_at_state h is.0.0,

@@ -11,7 +11,7 @@ use Rattle.flume_model.specs.declared.step.Reply.TheVariants.{Gone, Drained, Don
 use Rattle.flume_model.specs.declared.step.Reply.TheVariants.{Number, Truth, Capacity, Unbounded}
 
 module _ {T A : Type 0} where
-  -- whether two replies are equal, where `equal` compares messages
+  -- whether two replies are equal; `equal` compares messages
   abbrev pub equal_replies : (T → T → Bool) → Reply T A → Reply T A → Bool
   equal_replies equal (Sent x) (Sent y) = option_eq nat_eq x y
   equal_replies equal (Full x) (Full y) = equal x y
@@ -38,6 +38,6 @@ module _ {T A : Type 0} where
   equal_replies equal Unbounded Unbounded = true
   equal_replies equal _ _ = false
 
-  -- a reply is told by one that equals it
+  -- the recorded reply equals this one
   abbrev pub Equals : (T → T → Bool) → Reply T A → Reply T A → Type 0
-  Equals equal told reply = IsTrue (equal_replies equal told reply)
+  Equals equal recorded reply = IsTrue (equal_replies equal recorded reply)

@@ -6,14 +6,13 @@ use Rattle.flume_model.specs.Log.{Log, Opening}
 use Rattle.flume_model.specs.Replies.{IsRun}
 
 module _ {T A X : Type 0} (says : X → Reply T A → Type 0) where
-  -- the log has these steps, and replies of which this is said; both have the newest first
+  -- the log has these steps, and this is said of its replies; both have the newest first
   abbrev pub IsSaidOf : List (Step T × X) → Log T A → Type 0
   IsSaidOf [] [] = Unit {0}
   IsSaidOf (p ∷ said) (q ∷ log) = (p.0 ≡ q.0) × says p.1 q.1 × IsSaidOf said log
   IsSaidOf _ _ = ⊥
 
-  -- steps with what was said of their replies, the oldest first, are a history: there is a run of
-  -- these very steps, and this is said of its replies
+  -- there is a run of these steps, the oldest first, of whose replies this is said
   abbrev pub IsHistory : Opening → List (Step T × X) → Type 0
   IsHistory opening history =
       (log : Log T A) × IsRun opening log × IsSaidOf (reverse history) log

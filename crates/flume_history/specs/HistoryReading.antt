@@ -1,4 +1,4 @@
--- What is said of a history that was read.
+-- What a reading of a history says of its bytes.
 use Rattle.std.specs.Prelude.{ℕ, List, map}
 use Rattle.std.specs.Borrow.{Bor}
 use Rattle.std.specs.Str.Lines.{lines}
@@ -7,7 +7,7 @@ use Rattle.flume_history.specs.declared.script.reading.History.{History}
 use Rattle.flume_history.specs.declared.script.reading.History.TheVariants.{Right, Wrong}
 use Rattle.flume_history.specs.HistoryText.{Pair, IsHistoryText, IsFirstWrongPair}
 
--- the steps with the bytes that were said, which were read by reference
+-- the steps with the texts of their replies, which were read by reference
 abbrev pub pairs_of : List (Step ℕ × Bor (List ℕ)) → List Pair
 pairs_of pairs = map (λ pair. (pair.0, pair.1.now)) pairs
 

@@ -12,17 +12,17 @@ use Rattle.flume_model.specs.Replies.{IsReply, IsRun}
 use Rattle.flume_script.specs.ReplyTexts.{reply_text}
 use Rattle.flume_script.specs.Script.{IsOpeningLine, IsNoOpening, IsStepLine, wrong_text}
 use Rattle.flume_history.specs.Histories.{IsSaidOf, IsHistory, BreaksAt}
-use Rattle.flume_history.specs.SameRuns.{IsWant}
+use Rattle.flume_history.specs.SameRuns.{IsNoMemory}
 
--- a step, and the bytes that were said of its reply
+-- a step, and the text that is recorded of its reply
 abbrev pub Pair : Type 0
 Pair = Step ℕ × List ℕ
 
--- what was said is the text of this reply
+-- the text is that of this reply
 abbrev pub Says : {A : Type 0} → List ℕ → Reply ℕ A → Type 0
 Says said reply = said ≡ reply_text reply
 
--- the line is this step, ` -> ` and this, which was said of its reply
+-- the line is this step, ` -> ` and this text of its reply
 pub record IsPairLine (line : List ℕ) (pair : Pair) : Type 0 where
   pub step_text : List ℕ
   pub is_step : IsStepLine step_text pair.0
@@ -37,11 +37,11 @@ pub record IsHistoryText (lines : List (List ℕ)) (capacity : Option ℕ) (pair
   pub opens : IsOpeningLine first capacity
   pub pairs_are : AllZip IsPairLine rest pairs
 
--- the line is no step with something said of its reply
+-- the line is no step with a text of its reply
 abbrev pub IsNoPair : List ℕ → Type 0
 IsNoPair line = (pair : Pair) → IsPairLine line pair → ⊥
 
--- of these lines, this many are pairs, and the next one isn't
+-- this many of the lines are pairs, and the next one isn't
 pub record PairsUpTo (lines : List (List ℕ)) (place : ℕ) : Type 0 where
   pub before : List (List ℕ)
   pub pairs : List Pair
@@ -52,7 +52,7 @@ pub record PairsUpTo (lines : List (List ℕ)) (place : ℕ) : Type 0 where
   pub wrong : IsNoPair line
   pub place_is : length before ≡ place
 
--- the first wrong line has this number, counted from 1; if there is no line, the first is wrong
+-- the first wrong line has this number, counted from 1; without any line, the first is wrong
 abbrev pub IsFirstWrongPair : List (List ℕ) → ℕ → Type 0
 IsFirstWrongPair [] number = number ≡ 1
 IsFirstWrongPair (first ∷ rest) number =
@@ -69,25 +69,24 @@ abbrev pub joined : List ℕ → Option (List ℕ) → List ℕ
 joined own None = own
 joined own (Some other) = own ++ codes " or " ++ other
 
--- the text shows what is lawful there: first the text of the reply that isn't `NoMemory`, and
--- behind it another one, if one is lawful; these are the texts of all replies that are lawful
-pub record Shows (A : Type 0) (c : Channel ℕ) (step : Step ℕ) (should : List ℕ) : Type 0 where
+-- the text is all that is lawful there: the reply that isn't `NoMemory`, and another if one is
+pub record Shows (A : Type 0) (c : Channel ℕ) (step : Step ℕ) (expected : List ℕ) : Type 0 where
   pub own : Reply ℕ A
   pub other : Option (List ℕ)
-  pub should_is : should ≡ joined (reply_text own) other
+  pub expected_is : expected ≡ joined (reply_text own) other
   pub is_lawful : IsReply c step own
-  pub no_want : IsWant own → ⊥
+  pub had_memory : IsNoMemory own → ⊥
   pub is_another : other ≡ Some (reply_text own) → ⊥
   pub are_all : (text : List ℕ)
       → IsLawfulText A c step text ↔ ((text ≡ reply_text own) ⊎ (other ≡ Some text))
 
--- what is printed if this line says `said`, and `should` is lawful
+-- what is printed if the reply on this line is `said`, and `expected` is lawful
 abbrev pub break_text : ℕ → List ℕ → List ℕ → List ℕ
-break_text number said should =
-    codes "line " ++ decimal number ++ codes ": " ++ said ++ codes ", but " ++ should ++ 10 ∷ []
+break_text number said expected =
+    codes "line " ++ decimal number ++ codes ": " ++ said ++ codes ", but " ++ expected ++ 10 ∷ []
 
 -- each line is right, and the pairs are a history
-pub record Runs (A : Type 0) (input text : List ℕ) (status : ℕ) : Type 0 where
+pub record PrintsRun (A : Type 0) (input text : List ℕ) (status : ℕ) : Type 0 where
   pub capacity : Option ℕ
   pub pairs : List Pair
   pub reads : IsHistoryText (lines input) capacity pairs
@@ -95,8 +94,7 @@ pub record Runs (A : Type 0) (input text : List ℕ) (status : ℕ) : Type 0 whe
   pub text_is : text ≡ codes "run" ++ 10 ∷ []
   pub status_is : status ≡ 0
 
--- each line is right, and the pairs break at one: the text names its line, what was said there, and
--- what is lawful there after each run of the pairs before it
+-- each line is right: the text names the first reply that isn't lawful, and what is lawful there
 pub record Breaks (A : Type 0) (input text : List ℕ) (status : ℕ) : Type 0 where
   pub capacity : Option ℕ
   pub before : List Pair
@@ -106,10 +104,10 @@ pub record Breaks (A : Type 0) (input text : List ℕ) (status : ℕ) : Type 0 w
   pub reads : IsHistoryText (lines input) capacity (before ++ (step, said) ∷ later)
   pub breaks :
       BreaksAt {A = A} Says (opens capacity 1) (before ++ (step, said) ∷ later) (length before)
-  pub should : List ℕ
+  pub expected : List ℕ
   pub shows : (log : Log ℕ A) → IsRun (opens capacity 1) log → IsSaidOf Says (reverse before) log
-      → Shows A (channel (opens capacity 1) log) step should
-  pub text_is : text ≡ break_text (length before + 2) said should
+      → Shows A (channel (opens capacity 1) log) step expected
+  pub text_is : text ≡ break_text (length before + 2) said expected
   pub status_is : status ≡ 1
 
 -- a line is wrong: the text names the first one
@@ -119,7 +117,7 @@ pub record RefusesHistory (input text : List ℕ) (status : ℕ) : Type 0 where
   pub text_is : text ≡ wrong_text line
   pub status_is : status ≡ 2
 
--- of these bytes this text is printed, with this status; A is the allocator of the lists in replies
+-- this text is printed of these bytes, with this status; A allocates the lists of the replies
 abbrev pub Judges : Type 0 → List ℕ → List ℕ → ℕ → Type 0
 Judges A input text status =
-    Runs A input text status ⊎ (Breaks A input text status ⊎ RefusesHistory input text status)
+    PrintsRun A input text status ⊎ (Breaks A input text status ⊎ RefusesHistory input text status)

@@ -1,6 +1,6 @@
 pub mod SameRuns
 pub mod Equal
 pub mod Histories
-pub mod Wants
+pub mod HandedIn
 pub mod HistoryText
 pub mod HistoryReading

@@ -7,9 +7,9 @@ use Rattle.flume_model.specs.Replies.{SameReply}
 
 module _ {T A : Type 0} where
   -- memory ran out
-  abbrev pub IsWant : Reply T A → Type 0
-  IsWant (NoMemory back) = Unit {0}
-  IsWant _ = ⊥
+  abbrev pub IsNoMemory : Reply T A → Type 0
+  IsNoMemory (NoMemory back) = Unit {0}
+  IsNoMemory _ = ⊥
 
   -- the logs have the same steps with the same replies
   abbrev pub SameLog : Log T A → Log T A → Type 0
@@ -21,5 +21,5 @@ module _ {T A : Type 0} where
   abbrev pub SameSteps : Log T A → Log T A → Type 0
   SameSteps [] [] = Unit {0}
   SameSteps (p ∷ past) (q ∷ other) =
-      (p.0 ≡ q.0) × (IsWant p.1 ↔ IsWant q.1) × SameSteps past other
+      (p.0 ≡ q.0) × (IsNoMemory p.1 ↔ IsNoMemory q.1) × SameSteps past other
   SameSteps _ _ = ⊥

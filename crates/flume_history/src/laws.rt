@@ -8,11 +8,11 @@ ghost use Rattle.flume_model.specs.declared.step.Step.{Step};
 ghost use Rattle.flume_model.specs.Replies.{SameReply};
 ghost use Rattle.flume_state.specs.State.{State};
 ghost use Rattle.flume_core.specs.Represents.{Represents};
-ghost use Rattle.flume_core.specs.Wanting.{MayWant};
+ghost use Rattle.flume_core.specs.Wanting.{NoMemoryIsLawful};
 ghost use Rattle.flume_history.specs.Equal.{equal_replies, Equals};
 ghost use Rattle.flume_history.specs.Histories.{IsHistory};
-ghost use Rattle.flume_history.specs.SameRuns.{IsWant, SameLog, SameSteps};
-ghost use Rattle.flume_history.specs.Wants.{handed_in};
+ghost use Rattle.flume_history.specs.SameRuns.{IsNoMemory, SameLog, SameSteps};
+ghost use Rattle.flume_history.specs.HandedIn.{handed_in};
 
 use flume_model::step::Reply;
 use std::alloc::Allocator;
@@ -22,29 +22,27 @@ pub fn replies_are_determined<T, A: Allocator>()
     ensures same { (opening : Opening) (log : Log T A) (step : Step T) (reply other : Reply T A)
         → IsRun opening log
         → IsReply (channel opening log) step reply → IsReply (channel opening log) step other
-        → (IsWant reply → ⊥) → (IsWant other → ⊥) → SameReply reply other }
+        → (IsNoMemory reply → ⊥) → (IsNoMemory other → ⊥) → SameReply reply other }
 {}
 
-/// Two runs from one opening, of the same steps, of which the same ones ran out of memory, have the
-/// same replies.
+/// Runs of the same steps, of which the same ones ran out of memory, have the same replies.
 pub fn runs_are_determined<T, A: Allocator>()
     ensures same { (opening : Opening) (log other : Log T A)
         → IsRun opening log → IsRun opening other → SameSteps log other → SameLog log other }
 {}
 
-/// The steps of a channel with its replies are a history: `check_history` answers `Run` to it, or
-/// `NoMemory`. So it does to the history of each book.
+/// The steps of a channel with its replies are a history.
 pub fn runs_are_histories<T: Eq, A: Allocator>()
     ensures history { (opening : Opening) (log : Log T A) → IsRun opening log
         → IsHistory (Equals T.eq) opening (reverse log) }
 {}
 
-/// If a state says that a step may be answered with `NoMemory`, each channel in this state may
-/// answer so, with the message that the step hands in; nothing else may be answered so.
-pub fn memory_may_be_wanted_as_defined<T, S, A: Allocator>()
+/// A step may be answered with `NoMemory` exactly if the state says so, and only with the message
+/// that the step hands in.
+pub fn no_memory_is_lawful_as_defined<T, S, A: Allocator>()
     ensures allowed { (opening : Opening) (log : Log T A) (s : State T S) (step : Step T)
         → Represents opening log s
-        → MayWant s step
+        → NoMemoryIsLawful s step
         ↔ IsReply {A = A} (channel opening log) step (Reply.NoMemory (handed_in step)) }
     ensures no_other { (opening : Opening) (log : Log T A) (s : State T S) (step : Step T)
         (back : Option T) → Represents opening log s
@@ -52,9 +50,8 @@ pub fn memory_may_be_wanted_as_defined<T, S, A: Allocator>()
         → back ≡ handed_in step }
 {}
 
-/// Replies are equal if their cases are the same and what they hold is equal; lists of drained
-/// messages by these, wherever they are kept.
+/// Replies are equal if their cases and what they hold are equal, of lists their messages.
 pub fn replies_are_equal_by_case<T: PartialEq, A: Allocator>()
-    ensures same { (told reply : Reply T A)
-        → ⟦<Reply<T, A> as PartialEq>⟧.eq told reply ≡ equal_replies T.eq told reply }
+    ensures same { (recorded reply : Reply T A)
+        → ⟦<Reply<T, A> as PartialEq>⟧.eq recorded reply ≡ equal_replies T.eq recorded reply }
 {}

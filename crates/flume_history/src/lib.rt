@@ -1,10 +1,11 @@
 //! Checks a recorded history against the abstract channel.
 //!
-//! `check::check_history` is given each step with the reply that a channel is said to have made. It
-//! answers `Run` if a correct channel could have produced the history, and otherwise how many steps
-//! come before the first wrong reply; or `NoMemory`, if the check itself ran out of memory.
-//! `script::check_script` does the same for a text, and says what the wrong reply should have been;
-//! `./judge` of the repository runs it.
+//! `check::check_history` says whether a correct channel could have given the recorded replies, or
+//! which is the first wrong one. `script::check_script` does so for a text, and says what the wrong
+//! reply should have been; `./judge` of the repository runs it.
+//!
+//! This can be decided: after every run, a step has at most one lawful reply other than `NoMemory`
+//! (`laws`). So the steps, and which of them were refused memory, determine all replies.
 //!
 //! ```
 //! let history = [
@@ -13,12 +14,9 @@
 //! ];
 //! check_history(alloc, None, &history);      // Breaks(1): a correct channel gives 5
 //! ```
-//!
-//! `laws` has the reason why this can be decided: after every run, a step has at most one lawful
-//! reply other than `NoMemory`. So the steps, and which of them were refused memory, determine all
-//! replies.
 #![tactic(auto)]
 
 pub mod check;
+pub mod follow;
 pub mod laws;
 pub mod script;

@@ -1,7 +1,7 @@
 -- What a change that fits does to the tickets of entries and to which of them are filled.
 use Rattle.flume_model.proofs.Common.{◌≡◌, ℕ, ◌+◌, ◌<◌, ◌≤◌, Bool, true, false, ◌||◌, if◌then◌else◌, eqb, List, Option, Some, None, refl}
 use Rattle.flume_model.proofs.Common.{sym, ◌∙◌, ap, arith, inl, inr, ◌⊎◌, eqb-true, ne_eqb, Channel, is_filled, is_woken, all_woken}
-use Rattle.flume_model.proofs.Common.{entry_of, round, round_fills, without, issued, issues, Change, Queues, Blocks, Takes, Parks, Asks}
+use Rattle.flume_model.proofs.Common.{entry_of, round, round_fills, without_ticket, tickets_issued, issues, Change, Queues, Blocks, Takes, Parks, Asks}
 use Rattle.flume_model.proofs.Common.{Collects, Leaves, SenderLeaves, ReceiverLeaves, is_ticket, LogEntry, same_notice, entries_after, Apart}
 use Rattle.flume_model.proofs.Common.{Mark, common_steps}
 use Rattle.flume_model.proofs.EntryLists.{tickets_round, tickets_woken, ticket_of, fills_none_else, none_same, none_without, none_push}
@@ -43,7 +43,7 @@ module _ {T : Type 0} where
 
   -- after a change that fits, the tickets of entries are apart
   pub apart_by : (c : Channel T) (closes : Bool) (done : Change T) → Fits c done → Apart c.next c.entries
-      → Apart (c.next + issued done) (entries_after c.queue closes c.entries done)
+      → Apart (c.next + tickets_issued done) (entries_after c.queue closes c.entries done)
   apart_by c closes (Queues m filled) h apart =
       apart_above c.next (c.next + 0) _ (omega arith)
       (round_for_push (Apart c.next) same_notice c.queue m c.entries (λ front. apart_round c.next front c.entries apart))
@@ -54,14 +54,14 @@ module _ {T : Type 0} where
       (none_past c.next t c.entries (omega arith) apart) (omega arith)
   apart_by c closes (Asks t) h apart =
       apart_above c.next (c.next + 0) _ (omega arith) (again_cases (Apart c.next) t c.entries apart
-      (λ e found woken. apart_push c.next (without t c.entries) _ (apart_without c.next t c.entries apart)
-      (ap (λ u. entry_of u (without t c.entries)) (ticket_of t e c.entries found) ∙ left_out c.next t c.entries apart)
+      (λ e found woken. apart_push c.next (without_ticket t c.entries) _ (apart_without c.next t c.entries apart)
+      (ap (λ u. entry_of u (without_ticket t c.entries)) (ticket_of t e c.entries found) ∙ left_out c.next t c.entries apart)
       (let below = found_below c.next t e c.entries found apart in let same = ticket_of t e c.entries found in omega arith)))
   apart_by c closes (Collects t) h apart = apart_above c.next (c.next + 0) _ (omega arith) (apart_without c.next t c.entries apart)
   apart_by c closes (Leaves t filled) h apart =
       let others = apart_without c.next t c.entries apart in
       apart_above c.next (c.next + 0) _ (omega arith) (leave_cases (λ es f. Apart c.next es) same_notice t c.queue c.entries
-      (λ none. others) (λ passes front rest e. apart_round c.next front (without t c.entries) others))
+      (λ none. others) (λ passes front rest e. apart_round c.next front (without_ticket t c.entries) others))
   apart_by c closes SenderLeaves h apart = apart_close c.next closes c.entries apart
   apart_by c closes ReceiverLeaves h apart = apart_close c.next closes c.entries apart
   apart_by c closes (Blocks m t) h apart = apart_above c.next (c.next + 1) c.entries (omega arith) apart
@@ -72,7 +72,7 @@ module _ {T : Type 0} where
   fills_none c (Queues m filled) t h none = ap (is_ticket t) h.1 ∙ fills_none_else t c.entries none
   fills_none c (Leaves u filled) t h none =
       ap (is_ticket t) h.1 ∙ leave_cases (λ es f. is_ticket t f ≡ false) same_notice u c.queue c.entries (λ e. refl)
-      (λ passes front rest e. fills_none_else t (without u c.entries) (none_without t u c.entries none))
+      (λ passes front rest e. fills_none_else t (without_ticket u c.entries) (none_without t u c.entries none))
   fills_none c _ t h none = refl
 
   -- after a change that fits, the entries are filled that were or are named as filled
@@ -87,7 +87,7 @@ module _ {T : Type 0} where
       let same : t ≡ c.next = h.3 in
       filled_push was c.entries _ all (past t (omega arith))
   filled_by_change c closes (Asks t) was h apart past all =
-      again_cases (FilledBy was) t c.entries all (λ e found woken. filled_push was (without t c.entries) _
+      again_cases (FilledBy was) t c.entries all (λ e found woken. filled_push was (without_ticket t c.entries) _
       (filled_without was t c.entries all)
       (ap was (ticket_of t e c.entries found) ∙ filled_found was t e c.entries all found ∙ woken_empty e.mark woken))
     where
@@ -98,7 +98,7 @@ module _ {T : Type 0} where
       let others = filled_without was t c.entries all in
       rw h.1 (leave_cases (λ es f. FilledBy (λ u. is_ticket u f || was u) es) same_notice t c.queue c.entries (λ e. others)
       (λ passes front rest e.
-      filled_round same_notice front c.next was (without t c.entries) (apart_without c.next t c.entries apart) others))
+      filled_round same_notice front c.next was (without_ticket t c.entries) (apart_without c.next t c.entries apart) others))
   filled_by_change c closes SenderLeaves was h apart past all = filled_close was closes c.entries all
   filled_by_change c closes ReceiverLeaves was h apart past all = filled_close was closes c.entries all
   filled_by_change c closes _ was h apart past all = all
@@ -116,7 +116,7 @@ module _ {T : Type 0} where
   none_by c closes (Takes m (Some u)) t e none = none_without t u c.entries none
   none_by c closes (Parks u kind) t e none = none_push t c.entries _ none e
   none_by c closes (Asks u) t e none =
-      again_cases (λ es. entry_of t es ≡ None) u c.entries none (λ x found woken. none_push t (without u c.entries) _
+      again_cases (λ es. entry_of t es ≡ None) u c.entries none (λ x found woken. none_push t (without_ticket u c.entries) _
       (none_without t u c.entries none) (other (eqb x.ticket t) x refl found))
     where
       other : (b : Bool) (x : LogEntry T) → eqb x.ticket t ≡ b → entry_of u c.entries ≡ Some x → eqb x.ticket t ≡ false
@@ -131,7 +131,7 @@ module _ {T : Type 0} where
   none_by c closes (Leaves u filled) t e none =
       let others = none_without t u c.entries none in
       leave_cases (λ es f. entry_of t es ≡ None) same_notice u c.queue c.entries (λ e2. others)
-      (λ passes front rest e2. none_round t front (without u c.entries) others)
+      (λ passes front rest e2. none_round t front (without_ticket u c.entries) others)
   none_by c closes SenderLeaves t e none = none_close t closes c.entries none
   none_by c closes ReceiverLeaves t e none = none_close t closes c.entries none
   none_by c closes _ t e none = none
@@ -145,7 +145,7 @@ module _ {T : Type 0} where
   pub sides_by : (c : Channel T) (closes : Bool) (done : Change T) (t : ℕ) → Fits c done → Apart c.next c.entries
       → (c.is_live t ≡ true → (t < c.next) × (entry_of t c.entries ≡ None))
       → (issues done t ≡ true) ⊎ (c.is_live t ≡ true)
-      → (t < c.next + issued done) × (entry_of t (entries_after c.queue closes c.entries done) ≡ None)
+      → (t < c.next + tickets_issued done) × (entry_of t (entries_after c.queue closes c.entries done) ≡ None)
   sides_by c closes (Blocks m u) t h apart sides (inl e) =
       let same : u ≡ c.next = h.2 in
       let is_it = eqb-true u t e in

@@ -1,6 +1,6 @@
 -- How many entries wait and how many are woken, after a wake round, a leave and one more entry.
 use Rattle.flume_model.proofs.Common.{◌≡◌, ℕ, ◌+◌, ◌<◌, ◌≤◌, true, false, if◌then◌else◌, List, [], ◌∷◌, Option, Some, refl, arith}
-use Rattle.flume_model.proofs.Common.{is_waiting, is_woken, some_wait, waiting_count, woken_count, round, round_fills, entry_of, without}
+use Rattle.flume_model.proofs.Common.{is_waiting, is_woken, some_wait, waiting_count, woken_count, round, round_fills, entry_of, without_ticket}
 use Rattle.flume_model.proofs.Common.{how_many, Entry, Mark, common_steps}
 
 module _ {T : Type 0} where
@@ -45,7 +45,7 @@ module _ {T N : Type 0} where
     pub woken : woken_count after + woken_one m ≡ woken_count es
 
   -- if an entry leaves, it is no longer counted
-  pub without_counts : (t : ℕ) (e : Entry T N) (es : List (Entry T N)) → entry_of t es ≡ Some e → OneFewer es (without t es) e.mark
+  pub without_counts : (t : ℕ) (e : Entry T N) (es : List (Entry T N)) → entry_of t es ≡ Some e → OneFewer es (without_ticket t es) e.mark
   without_counts t e [] h = absurd (let none : ⊥ = cc in none)
   without_counts t e (x ∷ es) h = record {
     waiting = grind (arith, common_steps, without_counts t e es);

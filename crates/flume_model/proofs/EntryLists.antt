@@ -1,6 +1,6 @@
 -- What wake rounds, a leave and one more entry do to the tickets of entries and to their marks.
 use Rattle.flume_model.proofs.Common.{◌≡◌, ℕ, Bool, true, false, if◌then◌else◌, eqb, List, [], ◌∷◌, ◌++◌, Option, Some, None, refl, eq-eqb}
-use Rattle.flume_model.proofs.Common.{is_woken, round, round_fills, round_for, round_for_fills, all_woken, entry_of, without, again_as}
+use Rattle.flume_model.proofs.Common.{is_woken, round, round_fills, round_for, round_for_fills, all_woken, entry_of, without_ticket, again_as}
 use Rattle.flume_model.proofs.Common.{again, passes_on, after_leave, leave_fills, is_ticket, Entry, Waiting, arith, common_steps}
 
 module _ {T N : Type 0} where
@@ -40,7 +40,7 @@ module _ {T N : Type 0} where
   fills_none_else t (x ∷ es) h = grind (arith, common_steps, fills_none_else t es)
 
   -- what has no ticket of a list has none of the list without an entry
-  pub none_without : (t u : ℕ) (es : List (Entry T N)) → entry_of t es ≡ None → entry_of t (without u es) ≡ None
+  pub none_without : (t u : ℕ) (es : List (Entry T N)) → entry_of t es ≡ None → entry_of t (without_ticket u es) ≡ None
   none_without t u [] h = refl
   none_without t u (x ∷ es) h = grind (arith, common_steps, none_without t u es)
 
@@ -81,7 +81,7 @@ module _ {T N : Type 0} where
 
   -- a receiver that asks keeps its place, or was woken and goes behind all others
   pub again_cases : (P : List (Entry T N) → Type 0) (t : ℕ) (es : List (Entry T N)) → P es
-      → ((e : Entry T N) → entry_of t es ≡ Some e → is_woken e.mark ≡ true → P (without t es ++ record e { mark = Waiting } ∷ []))
+      → ((e : Entry T N) → entry_of t es ≡ Some e → is_woken e.mark ≡ true → P (without_ticket t es ++ record e { mark = Waiting } ∷ []))
       → P (again t es)
   again_cases P t es stays goes = by_found (entry_of t es) refl
     where
@@ -90,20 +90,20 @@ module _ {T N : Type 0} where
       by_found (Some x) e = by_case (is_woken x.mark) refl
         where
           by_case : (b : Bool) → is_woken x.mark ≡ b
-              → P (if b then without t es ++ record x { mark = Waiting } ∷ [] else es)
+              → P (if b then without_ticket t es ++ record x { mark = Waiting } ∷ [] else es)
           by_case true woken = goes x e woken
           by_case false waits = stays
 
   -- a receiver that leaves leaves the others as they are, or passes a round on
   pub leave_cases : (P : List (Entry T N) → Option ℕ → Type 0) (tell : N → N) (t : ℕ) (queue_ : List T) (es : List (Entry T N))
-      → ((passes_on (entry_of t es) ≡ true → queue_ ≡ []) → P (without t es) None)
+      → ((passes_on (entry_of t es) ≡ true → queue_ ≡ []) → P (without_ticket t es) None)
       → (passes_on (entry_of t es) ≡ true → (front : T) (rest : List T) → queue_ ≡ front ∷ rest
-      → P (round tell front (without t es)) (round_fills (without t es)))
+      → P (round tell front (without_ticket t es)) (round_fills (without_ticket t es)))
       → P (after_leave tell t queue_ es) (leave_fills t queue_ es)
   leave_cases P tell t queue_ es stays passes = by_case (passes_on (entry_of t es)) refl
     where
       by_case : (b : Bool) → passes_on (entry_of t es) ≡ b
-          → P (if b then round_for tell queue_ (without t es) else without t es)
-          (if b then round_for_fills queue_ (without t es) else None)
-      by_case true e = round_for_cases P tell queue_ (without t es) (λ none. stays (λ same. none)) (passes e)
+          → P (if b then round_for tell queue_ (without_ticket t es) else without_ticket t es)
+          (if b then round_for_fills queue_ (without_ticket t es) else None)
+      by_case true e = round_for_cases P tell queue_ (without_ticket t es) (λ none. stays (λ same. none)) (passes e)
       by_case false e = stays (λ same. absurd (let none : ⊥ = cc in none))

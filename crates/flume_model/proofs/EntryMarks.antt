@@ -1,6 +1,6 @@
 -- Which entries are filled after a wake round, a leave and one more entry, and that their tickets stay apart.
 use Rattle.flume_model.proofs.Common.{◌≡◌, ℕ, ◌<◌, ◌≤◌, Bool, false, ◌||◌, eqb, List, [], ◌∷◌, ◌++◌, Some, None, refl, arith, eq-eqb}
-use Rattle.flume_model.proofs.Common.{or_left, is_filled, round, round_fills, all_woken, entry_of, without, is_ticket, LogEntry, Apart}
+use Rattle.flume_model.proofs.Common.{or_left, is_filled, round, round_fills, all_woken, entry_of, without_ticket, is_ticket, LogEntry, Apart}
 use Rattle.flume_model.proofs.Common.{Entry, Mark, Waiting, Woken, Filled, Kind, Block, Plain, Stream, Arm, common_steps}
 use Rattle.flume_model.proofs.EntryLists.{tickets, fills_none_else, none_without, none_push, none_same}
 
@@ -23,7 +23,7 @@ module _ {T N : Type 0} where
   filled_more was t (x ∷ es) h all = grind (arith, common_steps, filled_more was t es)
 
   -- of all entries but one
-  pub filled_without : (was : ℕ → Bool) (t : ℕ) (es : List (Entry T N)) → FilledBy was es → FilledBy was (without t es)
+  pub filled_without : (was : ℕ → Bool) (t : ℕ) (es : List (Entry T N)) → FilledBy was es → FilledBy was (without_ticket t es)
   filled_without was t [] all = tt
   filled_without was t (x ∷ es) all = grind (arith, common_steps, filled_without was t es)
 
@@ -62,12 +62,12 @@ module _ {T : Type 0} where
   apart_same n (x ∷ es) (y ∷ fs) e h = grind (arith, common_steps, apart_same n es fs, none_same)
 
   -- all entries but one are apart
-  pub apart_without : (n t : ℕ) (es : List (LogEntry T)) → Apart n es → Apart n (without t es)
+  pub apart_without : (n t : ℕ) (es : List (LogEntry T)) → Apart n es → Apart n (without_ticket t es)
   apart_without n t [] h = tt
   apart_without n t (x ∷ es) h = grind (arith, common_steps, apart_without n t es, none_without)
 
   -- none of the others has the ticket of the one that left
-  pub left_out : (n t : ℕ) (es : List (LogEntry T)) → Apart n es → entry_of t (without t es) ≡ None
+  pub left_out : (n t : ℕ) (es : List (LogEntry T)) → Apart n es → entry_of t (without_ticket t es) ≡ None
   left_out n t [] h = refl
   left_out n t (x ∷ es) h = grind (arith, common_steps, left_out n t es)
 

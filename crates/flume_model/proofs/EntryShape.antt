@@ -2,7 +2,7 @@
 -- sends, and they are filled if a reply says so.
 use Rattle.flume_model.proofs.Common.{◌≡◌, ℕ, ◌+◌, ◌<◌, ◌≤◌, Bool, true, false, not, ◌||◌, ◌&&◌, if◌then◌else◌, [], ◌∷◌, Option, Some, None}
 use Rattle.flume_model.proofs.Common.{refl, sym, ◌∙◌, ap, subst, arith, inl, inr, ◌⊎◌, or_from, or_cases, and_parts, channel, is_over}
-use Rattle.flume_model.proofs.Common.{entry_of, next_ticket, queue, issued, issues, spends, is_live, Log, Opening, Takes, Collects}
+use Rattle.flume_model.proofs.Common.{entry_of, next_ticket, queue, tickets_issued, issues, spends, is_live, Log, Opening, Takes, Collects}
 use Rattle.flume_model.proofs.Common.{filled_by, was_filled, is_ticket, change, entries_after, entries, is_closed_after, IsReply, IsRun}
 use Rattle.flume_model.proofs.Common.{EntriesApart, SidesApart, ToldFilled, Reply, Step, Poll, Withdraw, common_steps}
 use Rattle.flume_model.proofs.EntryMarks.{FilledBy, filled_found, none_past}
@@ -78,7 +78,7 @@ module _ {T A : Type 0} where
           (filled_by_change (channel o past) closes (change past p.0 p.1) (was_filled past) fit h.apart h.unfilled h.marks)
 
       sides_now : (t : ℕ) → (issues (change past p.0 p.1) t || (is_live past t && not (spends (change past p.0 p.1) t))) ≡ true
-          → (t < next_ticket o past + issued (change past p.0 p.1))
+          → (t < next_ticket o past + tickets_issued (change past p.0 p.1))
           × (entry_of t (entries_after (queue o past) closes (entries o past) (change past p.0 p.1)) ≡ None)
       sides_now t live =
           sides_by (channel o past) closes (change past p.0 p.1) t fit h.apart (h.sides t)

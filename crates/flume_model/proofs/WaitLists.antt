@@ -1,6 +1,6 @@
 -- What a change of the entries does to whether some receiver waits.
 use Rattle.flume_model.proofs.Common.{◌≡◌, ℕ, Bool, true, false, List, [], ◌∷◌, Option, Some, None, refl, sym, ◌∙◌, ◌⊎◌, inl, inr, ap}
-use Rattle.flume_model.proofs.Common.{is_woken, some_wait, round_fills, round_for_fills, entry_of, without, again_as}
+use Rattle.flume_model.proofs.Common.{is_woken, some_wait, round_fills, round_for_fills, entry_of, without_ticket, again_as}
 use Rattle.flume_model.proofs.Common.{again, leave_fills, Entry, arith, common_steps}
 use Rattle.flume_model.proofs.WaitingCounts.{wait_without}
 
@@ -17,7 +17,7 @@ module _ {T N : Type 0} where
   -- one that leaves fills another only if one waits
   pub leave_fills_waiting : (t : ℕ) (queue : List T) (es : List (Entry T N)) (u : ℕ) → leave_fills t queue es ≡ Some u
       → some_wait es ≡ true
-  leave_fills_waiting t queue es u h = grind (arith, common_steps, wait_without t es, fills_waiting_for queue (without t es) u)
+  leave_fills_waiting t queue es u h = grind (arith, common_steps, wait_without t es, fills_waiting_for queue (without_ticket t es) u)
 
   -- if one waits after one asked again, one waited, or the one that asked was woken
   pub wait_again : (t : ℕ) (es : List (Entry T N)) → some_wait (again t es) ≡ true

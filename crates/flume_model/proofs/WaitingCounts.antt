@@ -1,7 +1,7 @@
 -- No more receivers wait after a wake round, nor after one leaves, nor once all are woken. So if
 -- one waits then, one waited before.
 use Rattle.flume_model.proofs.Common.{◌≡◌, ℕ, ◌≤◌, true, false, List, [], ◌∷◌, refl, arith, some_wait, waiting_count, round, round_for}
-use Rattle.flume_model.proofs.Common.{without, after_leave, all_woken, Entry, common_steps}
+use Rattle.flume_model.proofs.Common.{without_ticket, after_leave, all_woken, Entry, common_steps}
 use Rattle.flume_model.proofs.EntryCounts.{counted_none, counted_some, round_counts}
 
 module _ {T N : Type 0} where
@@ -16,14 +16,14 @@ module _ {T N : Type 0} where
   fewer_rounded tell (m ∷ queue) es = (round_counts tell m es).no_more
 
   -- without the one with a ticket
-  pub fewer_without : (t : ℕ) (es : List (Entry T N)) → waiting_count (without t es) ≤ waiting_count es
+  pub fewer_without : (t : ℕ) (es : List (Entry T N)) → waiting_count (without_ticket t es) ≤ waiting_count es
   fewer_without t [] = omega arith
   fewer_without t (e ∷ es) = grind (arith, common_steps, fewer_without t es)
 
   -- once that one has left
   pub fewer_after_leave : (tell : N → N) (t : ℕ) (queue : List T) (es : List (Entry T N))
       → waiting_count (after_leave tell t queue es) ≤ waiting_count es
-  fewer_after_leave tell t queue es = grind (arith, common_steps, fewer_rounded tell queue (without t es), fewer_without t es)
+  fewer_after_leave tell t queue es = grind (arith, common_steps, fewer_rounded tell queue (without_ticket t es), fewer_without t es)
 
   -- once all are woken
   pub fewer_woken : (tell : N → N) (es : List (Entry T N)) → waiting_count (all_woken tell es) ≤ waiting_count es
@@ -43,8 +43,8 @@ module _ {T N : Type 0} where
   wait_round_for tell queue es = wait_by (round_for tell queue es) es (fewer_rounded tell queue es)
 
   -- if one of the others waits
-  pub wait_without : (t : ℕ) (es : List (Entry T N)) → some_wait (without t es) ≡ true → some_wait es ≡ true
-  wait_without t es = wait_by (without t es) es (fewer_without t es)
+  pub wait_without : (t : ℕ) (es : List (Entry T N)) → some_wait (without_ticket t es) ≡ true → some_wait es ≡ true
+  wait_without t es = wait_by (without_ticket t es) es (fewer_without t es)
 
   -- if one waits after another leaves, one waited before
   pub wait_after_leave : (tell : N → N) (t : ℕ) (queue : List T) (es : List (Entry T N)) → some_wait (after_leave tell t queue es) ≡ true

@@ -40,7 +40,7 @@ module _ {T A : Type 0} where
   IsPolledMark c Block mark reply = IsPolledBlock c mark reply
   IsPolledMark c kind mark reply = IsPolledOther c reply
 
-  -- a receiver that asks again, where this is its entry
+  -- a receiver that asks again, if this is its entry
   abbrev pub IsPolled : Channel T → Option (LogEntry T) → Reply T A → Type 0
   IsPolled c None NoTicket = Unit {0}
   IsPolled c None _ = ⊥
@@ -65,7 +65,7 @@ module _ {T A : Type 0} where
   IsGoneMark c t Block mark reply = IsGoneBlock c reply
   IsGoneMark c t kind mark reply = IsGoneOther c t reply
 
-  -- a receiver that leaves, where this is its entry
+  -- a receiver that leaves, if this is its entry
   abbrev pub IsGone : Channel T → ℕ → Option (LogEntry T) → Reply T A → Type 0
   IsGone c t None NoTicket = Unit {0}
   IsGone c t None _ = ⊥

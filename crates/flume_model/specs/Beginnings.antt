@@ -14,16 +14,10 @@ module _ {T A : Type 0} where
 
   -- what holds of a log, whatever the state behind it
   pub record Holds (opening : Opening) (log : Log T A) : Type 0 where
-    -- each reply is the abstract channel's
     pub replies_lawful : IsRun opening log
-    -- the j-th message handed out is the message of the j-th offer that wasn't withdrawn
     pub in_order : InOrder (entries opening log) log
-    -- no more of the line is queued than there is of it
     pub boundary_within : boundary opening log ≤ length (line log)
-    -- while a receiver waits, at least as many are woken as messages are queued
     pub woken_cover : Covered opening log
-    -- queued messages and waiting receivers are at most the greater of the greatest capacity so far
-    -- and the peak
     pub queue_bounded : Bounded opening log
 
   -- it held at each moment up to now

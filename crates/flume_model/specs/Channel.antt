@@ -11,17 +11,14 @@ use Rattle.flume_model.specs.Parked.{LogEntry, entries}
 
 -- what a reply is judged by
 pub record Channel (T : Type 0) : Type 0 where
-  -- the capacity; none of an unbounded channel
   pub capacity : Option ℕ
   -- the messages that weren't handed out yet, in order
   pub line : List T
-  -- how many of them are queued, those messages, and the offers of the others
+  -- how many of them are queued, these, and the offers of the others
   pub boundary : ℕ
   pub queue : List T
   pub blocked : List (Offer T)
-  -- the parked receivers
   pub entries : List (LogEntry T)
-  -- which send tickets are live, and the next ticket
   pub is_live : ℕ → Bool
   pub next : ℕ
   pub senders : ℕ

@@ -1,5 +1,4 @@
--- That no message is lost and none is made: what was offered, by any weight of messages, is what
--- replies gave out and what is still there.
+-- That no message is lost and none is made, by any weight of messages.
 use Rattle.std.specs.Prelude.{◌≡◌, ℕ, ◌+◌, ◌≤◌, Bool, true, false, List, [], ◌∷◌, ◌++◌, sum_by}
 use Rattle.flume_model.specs.declared.step.Reply.{Reply}
 use Rattle.flume_model.specs.declared.step.Reply.TheVariants.{Returned, Got, Drained}
@@ -37,8 +36,7 @@ module _ {T A : Type 0} where
   given_out [] = []
   given_out (p ∷ past) = gives p.1 ++ given_out past
 
-  -- while the channel isn't over, all that was offered was given out, or is in the line, or is held
-  -- by an entry. Once it is over, no more was given out than was offered: the rest is let go
+  -- what was offered was given out or is still there; once over, no more was given out than offered
   abbrev pub IsConserved : Opening → Log T A → (T → ℕ) → Bool → Type 0
   IsConserved opening log weight false =
       sum_by weight (messages (offers log))

@@ -1,6 +1,4 @@
--- The parked receivers, an entry each: their states, what a wake round and closing do to them, and
--- how one asks again or leaves. The waiting ones are in the order in which they began to wait. N is
--- what else an entry has: nothing in a log, its signal in a state.
+-- The parked receivers, an entry each, the waiting ones in order. N is what else an entry has.
 use Rattle.std.specs.Prelude.{◌==◌, ℕ, ◌+◌, Bool, true, false, if◌then◌else◌, List, [], ◌∷◌, ◌++◌}
 use Rattle.std.specs.Prelude.{map, Option, Some, None}
 use Rattle.std.specs.List.{list_any}
@@ -31,7 +29,7 @@ module _ {T : Type 0} where
   held_in (Filled message) = Some message
   held_in _ = None
 
--- the ticket that a round fills from a waiting entry on, where behind that it would fill `on`
+-- the ticket that a round fills from a waiting entry on, if behind that it would fill `on`
 abbrev pub filled_at : Kind → ℕ → Option ℕ → Option ℕ
 filled_at Stream ticket on = on
 filled_at Block ticket on = Some ticket
@@ -56,16 +54,14 @@ module _ {T N : Type 0} where
   abbrev pub marked : (N → N) → Mark T → Entry T N → Entry T N
   marked tell mark e = record e { mark = mark; notice = tell e.notice }
 
-  -- a waiting entry that a wake round meets, with the entries behind it: as they are if the round
-  -- ends here, as it leaves them if it goes on
+  -- a waiting entry that a wake round meets, and those behind it: `goes_on` if the round goes on
   abbrev pub met : (N → N) → Kind → T → Entry T N → List (Entry T N) → List (Entry T N)
       → List (Entry T N)
   met tell Stream front e as_are goes_on = marked tell Woken e ∷ goes_on
   met tell Block front e as_are goes_on = marked tell (Filled front) e ∷ as_are
   met tell kind front e as_are goes_on = marked tell Woken e ∷ as_are
 
-  -- A wake round: it wakes each waiting stream, until it meets a waiting entry of another kind.
-  -- That is woken, or, if it blocks, filled with the message at the front of the queue.
+  -- a wake round: it ends at the first waiting entry that is no stream, which it fills or wakes
   abbrev pub round : (N → N) → T → List (Entry T N) → List (Entry T N)
   round tell front [] = []
   round tell front (e ∷ entries) =
@@ -79,12 +75,12 @@ module _ {T N : Type 0} where
       if is_waiting e.mark then filled_at e.kind e.ticket (round_fills entries)
       else round_fills entries
 
-  -- a wake round where this is the queue; there is none if nothing is queued
+  -- a wake round if this is the queue; there is none if nothing is queued
   abbrev pub round_for : (N → N) → List T → List (Entry T N) → List (Entry T N)
   round_for tell [] entries = entries
   round_for tell (front ∷ queue) entries = round tell front entries
 
-  -- the ticket that a wake round fills where this is the queue, if it fills one
+  -- the ticket that a wake round fills if this is the queue, if it fills one
   abbrev pub round_for_fills : List T → List (Entry T N) → Option ℕ
   round_for_fills [] entries = None
   round_for_fills (front ∷ queue) entries = round_fills entries
@@ -104,16 +100,15 @@ module _ {T N : Type 0} where
   held_by (Some e) = held_in e.mark
 
   -- the entries without the first one with a ticket
-  abbrev pub without : ℕ → List (Entry T N) → List (Entry T N)
-  without t [] = []
-  without t (e ∷ entries) = if e.ticket == t then entries else e ∷ without t entries
+  abbrev pub without_ticket : ℕ → List (Entry T N) → List (Entry T N)
+  without_ticket t [] = []
+  without_ticket t (e ∷ entries) = if e.ticket == t then entries else e ∷ without_ticket t entries
 
-  -- the entries, where this is the one with a ticket: if it was woken, it waits again behind all
-  -- others
+  -- the entries, if this is the one with a ticket: a woken one waits again behind the others
   abbrev pub again_as : ℕ → Option (Entry T N) → List (Entry T N) → List (Entry T N)
   again_as t None entries = entries
   again_as t (Some e) entries =
-      if is_woken e.mark then without t entries ++ (record e { mark = Waiting }) ∷ [] else entries
+      if is_woken e.mark then without_ticket t entries ++ (record e { mark = Waiting }) ∷ [] else entries
 
   -- a woken entry waits again, behind all others; a waiting one keeps its place
   abbrev pub again : ℕ → List (Entry T N) → List (Entry T N)
@@ -124,13 +119,13 @@ module _ {T N : Type 0} where
   passes_on None = false
   passes_on (Some e) = is_woken e.mark
 
-  -- the other entries after the one with a ticket leaves, where this is the queue
+  -- the other entries after the one with a ticket leaves, if this is the queue
   abbrev pub after_leave : (N → N) → ℕ → List T → List (Entry T N) → List (Entry T N)
   after_leave tell t queue entries =
-      if passes_on (entry_of t entries) then round_for tell queue (without t entries)
-      else without t entries
+      if passes_on (entry_of t entries) then round_for tell queue (without_ticket t entries)
+      else without_ticket t entries
 
   -- the ticket that the wake which the leaving entry passes on fills, if it fills one
   abbrev pub leave_fills : ℕ → List T → List (Entry T N) → Option ℕ
   leave_fills t queue entries =
-      if passes_on (entry_of t entries) then round_for_fills queue (without t entries) else None
+      if passes_on (entry_of t entries) then round_for_fills queue (without_ticket t entries) else None

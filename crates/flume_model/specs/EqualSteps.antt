@@ -1,4 +1,4 @@
--- When two steps are equal: if their cases are the same, and what they hold is equal.
+-- When two steps are equal.
 use Rattle.std.specs.Prelude.{Bool, true, false, nat_eq}
 use Rattle.flume_model.specs.declared.step.Kind.{Kind}
 use Rattle.flume_model.specs.declared.step.Kind.TheVariants.{Block, Plain, Stream, Arm}
@@ -20,7 +20,7 @@ equal_kinds Arm Arm = true
 equal_kinds _ _ = false
 
 module _ {T : Type 0} where
-  -- whether two steps are equal, where `equal` compares messages
+  -- whether two steps are equal, if `equal` compares messages
   abbrev pub equal_steps : (T → T → Bool) → Step T → Step T → Bool
   equal_steps equal (TrySend x) (TrySend y) = equal x y
   equal_steps equal (Send x) (Send y) = equal x y

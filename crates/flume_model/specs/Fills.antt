@@ -16,9 +16,7 @@ module _ {T : Type 0} where
   or_else None second = second
   or_else (Some message) second = Some message
 
-  -- the hand-out that filled a receiver is of this message. It goes by whether both sides have
-  -- disconnected, by the message that the receiver got, if it got one, and by the one that its
-  -- entry holds, if it holds one. It is of what the receiver got; before that, of what its entry
+  -- the hand-out that filled a receiver is of what the receiver got, or else of what its entry
   -- holds. If both sides disconnected before the receiver got it, nothing is said of it
   abbrev pub FillIs : Bool → Option T → Option T → T → Type 0
   FillIs over (Some got) held message = got ≡ message
@@ -38,8 +36,7 @@ module _ {T A : Type 0} where
   shown (p ∷ past) t = or_else (shows_to t p.0 p.1) (shown past t)
 
 module _ {T A N : Type 0} where
-  -- after a log, with these entries, the hand-out is of this message: the one that its reply shows;
-  -- or, if it filled a receiver, the one that this receiver got, or holds
+  -- the hand-out is of this message: it was shown, or the filled receiver got or holds it
   abbrev pub IsOf : List (Entry T N) → Log T A → HandOut T → T → Type 0
   IsOf entries log (Shown given) message = given ≡ message
   IsOf entries log (FilledIn t) message =

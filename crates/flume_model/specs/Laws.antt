@@ -24,8 +24,7 @@ IsEarlier (Some t) (Some u) = t < u
 IsEarlier _ _ = Unit {0}
 
 module _ {T A N : Type 0} where
-  -- after a log, with these entries, the j-th message handed out is the message of the j-th offer
-  -- that wasn't withdrawn
+  -- the j-th message handed out is the message of the j-th offer that wasn't withdrawn
   abbrev pub InOrder : List (Entry T N) → Log T A → Type 0
   InOrder entries log =
       (j : ℕ) (given : HandOut T) → slice_get (handed_out log) j ≡ Some given
@@ -50,8 +49,7 @@ module _ {T A : Type 0} where
       boundary opening log < length (line log)
       → IsAtCapacity (capacity opening log) (boundary opening log)
 
-  -- one more step, a withdrawal or any other, leaves the messages handed out the same offers, each
-  -- at its place
+  -- one more step leaves the messages handed out the same offers, each at its place
   abbrev pub HandedOutStay : Step T × Reply T A → Log T A → Type 0
   HandedOutStay p past =
       take (hand_outs past) (kept (p ∷ past)) ≡ take (hand_outs past) (kept past)

@@ -1,5 +1,4 @@
--- What is left of the offers: the line, the capacity, how much of the line is queued, and the
--- tickets of blocked sends.
+-- What is left of the offers: the line, how much of it is queued, the capacity, the live tickets.
 use Rattle.std.specs.Prelude.{◌==◌, ℕ, ◌+◌, ◌-◌, Bool, false, not, ◌&&◌, ◌||◌, if◌then◌else◌}
 use Rattle.std.specs.Prelude.{List, [], ◌∷◌, length, map, drop, take, max, Option, Some, None}
 use Rattle.flume_model.specs.Log.{Log, Opening, Offer, Change, Queues, Blocks, Accepts, Withdraws}
@@ -22,13 +21,12 @@ module _ {T : Type 0} where
   abbrev pub messages : List (Offer T) → List T
   messages some = map (λ offer. offer.message) some
 
-  -- the capacity after a change, where this was it before
+  -- the capacity after a change, if this was it before
   abbrev pub capacity_after : Option ℕ → Change T → Option ℕ
   capacity_after capacity (Resizes new) = Some new
   capacity_after capacity _ = capacity
 
-  -- how many offers at the front of the line are queued after a change: `n` were queued before it,
-  -- and the capacity and the length of the line are those after it
+  -- how many offers are queued after a change, if `n` were; capacity and length are those after it
   abbrev pub boundary_after : Option ℕ → ℕ → ℕ → Change T → ℕ
   boundary_after capacity line_length n (Queues message filled) = n + 1 - how_many filled
   boundary_after capacity line_length n (Takes message receiver) =
@@ -39,10 +37,10 @@ module _ {T : Type 0} where
   boundary_after capacity line_length n _ = n
 
   -- how many tickets a change issues
-  abbrev pub issued : Change T → ℕ
-  issued (Blocks message ticket) = 1
-  issued (Parks ticket kind) = 1
-  issued _ = 0
+  abbrev pub tickets_issued : Change T → ℕ
+  tickets_issued (Blocks message ticket) = 1
+  tickets_issued (Parks ticket kind) = 1
+  tickets_issued _ = 0
 
   -- whether a change issues the send ticket
   abbrev pub issues : Change T → ℕ → Bool
@@ -89,10 +87,9 @@ module _ {T A : Type 0} where
   -- the next ticket
   abbrev pub next_ticket : Opening → Log T A → ℕ
   next_ticket opening [] = opening.first
-  next_ticket opening (p ∷ past) = next_ticket opening past + issued (change past p.0 p.1)
+  next_ticket opening (p ∷ past) = next_ticket opening past + tickets_issued (change past p.0 p.1)
 
-  -- whether the send ticket is live: issued and not spent; none is once both sides have
-  -- disconnected
+  -- whether the send ticket is live: issued, not spent, and both sides haven't disconnected
   abbrev pub is_live : Log T A → ℕ → Bool
   is_live [] t = false
   is_live (p ∷ past) t =

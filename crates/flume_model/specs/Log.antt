@@ -25,8 +25,7 @@ pub record Opening : Type 0 where
 abbrev pub opens : Option ℕ → ℕ → Opening
 opens capacity first = record { capacity = capacity; first = first }
 
--- a message that the channel took, queued or blocked, with the ticket under which it was blocked, if
--- it was
+-- a message that the channel took, with the ticket under which it was blocked, if it was
 pub record Offer (T : Type 0) : Type 0 where
   pub message : T
   pub ticket : Option ℕ
@@ -40,35 +39,27 @@ pub data HandOut (T : Type 0) : Type 0 where
 
 -- what a step changes by its reply; most of what follows goes by these cases
 pub data Change (T : Type 0) : Type 0 where
-  -- a message is offered and queued, and the receiver with this ticket is filled, if one is
+  -- a message is queued, and the receiver with this ticket is filled, if one is
   Queues : T → Option ℕ → Change T
-  -- a message is offered and blocked under this ticket
   Blocks : T → ℕ → Change T
   -- the send with this ticket learns that its message was accepted
   Accepts : ℕ → Change T
-  -- the offer with this ticket is withdrawn
   Withdraws : ℕ → Change T
-  -- the message at the front of the line is handed out, to the receiver parked under this ticket,
-  -- or to one that isn't parked
+  -- the front of the line is handed out, to the receiver with this ticket or to one not parked
   Takes : T → Option ℕ → Change T
-  -- these are handed out, all the messages that are queued
   Drains : List T → Change T
-  -- a receiver of this kind parks under this ticket
   Parks : ℕ → Kind → Change T
   -- the receiver with this ticket asks, and waits on
   Asks : ℕ → Change T
   -- the receiver with this ticket, which was filled, leaves with its message
   Collects : ℕ → Change T
-  -- the receiver with this ticket leaves with none; the wake that it passes on fills this one
+  -- the receiver with this ticket leaves with no message; its wake fills this one, if any
   Leaves : ℕ → Option ℕ → Change T
-  -- one sender more, one receiver more, one sender less, one receiver less
   SenderJoins : Change T
   ReceiverJoins : Change T
   SenderLeaves : Change T
   ReceiverLeaves : Change T
-  -- this is the capacity from now on
   Resizes : ℕ → Change T
-  -- nothing changes
   Stays : Change T
 
 -- the lesser of a length and the capacity
@@ -93,7 +84,7 @@ module _ {T A : Type 0} where
   was_filled [] t = false
   was_filled (p ∷ past) t = is_ticket t (filled_by p.1) || was_filled past t
 
-  -- what a step with this reply changes, where the past came before
+  -- what a step with this reply changes after the past
   abbrev pub change : Log T A → Step T → Reply T A → Change T
   change past (TrySend message) (Sent filled) = Queues message filled
   change past (Send message) (Sent filled) = Queues message filled

@@ -8,10 +8,10 @@ use Rattle.flume_model.specs.Log.{Withdraws, Takes, Drains, Leaves, is_ticket, c
 
 module _ {T : Type 0} where
   -- the offer that a change makes, if it makes one
-  abbrev pub offered : Change T → List (Offer T)
-  offered (Queues message filled) = record { message = message; ticket = None } ∷ []
-  offered (Blocks message ticket) = record { message = message; ticket = Some ticket } ∷ []
-  offered _ = []
+  abbrev pub offers_made : Change T → List (Offer T)
+  offers_made (Queues message filled) = record { message = message; ticket = None } ∷ []
+  offers_made (Blocks message ticket) = record { message = message; ticket = Some ticket } ∷ []
+  offers_made _ = []
 
   -- whether a change withdraws the offer
   abbrev pub withdraws : Change T → Offer T → Bool
@@ -24,12 +24,12 @@ module _ {T : Type 0} where
   fill (Some ticket) = FilledIn ticket ∷ []
 
   -- what a change hands out
-  abbrev pub handed : Change T → List (HandOut T)
-  handed (Queues message filled) = fill filled
-  handed (Takes message receiver) = Shown message ∷ []
-  handed (Drains messages) = map (λ message. Shown message) messages
-  handed (Leaves ticket filled) = fill filled
-  handed _ = []
+  abbrev pub hands_out : Change T → List (HandOut T)
+  hands_out (Queues message filled) = fill filled
+  hands_out (Takes message receiver) = Shown message ∷ []
+  hands_out (Drains messages) = map (λ message. Shown message) messages
+  hands_out (Leaves ticket filled) = fill filled
+  hands_out _ = []
 
 module _ {T A : Type 0} where
   -- the log with these steps and their replies done after it
@@ -40,7 +40,7 @@ module _ {T A : Type 0} where
   -- all offers, the first one first
   abbrev pub offers : Log T A → List (Offer T)
   offers [] = []
-  offers (p ∷ past) = offers past ++ offered (change past p.0 p.1)
+  offers (p ∷ past) = offers past ++ offers_made (change past p.0 p.1)
 
   -- whether the offer was withdrawn at some place of the log
   abbrev pub withdrawn : Log T A → Offer T → Bool
@@ -54,7 +54,7 @@ module _ {T A : Type 0} where
   -- all messages handed out, the first one first
   abbrev pub handed_out : Log T A → List (HandOut T)
   handed_out [] = []
-  handed_out (p ∷ past) = handed_out past ++ handed (change past p.0 p.1)
+  handed_out (p ∷ past) = handed_out past ++ hands_out (change past p.0 p.1)
 
   -- how many were handed out
   abbrev pub hand_outs : Log T A → ℕ

@@ -9,7 +9,7 @@ use Rattle.flume_model.specs.Log.{SenderLeaves, ReceiverLeaves, change}
 use Rattle.flume_model.specs.Counts.{senders, receivers, is_over}
 use Rattle.flume_model.specs.Limits.{is_closed}
 use Rattle.flume_model.specs.Line.{queue}
-use Rattle.flume_model.specs.Entries.{waiting_count, round_for, all_woken, without, again}
+use Rattle.flume_model.specs.Entries.{waiting_count, round_for, all_woken, without_ticket, again}
 use Rattle.flume_model.specs.Entries.{after_leave}
 
 -- an entry of a log: ticket, kind and mark alone
@@ -22,17 +22,17 @@ same_notice nothing = nothing
 
 module _ {T : Type 0} where
   -- a receiver that has just parked
-  abbrev pub parks : ℕ → Kind → LogEntry T
-  parks ticket kind = record { ticket = ticket; kind = kind; mark = Waiting; notice = tt }
+  abbrev pub new_entry : ℕ → Kind → LogEntry T
+  new_entry ticket kind = record { ticket = ticket; kind = kind; mark = Waiting; notice = tt }
 
-  -- the entries after a change, where this was the queue, and the change closes the channel or not
+  -- the entries after a change, if this was the queue, and the change closes the channel or not
   abbrev pub entries_after : List T → Bool → List (LogEntry T) → Change T → List (LogEntry T)
   entries_after queue closes entries (Queues m filled) =
       round_for same_notice (queue ++ m ∷ []) entries
-  entries_after queue closes entries (Takes message (Some ticket)) = without ticket entries
-  entries_after queue closes entries (Parks ticket kind) = entries ++ parks ticket kind ∷ []
+  entries_after queue closes entries (Takes message (Some ticket)) = without_ticket ticket entries
+  entries_after queue closes entries (Parks ticket kind) = entries ++ new_entry ticket kind ∷ []
   entries_after queue closes entries (Asks ticket) = again ticket entries
-  entries_after queue closes entries (Collects ticket) = without ticket entries
+  entries_after queue closes entries (Collects ticket) = without_ticket ticket entries
   entries_after queue closes entries (Leaves ticket filled) =
       after_leave same_notice ticket queue entries
   entries_after queue closes entries SenderLeaves =

@@ -29,8 +29,7 @@ module _ {T A : Type 0} where
   SameReply (Drained list) (Drained other) = list.items ≡ other.items
   SameReply reply other = reply ≡ other
 
-  -- the channel may answer the step so: a step that may be refused because memory ran out has two
-  -- such replies, and each other step has one
+  -- the channel may answer the step so; only a step that needs memory may have two such replies
   abbrev pub IsReply : Channel T → Step T → Reply T A → Type 0
   IsReply c (TrySend m) (Sent filled) = TakesIn c × (filled ≡ round_fills c.entries)
   IsReply c (TrySend m) (NoMemory back) = TakesIn c × (back ≡ Some m)
@@ -88,7 +87,6 @@ module _ {T A : Type 0} where
   IsReply c SenderCount (Number n) = n ≡ c.senders
   IsReply c ReceiverCount (Number n) = n ≡ c.receivers
   IsReply c IsDisconnected (Truth b) = b ≡ is_closed c.senders c.receivers
-  -- no other reply comes
   IsReply c _ _ = ⊥
 
   -- each reply is the abstract channel's, after what came before it

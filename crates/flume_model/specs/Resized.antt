@@ -11,8 +11,7 @@ module _ {T A : Type 0} where
   abbrev pub set_to : ℕ → Log T A → Log T A
   set_to new past = (SetCapacity new, Done) ∷ past
 
-  -- from the one log to the other the line, the parked receivers and the tickets stay, and this is
-  -- the capacity then; of the line this many are queued then
+  -- only the capacity and the number of queued messages change, to these
   pub record IsResized (opening : Opening) (past log : Log T A) (new queued : ℕ) : Type 0 where
     pub capacity_is : capacity opening log ≡ Some new
     pub line_is : line log ≡ line past
@@ -21,8 +20,7 @@ module _ {T A : Type 0} where
     pub next_is : next_ticket opening log ≡ next_ticket opening past
     pub live_are : (t : ℕ) → is_live log t ≡ is_live past t
 
-  -- how many are queued once the capacity was set to this: as many as were, and as many more of the
-  -- line as it allows
+  -- how many are queued once the capacity was set to this, at least as many as were
   abbrev pub queued_at : Opening → Log T A → ℕ → ℕ
   queued_at opening past new = max (boundary opening past) (min new (length (line past)))
 

@@ -15,9 +15,9 @@ use Rattle.flume_model.specs.Entries.{entry_of}
 use Rattle.flume_model.specs.Parked.{LogEntry, entries, peak}
 
 -- at most the greater of the capacity and another number; no bound if there is no capacity
-abbrev pub IsWithin : Option ℕ → ℕ → ℕ → Type 0
-IsWithin None other n = Unit {0}
-IsWithin (Some capacity) other n = n ≤ max capacity other
+abbrev pub IsWithinCapacity : Option ℕ → ℕ → ℕ → Type 0
+IsWithinCapacity None other n = Unit {0}
+IsWithinCapacity (Some capacity) other n = n ≤ max capacity other
 
 -- whether this kind blocks
 abbrev pub is_block : Kind → Bool
@@ -42,15 +42,13 @@ module _ {T A : Type 0} where
       some_wait (entries opening log) ≡ true
       → boundary opening log ≤ woken_count (entries opening log)
 
-  -- queued messages and waiting receivers are together at most the greater of the greatest capacity
-  -- so far and the peak
+  -- queued messages and waiting receivers are together within the greatest capacity or the peak
   abbrev pub Bounded : Opening → Log T A → Type 0
   Bounded opening log =
-      IsWithin (greatest opening log) (peak opening log)
+      IsWithinCapacity (greatest opening log) (peak opening log)
       (boundary opening log + waiting_count (entries opening log))
 
-  -- a receiver waits, as many are woken as messages are queued, and queued messages and waiting
-  -- receivers are together the greater of the greatest capacity so far and the peak
+  -- a receiver waits, and the bounds of `Covered` and `Bounded` are both met
   pub record MeetsBounds (opening : Opening) (log : Log T A) : Type 0 where
     pub waits : some_wait (entries opening log) ≡ true
     pub woken : boundary opening log ≡ woken_count (entries opening log)
@@ -65,9 +63,7 @@ module _ {T A : Type 0} where
       some_wait (entries opening log) ≡ true
       → IsOpen (senders log) (receivers log) × (blocked opening log ≡ [])
 
-  -- Nobody waits for a message or for room that is there: a receiver waits only in an open channel
-  -- that has no message, and a sender is blocked only while the queue is at capacity and no receiver
-  -- waits.
+  -- nobody waits for a message or for room that is there
   pub record NobodyStuck (opening : Opening) (log : Log T A) : Type 0 where
     pub waiting_receivers :
         some_wait (entries opening log) ≡ true

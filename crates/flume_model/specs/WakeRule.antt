@@ -16,7 +16,6 @@ module _ {T N : Type 0} where
   -- a round that ends at one of the old entries leaves the new ones, and fills this ticket, if any
   pub record EndsAtOne (tell : N → N) (front : T) (old new : List (Entry T N))
       (filled : Option ℕ) : Type 0 where
-    -- the first entry that waits and is no stream, those before it, and those behind it
     pub before : List (Entry T N)
     pub first : Entry T N
     pub later : List (Entry T N)
@@ -24,24 +23,19 @@ module _ {T N : Type 0} where
     pub passed : All IsPassed before
     pub waits : is_waiting first.mark ≡ true
     pub no_stream : first.kind ≢ Stream
-    -- those before it that wait are woken; it is filled with the front if it blocks, and else
-    -- woken; all others stay as they are
     pub new_are :
         new ≡ all_woken tell before
         ++ marked tell (if is_block first.kind then Filled front else Woken) first ∷ later
-    -- it is filled if it blocks, and no other is
     pub fills : filled ≡ (if is_block first.kind then Some first.ticket else None)
 
   -- a round that ends at none of the old entries leaves the new ones, and fills no ticket
   pub record EndsAtNone (tell : N → N) (old new : List (Entry T N)) (filled : Option ℕ)
       : Type 0 where
     pub passed : All IsPassed old
-    -- all that wait are woken, the others stay as they are, and none is filled
     pub new_are : new ≡ all_woken tell old
     pub fills : filled ≡ None
 
-  -- by its rule, a wake round over the old entries, where this is the front, leaves the new ones,
-  -- and fills this ticket, if any
+  -- a wake round with this front makes the old entries the new ones, and fills this ticket, if any
   abbrev pub IsWakeRound : (N → N) → T → List (Entry T N) → List (Entry T N) → Option ℕ → Type 0
   IsWakeRound tell front old new filled =
       EndsAtOne tell front old new filled ⊎ EndsAtNone tell old new filled

@@ -5,7 +5,6 @@ use crate::step::Kind;
 /// The state of a parked receiver.
 #[derive(Drop)]
 pub enum Mark<T> {
-    /// It waits.
     Waiting,
     /// It was woken, and hasn't asked since.
     Woken,

@@ -17,42 +17,38 @@ pub mod waits;
 use crate::step::Step;
 use std::alloc::Allocator;
 
-/// Of each run, the messages handed out, by a reply or by filling a receiver, are the kept offers,
-/// in order.
+/// In each run, messages are handed out in the order of the kept offers.
 pub fn hands_out_in_order<T, A: Allocator>()
     ensures law { (opening : Opening) (log : Log T A)
         → IsRun opening log → InOrder (entries opening log) log }
 {}
 
-/// What holds of each run held at each moment of it: order, the bound on woken receivers, and the
-/// bound on the queue.
+/// At each moment of a run, what holds of every run held: the order, and both bounds.
 pub fn what_holds_held_throughout<T, A: Allocator>()
     ensures law { (opening : Opening) (log : Log T A)
         → IsRun opening log → HoldsThroughout opening log }
 {}
 
-/// Of each run, the tickets of the offers rise: each is issued once.
+/// In each run, each ticket is issued once: the tickets of the offers rise.
 pub fn tickets_rise<T, A: Allocator>()
     ensures law { (opening : Opening) (log : Log T A)
         → IsRun opening log → TicketsRise opening log }
 {}
 
-/// In each run, no step moves the place of a message that was handed out: a withdrawal takes out
-/// one that wasn't.
+/// In each run, no step moves the place of a message that was handed out.
 pub fn withdrawals_move_nothing_handed_out<T, A: Allocator>()
     ensures law { (opening : Opening) (p : Step T × Reply T A) (past : Log T A)
         → IsRun opening (p ∷ past) → HandedOutStay p past }
 {}
 
-/// Of each run, a live ticket's offer is kept, and if its message was taken in, it was offered
-/// before all that are blocked.
+/// In each run, a live ticket's offer is kept, and an accepted one is before all blocked ones.
 pub fn accepted_tickets_are_below_blocked_ones<T, A: Allocator>()
     ensures kept { (opening : Opening) (log : Log T A) → IsRun opening log → LiveAreKept log }
     ensures below { (opening : Opening) (log : Log T A)
         → IsRun opening log → AcceptedBelowBlocked opening log }
 {}
 
-/// Of each run, a sender is blocked only if the queue is at or past the capacity.
+/// In each run, a sender is blocked only if the queue is at or past the capacity.
 pub fn senders_block_only_at_capacity<T, A: Allocator>()
     ensures law { (opening : Opening) (log : Log T A)
         → IsRun opening log → BlockedAtCapacity opening log }

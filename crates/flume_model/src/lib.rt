@@ -1,13 +1,9 @@
 //! The abstract channel: what a channel is, as definitions without code.
 //!
-//! - `step` has the steps that can be made on a channel, and the replies to them; `entry` has what
-//!   is known of a parked receiver.
-//! - `specs/` defines, from a list of steps with their replies, which messages were offered,
-//!   withdrawn and handed out, which receivers wait, and which reply is lawful next. A list of
-//!   which each reply is lawful is a *run*.
-//! - `laws` has what holds of every run: messages come in order, none is lost or doubled, and
-//!   enough waiting receivers are woken. Each law is a function that does nothing; its contract is
-//!   the law.
+//! - `step` has the steps and the replies to them; `entry` has the parked receivers.
+//! - `specs/` defines, from a list of steps with their replies, what was handed out, who waits, and
+//!   which reply is lawful next. If each reply of a list is lawful, it is a *run*.
+//! - `laws` has what holds of every run. Each law is the contract of a function that does nothing.
 //!
 //! Here is a run of a channel of capacity 1, in the text of `flume_script`:
 //!

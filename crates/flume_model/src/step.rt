@@ -36,13 +36,9 @@ pub enum Step<T> {
     Withdraw(u64),
     /// Ask for all queued messages.
     Drain,
-    /// One more sender.
     CloneSender,
-    /// One more receiver.
     CloneReceiver,
-    /// One sender leaves.
     DropSender,
-    /// One receiver leaves.
     DropReceiver,
     /// Set the capacity of a bounded channel.
     SetCapacity(usize),
@@ -52,11 +48,8 @@ pub enum Step<T> {
     IsEmpty,
     /// Ask whether the queue is at or past its capacity.
     IsFull,
-    /// Ask for the capacity.
     Capacity,
-    /// Ask how many senders live.
     SenderCount,
-    /// Ask how many receivers live.
     ReceiverCount,
     /// Ask whether the channel is closed.
     IsDisconnected,
@@ -66,8 +59,7 @@ pub enum Step<T> {
 #[derive(Clone, Drop)]
 #[derive_where(Debug, PartialEq, Eq; T)]
 pub enum Reply<T, A: Allocator = Global> {
-    /// The message was taken into the queue. `filled` is the ticket of the receiver that was handed
-    /// the front of the queue, if one was: this message, or an older one that was queued.
+    /// The message was taken into the queue. The receiver `filled`, if any, was handed its front.
     Sent { filled: Option<u64> },
     /// The queue has reached the capacity, and no receiver waits: the message comes back.
     Full(T),
@@ -79,12 +71,11 @@ pub enum Reply<T, A: Allocator = Global> {
     Spent(Option<T>),
     /// The message is blocked under this ticket.
     Pending(u64),
-    /// The message of the blocked send was taken into the queue; its ticket is live no more.
+    /// The message of the blocked send was taken into the queue. Its ticket is no longer live.
     Accepted,
     /// The message of the blocked send is still blocked, or the parked receiver waits on.
     Waiting,
-    /// The message of the blocked send comes back, and its ticket is live no more; `closed` says
-    /// whether the channel is closed.
+    /// The message of the blocked send comes back. Its ticket is no longer live.
     Returned { message: T, closed: bool },
     /// No live ticket of this kind has this number.
     NoTicket,
@@ -96,20 +87,17 @@ pub enum Reply<T, A: Allocator = Global> {
     Ended,
     /// The receiver is parked under this ticket.
     Parked(u64),
-    /// The parked receiver has left, with no message; `closed` says whether the channel is closed.
-    /// The wake that it passed on filled the receiver with ticket `filled`, if it filled one.
+    /// The parked receiver left with no message. The wake that it passed on filled
+    /// the receiver `filled`, if any.
     Gone { closed: bool, filled: Option<u64> },
     /// All messages that were queued, in order.
     Drained(Vec<T, A>),
-    /// Done as asked.
     Done,
     /// There is no such end left.
     NoEnd,
     /// There are as many such ends as can be counted.
     CountFull,
-    /// A number, as asked.
     Number(usize),
-    /// A truth value, as asked.
     Truth(bool),
     /// The capacity, or `None` if unbounded.
     Capacity(Option<usize>),

@@ -1,4 +1,4 @@
--- What a recording says of a call's result.
+-- The recorded answer for each result of a call.
 use Rattle.std.specs.Prelude.{ℕ, Bool, true, false, Result, Ok, Err, Option, Some, None}
 use Rattle.flume_core.specs.declared.error.CapacityError.{CapacityError}
 use Rattle.flume_core.specs.declared.error.CapacityError.TheVariants as capacity_error
@@ -60,7 +60,7 @@ module _ {T A : Type 0} where
   try_receive_answer (Err try_recv.Disconnected) = answer.Disconnected
   try_receive_answer (Err try_recv.NoMemory) = answer.NoMemory
 
-  -- of a new capacity
+  -- of setting a capacity
   abbrev pub set_capacity_answer : Result (Unit {0}) CapacityError → Answer T A
   set_capacity_answer (Ok done) = answer.Done
   set_capacity_answer (Err capacity_error.Unbounded) = answer.Unbounded
@@ -86,7 +86,7 @@ module _ {T : Type 0} where
   future_send_answer (Err (send.Disconnected back)) = Some future.Disconnected
   future_send_answer (Err (send.NoMemory back)) = Some future.NoMemory
 
-  -- of a receive as a future, given whether it had waited before: one that waits isn't over when an
+  -- of a receive as a future, given whether it was pending before: one that waits isn't over if an
   -- allocation fails
   abbrev pub future_receive_answer : Result T RecvError → Bool → Option (FutureAnswer T)
   future_receive_answer (Ok message) waited = Some (future.Got message)

@@ -20,7 +20,8 @@ module _ {A : Type 0} where
   -- the line of an event
   abbrev pub line_text : Event ℕ A → List ℕ
   line_text (Begins thread call) = whole_line (begins_line (decimal thread) (call_text call))
-  line_text (Returns thread answer) = whole_line (returns_line (decimal thread) (answer_text answer))
+  line_text (Returns thread answer) =
+      whole_line (returns_line (decimal thread) (answer_text answer))
 
   -- the opening line, and then the line of each event, in order
   abbrev pub recording_text : Option ℕ → List (Event ℕ A) → List ℕ

@@ -1,4 +1,4 @@
-//! What a recording says of a call's result.
+//! The recorded answer for each result of a call.
 ghost use Rattle.std.specs.Prelude.{◌≡◌};
 ghost use Rattle.flume_recorder.specs.Answers as spec;
 
@@ -9,7 +9,6 @@ use flume::error::{
 use flume_concurrent::call::Answer;
 use std::alloc::Allocator;
 
-/// What a blocking send returned.
 pub(crate) fn send_answer<T: Drop, A: Allocator>(outcome: &Result<(), SendError<T>>) -> Answer<T, A>
     ensures value { result ≡ spec.send_answer outcome.now }
 {
@@ -20,7 +19,6 @@ pub(crate) fn send_answer<T: Drop, A: Allocator>(outcome: &Result<(), SendError<
     }
 }
 
-/// What a send with a deadline returned.
 pub(crate) fn timed_send_answer<T: Drop, A: Allocator>(
     outcome: &Result<(), SendTimeoutError<T>>,
 ) -> Answer<T, A>
@@ -34,7 +32,6 @@ pub(crate) fn timed_send_answer<T: Drop, A: Allocator>(
     }
 }
 
-/// What a send that doesn't wait returned.
 pub(crate) fn try_send_answer<T: Drop, A: Allocator>(
     outcome: &Result<(), TrySendError<T>>,
 ) -> Answer<T, A>
@@ -48,7 +45,6 @@ pub(crate) fn try_send_answer<T: Drop, A: Allocator>(
     }
 }
 
-/// What a blocking receive returned.
 pub(crate) fn receive_answer<T: Copy, A: Allocator>(outcome: &Result<T, RecvError>) -> Answer<T, A>
     ensures value { result ≡ spec.receive_answer outcome.now }
 {
@@ -59,7 +55,6 @@ pub(crate) fn receive_answer<T: Copy, A: Allocator>(outcome: &Result<T, RecvErro
     }
 }
 
-/// What a receive with a deadline returned.
 pub(crate) fn timed_receive_answer<T: Copy, A: Allocator>(
     outcome: &Result<T, RecvTimeoutError>,
 ) -> Answer<T, A>
@@ -73,7 +68,6 @@ pub(crate) fn timed_receive_answer<T: Copy, A: Allocator>(
     }
 }
 
-/// What a receive that doesn't wait returned.
 pub(crate) fn try_receive_answer<T: Copy, A: Allocator>(
     outcome: &Result<T, TryRecvError>,
 ) -> Answer<T, A>
@@ -87,7 +81,6 @@ pub(crate) fn try_receive_answer<T: Copy, A: Allocator>(
     }
 }
 
-/// What the setting of a capacity returned.
 pub(crate) fn set_capacity_answer<T, A: Allocator>(
     outcome: &Result<(), CapacityError>,
 ) -> Answer<T, A>

@@ -27,7 +27,7 @@ use std::alloc::{Allocator, Global};
 /// }
 /// ```
 pub trait CallFuture<T>: Future {
-    // What an output says of the call, given whether the future had waited before.
+    // What an output says of the call, given whether the future was pending before.
     ghost returned: { Self.Output → Bool → Option (FutureAnswer T) };
 
     /// What the call returned, if this output ends it. A receive that waits, and whose next poll is
@@ -61,8 +61,8 @@ impl<T: Copy + Drop, R: Waits, C: Allocator + Copy> CallFuture<T> for RecvFut<'_
     }
 }
 
-/// A send or a receive as a future, which hands its call's result to its recorder. It has a thread
-/// number of its own. Once its call is over it is pending; dropped before, it records that.
+/// A send or a receive as a future, which gives its result to its recorder. It has a thread number
+/// of its own. Once its call is over it is pending; if it is dropped before, it records that.
 ///
 /// ```
 /// assert_eq!(rt; block_on(&rt, recorder.send_async(&tx, 7))?, Ok(()));
@@ -146,8 +146,7 @@ impl<F: CallFuture<T>, T: Copy + Drop, A: Allocator> Drop for RecordedFuture<F, 
 }
 
 impl<T: Copy + Drop, A: Allocator + Copy> Recorder<T, A> {
-    /// Makes the future of `Sender::send_async`, whose call begins here, and which records its
-    /// result.
+    /// The future of `Sender::send_async`, whose call begins here.
     ///
     /// ```
     /// assert_eq!(rt; block_on(&rt, recorder.send_async(&tx, 7))?, Ok(()));
@@ -165,8 +164,7 @@ impl<T: Copy + Drop, A: Allocator + Copy> Recorder<T, A> {
         RecordedFuture::new(tx.send_async(message), slot)
     }
 
-    /// Makes the future of `Receiver::recv_async`, whose call begins here, and which records its
-    /// result.
+    /// The future of `Receiver::recv_async`, whose call begins here.
     ///
     /// ```
     /// recorder.send(&tx, 7)?;

@@ -2,8 +2,7 @@
 
 use std::sync::atomic::{AtomicU64, Ordering};
 
-/// How many stamps were given, how many threads and futures have numbers, and how many recorders
-/// were made.
+/// How many stamps were given, threads and futures numbered, and recorders made.
 #[derive(Drop)]
 pub(crate) struct Counters {
     stamps: AtomicU64,
@@ -12,7 +11,6 @@ pub(crate) struct Counters {
 }
 
 impl Counters {
-    /// No stamp, thread or recorder.
     pub(crate) fn new() -> Self {
         Counters {
             stamps: AtomicU64::new(0),
@@ -21,22 +19,20 @@ impl Counters {
         }
     }
 
-    /// The next stamp. Of two the later one is greater.
+    // Of two stamps the later one is greater.
     pub(crate) fn next_stamp(&self) -> u64 {
         self.stamps.fetch_add(1, Ordering::SeqCst)
     }
 
-    /// The number of one more thread or future.
+    // Threads and futures are numbered together.
     pub(crate) fn next_thread(&self) -> usize {
         self.threads.fetch_add(1, Ordering::SeqCst) as usize
     }
 
-    /// Counts one more recorder.
     pub(crate) fn count_recorder(&self) {
         self.recorders.fetch_add(1, Ordering::SeqCst);
     }
 
-    /// How many recorders were made.
     pub(crate) fn recorder_count(&self) -> u64 {
         self.recorders.load(Ordering::SeqCst)
     }

@@ -25,9 +25,8 @@ use std::collections::VecDeque;
 /// ```
 #[derive(Drop)]
 pub enum DrainedMessages<'a, T: Drop, C: Allocator, A: Allocator = Global> {
-    /// As the drain gave them: they couldn't be recorded, since an allocation failed.
+    /// The drain's own: they weren't recorded, since an allocation failed.
     Own(Drain<'a, T, C>),
-    /// A list of their own.
     List(VecDeque<T, A>),
 }
 
@@ -88,7 +87,6 @@ impl<T: Copy + Drop, A: Allocator + Copy> Recorder<T, A> {
         }
     }
 
-    // A drain that began at this stamp returns these messages now, which are handed on.
     fn record_drain<'a, C: Allocator>(
         &mut self,
         began: u64,
@@ -98,7 +96,7 @@ impl<T: Copy + Drop, A: Allocator + Copy> Recorder<T, A> {
         ensures same { messages_of result ≡ messages.entry }
     {
         let Ok(list) = Vec::with_capacity(self.alloc, messages.len()) else {
-            self.lose();
+            self.mark_incomplete();
             return DrainedMessages::Own(messages);
         };
         let list = list_of(messages, list);
@@ -110,7 +108,7 @@ impl<T: Copy + Drop, A: Allocator + Copy> Recorder<T, A> {
         ensures recorded { Records self.old self.new Call.Drain (Answer.Drained messages.now) }
     {
         let Ok(copy) = Vec::from_slice(self.alloc, messages) else {
-            self.lose();
+            self.mark_incomplete();
             return;
         };
         self.record(began, Call::Drain, Answer::Drained(Messages::new(copy)));

@@ -8,7 +8,7 @@ use flume::{Receiver, Sender, Waits};
 use flume_model::step::{Reply, Step};
 use std::alloc::Allocator;
 
-/// An end of a channel: a sender or a receiver. Each method is the end's own of that name.
+/// A sender or a receiver. Each method is its own of that name.
 ///
 /// ```
 /// fn ask(recorder: &mut Recorder<u64>, end: &impl End) -> usize {
@@ -16,40 +16,38 @@ use std::alloc::Allocator;
 /// }
 /// ```
 pub trait End {
-    /// The type of the messages.
     type Message;
     /// The channel's allocator.
     type Memory: Allocator;
 
-    /// How many messages are queued.
     fn len(&self) -> usize
         ensures made { HasReplied {T = Self.Message} {A = Self.Memory} Step.Len
             (Reply.Number result) };
-    /// Whether no message is queued.
+
     fn is_empty(&self) -> bool
         ensures made { HasReplied {T = Self.Message} {A = Self.Memory} Step.IsEmpty
             (Reply.Truth result) };
-    /// Whether the queue is at or past the capacity.
+
     fn is_full(&self) -> bool
         ensures made { HasReplied {T = Self.Message} {A = Self.Memory} Step.IsFull
             (Reply.Truth result) };
-    /// The capacity, or `None` if unbounded.
+
     fn capacity(&self) -> Option<usize>
         ensures made { HasReplied {T = Self.Message} {A = Self.Memory} Step.Capacity
             (Reply.Capacity result) };
-    /// How many senders live.
+
     fn sender_count(&self) -> usize
         ensures made { HasReplied {T = Self.Message} {A = Self.Memory} Step.SenderCount
             (Reply.Number result) };
-    /// How many receivers live.
+
     fn receiver_count(&self) -> usize
         ensures made { HasReplied {T = Self.Message} {A = Self.Memory} Step.ReceiverCount
             (Reply.Number result) };
-    /// Whether all receivers, or all senders, have been dropped.
+
     fn is_disconnected(&self) -> bool
         ensures made { HasReplied {T = Self.Message} {A = Self.Memory} Step.IsDisconnected
             (Reply.Truth result) };
-    /// Sets the capacity.
+
     fn set_capacity(&self, capacity: usize) -> Result<(), CapacityError>
         ensures made { HasMade {T = Self.Message} {A = Self.Memory} (Step.SetCapacity capacity)
             after_set_capacity result };

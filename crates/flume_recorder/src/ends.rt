@@ -2,7 +2,7 @@
 ghost use Rattle.std.specs.Prelude.{◌≡◌, IfOk, IfSome, OnErr, IsTrue};
 ghost use Rattle.flume.specs.CallSteps.{HasReplied, upgrade_reply};
 ghost use Rattle.flume_recorder.specs.Answers as spec;
-ghost use Rattle.flume_recorder.specs.Records.{Records, is_whole};
+ghost use Rattle.flume_recorder.specs.Records.{Records, is_complete};
 
 use crate::recorder::Recorder;
 use flume::error::NoMemory;
@@ -12,8 +12,8 @@ use flume_model::step::{Reply, Step};
 use std::alloc::{AllocError, Allocator};
 
 impl<T: Copy + Drop, A: Allocator + Copy> Recorder<T, A> {
-    /// Clones a sender. If that is refused, since no more ends can be counted, it isn't known which
-    /// step was made, and the recorder isn't complete any more.
+    /// Clones a sender. If no more senders can be counted, it isn't known which step was made, and
+    /// the recorder isn't complete any more.
     ///
     /// ```
     /// let other = recorder.clone_sender(&tx)?;
@@ -24,7 +24,7 @@ impl<T: Copy + Drop, A: Allocator + Copy> Recorder<T, A> {
     ) -> Result<Sender<T, R, C>, AllocError>
         ensures recorded { IfOk result (λ _.
             Records self.old self.new Call.CloneSender Answer.Done) }
-        ensures refused { OnErr result (IsTrue (is_whole self.new) → ⊥) }
+        ensures refused { OnErr result (IsTrue (is_complete self.new) → ⊥) }
         ensures same { IfOk result (λ copy. copy ≡ tx.now) }
         ensures made { IfOk result (λ _. HasReplied {T = T} {A = C} Step.CloneSender Reply.Done) }
     {
@@ -33,7 +33,7 @@ impl<T: Copy + Drop, A: Allocator + Copy> Recorder<T, A> {
         if result.is_ok() {
             self.record(began, Call::CloneSender, Answer::Done);
         } else {
-            self.lose();
+            self.mark_incomplete();
         }
         result
     }
@@ -49,7 +49,7 @@ impl<T: Copy + Drop, A: Allocator + Copy> Recorder<T, A> {
     ) -> Result<Receiver<T, R, C>, AllocError>
         ensures recorded { IfOk result (λ _.
             Records self.old self.new Call.CloneReceiver Answer.Done) }
-        ensures refused { OnErr result (IsTrue (is_whole self.new) → ⊥) }
+        ensures refused { OnErr result (IsTrue (is_complete self.new) → ⊥) }
         ensures same { IfOk result (λ copy. copy ≡ rx.now) }
         ensures made { IfOk result (λ _. HasReplied {T = T} {A = C} Step.CloneReceiver Reply.Done) }
     {
@@ -58,13 +58,13 @@ impl<T: Copy + Drop, A: Allocator + Copy> Recorder<T, A> {
         if result.is_ok() {
             self.record(began, Call::CloneReceiver, Answer::Done);
         } else {
-            self.lose();
+            self.mark_incomplete();
         }
         result
     }
 
-    /// Makes a sender of a weak one, by `WeakSender::upgrade`, and records it as a clone of a
-    /// sender. A refusal has the same effect as in `clone_sender`.
+    /// Calls `WeakSender::upgrade`, and records a clone of a sender; a refusal has the same effect
+    /// as in `clone_sender`.
     ///
     /// ```
     /// let weak = tx.downgrade()?;
@@ -76,7 +76,7 @@ impl<T: Copy + Drop, A: Allocator + Copy> Recorder<T, A> {
     ) -> Result<Option<Sender<T, R, C>>, NoMemory>
         ensures recorded { IfOk result (λ sender. Records self.old self.new Call.CloneSender
             (spec.upgrade_answer sender)) }
-        ensures refused { OnErr result (IsTrue (is_whole self.new) → ⊥) }
+        ensures refused { OnErr result (IsTrue (is_complete self.new) → ⊥) }
         ensures same { IfOk result (λ sender. IfSome sender (λ s. s ≡ weak.now)) }
         ensures made { IfOk result (λ sender.
             HasReplied {T = T} {A = C} Step.CloneSender (upgrade_reply sender)) }
@@ -86,7 +86,7 @@ impl<T: Copy + Drop, A: Allocator + Copy> Recorder<T, A> {
         match &result {
             Ok(Some(_)) => self.record(began, Call::CloneSender, Answer::Done),
             Ok(None) => self.record(began, Call::CloneSender, Answer::NoEnd),
-            Err(_) => self.lose(),
+            Err(_) => self.mark_incomplete(),
         }
         result
     }

@@ -1,9 +1,8 @@
 //! Records what threads do on a channel: when each of their calls began, and what it returned.
 //!
-//! A `Recording` makes a `Recorder` for each thread. Each call of an end has a method of the
-//! recorder, which makes the call and hands its result on. At the end `Recording::events` puts what
-//! all of them recorded into one list, in the order of time, and `write_recording` writes it as
-//! text, which `flume_recording` reads.
+//! A `Recording` makes a `Recorder` for each thread, which has a method for each call of an end. At
+//! the end `Recording::events` merges what they recorded in the order of time, and
+//! `write_recording` writes it as text, which `flume_recording` reads.
 //!
 //! ```
 //! let recording = Recording::new(rt.alloc())?;
@@ -23,20 +22,18 @@
 //! # When a call began and when it returned
 //!
 //! All recorders share one number. A call takes the next one just before it begins, and the next
-//! one just after it has returned. So a call that returned before another began has the smaller
-//! number, and each step of a call lies between its two numbers. Nothing else is shared: a recorder
-//! takes no lock.
+//! one just after it has returned. So each step of a call lies between its two numbers. Nothing
+//! else is shared: a recorder takes no lock.
 //!
-//! # When memory is refused
+//! # If an allocation fails
 //!
 //! The call is made all the same, and its result is handed on. The recorder isn't complete then,
 //! and `Recording::events` answers `Incomplete`.
 //!
 //! # What isn't recorded
 //!
-//! Selections, iterators, streams, sinks, and calls of many messages. Nor `Sender::downgrade`, which
-//! makes no step of the channel. A thread that makes such a call on the channel makes the recording
-//! wrong.
+//! Selections, iterators, streams, sinks, and calls of many messages: a thread that makes one makes
+//! the recording wrong. `Sender::downgrade` makes no step of the channel, and isn't recorded.
 #![tactic(auto)]
 
 mod answers;

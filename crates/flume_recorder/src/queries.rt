@@ -14,7 +14,7 @@ use flume_model::step::{Reply, Step};
 use std::alloc::Allocator;
 
 impl<T: Copy + Drop, A: Allocator + Copy> Recorder<T, A> {
-    /// Asks the end how many messages are queued.
+    /// Calls `len` of the end: how many messages are queued.
     ///
     /// ```
     /// assert_eq!(rt; recorder.len(&rx), 0);
@@ -30,7 +30,7 @@ impl<T: Copy + Drop, A: Allocator + Copy> Recorder<T, A> {
         result
     }
 
-    /// Asks the end whether no message is queued.
+    /// Calls `is_empty` of the end: whether no message is queued.
     ///
     /// ```
     /// assert!(rt; recorder.is_empty(&rx));
@@ -46,7 +46,7 @@ impl<T: Copy + Drop, A: Allocator + Copy> Recorder<T, A> {
         result
     }
 
-    /// Asks the end whether the queue is at or past the capacity.
+    /// Calls `is_full` of the end: whether the queue is at or past the capacity.
     ///
     /// ```
     /// assert!(rt; !recorder.is_full(&tx));
@@ -62,7 +62,7 @@ impl<T: Copy + Drop, A: Allocator + Copy> Recorder<T, A> {
         result
     }
 
-    /// Asks the end the capacity.
+    /// Calls `capacity` of the end: `None` if unbounded.
     ///
     /// ```
     /// assert_eq!(rt; recorder.capacity(&tx), Some(1));
@@ -78,7 +78,7 @@ impl<T: Copy + Drop, A: Allocator + Copy> Recorder<T, A> {
         result
     }
 
-    /// Asks the end how many senders live.
+    /// Calls `sender_count` of the end.
     ///
     /// ```
     /// assert_eq!(rt; recorder.sender_count(&tx), 1);
@@ -94,7 +94,7 @@ impl<T: Copy + Drop, A: Allocator + Copy> Recorder<T, A> {
         result
     }
 
-    /// Asks the end how many receivers live.
+    /// Calls `receiver_count` of the end.
     ///
     /// ```
     /// assert_eq!(rt; recorder.receiver_count(&tx), 1);
@@ -110,7 +110,7 @@ impl<T: Copy + Drop, A: Allocator + Copy> Recorder<T, A> {
         result
     }
 
-    /// Asks the end whether the channel is closed.
+    /// Calls `is_disconnected` of the end: whether the channel is closed.
     ///
     /// ```
     /// assert!(rt; !recorder.is_disconnected(&tx));
@@ -126,7 +126,7 @@ impl<T: Copy + Drop, A: Allocator + Copy> Recorder<T, A> {
         result
     }
 
-    /// Sets the capacity by the end's `set_capacity`.
+    /// Calls `set_capacity` of the end.
     ///
     /// ```
     /// assert_eq!(rt; recorder.set_capacity(&tx, 2), Ok(()));

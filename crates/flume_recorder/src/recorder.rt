@@ -1,7 +1,7 @@
 //! The recorder of a thread.
 ghost use Rattle.std.specs.Prelude.{◌≡◌, IsTrue, List, [], ◌∷◌};
 ghost use Rattle.flume_recorder.specs.Records.{Adds, BeginsFuture, Records};
-ghost use Rattle.flume_recorder.specs.Records.{events_of, is_whole};
+ghost use Rattle.flume_recorder.specs.Records.{events_of, is_complete};
 
 use crate::counters::Counters;
 use crate::slot::{FutureSlot, Slot, SlotWriter};
@@ -17,7 +17,7 @@ pub(crate) struct Entry<T: Drop, A: Allocator> {
     pub(crate) event: Event<T, A>,
 }
 
-/// What a thread records of its calls. `Recording::recorder` makes one. Each call of an end is a
+/// What a thread records of its calls. `Recording::recorder` makes one. Each call of an end has a
 /// method, which makes the call and hands its result on.
 ///
 /// ```
@@ -37,10 +37,10 @@ pub struct Recorder<T: Drop, A: Allocator + Copy = Global> {
 }
 
 impl<T: Copy + Drop, A: Allocator + Copy> Recorder<T, A> {
-    /// One that has recorded nothing. Doesn't allocate.
+    // Doesn't allocate.
     pub(crate) fn new(alloc: A, counters: Arc<Counters, A>) -> Self
         ensures none { events_of result ≡ [] }
-        ensures whole { IsTrue (is_whole result) }
+        ensures whole { IsTrue (is_complete result) }
     {
         counters.count_recorder();
         let thread = counters.next_thread();
@@ -61,20 +61,19 @@ impl<T: Copy + Drop, A: Allocator + Copy> Recorder<T, A> {
     /// assert!(rt; recorder.is_complete());
     /// ```
     pub fn is_complete(&self) -> bool
-        ensures whole { result ≡ is_whole self.now }
+        ensures whole { result ≡ is_complete self.now }
     {
         self.is_complete
     }
 
-    /// From now on the recorder isn't complete.
-    pub(crate) fn lose(&mut self)
+    pub(crate) fn mark_incomplete(&mut self)
         ensures added { (events : List (Event T A)) → Adds self.old self.new events }
-        ensures lost { IsTrue (is_whole self.new) → ⊥ }
+        ensures lost { IsTrue (is_complete self.new) → ⊥ }
     {
         self.is_complete = false;
     }
 
-    /// The stamp of a call that begins now.
+    // The stamp of a call that begins now.
     pub(crate) fn begin(&self) -> u64 {
         self.counters.next_stamp()
     }
@@ -83,11 +82,10 @@ impl<T: Copy + Drop, A: Allocator + Copy> Recorder<T, A> {
         ensures added { Adds self.old self.new (event ∷ []) }
     {
         if self.entries.push(Entry { stamp, event }).is_err() {
-            self.lose();
+            self.mark_incomplete();
         }
     }
 
-    /// A call that began at this stamp returns now.
     pub(crate) fn record(&mut self, began: u64, call: Call<T>, answer: Answer<T, A>)
         ensures recorded { Records self.old self.new call answer }
     {
@@ -97,15 +95,15 @@ impl<T: Copy + Drop, A: Allocator + Copy> Recorder<T, A> {
         self.keep(returned, Event::Returns { thread, answer });
     }
 
-    /// A future's call begins now, under a number of its own. The answer is what the future writes
-    /// its result into; `None` if an allocation failed.
+    // The future gets a number of its own, and writes its result into the slot. `None`: an
+    // allocation failed.
     pub(crate) fn begin_future(&mut self, call: Call<T>) -> Option<SlotWriter<T, A>>
         ensures begun { BeginsFuture self.old self.new call }
     {
         let thread = self.counters.next_thread();
         let slot = self.place_future(thread);
         if slot.is_none() {
-            self.lose();
+            self.mark_incomplete();
         }
         let stamp = self.counters.next_stamp();
         self.keep(stamp, Event::Begins { thread, call });

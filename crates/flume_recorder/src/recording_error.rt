@@ -13,9 +13,8 @@ use std::{fmt, io};
 /// Why there is no list of events.
 #[derive(Clone, Copy, Debug, PartialEq, Eq, Drop)]
 pub enum RecordingError {
-    /// The list couldn't be allocated.
     NoMemory,
-    /// A recorder isn't complete: an allocation failed while it recorded.
+    /// An allocation failed while a recorder recorded.
     Incomplete,
     /// Not all recorders that were made are there.
     Missing,
@@ -33,7 +32,7 @@ impl RecordingError {
     }
 }
 
-/// One text for each case, padded and cut as text is.
+// One text for each case, padded and cut as text is.
 impl fmt::Display for RecordingError {
     ghost output = { λ e. Some (error_text e) };
 
@@ -54,7 +53,7 @@ impl From<AllocError> for RecordingError {
     }
 }
 
-/// `InvalidInput` if a recorder is missing, and else `OutOfMemory`.
+// `InvalidInput` if a recorder is missing, and else `OutOfMemory`.
 impl From<RecordingError> for io::Error {
     ghost from_gives = { λ e error. error_kind error ≡ kind_of e };
 

@@ -10,13 +10,9 @@ use std::sync::{Arc, OnceLock};
 /// What a future's call returned.
 #[derive(Clone, Copy, Drop)]
 pub enum FutureAnswer<T> {
-    /// Its message was sent.
     Sent,
-    /// It received this message.
     Got(T),
-    /// The channel is closed.
     Disconnected,
-    /// Out of memory.
     NoMemory,
     /// It was dropped before it was ready.
     Dropped,
@@ -29,17 +25,17 @@ pub(crate) struct Return<T> {
     pub(crate) answer: FutureAnswer<T>,
 }
 
-/// A place for one future's return. It is empty until the future's call returns.
+/// Empty until the future's call returns.
 pub(crate) type Slot<T> = OnceLock<Return<T>>;
 
-/// The future's side: where it writes when its call returned, and what.
+/// The future's side.
 #[derive(Drop)]
 pub(crate) struct SlotWriter<T: Drop, A: Allocator> {
     pub(crate) counters: Arc<Counters, A>,
     pub(crate) slot: Arc<Slot<T>, A>,
 }
 
-/// The recorder's side: the number of the future, and its place.
+/// The recorder's side; `thread` is the number of the future.
 #[derive(Drop)]
 pub(crate) struct FutureSlot<T: Drop, A: Allocator> {
     pub(crate) thread: usize,
@@ -47,14 +43,13 @@ pub(crate) struct FutureSlot<T: Drop, A: Allocator> {
 }
 
 impl<T: Copy + Drop, A: Allocator> SlotWriter<T, A> {
-    /// The call has returned this. What is written after the first time isn't kept.
+    // Only the first answer is kept.
     pub(crate) fn write(&self, answer: FutureAnswer<T>) {
         let stamp = self.counters.next_stamp();
         let _ = self.slot.try_set(Return { stamp, answer });
     }
 }
 
-/// What a recording says of it.
 pub(crate) fn answer_of<T: Copy, A: Allocator>(answer: FutureAnswer<T>) -> Answer<T, A>
     ensures value { result ≡ recorded_answer answer }
 {

@@ -35,18 +35,18 @@ module _ {A : Type 0} where
   thread_of (Begins thread call) = thread
   thread_of (Returns thread answer) = thread
 
-  -- the text of an event, where the threads have these names
+  -- the text of an event, with these names of the threads
   abbrev pub event_text : List (List ℕ) → Event ℕ A → List ℕ
   event_text names (Begins thread call) = begins_line (name_of names thread) (call_text call)
   event_text names (Returns thread answer) =
       returns_line (name_of names thread) (answer_text answer)
 
-  -- the numbers of an event are numbers of 64 bits
+  -- the event's numbers fit 64 bits
   abbrev pub EventFits : Event ℕ A → Type 0
   EventFits (Begins thread call) = FitsIfAny (call_number call)
   EventFits (Returns thread answer) = AnswerFits answer
 
-  -- the line is this event, where the threads have these names
+  -- the line is this event, with these names of the threads
   pub record IsEventLine (names : List (List ℕ)) (line : List ℕ) (event : Event ℕ A) : Type 0 where
     pub line_is : line ≡ event_text names event
     pub fits : EventFits event
@@ -70,8 +70,7 @@ HasNoParts line =
     (name text : List ℕ) → IsName name
     → (¬ (line ≡ begins_line name text)) × (¬ (line ≡ returns_line name text))
 
--- why a line is no event: it isn't a name with a colon or an arrow, or what follows is no call, or
--- no answer
+-- why a line is no event
 abbrev pub IsFault : Type 0 → List ℕ → Fault → Type 0
 IsFault A line NoEvent = HasNoParts line
 IsFault A line NoCall =

@@ -5,21 +5,19 @@ use Rattle.flume_concurrent.specs.declared.event.Event.{Event}
 use Rattle.flume_recording.specs.EventLines.{IsEventLine, name_of, thread_of}
 use Rattle.flume_recording.specs.Recordings.{asking_after, IsReadBy}
 
--- whether the list says so of a thread; of a thread that isn't in the list it doesn't
+-- whether the last call of the thread asked for the capacity, by this list
 abbrev pub asking_in : List Bool → ℕ → Bool
 asking_in asking thread = slice_index_or asking thread false
 
--- This is the thread of the name: it had the name before, and the names stay; or no thread had it,
--- and it is the next thread, whose name is put last.
+-- this is the thread of the name, which had it before; or the next thread, whose name is put last
 abbrev pub IsThreadOf : List (List ℕ) → List ℕ → ℕ → List (List ℕ) → Type 0
 IsThreadOf names name thread names' =
     ((thread < length names) × (name_of names thread ≡ name) × (names' ≡ names))
     ⊎ (((t : ℕ) → t < length names → ¬ (name_of names t ≡ name))
     × (thread ≡ length names) × (names' ≡ names ++ name ∷ []))
 
--- The line is this event of a thread that had its name before or is the next one, where threads had
--- these names before it and have those after it, and the last calls of these threads asked for the
--- capacity before it and of those after it.
+-- the line is this event, of a thread that had its name before or is the next one; `names` and
+-- `asking` are those before the line, `names'` and `asking'` those after it
 pub record IsNextEvent {A : Type 0} (names : List (List ℕ)) (asking : ℕ → Bool) (line : List ℕ)
     (event : Event ℕ A) (names' : List (List ℕ)) (asking' : ℕ → Bool) : Type 0 where
   pub name : List ℕ

@@ -29,14 +29,14 @@ AreDistinct names =
     (t u : ℕ) → t < u → u < length names → ¬ (name_of names t ≡ name_of names u)
 
 module _ {A : Type 0} where
-  -- The threads are numbered in the order in which they appear first: if this many have appeared,
-  -- each event is of one of them, or of the next one. In the end as many have appeared as `count`.
+  -- the threads are numbered as they appear first: if `known` have appeared, each event is of one
+  -- of them or of the next one, and in the end `count` have
   abbrev pub AreNumbered : ℕ → List (Event ℕ A) → ℕ → Type 0
   AreNumbered known [] count = known ≡ count
   AreNumbered known (event ∷ events) count =
       (thread_of event ≤ known) × AreNumbered (max known (thread_of event + 1)) events count
 
-  -- which threads' last call asked for the capacity, after an event
+  -- which threads asked for the capacity last, after an event
   abbrev pub asking_after : (ℕ → Bool) → Event ℕ A → ℕ → Bool
   asking_after asking (Begins thread call) u =
       if u == thread then asks_capacity call else asking u
@@ -47,8 +47,7 @@ module _ {A : Type 0} where
   IsReadBy asking (Begins thread call) = Unit {0}
   IsReadBy asking (Returns thread answer) = IsNumberOf (asking thread) answer
 
-  -- Each answer that is a number is a capacity if the last call that its thread began asked for
-  -- one, and else a number.
+  -- an answer that is a number is a capacity exactly if its thread's last call asked for one
   abbrev pub AreReadByCalls : (ℕ → Bool) → List (Event ℕ A) → Type 0
   AreReadByCalls asking [] = Unit {0}
   AreReadByCalls asking (event ∷ events) =
@@ -71,7 +70,7 @@ pub record IsRecordingText {A : Type 0} (lines : List (List ℕ)) (capacity : Op
   pub opens : IsOpeningLine first capacity
   pub events_are : AreEventLines rest events names
 
--- of these lines, this many are events, and the next one is none, for this reason
+-- this many of the lines are events, and the next one is none, for this reason
 pub record EventsUpTo (A : Type 0) (lines : List (List ℕ)) (place : ℕ) (fault : Fault)
     : Type 0 where
   pub before : List (List ℕ)
@@ -85,8 +84,7 @@ pub record EventsUpTo (A : Type 0) (lines : List (List ℕ)) (place : ℕ) (faul
   pub reason : IsFault A line fault
   pub place_is : length before ≡ place
 
--- the first wrong line has this number, counted from 1, and is wrong for this reason; if there is
--- no line, the first is wrong
+-- the first wrong line has this number, counted from 1, and this fault; without any line, it is 1
 abbrev pub IsFirstWrongEvent : Type 0 → List (List ℕ) → ℕ → Fault → Type 0
 IsFirstWrongEvent A [] number fault = (number ≡ 1) × (fault ≡ NoOpening)
 IsFirstWrongEvent A (first ∷ rest) number fault =
@@ -105,12 +103,12 @@ IsLinesReading input (lines_read.Right events names) =
 IsLinesReading {A} input (lines_read.Wrong place fault) = EventsUpTo A (lines input) place fault
 
 -- if a line is no event, fewer than this many are before it
-abbrev pub IsWithin : {A : Type 0} → Lines A → ℕ → Type 0
-IsWithin (lines_read.Wrong place fault) count = place < count
-IsWithin _ count = Unit {0}
+abbrev pub IsWrongWithin : {A : Type 0} → Lines A → ℕ → Type 0
+IsWrongWithin (lines_read.Wrong place fault) count = place < count
+IsWrongWithin _ count = Unit {0}
 
 -- the bytes are a recording of these events, or this line of them is the first wrong
-abbrev pub IsReading : {A : Type 0} → List ℕ → Recording A → Type 0
-IsReading input (Right capacity events names) =
+abbrev pub IsRecordingReading : {A : Type 0} → List ℕ → Recording A → Type 0
+IsRecordingReading input (Right capacity events names) =
     IsRecordingText (lines input) capacity events.items (names_of names.items)
-IsReading {A} input (Wrong line fault) = IsFirstWrongEvent A (lines input) line fault
+IsRecordingReading {A} input (Wrong line fault) = IsFirstWrongEvent A (lines input) line fault

@@ -69,16 +69,16 @@ worded word (Some number) = word ++ 32 ∷ decimal number
 abbrev pub call_text : Call ℕ → List ℕ
 call_text call = worded (call_word call) (call_number call)
 
--- it is a number of 64 bits
+-- the number fits 64 bits
 abbrev pub FitsWord : ℕ → Type 0
 FitsWord number = number < 2 ^ 64
 
--- if there is a number, it is one of 64 bits
+-- if there is a number, it fits 64 bits
 abbrev pub FitsIfAny : Option ℕ → Type 0
 FitsIfAny None = Unit {0}
 FitsIfAny (Some number) = FitsWord number
 
--- it is the text of this call, whose number is one of 64 bits
+-- it is the text of this call, whose number fits 64 bits
 abbrev pub IsCallText : List ℕ → Call ℕ → Type 0
 IsCallText text call = (text ≡ call_text call) × FitsIfAny (call_number call)
 
@@ -108,7 +108,7 @@ module _ {A : Type 0} where
   answer_text (Capacity (Some capacity)) = decimal capacity
   answer_text Unbounded = codes "unbounded"
 
-  -- the numbers of an answer are numbers of 64 bits
+  -- the answer's numbers fit 64 bits
   abbrev pub AnswerFits : Answer ℕ A → Type 0
   AnswerFits (Got message) = FitsWord message
   AnswerFits (Drained messages) = All FitsWord messages
@@ -116,7 +116,7 @@ module _ {A : Type 0} where
   AnswerFits (Capacity capacity) = FitsIfAny capacity
   AnswerFits _ = Unit {0}
 
-  -- it is the text of this answer, whose numbers are numbers of 64 bits
+  -- it is the text of this answer, whose numbers fit 64 bits
   abbrev pub IsAnswerText : List ℕ → Answer ℕ A → Type 0
   IsAnswerText text answer = (text ≡ answer_text answer) × AnswerFits answer
 

@@ -8,7 +8,7 @@ ghost use Rattle.flume_script.specs.ReplyTexts.{spaced};
 ghost use Rattle.flume_recording.specs.Texts.{answer_text, FitsWord, IsAnswerText, IsNoAnswer};
 ghost use Rattle.flume_recording.specs.Texts.{IsNumberOf};
 
-use crate::calls::is;
+use crate::calls::is_text;
 use crate::numbers::{number_of, numbers_of};
 use flume_concurrent::call::{Answer, Messages};
 use flume_error::error::NoMemory;
@@ -23,20 +23,20 @@ fn plain_answer<A: Allocator>(word: &[u8]) -> Option<Answer<u64, A>>
     ensures no_number_of { (asks : Bool) → IfSome result (IsNumberOf asks) }
 {
     match word {
-        _ if is(word, b"sent") => Some(Answer::Sent),
-        _ if is(word, b"full") => Some(Answer::Full),
-        _ if is(word, b"empty") => Some(Answer::Empty),
-        _ if is(word, b"disconnected") => Some(Answer::Disconnected),
-        _ if is(word, b"timeout") => Some(Answer::Timeout),
-        _ if is(word, b"nomemory") => Some(Answer::NoMemory),
-        _ if is(word, b"dropped") => Some(Answer::Dropped),
-        _ if is(word, b"done") => Some(Answer::Done),
-        _ if is(word, b"noend") => Some(Answer::NoEnd),
-        _ if is(word, b"countfull") => Some(Answer::CountFull),
-        _ if is(word, b"true") => Some(Answer::Truth(true)),
-        _ if is(word, b"false") => Some(Answer::Truth(false)),
-        _ if is(word, b"none") => Some(Answer::Capacity(None)),
-        _ if is(word, b"unbounded") => Some(Answer::Unbounded),
+        _ if is_text(word, b"sent") => Some(Answer::Sent),
+        _ if is_text(word, b"full") => Some(Answer::Full),
+        _ if is_text(word, b"empty") => Some(Answer::Empty),
+        _ if is_text(word, b"disconnected") => Some(Answer::Disconnected),
+        _ if is_text(word, b"timeout") => Some(Answer::Timeout),
+        _ if is_text(word, b"nomemory") => Some(Answer::NoMemory),
+        _ if is_text(word, b"dropped") => Some(Answer::Dropped),
+        _ if is_text(word, b"done") => Some(Answer::Done),
+        _ if is_text(word, b"noend") => Some(Answer::NoEnd),
+        _ if is_text(word, b"countfull") => Some(Answer::CountFull),
+        _ if is_text(word, b"true") => Some(Answer::Truth(true)),
+        _ if is_text(word, b"false") => Some(Answer::Truth(false)),
+        _ if is_text(word, b"none") => Some(Answer::Capacity(None)),
+        _ if is_text(word, b"unbounded") => Some(Answer::Unbounded),
         _ => None,
     }
 }
@@ -58,7 +58,7 @@ fn short_answer<A: Allocator>(text: &[u8], asks: bool) -> Option<Answer<u64, A>>
         (λ answer. IsAnswerText text.now answer × IsNumberOf asks answer) }
 {
     if let Some((word, digits)) = part_at(text, b' ') {
-        if !is(word, b"got") {
+        if !is_text(word, b"got") {
             return None;
         }
         let message = number_of(digits)?;
@@ -70,9 +70,8 @@ fn short_answer<A: Allocator>(text: &[u8], asks: bool) -> Option<Answer<u64, A>>
     }
 }
 
-/// The answer that a text represents; `None` if it represents none. `asks` says whether the call
-/// asked for the capacity: a number is read as that or as another number. `NoMemory`: a list
-/// couldn't be allocated.
+/// The answer that a text represents, if any. A number is a capacity exactly if the call `asks` for
+/// one. `NoMemory`: a list couldn't be allocated.
 ///
 /// ```
 /// answer_of(alloc, b"got 7", false)?;    // Some(Got(7))

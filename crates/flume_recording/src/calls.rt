@@ -12,7 +12,7 @@ use flume_error::error::NoMemory;
 use flume_script::reading::part_at;
 use std::alloc::Allocator;
 
-pub(crate) fn is(text: &[u8], word: &[u8]) -> bool
+pub(crate) fn is_text(text: &[u8], word: &[u8]) -> bool
     ensures value { IsTrue result ↔ (text.now ≡ word.now) }
 {
     text == word
@@ -23,22 +23,22 @@ fn plain_call(word: &[u8]) -> Option<Call<u64>>
     ensures value { MatchOption result (IsNoCall word.now) (IsCallText word.now) }
 {
     match word {
-        _ if is(word, b"recv") => Some(Call::Recv),
-        _ if is(word, b"recv_timeout") => Some(Call::RecvTimeout),
-        _ if is(word, b"recv_async") => Some(Call::RecvAsync),
-        _ if is(word, b"try_recv") => Some(Call::TryRecv),
-        _ if is(word, b"drain") => Some(Call::Drain),
-        _ if is(word, b"clone_sender") => Some(Call::CloneSender),
-        _ if is(word, b"clone_receiver") => Some(Call::CloneReceiver),
-        _ if is(word, b"drop_sender") => Some(Call::DropSender),
-        _ if is(word, b"drop_receiver") => Some(Call::DropReceiver),
-        _ if is(word, b"len") => Some(Call::Len),
-        _ if is(word, b"is_empty") => Some(Call::IsEmpty),
-        _ if is(word, b"is_full") => Some(Call::IsFull),
-        _ if is(word, b"capacity") => Some(Call::Capacity),
-        _ if is(word, b"sender_count") => Some(Call::SenderCount),
-        _ if is(word, b"receiver_count") => Some(Call::ReceiverCount),
-        _ if is(word, b"is_disconnected") => Some(Call::IsDisconnected),
+        _ if is_text(word, b"recv") => Some(Call::Recv),
+        _ if is_text(word, b"recv_timeout") => Some(Call::RecvTimeout),
+        _ if is_text(word, b"recv_async") => Some(Call::RecvAsync),
+        _ if is_text(word, b"try_recv") => Some(Call::TryRecv),
+        _ if is_text(word, b"drain") => Some(Call::Drain),
+        _ if is_text(word, b"clone_sender") => Some(Call::CloneSender),
+        _ if is_text(word, b"clone_receiver") => Some(Call::CloneReceiver),
+        _ if is_text(word, b"drop_sender") => Some(Call::DropSender),
+        _ if is_text(word, b"drop_receiver") => Some(Call::DropReceiver),
+        _ if is_text(word, b"len") => Some(Call::Len),
+        _ if is_text(word, b"is_empty") => Some(Call::IsEmpty),
+        _ if is_text(word, b"is_full") => Some(Call::IsFull),
+        _ if is_text(word, b"capacity") => Some(Call::Capacity),
+        _ if is_text(word, b"sender_count") => Some(Call::SenderCount),
+        _ if is_text(word, b"receiver_count") => Some(Call::ReceiverCount),
+        _ if is_text(word, b"is_disconnected") => Some(Call::IsDisconnected),
         _ => None,
     }
 }
@@ -49,16 +49,16 @@ fn number_call(word: &[u8], number: u64) -> Option<Call<u64>>
         (IsCallText (word.now ++ 32 ∷ decimal number)) }
 {
     match word {
-        _ if is(word, b"send") => Some(Call::Send(number)),
-        _ if is(word, b"send_timeout") => Some(Call::SendTimeout(number)),
-        _ if is(word, b"send_async") => Some(Call::SendAsync(number)),
-        _ if is(word, b"try_send") => Some(Call::TrySend(number)),
-        _ if is(word, b"set_capacity") => Some(Call::SetCapacity(number as usize)),
+        _ if is_text(word, b"send") => Some(Call::Send(number)),
+        _ if is_text(word, b"send_timeout") => Some(Call::SendTimeout(number)),
+        _ if is_text(word, b"send_async") => Some(Call::SendAsync(number)),
+        _ if is_text(word, b"try_send") => Some(Call::TrySend(number)),
+        _ if is_text(word, b"set_capacity") => Some(Call::SetCapacity(number as usize)),
         _ => None,
     }
 }
 
-/// The call that a text represents; `None` if it represents none.
+/// The call that a text represents, if any.
 ///
 /// ```
 /// call_of(b"send 7");                // Some(Send(7))

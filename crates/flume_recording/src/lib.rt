@@ -2,12 +2,10 @@
 //! one to the events of `flume_concurrent`, and `write_event` writes an event.
 //!
 //! The first line opens the channel: `unbounded`, or `bounded N`. Each further line is an event, in
-//! the order of time: `THREAD: CALL` where a call begins, and `THREAD -> ANSWER` where it returns.
-//! `calls` and `answers` have the texts of both.
+//! the order of time: `THREAD: CALL` if a call begins, and `THREAD -> ANSWER` if it returns.
 //!
 //! A thread's name is one byte or more, none of them a space or a colon. So each line can be read
-//! in one way only: what is before its first space ends in a colon if it begins a call, and in no
-//! colon if a call returns.
+//! in one way only.
 #![tactic(auto)]
 
 pub mod answers;

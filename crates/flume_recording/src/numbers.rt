@@ -1,4 +1,4 @@
-//! Numbers, as they are printed: a number has no sign, and no zero in front.
+//! Numbers as they are printed: no sign, and no zero in front.
 ghost use Rattle.std.specs.Prelude.{SomeIff, MatchOption, IfOk, ◌≡◌, ◌==◌, ◌++◌, ℕ, ◌^◌, ◌<◌};
 ghost use Rattle.std.specs.Prelude.{false, List};
 ghost use Rattle.std.specs.List.{All};
@@ -25,7 +25,6 @@ fn value_of(digits: &[u8]) -> Option<u64>
     text.parse::<u64>().ok()
 }
 
-/// The number that is printed so.
 pub(crate) fn number_of(text: &[u8]) -> Option<u64>
     ensures value { MatchOption result ((n : ℕ) → FitsWord n → ¬ (text.now ≡ decimal n))
         (λ n. (text.now ≡ decimal n) × FitsWord n) }
@@ -36,7 +35,7 @@ pub(crate) fn number_of(text: &[u8]) -> Option<u64>
     value_of(text)
 }
 
-/// The numbers that are printed so, with a space before each.
+// Numbers with a space before each.
 pub(crate) fn numbers_of<A: Allocator + Copy>(
     alloc: A,
     text: &[u8],

@@ -7,13 +7,11 @@ use flume_script::reading::part_at;
 /// The parts of a line.
 #[derive(Clone, Copy, Drop)]
 pub(crate) enum Parts<'s> {
-    /// The thread of this name begins a call.
     Begins { name: &'s [u8], call: &'s [u8] },
-    /// The call of the thread of this name returns an answer.
     Returns { name: &'s [u8], answer: &'s [u8] },
 }
 
-/// The parts of a line: its first space is behind the name and a colon, or behind the name.
+// The first space of a line is behind the name and a colon, or behind the name.
 pub(crate) fn parts_of(line: &[u8]) -> Option<Parts<'_>>
     ensures value { MatchOption result (HasNoParts line.now) (ArePartsOf line.now) }
 {

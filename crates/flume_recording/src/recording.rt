@@ -1,8 +1,9 @@
-//! Recordings, read to events.
+//! Reads recordings to events.
 ghost use Rattle.std.specs.Prelude.{IfOk, ◌≡◌, length};
 ghost use Rattle.flume_recording.specs.declared.fault.Fault.TheVariants.{NoOpening};
 ghost use Rattle.flume_recording.specs.declared.recording.Recording.TheVariants.{Wrong};
-ghost use Rattle.flume_recording.specs.Recordings.{IsLinesReading, IsReading, IsWithin};
+ghost use Rattle.flume_recording.specs.Recordings.{IsLinesReading, IsRecordingReading};
+ghost use Rattle.flume_recording.specs.Recordings.{IsWrongWithin};
 
 use crate::fault::Fault;
 use crate::threads::Threads;
@@ -11,31 +12,25 @@ use flume_error::error::NoMemory;
 use flume_script::reading::{next_line, opening_of};
 use std::alloc::{AllocError, Allocator};
 
-/// A recording as it was read.
+/// A recording, or its first wrong line.
 #[derive(Drop)]
 pub enum Recording<'s, A: Allocator> {
-    /// Every line is right.
     Right {
-        /// The capacity, or `None` if unbounded.
+        /// `None` if unbounded.
         capacity: Option<usize>,
-        /// The events, in the order of their lines.
         events: Vec<Event<u64, A>, A>,
-        /// The names of the threads, in the order in which they appear first: an event has the
-        /// place of its thread's name.
+        /// The threads' names, as they appear first: an event has the place of its thread's name.
         names: Vec<&'s [u8], A>,
     },
-    /// Some line is wrong.
     Wrong {
-        /// The first wrong line, counted from 1.
+        /// Counted from 1.
         line: usize,
-        /// Why it is wrong.
         fault: Fault,
     },
 }
 
 #[derive(Drop)]
 enum Lines<'s, A: Allocator> {
-    // Each line is an event.
     Right {
         events: Vec<Event<u64, A>, A>,
         names: Vec<&'s [u8], A>,
@@ -47,10 +42,9 @@ enum Lines<'s, A: Allocator> {
     },
 }
 
-// The events of the lines, or how many are before the first line that is none.
 fn read_events<A: Allocator + Copy>(alloc: A, mut rest: &[u8]) -> Result<Lines<'_, A>, NoMemory>
     ensures value { IfOk result (λ read. IsLinesReading rest.now read) }
-    ensures within { IfOk result (λ read. IsWithin read (length rest.now)) }
+    ensures within { IfOk result (λ read. IsWrongWithin read (length rest.now)) }
 {
     let mut events = Vec::new(alloc);
     let mut threads = Threads::new(alloc);
@@ -77,9 +71,8 @@ fn unopened<'s, A: Allocator>() -> Recording<'s, A>
     }
 }
 
-/// Reads a recording, up to its first wrong line. `NoMemory`: the events or the names couldn't be
-/// allocated. The time is linear in the length of the input, and for each line in the number of
-/// threads.
+/// Reads a recording up to its first wrong line. `NoMemory`: the events or the names couldn't be
+/// allocated. Linear in the length of the input, and for each line in the number of threads.
 ///
 ///     read_recording(alloc, b"unbounded\na: len\na -> 0\n")?;
 ///     // Right { capacity: None, names: ["a"], events: [Begins { thread: 0, call: Len },
@@ -89,7 +82,7 @@ pub fn read_recording<A: Allocator + Copy>(
     alloc: A,
     input: &[u8],
 ) -> Result<Recording<'_, A>, NoMemory>
-    ensures value { IfOk result (λ recording. IsReading input.now recording) }
+    ensures value { IfOk result (λ recording. IsRecordingReading input.now recording) }
 {
     let Some((first, rest)) = next_line(input) else {
         return Ok(unopened());

@@ -19,9 +19,8 @@ use std::alloc::{AllocError, Allocator};
 /// The threads that have appeared so far, in the order of their numbers.
 #[derive(Drop)]
 pub(crate) struct Threads<'s, A: Allocator> {
-    /// Their names.
     pub(crate) names: Vec<&'s [u8], A>,
-    /// Whether the last call that each began asked for the capacity.
+    // Whether the last call that each began asked for the capacity.
     pub(crate) asking: Vec<bool, A>,
     ghost as_many: { length names.items ≤ length asking.items },
 }
@@ -47,7 +46,6 @@ fn asks_capacity(call: &Call<u64>) -> bool
 }
 
 impl<'s, A: Allocator + Copy> Threads<'s, A> {
-    /// No thread.
     pub(crate) fn new(alloc: A) -> Self
         ensures names { result.names.items ≡ [] }
         ensures asking { result.asking.items ≡ [] }
@@ -74,7 +72,7 @@ impl<'s, A: Allocator + Copy> Threads<'s, A> {
         Ok(place)
     }
 
-    /// The event of a line, or why it is none.
+    // The event of a line, or why it is none.
     pub(crate) fn read(
         &mut self,
         alloc: A,

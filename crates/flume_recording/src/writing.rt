@@ -9,8 +9,8 @@ use flume_concurrent::event::Event;
 use flume_error::error::NoMemory;
 use std::alloc::Allocator;
 
-/// The text of an event, with no line feed. `names` are the threads' names, in the order of their
-/// numbers; a name that isn't there is left out. `NoMemory`: the text couldn't be allocated.
+/// The text of an event, without a line feed. `names` are the threads' names, by their numbers; one
+/// that isn't there is left out. `NoMemory`: the text couldn't be allocated.
 ///
 /// ```
 /// let event = Event::Begins { thread: 0, call: Call::Send(7) };
@@ -23,22 +23,22 @@ pub fn write_event<A: Allocator + Copy>(
 ) -> Result<Vec<u8, A>, NoMemory>
     ensures value { IfOk result (λ text. text.items ≡ event_text (names_of names.now) event.now) }
 {
-    let mut told = String::new(alloc);
+    let mut rest = String::new(alloc);
     let thread = match event {
         Event::Begins { thread, call } => {
-            told.push_str(": ")?;
-            write_call(&mut told, call)?;
+            rest.push_str(": ")?;
+            write_call(&mut rest, call)?;
             *thread
         }
         Event::Returns { thread, answer } => {
-            told.push_str(" -> ")?;
-            write_answer(&mut told, answer)?;
+            rest.push_str(" -> ")?;
+            write_answer(&mut rest, answer)?;
             *thread
         }
     };
     let name = names.get(thread).copied().unwrap_or(&[]);
     let mut text = Vec::new(alloc);
     text.extend_from_slice(name)?;
-    text.extend_from_slice(told.as_bytes())?;
+    text.extend_from_slice(rest.as_bytes())?;
     Ok(text)
 }

@@ -1,6 +1,6 @@
-//! Replays scripts whose replies were recorded from flume 0.12.0, file by file. It prints how many
-//! replies agree, and how many are histories that a correct channel could have produced. It also
-//! checks histories that were written by hand.
+//! Replays scripts whose replies were recorded from flume 0.12.0. It prints how many replies agree,
+//! and how many are histories that a correct channel could have produced. It also checks histories
+//! that were written by hand.
 #![tactic(auto)]
 
 use flume_core::error::NoMemory;
@@ -16,8 +16,8 @@ fn main(rt: HostRuntime) -> io::Result<()> {
     judge(&rt, "histories")
 }
 
-/// Replays one file of scripts: comments, and then blocks of a line `= number`, the script, a line
-/// `-`, and the replies. A block is read without the end of its last line.
+// A block is a line `= number`, the script, a line `-`, and the replies; before the first one are
+// comments. A block is read without the end of its last line.
 fn replay(rt: &HostRuntime, name: &str) -> io::Result<()> {
     let path = format!(in rt.alloc(); "{name}.txt")?;
     let text = fs::read_to_string(rt, path.as_str())?;
@@ -41,8 +41,7 @@ fn replay(rt: &HostRuntime, name: &str) -> io::Result<()> {
     }
 }
 
-/// Checks one file of histories: comments, and then blocks of a line `= title`, the history, a line
-/// `-`, and what `check_script` prints of it. It says how many are answered so.
+// As `replay`, of histories, with what `check_script` prints of each.
 fn judge(rt: &HostRuntime, name: &str) -> io::Result<()> {
     let path = format!(in rt.alloc(); "{name}.txt")?;
     let text = fs::read_to_string(rt, path.as_str())?;
@@ -63,8 +62,6 @@ fn judge(rt: &HostRuntime, name: &str) -> io::Result<()> {
     }
 }
 
-/// Whether the check prints of the history of a block what the block says, byte by byte, and the
-/// end of the last line.
 fn is_judged(alloc: Global, block: &str) -> io::Result<bool> {
     let Some((history, wanted)) = parts_of(block) else {
         return Ok(false);
@@ -74,14 +71,11 @@ fn is_judged(alloc: Global, block: &str) -> io::Result<bool> {
     Ok(printed == Some(wanted.as_bytes()))
 }
 
-/// The script and the replies of a block, each without the end of its last line.
 fn parts_of(block: &str) -> Option<(&str, &str)> {
     let (_number, script_and_replies) = block.split_once("\n")?;
     script_and_replies.split_once("\n-\n")
 }
 
-/// Whether the script of a block prints the replies of the block, byte by byte, and the end of the
-/// last line.
 fn agrees(alloc: Global, block: &str) -> io::Result<bool> {
     let Some((script, replies)) = parts_of(block) else {
         return Ok(false);
@@ -95,7 +89,6 @@ fn agrees(alloc: Global, block: &str) -> io::Result<bool> {
     }
 }
 
-/// Whether a correct channel could have given the replies of a block to its script.
 fn is_run(alloc: Global, block: &str) -> io::Result<bool> {
     let Some((script, replies)) = parts_of(block) else {
         return Ok(false);

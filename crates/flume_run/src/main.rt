@@ -11,7 +11,7 @@ mod texts;
 use flume_core::error::NoMemory;
 use flume_script::faults::explain_script;
 use flume_script::serving::{FAULT, Unread, read_all, write_answer};
-use flume_script::{Script, run_script};
+use flume_script::{ScriptOutput, run_script};
 use std::alloc::Allocator;
 use std::io::{Read, Write};
 use std::process::ExitCode;
@@ -35,7 +35,6 @@ fn main(rt: HostRuntime) -> ExitCode {
     }
 }
 
-/// Whether `--states` is among the program's arguments.
 fn asks_for_states(rt: &HostRuntime) -> io::Result<bool> {
     Ok(
         env::args(rt)?
@@ -44,10 +43,8 @@ fn asks_for_states(rt: &HostRuntime) -> io::Result<bool> {
     )
 }
 
-/// Reads the input to its end, runs the script that it is, and writes what that prints, with the
-/// states of the channel if it is to show them. The status: 0, each line is right; 2, a line is
-/// wrong, and a message says why; 3, out of memory; 4, a fault of reading or writing, and then
-/// nothing more is written.
+// The status: 0, each line is right; 2, a line is wrong, and a message says why; 3, out of memory;
+// 4, the input couldn't be read, or the text not be written, and then nothing more is.
 fn serve<A: Allocator + Copy, R: Read, W: Write, M: Write>(
     alloc: A,
     shows: bool,
@@ -61,7 +58,7 @@ fn serve<A: Allocator + Copy, R: Read, W: Write, M: Write>(
 {
     let bytes = match read_all(alloc, input) {
         Ok(bytes) => bytes,
-        Err(Unread::NoMemory) => return write_answer(output, Err::<Script<A>, _>(NoMemory)),
+        Err(Unread::NoMemory) => return write_answer(output, Err::<ScriptOutput<A>, _>(NoMemory)),
         Err(Unread::Fault) => return FAULT,
     };
     if shows {
@@ -77,19 +74,18 @@ fn serve<A: Allocator + Copy, R: Read, W: Write, M: Write>(
             say_why(alloc, &bytes, &script, messages);
             write_answer(output, Ok(script))
         }
-        Err(NoMemory) => write_answer(output, Err::<Script<A>, _>(NoMemory)),
+        Err(NoMemory) => write_answer(output, Err::<ScriptOutput<A>, _>(NoMemory)),
     }
 }
 
-// Says what is wrong with the first wrong line, if one is. If that can't be said, the text that is
-// printed still has its number.
+// If that can't be said, the text that is printed still has the line's number.
 fn say_why<A: Allocator + Copy, M: Write>(
     alloc: A,
     input: &[u8],
-    told: &Script<A>,
+    printed: &ScriptOutput<A>,
     messages: &mut M,
 ) {
-    if told.status != 2 {
+    if printed.status != 2 {
         return;
     }
     if let Ok(why) = explain_script(alloc, input) {

@@ -1,9 +1,9 @@
-//! The state of a channel after each step of a script, as the channel itself gives it away.
+//! The state of a channel after each step of a script.
 //!
-//! A `Chan` shows neither its messages nor its receivers. So for each state a new channel does the
-//! steps up to there, and is then taken apart by further steps: each blocked send takes its message
-//! back, the queue is drained, closing the channel wakes the receivers that wait, and each receiver
-//! leaves.
+//! A `Chan` shows neither its messages nor its receivers. So for each state a new channel makes the
+//! steps up to there, and is then emptied by further steps: each blocked send takes its message
+//! back, the queue is drained, closing the channel notifies the receivers that wait, and each
+//! receiver withdraws.
 
 use flume_core::chan::Chan;
 use flume_core::error::NoMemory;
@@ -14,21 +14,17 @@ use std::alloc::{AllocError, Allocator};
 /// What can be seen of a channel.
 #[derive(Drop)]
 pub(crate) struct State<A: Allocator> {
-    /// The queued messages, the front first.
+    /// The front first.
     pub(crate) queue: Vec<u64, A>,
-    /// The blocked messages behind them, each with its ticket.
+    /// Each with its ticket.
     pub(crate) blocked: Vec<(u64, u64), A>,
-    /// The parked receivers: last those that wait, in the order in which they began to.
+    /// Last those that wait, in the order in which they began to.
     pub(crate) parked: Vec<Entry<u64, ()>, A>,
-    /// The capacity.
     pub(crate) capacity: Option<usize>,
-    /// How many senders live.
     pub(crate) senders: usize,
-    /// How many receivers live.
     pub(crate) receivers: usize,
 }
 
-/// The state of a new channel after these steps. `NoMemory`: the channel, or a list, found no room.
 pub(crate) fn state_after<A: Allocator + Copy>(
     alloc: A,
     capacity: Option<usize>,
@@ -49,7 +45,7 @@ pub(crate) fn state_after<A: Allocator + Copy>(
     take_apart(alloc, &mut chan, &sends, &parked)
 }
 
-// Empties the channel of which these are the tickets of sends and of receivers so far.
+// `sends` and `receivers` are the tickets so far.
 fn take_apart<A: Allocator + Copy>(
     alloc: A,
     chan: &mut Chan<u64, (), A>,
@@ -78,7 +74,6 @@ fn take_apart<A: Allocator + Copy>(
     })
 }
 
-// The number that a query answers.
 fn number<A: Allocator>(reply: Reply<u64, A>) -> usize {
     match reply {
         Reply::Number(number) => number,
@@ -86,7 +81,6 @@ fn number<A: Allocator>(reply: Reply<u64, A>) -> usize {
     }
 }
 
-// The blocked messages with their tickets, which they come back under.
 fn blocked_in<A: Allocator + Copy>(
     alloc: A,
     chan: &mut Chan<u64, (), A>,
@@ -101,8 +95,7 @@ fn blocked_in<A: Allocator + Copy>(
     Ok(blocked)
 }
 
-// The tickets of the receivers that wait, in their order: closing the channel makes them due. One
-// that is due before that is asked for first.
+// Closing the channel notifies those that wait, in order. Earlier notifications are taken first.
 fn waiting_in<A: Allocator + Copy>(
     alloc: A,
     chan: &mut Chan<u64, (), A>,
@@ -127,7 +120,6 @@ fn waiting_in<A: Allocator + Copy>(
     Ok(waiting)
 }
 
-// The parked receivers, behind the others these, which waited.
 fn parked_in<A: Allocator + Copy>(
     alloc: A,
     chan: &mut Chan<u64, (), A>,
@@ -151,7 +143,6 @@ fn parked_in<A: Allocator + Copy>(
     Ok(parked)
 }
 
-// Adds a parked receiver.
 fn park<A: Allocator>(
     parked: &mut Vec<Entry<u64, ()>, A>,
     ticket: u64,

@@ -5,32 +5,29 @@ use flume_core::chan::Chan;
 use flume_core::error::NoMemory;
 use flume_model::entry::{Entry, Mark};
 use flume_model::step::{Kind, Step};
-use flume_script::Script;
+use flume_script::ScriptOutput;
 use flume_script::reading::{Reading, read_script};
 use flume_script::writing::{write_reply, write_wrong};
 use std::alloc::Allocator;
 
-/// What `run_script` prints of a script, with the state of the channel in a line before the replies
-/// and in one after each. If a line of the script is wrong, the text names the first wrong one, and
-/// that is all. `NoMemory`: the steps, a channel or the text found no room. Its time grows with the
-/// square of the number of steps.
+// What `run_script` prints, with the state of the channel in a line before the replies and in one
+// after each. The time grows with the square of the number of steps.
 pub(crate) fn run_with_states<A: Allocator + Copy>(
     alloc: A,
     input: &[u8],
-) -> Result<Script<A>, NoMemory> {
+) -> Result<ScriptOutput<A>, NoMemory> {
     match read_script(alloc, input)? {
         Reading::Wrong { line } => {
             let text = write_wrong(alloc, line)?;
-            Ok(Script { text, status: 2 })
+            Ok(ScriptOutput { text, status: 2 })
         }
         Reading::Right { capacity, steps } => {
             let text = write_run(alloc, capacity, &steps)?;
-            Ok(Script { text, status: 0 })
+            Ok(ScriptOutput { text, status: 0 })
         }
     }
 }
 
-// The replies of the steps on a new channel, with the state before them and after each.
 fn write_run<A: Allocator + Copy>(
     alloc: A,
     capacity: Option<usize>,
@@ -47,7 +44,6 @@ fn write_run<A: Allocator + Copy>(
     Ok(text.into_bytes())
 }
 
-// Adds the line of a state.
 fn write_state<A: Allocator>(text: &mut String<A>, state: &State<A>) -> Result<(), NoMemory> {
     text.push_str("  queue")?;
     for message in &state.queue {
@@ -73,7 +69,6 @@ fn write_state<A: Allocator>(text: &mut String<A>, state: &State<A>) -> Result<(
     Ok(())
 }
 
-// Adds a parked receiver.
 fn write_receiver<A: Allocator>(
     text: &mut String<A>,
     receiver: &Entry<u64, ()>,

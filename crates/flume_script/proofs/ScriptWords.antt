@@ -14,7 +14,7 @@ use Rattle.flume_model.specs.declared.step.Step.{Step}
 use Rattle.flume_model.specs.declared.step.Step.TheVariants.{TrySend, Send, PollSend, WithdrawSend, TryRecv, Recv, Poll, Withdraw, Drain}
 use Rattle.flume_model.specs.declared.step.Step.TheVariants.{CloneSender, CloneReceiver, DropSender, DropReceiver, Len, IsEmpty, IsFull, SetCapacity}
 use Rattle.flume_model.specs.declared.step.Step.TheVariants.{Capacity, SenderCount, ReceiverCount, IsDisconnected}
-use Rattle.flume_script.specs.Script.{IsCall, IsStepLine, kind_name}
+use Rattle.flume_script.specs.Script.{IsWordWithNumber, IsStepLine, kind_name}
 
 -- no byte is a space
 abbrev pub NoSpace : List ℕ → Type 0
@@ -48,7 +48,7 @@ same_words word word' later later' none none' e =
     (same, cc)
 
 -- a line with no space is no call
-pub no_call : (line called : List ℕ) (n : ℕ) → NoSpace line → IsCall line (called ++ 32 ∷ []) n → ⊥
+pub no_call : (line called : List ℕ) (n : ℕ) → NoSpace line → IsWordWithNumber line (called ++ 32 ∷ []) n → ⊥
 no_call line called n none call = has_space called call.digits line (sym (call.line_is ∙ append_assoc called (32 ∷ []) call.digits)) none
 
 -- a line with no space is no step of a receiver of some kind
@@ -83,7 +83,7 @@ no_numeral Stream numeral = search rules
 no_numeral Arm numeral = search rules
 
 -- a line with a space that is a call of a word has that word before its first space, and its number after it
-same_call : (word later called : List ℕ) (n : ℕ) → NoSpace word → IsWord called → IsCall (word ++ 32 ∷ later) (called ++ 32 ∷ []) n
+same_call : (word later called : List ℕ) (n : ℕ) → NoSpace word → IsWord called → IsWordWithNumber (word ++ 32 ∷ later) (called ++ 32 ∷ []) n
     → IsCallOf word later (Some called)
 same_call word later called n none is_word call =
     let e = call.line_is ∙ append_assoc called (32 ∷ []) call.digits in

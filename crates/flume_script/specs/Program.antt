@@ -18,7 +18,7 @@ pub record Answers (A : Type 0) (input text : List ℕ) (status : ℕ) : Type 0 
   pub reads : IsScript (lines input) capacity steps
   pub one_each : length replies ≡ length steps
   pub run : IsRun (record { capacity = capacity; first = 1 }) (after [] steps replies)
-  -- each of them is one that a `Chan` gives, and refused for memory only where one needs it
+  -- a `Chan` gives these replies, `NoMemory` only to a step that needs memory
   pub last : State ℕ (Unit {0})
   pub transitions :
       AreTransitions (new_state (record { capacity = capacity; first = 1 })) steps replies last
@@ -32,6 +32,6 @@ pub record Refuses (input text : List ℕ) (status : ℕ) : Type 0 where
   pub text_is : text ≡ wrong_text line
   pub status_is : status ≡ 2
 
--- of these bytes this text is printed, with this status
+-- this text is printed of these bytes, with this status
 abbrev pub Prints : Type 0 → List ℕ → List ℕ → ℕ → Type 0
 Prints A input text status = Answers A input text status ⊎ Refuses input text status

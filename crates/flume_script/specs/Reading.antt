@@ -1,4 +1,4 @@
--- What is said of a script that was read.
+-- What a reading of a script says of its bytes.
 use Rattle.std.specs.Prelude.{ℕ, List}
 use Rattle.std.specs.Str.Lines.{lines}
 use Rattle.flume_script.specs.declared.reading.Reading.{Reading}

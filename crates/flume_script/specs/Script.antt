@@ -16,7 +16,7 @@ use Rattle.flume_model.specs.declared.step.Step.TheVariants.{IsFull, Capacity, S
 use Rattle.flume_model.specs.declared.step.Step.TheVariants.{ReceiverCount, IsDisconnected}
 
 -- the line is this word, which ends in a space, and then the decimal digits of a number of 64 bits
-pub record IsCall (line word : List ℕ) (number : ℕ) : Type 0 where
+pub record IsWordWithNumber (line word : List ℕ) (number : ℕ) : Type 0 where
   pub digits : List ℕ
   pub line_is : line ≡ word ++ digits
   pub numeral : IsNumeral 10 digits
@@ -26,7 +26,7 @@ pub record IsCall (line word : List ℕ) (number : ℕ) : Type 0 where
 -- the line opens a channel of this capacity
 abbrev pub IsOpeningLine : List ℕ → Option ℕ → Type 0
 IsOpeningLine line None = line ≡ codes "unbounded"
-IsOpeningLine line (Some capacity) = IsCall line (codes "bounded ") capacity
+IsOpeningLine line (Some capacity) = IsWordWithNumber line (codes "bounded ") capacity
 
 -- the name of a kind of receiver
 abbrev pub kind_name : Kind → List ℕ
@@ -37,20 +37,20 @@ kind_name Arm = codes "arm"
 
 -- the line is this step
 abbrev pub IsStepLine : List ℕ → Step ℕ → Type 0
-IsStepLine line (TrySend message) = IsCall line (codes "try_send ") message
-IsStepLine line (Send message) = IsCall line (codes "send ") message
-IsStepLine line (PollSend ticket) = IsCall line (codes "poll_send ") ticket
-IsStepLine line (WithdrawSend ticket) = IsCall line (codes "withdraw_send ") ticket
+IsStepLine line (TrySend message) = IsWordWithNumber line (codes "try_send ") message
+IsStepLine line (Send message) = IsWordWithNumber line (codes "send ") message
+IsStepLine line (PollSend ticket) = IsWordWithNumber line (codes "poll_send ") ticket
+IsStepLine line (WithdrawSend ticket) = IsWordWithNumber line (codes "withdraw_send ") ticket
 IsStepLine line TryRecv = line ≡ codes "try_recv"
 IsStepLine line (Recv kind) = line ≡ codes "recv " ++ kind_name kind
-IsStepLine line (Poll ticket) = IsCall line (codes "poll ") ticket
-IsStepLine line (Withdraw ticket) = IsCall line (codes "withdraw ") ticket
+IsStepLine line (Poll ticket) = IsWordWithNumber line (codes "poll ") ticket
+IsStepLine line (Withdraw ticket) = IsWordWithNumber line (codes "withdraw ") ticket
 IsStepLine line Drain = line ≡ codes "drain"
 IsStepLine line CloneSender = line ≡ codes "clone_sender"
 IsStepLine line CloneReceiver = line ≡ codes "clone_receiver"
 IsStepLine line DropSender = line ≡ codes "drop_sender"
 IsStepLine line DropReceiver = line ≡ codes "drop_receiver"
-IsStepLine line (SetCapacity capacity) = IsCall line (codes "set_capacity ") capacity
+IsStepLine line (SetCapacity capacity) = IsWordWithNumber line (codes "set_capacity ") capacity
 IsStepLine line Len = line ≡ codes "len"
 IsStepLine line IsEmpty = line ≡ codes "is_empty"
 IsStepLine line IsFull = line ≡ codes "is_full"
@@ -76,7 +76,7 @@ IsNoStep line = (step : Step ℕ) → ¬ IsStepLine line step
 abbrev pub IsNoOpening : List ℕ → Type 0
 IsNoOpening line = (capacity : Option ℕ) → ¬ IsOpeningLine line capacity
 
--- of these lines, each meant as a step, so many are steps, and the next one isn't
+-- this many of the lines are steps, and the next one isn't
 pub record StepsUpTo (lines : List (List ℕ)) (place : ℕ) : Type 0 where
   pub before : List (List ℕ)
   pub steps : List (Step ℕ)
@@ -87,7 +87,7 @@ pub record StepsUpTo (lines : List (List ℕ)) (place : ℕ) : Type 0 where
   pub wrong : IsNoStep line
   pub place_is : length before ≡ place
 
--- the first wrong line has this number, counted from 1; where there is no line, the first is wrong
+-- the first wrong line has this number, counted from 1; without any line, the first is wrong
 abbrev pub IsFirstWrong : List (List ℕ) → ℕ → Type 0
 IsFirstWrong [] number = number ≡ 1
 IsFirstWrong (first ∷ rest) number =

@@ -1,7 +1,7 @@
 -- What a program writes that reads its input to the end and prints one text.
 use Rattle.std.specs.Prelude.{◌≡◌, ℕ, ◌⊎◌, List, [], ◌∷◌, ◌++◌, Option, Some, codes}
 
--- all of this was written and the status is the good one, or the status tells of a fault
+-- all of this was written and the status is the good one, or the status says that a write failed
 abbrev pub Finishes : List ℕ → ℕ → Option (List ℕ) → ℕ → Type 0
 Finishes all good written status = ((written ≡ Some all) × (status ≡ good)) ⊎ (status ≡ 4)
 
@@ -9,8 +9,7 @@ Finishes all good written status = ((written ≡ Some all) × (status ≡ good))
 abbrev pub memory_text : List ℕ
 memory_text = codes "out of memory" ++ 10 ∷ []
 
--- Where this was written before, so much is written in all, with this status: a text and a status
--- that the program may print, or that it is out of memory.
+-- what is written in all after `before`, and the status: a text of the program, or out of memory
 abbrev pub Serves : (List ℕ → ℕ → Type 0) → List ℕ → Option (List ℕ) → ℕ → Type 0
 Serves prints before written status =
     ((text : List ℕ) × (good : ℕ) × prints text good

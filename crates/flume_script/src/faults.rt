@@ -1,41 +1,34 @@
-//! What is wrong with a line of a script, in words for who wrote it.
-//!
-//! The words of the steps are those of `reading`, which is asked for each.
+//! Why a line of a script is wrong.
 ghost use Rattle.std.specs.Prelude.{◌≡◌, ◌==◌, false};
 ghost use Rattle.std.specs.List.{All};
 
-use crate::reading::{Reading, call_step, next_line, number, part_at, plain_step, read_script};
+use crate::reading::{
+    Reading, next_line, number, part_at, read_script, step_with_number, step_without_number,
+};
 use flume_core::error::NoMemory;
 use std::alloc::Allocator;
 
-/// What is wrong with a line.
+/// Why a line is wrong.
 #[derive(Clone, Copy, Debug, PartialEq, Eq, Drop)]
 pub enum LineFault {
-    /// It begins with a byte order mark.
     ByteOrderMark,
-    /// It is empty.
     Empty,
     /// It begins with a space.
     Space,
-    /// It is the first line, and neither `unbounded` nor `bounded` and a number.
+    /// The first line is neither `unbounded` nor `bounded N`.
     NoOpening,
-    /// Its first word is that of no step.
     NoStep,
-    /// Its first word has to stand alone.
     MoreAfterWord,
     /// It is `recv` without a kind of receiver.
     NoKind,
-    /// A number is missing behind its first word.
     NoNumber,
-    /// What stands behind its first word is no number.
     NotNumber,
-    /// The number is greater than any of 64 bits.
+    /// The number needs more than 64 bits.
     GreatNumber,
-    /// More stands behind the number.
     MoreAfterNumber,
 }
 
-/// The first word of a line, which a space ends, and what follows the space.
+/// What is before the first space of a line, and after it.
 ///
 /// ```
 /// first_word(b"poll 2 3");           // (b"poll", b"2 3")
@@ -50,7 +43,7 @@ pub fn first_word(line: &[u8]) -> (&[u8], &[u8])
     }
 }
 
-/// What is wrong with a text that should be a number alone, and isn't.
+/// Why a text isn't a number alone.
 ///
 /// ```
 /// number_fault(b"");                 // NoNumber
@@ -70,7 +63,7 @@ pub fn number_fault(text: &[u8]) -> LineFault {
     }
 }
 
-/// What is wrong with a first line that opens no channel.
+/// Why a first line opens no channel.
 ///
 /// ```
 /// opening_fault(b"bounded");         // NoNumber
@@ -92,7 +85,7 @@ pub fn opening_fault(line: &[u8]) -> LineFault {
     }
 }
 
-/// What is wrong with a later line that is no step.
+/// Why a later line is no step.
 ///
 /// ```
 /// step_fault(b"send");               // NoNumber
@@ -107,17 +100,17 @@ pub fn step_fault(line: &[u8]) -> LineFault {
         LineFault::Space
     } else if word == b"recv".as_slice() {
         LineFault::NoKind
-    } else if plain_step(word).is_some() {
+    } else if step_without_number(word).is_some() {
         LineFault::MoreAfterWord
-    } else if call_step(word, 0).is_some() {
+    } else if step_with_number(word, 0).is_some() {
         number_fault(rest)
     } else {
         LineFault::NoStep
     }
 }
 
-/// Adds bytes as they are shown: the first hundred, and one that isn't printable in ASCII as its
-/// two digits behind `\x`. `NoMemory`: the text found no room.
+/// Adds the first hundred bytes, one that isn't printable ASCII as `\x` and two digits. `NoMemory`:
+/// the text couldn't grow, and may hold a part of this.
 pub fn write_shown<A: Allocator>(text: &mut String<A>, bytes: &[u8]) -> Result<(), NoMemory> {
     for byte in bytes.iter().take(100) {
         match *byte {
@@ -128,7 +121,7 @@ pub fn write_shown<A: Allocator>(text: &mut String<A>, bytes: &[u8]) -> Result<(
     Ok(())
 }
 
-/// Adds what is wrong with a line. `NoMemory`: the text found no room.
+/// Adds why a line is wrong. `NoMemory`: the text couldn't grow, and may hold a part of this.
 pub fn write_line_fault<A: Allocator>(
     text: &mut String<A>,
     line: &[u8],
@@ -147,7 +140,6 @@ pub fn write_line_fault<A: Allocator>(
     Ok(())
 }
 
-// What is wrong, where no part of the line is shown.
 fn words_of(fault: LineFault) -> &'static str {
     match fault {
         LineFault::ByteOrderMark => {
@@ -164,7 +156,7 @@ fn words_of(fault: LineFault) -> &'static str {
     }
 }
 
-/// The line with this number, counted from 1.
+/// The line with this number, counted from 1; empty if there is none.
 ///
 /// ```
 /// line_at(b"unbounded\nlen\n", 2);   // b"len"
@@ -181,8 +173,7 @@ pub fn line_at(input: &[u8], number: usize) -> &[u8] {
     found
 }
 
-/// Begins to say what is wrong with the line that has this number. `NoMemory`: the text found no
-/// room.
+/// Adds which line is wrong. `NoMemory`: the text couldn't grow, and may hold a part of this.
 pub fn write_place<A: Allocator>(
     text: &mut String<A>,
     number: usize,
@@ -194,8 +185,8 @@ pub fn write_place<A: Allocator>(
     Ok(())
 }
 
-/// Says which line of a script is the first wrong one, and what is wrong with it: nothing, if none
-/// is. `NoMemory`: the steps or the text found no room.
+/// Which line of a script is the first wrong one, and why; empty if none is wrong. `NoMemory`: an
+/// allocation failed.
 ///
 /// ```
 /// explain_script(alloc, b"unbounded\nlen 7\n")?;

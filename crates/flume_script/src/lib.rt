@@ -1,8 +1,7 @@
-//! Scripts: the steps of a channel as text. `run_script` reads them, makes them on a new channel,
-//! and answers a text with a line for each reply; `./play` of the repository prints it.
+//! Scripts: the steps of a channel as text. `run_script` makes them on a new channel, and gives a
+//! text with a line for each reply; `./play` of the repository prints it.
 //!
-//! `reading` parses the lines, `faults` says what is wrong with one, and `writing` has the texts of
-//! the replies. The contract of `run_script` says which text it answers to which input.
+//! `reading` parses the lines, `faults` says why one is wrong, `writing` has the texts of replies.
 #![tactic(auto)]
 
 ghost use Rattle.flume_script.specs.Program.{Answers, Prints};
@@ -23,27 +22,24 @@ use reading::{Reading, read_script};
 use std::alloc::{Allocator, Global};
 use writing::{write_replies, write_wrong};
 
-/// What a script prints, and the status that the program ends with: 0 where every line is right,
-/// else 2.
+/// What a program prints on standard output, and its exit status.
 #[derive(Drop)]
-pub struct Script<A: Allocator = Global> {
-    /// The text on standard output.
+pub struct ScriptOutput<A: Allocator = Global> {
     pub text: Vec<u8, A>,
-    /// The exit status.
     pub status: u8,
 }
 
 /// Runs a script on a new channel. The first line opens the channel, each further line is a step,
-/// and each reply is a line of the text. All lines are read first: where one is wrong, no step is
-/// done, and the text names the first wrong line. `NoMemory`: the steps, the replies or the text
-/// found no room. Linear in the length of the input.
+/// and each reply is a line of the text; the status is 0. If a line is wrong, no step is done: the
+/// text names the first wrong line, and the status is 2. `NoMemory`: an allocation failed. Linear
+/// in the length of the input.
 ///
 /// ```
 /// let script = run_script(alloc, b"unbounded\ntry_send 42\ntry_recv\n")?;
 /// script.text;                       // "sent\ngot 42\n"
 /// script.status;                     // 0
 /// ```
-pub fn run_script<A: Allocator + Copy>(alloc: A, input: &[u8]) -> Result<Script<A>, NoMemory>
+pub fn run_script<A: Allocator + Copy>(alloc: A, input: &[u8]) -> Result<ScriptOutput<A>, NoMemory>
     ensures prints { IfOk result (λ script. Prints A input.now script.text.items script.status) }
 {
     match read_script(alloc, input)? {
@@ -52,21 +48,19 @@ pub fn run_script<A: Allocator + Copy>(alloc: A, input: &[u8]) -> Result<Script<
     }
 }
 
-// The text of the first wrong line.
-fn refuse<A: Allocator + Copy>(alloc: A, line: usize) -> Result<Script<A>, NoMemory>
+fn refuse<A: Allocator + Copy>(alloc: A, line: usize) -> Result<ScriptOutput<A>, NoMemory>
     ensures text { IfOk result (λ script. script.text.items ≡ wrong_text line) }
     ensures status { IfOk result (λ script. script.status ≡ 2) }
 {
     let text = write_wrong(alloc, line)?;
-    Ok(Script { text, status: 2 })
+    Ok(ScriptOutput { text, status: 2 })
 }
 
-// The replies of the steps on a new channel.
 fn answer<A: Allocator + Copy>(
     alloc: A,
     capacity: Option<usize>,
     steps: Vec<Step<u64>, A>,
-) -> Result<Script<A>, NoMemory>
+) -> Result<ScriptOutput<A>, NoMemory>
     ensures answers { IfOk result (λ script. (input : List ℕ)
         → IsScript (lines input) capacity steps.items
         → Answers A input script.text.items script.status) }
@@ -76,5 +70,5 @@ fn answer<A: Allocator + Copy>(
         return Err(NoMemory);
     };
     let text = write_replies(alloc, &replies)?;
-    Ok(Script { text, status: 0 })
+    Ok(ScriptOutput { text, status: 0 })
 }

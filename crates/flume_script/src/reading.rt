@@ -1,6 +1,6 @@
-//! The lines of a script, read to steps.
+//! Reads the lines of a script to steps.
 ghost use Rattle.flume_script.specs.Reading.{IsReading};
-ghost use Rattle.flume_script.specs.Script.{IsCall, IsNoOpening, IsOpeningLine};
+ghost use Rattle.flume_script.specs.Script.{IsWordWithNumber, IsNoOpening, IsOpeningLine};
 ghost use Rattle.flume_script.specs.Script.{IsNoStep, IsStepLine, StepsUpTo};
 ghost use Rattle.std.specs.List.{All, AllZip};
 ghost use Rattle.std.specs.Prelude.{IfErr, IfNone, IfOk, IfSome, IsTrue, MatchOption, SomeIff};
@@ -14,24 +14,21 @@ use flume_model::step::{Kind, Step};
 use std::alloc::{AllocError, Allocator};
 use std::str;
 
-/// A script as it was read.
+/// A script, or its first wrong line.
 #[derive(Drop)]
 pub enum Reading<A: Allocator> {
-    /// Every line is right.
     Right {
-        /// How many messages the channel is to hold: none of an unbounded one.
+        /// `None` if unbounded.
         capacity: Option<usize>,
-        /// The steps, in the order of their lines.
         steps: Vec<Step<u64>, A>,
     },
-    /// Some line is wrong.
     Wrong {
-        /// The first wrong line, counted from 1.
+        /// Counted from 1.
         line: usize,
     },
 }
 
-/// What stands before the first such byte, and what after it.
+/// What is before the first such byte, and after it.
 ///
 /// ```
 /// part_at(b"poll 2", b' ');          // Some((b"poll", b"2"))
@@ -55,8 +52,8 @@ fn without_return(line: &[u8]) -> &[u8]
     }
 }
 
-/// The first line, and what follows it. A line ends at a line feed, or at a carriage return and a
-/// line feed, and the last one at the end too.
+/// The first line, and what follows it. A line ends at a line feed, with or without a carriage
+/// return before it, or at the end.
 ///
 /// ```
 /// next_line(b"len\ndrain\n");        // Some((b"len", b"drain\n"))
@@ -75,7 +72,7 @@ pub fn next_line(rest: &[u8]) -> Option<(&[u8], &[u8])>
     }
 }
 
-/// The number of 64 bits that these digits are, with zeros before it or not.
+/// The number that decimal digits are, if it fits 64 bits.
 ///
 /// ```
 /// number(b"007");                    // Some(7)
@@ -95,71 +92,70 @@ pub fn number(digits: &[u8]) -> Option<u64>
 }
 
 fn number_after(line: &[u8], word: &[u8]) -> Option<u64>
-    ensures value { MatchOption result ((n : ℕ) → ¬ IsCall line.now word.now n)
-        (λ n. IsCall line.now word.now n) }
+    ensures value { MatchOption result ((n : ℕ) → ¬ IsWordWithNumber line.now word.now n)
+        (λ n. IsWordWithNumber line.now word.now n) }
 {
     let digits = line.strip_prefix(word)?;
     number(digits)
 }
 
-fn is(line: &[u8], word: &[u8]) -> bool
+fn is_text(line: &[u8], word: &[u8]) -> bool
     ensures value { IsTrue result ↔ (line.now ≡ word.now) }
 {
     line == word
 }
 
 // The step of a word that takes no number.
-pub(crate) fn plain_step(word: &[u8]) -> Option<Step<u64>>
+pub(crate) fn step_without_number(word: &[u8]) -> Option<Step<u64>>
     requires no_space { All (λ x. (x == 32) ≡ false) word.now }
     ensures value { MatchOption result (IsNoStep word.now) (IsStepLine word.now) }
 {
     match word {
-        _ if is(word, b"try_recv") => Some(Step::TryRecv),
-        _ if is(word, b"drain") => Some(Step::Drain),
-        _ if is(word, b"clone_sender") => Some(Step::CloneSender),
-        _ if is(word, b"clone_receiver") => Some(Step::CloneReceiver),
-        _ if is(word, b"drop_sender") => Some(Step::DropSender),
-        _ if is(word, b"drop_receiver") => Some(Step::DropReceiver),
-        _ if is(word, b"len") => Some(Step::Len),
-        _ if is(word, b"is_empty") => Some(Step::IsEmpty),
-        _ if is(word, b"is_full") => Some(Step::IsFull),
-        _ if is(word, b"capacity") => Some(Step::Capacity),
-        _ if is(word, b"sender_count") => Some(Step::SenderCount),
-        _ if is(word, b"receiver_count") => Some(Step::ReceiverCount),
-        _ if is(word, b"is_disconnected") => Some(Step::IsDisconnected),
+        _ if is_text(word, b"try_recv") => Some(Step::TryRecv),
+        _ if is_text(word, b"drain") => Some(Step::Drain),
+        _ if is_text(word, b"clone_sender") => Some(Step::CloneSender),
+        _ if is_text(word, b"clone_receiver") => Some(Step::CloneReceiver),
+        _ if is_text(word, b"drop_sender") => Some(Step::DropSender),
+        _ if is_text(word, b"drop_receiver") => Some(Step::DropReceiver),
+        _ if is_text(word, b"len") => Some(Step::Len),
+        _ if is_text(word, b"is_empty") => Some(Step::IsEmpty),
+        _ if is_text(word, b"is_full") => Some(Step::IsFull),
+        _ if is_text(word, b"capacity") => Some(Step::Capacity),
+        _ if is_text(word, b"sender_count") => Some(Step::SenderCount),
+        _ if is_text(word, b"receiver_count") => Some(Step::ReceiverCount),
+        _ if is_text(word, b"is_disconnected") => Some(Step::IsDisconnected),
         _ => None,
     }
 }
 
-// The step of a word and its number.
-pub(crate) fn call_step(word: &[u8], number: u64) -> Option<Step<u64>>
+// The step of a word that takes a number.
+pub(crate) fn step_with_number(word: &[u8], number: u64) -> Option<Step<u64>>
     requires no_space { All (λ x. (x == 32) ≡ false) word.now }
     ensures value { (digits : List ℕ) → IsNumeral 10 digits → digits_value 10 digits ≡ number →
         MatchOption result (IsNoStep (word.now ++ 32 ∷ digits))
         (IsStepLine (word.now ++ 32 ∷ digits)) }
 {
     match word {
-        _ if is(word, b"try_send") => Some(Step::TrySend(number)),
-        _ if is(word, b"send") => Some(Step::Send(number)),
-        _ if is(word, b"poll_send") => Some(Step::PollSend(number)),
-        _ if is(word, b"withdraw_send") => Some(Step::WithdrawSend(number)),
-        _ if is(word, b"poll") => Some(Step::Poll(number)),
-        _ if is(word, b"withdraw") => Some(Step::Withdraw(number)),
-        _ if is(word, b"set_capacity") => Some(Step::SetCapacity(number as usize)),
+        _ if is_text(word, b"try_send") => Some(Step::TrySend(number)),
+        _ if is_text(word, b"send") => Some(Step::Send(number)),
+        _ if is_text(word, b"poll_send") => Some(Step::PollSend(number)),
+        _ if is_text(word, b"withdraw_send") => Some(Step::WithdrawSend(number)),
+        _ if is_text(word, b"poll") => Some(Step::Poll(number)),
+        _ if is_text(word, b"withdraw") => Some(Step::Withdraw(number)),
+        _ if is_text(word, b"set_capacity") => Some(Step::SetCapacity(number as usize)),
         _ => None,
     }
 }
 
-// The step of a receiver of the kind with this name.
 fn recv_step(kind: &[u8]) -> Option<Step<u64>>
     ensures value { MatchOption result (IsNoStep (codes "recv " ++ kind.now))
         (IsStepLine (codes "recv " ++ kind.now)) }
 {
     match kind {
-        _ if is(kind, b"block") => Some(Step::Recv(Kind::Block)),
-        _ if is(kind, b"plain") => Some(Step::Recv(Kind::Plain)),
-        _ if is(kind, b"stream") => Some(Step::Recv(Kind::Stream)),
-        _ if is(kind, b"arm") => Some(Step::Recv(Kind::Arm)),
+        _ if is_text(kind, b"block") => Some(Step::Recv(Kind::Block)),
+        _ if is_text(kind, b"plain") => Some(Step::Recv(Kind::Plain)),
+        _ if is_text(kind, b"stream") => Some(Step::Recv(Kind::Stream)),
+        _ if is_text(kind, b"arm") => Some(Step::Recv(Kind::Arm)),
         _ => None,
     }
 }
@@ -174,9 +170,9 @@ pub fn step_of(line: &[u8]) -> Option<Step<u64>>
     ensures value { MatchOption result (IsNoStep line.now) (IsStepLine line.now) }
 {
     match part_at(line, b' ') {
-        None => plain_step(line),
-        Some((word, kind)) if is(word, b"recv") => recv_step(kind),
-        Some((word, digits)) => call_step(word, number(digits)?),
+        None => step_without_number(line),
+        Some((word, kind)) if is_text(word, b"recv") => recv_step(kind),
+        Some((word, digits)) => step_with_number(word, number(digits)?),
     }
 }
 
@@ -190,14 +186,14 @@ pub fn step_of(line: &[u8]) -> Option<Step<u64>>
 pub fn opening_of(line: &[u8]) -> Option<Option<usize>>
     ensures value { MatchOption result (IsNoOpening line.now) (IsOpeningLine line.now) }
 {
-    if is(line, b"unbounded") {
+    if is_text(line, b"unbounded") {
         return Some(None);
     }
     let capacity = number_after(line, b"bounded ")?;
     Some(Some(capacity as usize))
 }
 
-// The steps of the lines, or how many stand before the first line that is none.
+// The steps, or how many there are before the first line that is none.
 fn read_steps<A: Allocator + Copy>(
     alloc: A,
     mut rest: &[u8],
@@ -217,7 +213,7 @@ fn read_steps<A: Allocator + Copy>(
     Ok(Ok(steps))
 }
 
-/// Reads a script of steps, up to its first wrong line. `NoMemory`: the steps found no room. Linear
+/// Reads a script up to its first wrong line. `NoMemory`: the steps couldn't be allocated. Linear
 /// in the length of the input.
 ///
 /// ```

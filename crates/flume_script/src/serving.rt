@@ -2,23 +2,21 @@
 ghost use Rattle.std.specs.Prelude.{◌≡◌, ℕ, List, ◌++◌, Some, IfOk, OnErr};
 ghost use Rattle.flume_script.specs.Serving.{Finishes, memory_text};
 
-use crate::Script;
+use crate::ScriptOutput;
 use flume_core::error::NoMemory;
 use std::alloc::Allocator;
 use std::io::{ErrorKind, Read, Write};
 
-// What is printed when the program is out of memory.
 const OUT_OF_MEMORY: &[u8] = b"out of memory\n";
 
-/// The status of a program that couldn't read its input, or write its output.
+/// The exit status if the input can't be read, or the output can't be written.
 pub const FAULT: u8 = 4;
 
-/// Why a program has no input.
+/// Why there is no input.
 #[derive(Clone, Copy, Debug, Drop)]
 pub enum Unread {
-    /// There was no memory for it.
     NoMemory,
-    /// It couldn't be read.
+    /// Any error but out of memory.
     Fault,
 }
 
@@ -42,9 +40,8 @@ pub fn read_all<A: Allocator + Copy, R: Read>(alloc: A, input: &mut R) -> Result
     }
 }
 
-/// Writes the text that a program answers with, and gives its status: that of the answer, 3 with
-/// the text `out of memory` where there was no memory for an answer, or `FAULT` where the text
-/// can't be written.
+/// Writes a program's text, and gives its exit status: that of the answer; 3, with the text `out of
+/// memory`, if the answer is `NoMemory`; `FAULT` if the text can't be written.
 ///
 /// ```
 /// let mut output = Vec::new(alloc);
@@ -53,7 +50,7 @@ pub fn read_all<A: Allocator + Copy, R: Read>(alloc: A, input: &mut R) -> Result
 /// ```
 pub fn write_answer<A: Allocator, W: Write>(
     output: &mut W,
-    answer: Result<Script<A>, NoMemory>,
+    answer: Result<ScriptOutput<A>, NoMemory>,
 ) -> u8
     ensures answered { (before : List ℕ) → W.contents output.old ≡ Some before
         → IfOk answer (λ script. Finishes (before ++ script.text.items) script.status
@@ -67,7 +64,6 @@ pub fn write_answer<A: Allocator, W: Write>(
     }
 }
 
-// Writes the text and answers the status, or `FAULT` where the text can't be written.
 fn finish<W: Write>(output: &mut W, text: &[u8], status: u8) -> u8
     ensures finished { (before : List ℕ) → W.contents output.old ≡ Some before
         → Finishes (before ++ text.now) status (W.contents output.new) result }

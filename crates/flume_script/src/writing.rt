@@ -11,7 +11,6 @@ use flume_core::error::NoMemory;
 use flume_model::step::Reply;
 use std::alloc::Allocator;
 
-// Adds the text of the reply to a send that was taken in.
 fn write_sent<A: Allocator>(text: &mut String<A>, filled: Option<u64>) -> Result<(), NoMemory>
     ensures value { OnOk result (string_bytes text.new
         ≡ string_bytes text.old ++ (reply_text {A = A} (Sent filled) ++ 10 ∷ [])) }
@@ -23,7 +22,6 @@ fn write_sent<A: Allocator>(text: &mut String<A>, filled: Option<u64>) -> Result
     Ok(())
 }
 
-// Adds the text of the reply to a blocked send that was taken back.
 fn write_returned<A: Allocator>(
     text: &mut String<A>,
     message: u64,
@@ -40,7 +38,6 @@ fn write_returned<A: Allocator>(
     Ok(())
 }
 
-// Adds the text of the reply to a parked receiver that left.
 fn write_gone<A: Allocator>(
     text: &mut String<A>,
     closed: bool,
@@ -58,7 +55,6 @@ fn write_gone<A: Allocator>(
     Ok(())
 }
 
-// Adds the text of a drained list.
 fn write_drained<A: Allocator>(text: &mut String<A>, list: &[u64]) -> Result<(), NoMemory>
     ensures value { OnOk result (string_bytes text.new
         ≡ string_bytes text.old ++ (codes "drained" ++ spaced list.now ++ 10 ∷ [])) }
@@ -71,7 +67,6 @@ fn write_drained<A: Allocator>(text: &mut String<A>, list: &[u64]) -> Result<(),
     Ok(())
 }
 
-// Adds a word, the message of a send if one comes back, and a line feed.
 fn write_refused<A: Allocator>(
     text: &mut String<A>,
     word: &str,
@@ -89,7 +84,6 @@ fn write_refused<A: Allocator>(
     Ok(())
 }
 
-// Adds a truth value.
 fn write_truth<A: Allocator>(text: &mut String<A>, truth: bool) -> Result<(), NoMemory>
     ensures value { OnOk result (string_bytes text.new
         ≡ string_bytes text.old ++ (reply_text {A = A} (Truth truth) ++ 10 ∷ [])) }
@@ -102,7 +96,6 @@ fn write_truth<A: Allocator>(text: &mut String<A>, truth: bool) -> Result<(), No
     Ok(())
 }
 
-// Adds the capacity of a channel.
 fn write_capacity<A: Allocator>(
     text: &mut String<A>,
     capacity: Option<usize>,
@@ -117,8 +110,8 @@ fn write_capacity<A: Allocator>(
     Ok(())
 }
 
-/// Adds the text of a reply, and a line feed. `NoMemory`: the text found no room, and part of this
-/// may stand in it.
+/// Adds the text of a reply, and a line feed. `NoMemory`: the text couldn't grow, and may hold a
+/// part of this.
 ///
 /// ```
 /// let mut text = String::new(alloc);
@@ -159,7 +152,7 @@ pub fn write_reply<A: Allocator>(
     })
 }
 
-/// The texts of the replies, each on a line. `NoMemory`: the text found no room. Linear in the
+/// The texts of the replies, each on a line. `NoMemory`: the text couldn't grow. Linear in the
 /// length of the text.
 ///
 /// ```
@@ -179,7 +172,7 @@ pub fn write_replies<A: Allocator + Copy>(
     Ok(text.into_bytes())
 }
 
-/// What is printed of a script whose first wrong line is this. `NoMemory`: the text found no room.
+/// The text of `run_script` if this line is the first wrong one. `NoMemory`: it couldn't grow.
 pub fn write_wrong<A: Allocator + Copy>(alloc: A, line: usize) -> Result<Vec<u8, A>, NoMemory>
     ensures value { IfOk result (λ bytes. bytes.items ≡ wrong_text line) }
 {

@@ -3,8 +3,8 @@
 use Rattle.std.proofs.Common.{◌≡◌, ℕ, ◌+◌, ◌==◌, Bool, [], ◌∷◌, ◌++◌, Option, Some, None, option_map, OnSome, IsSome, ◌↔◌, length, length-append, refl, sym, ap, ap₂, ◌∙◌, inl, inr, arith, true, false, if◌then◌else◌}
 use Rattle.std.proofs.lemmas.Bool.{cases_Bool}
 use Rattle.std.specs.Option.{option_or}
-use Rattle.flume_state.proofs.Chains.{times, places, found, without, first_place, place_after, once_back, item, found_none, without_at, with_value_at, with_same, revalued, length-edited, places-edited, found-edited, edited-append, edited_missing}
-use Rattle.flume_model.specs.Entries.{is_waiting, is_woken, waiting_count, again, again_as, entry_of, held_by, held_in, without as without_ticket}
+use Rattle.flume_state.proofs.Chains.{times, places, found, without_place, first_place, place_after, once_back, item, found_none, without_at, with_value_at, with_same, with_new_value, length-changed_at, places-changed_at, found-changed_at, changed_at-append, edited_missing}
+use Rattle.flume_model.specs.Entries.{is_waiting, is_woken, waiting_count, again, again_as, entry_of, held_by, held_in, without_ticket}
 use Rattle.flume_model.specs.declared.entry.Entry.{Entry}
 use Rattle.flume_model.specs.declared.entry.Mark.{Mark}
 use Rattle.flume_model.specs.declared.entry.Mark.TheVariants.{Waiting, Woken, Filled}
@@ -12,7 +12,7 @@ use Rattle.flume_state.specs.layout.EntryLayout.{Each, EntryLayout, after_asking
 use Rattle.flume_state.specs.Receivers.{EntryList, noticed_receiver, waits_on}
 use Rattle.flume_state.specs.declared.entries.Parked.{Parked}
 use Rattle.flume_state.specs.declared.notice.Notice.{Notice}
-use Rattle.flume_state.specs.layout.Ticketed.{Ticketed}
+use Rattle.flume_state.specs.layout.WithTicket.{WithTicket}
 use Rattle.flume_state.proofs.EntryDues.{revalued_entries}
 use Rattle.flume_state.proofs.EntryListLemmas.{count-append, weight}
 use Rattle.flume_state.proofs.EntryParts.{edited_at, gone, with_value, without_written}
@@ -21,14 +21,14 @@ use Rattle.flume_state.proofs.EntrySorted.{Items, entries-append, sorted_push, s
 
 module _ {T S : Type 0} where
   -- one that waits is in no part if none does, but behind it
-  waits_behind : (d : Bool) (xs ys : Items T S) (k : ℕ) (e : Ticketed (Parked T S)) → Each false d xs
+  waits_behind : (d : Bool) (xs ys : Items T S) (k : ℕ) (e : WithTicket (Parked T S)) → Each false d xs
       → is_waiting e.value.mark ≡ true → found (xs ++ ys) k ≡ Some e → (times k (places xs) ≡ 0) × (found ys k ≡ Some e)
   waits_behind d [] ys k e all waits h = (refl, h)
   waits_behind d (x ∷ xs) ys k e all waits h = elim (cases_Bool (k == x.place)) [
     | inl t ↦ (
         let it : Some x.element ≡ Some e = sym (ap (λ b. if b then Some x.element else found (xs ++ ys) k) t) ∙ h in
         let same : x.element ≡ e = cc in
-        let both : false ≡ true = sym all.0 ∙ ap (λ (o : Ticketed (Parked T S)). is_waiting o.value.mark) same ∙ waits in
+        let both : false ≡ true = sym all.0 ∙ ap (λ (o : WithTicket (Parked T S)). is_waiting o.value.mark) same ∙ waits in
         absurd (let none : ⊥ = cc in none)
         )
     | inr t ↦ (
@@ -39,19 +39,19 @@ module _ {T S : Type 0} where
   ]
 
   -- the part of those that wait, if one of them has a value with which it waits
-  each-revalued : (xs : Items T S) (k : ℕ) (v : Parked T S) → Each true false xs → is_waiting v.mark ≡ true → v.notice.due ≡ false
+  each-with_new_value : (xs : Items T S) (k : ℕ) (v : Parked T S) → Each true false xs → is_waiting v.mark ≡ true → v.notice.due ≡ false
       → Each true false (with_value_at k xs v)
-  each-revalued [] k v all waits quiet = all
-  each-revalued (x ∷ xs) k v all waits quiet = elim (cases_Bool (k == x.place)) [
-    | inl t ↦ rw t (waits, quiet, each-revalued xs k v all.2 waits quiet)
-    | inr t ↦ rw t (all.0, all.1, each-revalued xs k v all.2 waits quiet)
+  each-with_new_value [] k v all waits quiet = all
+  each-with_new_value (x ∷ xs) k v all waits quiet = elim (cases_Bool (k == x.place)) [
+    | inl t ↦ rw t (waits, quiet, each-with_new_value xs k v all.2 waits quiet)
+    | inr t ↦ rw t (all.0, all.1, each-with_new_value xs k v all.2 waits quiet)
   ]
 
   -- the first place is the same after an element has another value
-  first-revalued : (xs ys : Items T S) (k : ℕ) (v : Parked T S) → first_place (xs ++ ys) ≡ first_place (xs ++ with_value_at k ys v)
-  first-revalued (x ∷ xs) ys k v = refl
-  first-revalued [] [] k v = refl
-  first-revalued [] (y ∷ ys) k v = elim (cases_Bool (k == y.place)) [
+  first-with_new_value : (xs ys : Items T S) (k : ℕ) (v : Parked T S) → first_place (xs ++ ys) ≡ first_place (xs ++ with_value_at k ys v)
+  first-with_new_value (x ∷ xs) ys k v = refl
+  first-with_new_value [] [] k v = refl
+  first-with_new_value [] (y ∷ ys) k v = elim (cases_Bool (k == y.place)) [
     | inl t ↦ rw t refl
     | inr t ↦ rw t refl
   ]
@@ -74,24 +74,24 @@ module _ {T S : Type 0} where
         quiet = s.quiet;
         dues = s.dues;
         last = with_value_at k s.last v;
-        is = ap (λ l. with_value_at k l v) s.is ∙ edited-append (revalued v) s.quiet (s.dues ++ s.last) k
-            ∙ ap₂ (λ a b. a ++ b) (edited_missing (revalued v) s.quiet k (found_none s.quiet k p.0))
-            (edited-append (revalued v) s.dues s.last k ∙ ap (λ l. l ++ with_value_at k s.last v) (edited_missing (revalued v) s.dues k (found_none s.dues k r.0)));
+        is = ap (λ l. with_value_at k l v) s.is ∙ changed_at-append (with_new_value v) s.quiet (s.dues ++ s.last) k
+            ∙ ap₂ (λ a b. a ++ b) (edited_missing (with_new_value v) s.quiet k (found_none s.quiet k p.0))
+            (changed_at-append (with_new_value v) s.dues s.last k ∙ ap (λ l. l ++ with_value_at k s.last v) (edited_missing (with_new_value v) s.dues k (found_none s.dues k r.0)));
         are_quiet = s.are_quiet;
         are_due = s.are_due;
-        wait = each-revalued s.last k v s.wait does quiet;
-        first_due = s.first_due ∙ first-revalued s.dues s.last k v;
-        first_waits = s.first_waits ∙ first-revalued [] s.last k v;
+        wait = each-with_new_value s.last k v s.wait does quiet;
+        first_due = s.first_due ∙ first-with_new_value s.dues s.last k v;
+        first_waits = s.first_waits ∙ first-with_new_value [] s.last k v;
         count = omega (arith, s.count, one, still, before, later);
-        apart = λ j. let same = ap (times j) (places-edited (revalued v) items k) in let most = s.apart j in omega arith;
-        fits = omega (arith, s.fits, length-edited (revalued v) items k);
+        apart = λ j. let same = ap (times j) (places-changed_at (with_new_value v) items k) in let most = s.apart j in omega arith;
+        fits = omega (arith, s.fits, length-changed_at (with_new_value v) items k);
       }
 
   -- the value that an element has changes nothing
   revalued_same : (items : Items T S) (t k : ℕ) (q : Seated items t k) → with_value_at k items q.element.value ≡ items
   revalued_same items t k q =
       ap (λ l. with_value_at k l q.element.value) q.is
-      ∙ edited_at (revalued q.element.value) k q.before q.after q.element q.clear q.behind ∙ sym q.is
+      ∙ edited_at (with_new_value q.element.value) k q.before q.after q.element q.clear q.behind ∙ sym q.is
 
   -- one that wasn't woken asks again: the parts are as before
   pub asks_sorted : (items : Items T S) (due waits : Option ℕ) (n t k : ℕ) (signal : Option S) (m : Mark T) → EntryLayout items due waits n
@@ -160,28 +160,28 @@ module _ {T S : Type 0} where
   woken_empty items t k (Filled message) old q view is woken = absurd (let none : ⊥ = cc in none)
 
   -- the elements, with this one behind all others
-  abbrev pub behind_all : (items : Items T S) (k : ℕ) → Ticketed (Parked T S) → Items T S
-  behind_all items k e = without items k ++ item k e ∷ []
+  abbrev pub behind_all : (items : Items T S) (k : ℕ) → WithTicket (Parked T S) → Items T S
+  behind_all items k e = without_place items k ++ item k e ∷ []
 
   -- one with another value in its place, and what moving it back leaves: it is behind all others
   pub moved : (items new : Items T S) (t k : ℕ) (v : Parked T S) (done : Bool) (q : Seated items t k)
       → (done ≡ true ↔ IsSome (found (with_value_at k items v) k))
-      → (done ≡ true → (e : Ticketed (Parked T S)) → found (with_value_at k items v) k ≡ Some e → new ≡ behind_all (with_value_at k items v) k e)
+      → (done ≡ true → (e : WithTicket (Parked T S)) → found (with_value_at k items v) k ≡ Some e → new ≡ behind_all (with_value_at k items v) k e)
       → new ≡ behind_all items k (with_value q.element v)
   moved items new t k v done q stood moves =
       let here : found (with_value_at k items v) k ≡ Some (with_value q.element v) =
-      found-edited (revalued v) items k k ∙ with_same (found items) k _ ∙ ap (option_map (revalued v)) q.here in
+      found-changed_at (with_new_value v) items k k ∙ with_same (found items) k _ ∙ ap (option_map (with_new_value v)) q.here in
       moves (stood.1 (rw here refl)) (with_value q.element v) here
       ∙ ap (λ l. l ++ item k (with_value q.element v) ∷ []) (without_written items k v)
 
   -- there are as many after one moved behind all others
-  length-behind : (items : Items T S) (t k : ℕ) (e : Ticketed (Parked T S)) (q : Seated items t k)
+  length-behind : (items : Items T S) (t k : ℕ) (e : WithTicket (Parked T S)) (q : Seated items t k)
       → length (behind_all items k e) ≡ length items
   length-behind items t k e q =
       let x = item k q.element in
-      let left = ap (λ l. length (without l k)) q.is ∙ ap length (without_at q.before q.after k q.element q.clear q.behind) in
+      let left = ap (λ l. length (without_place l k)) q.is ∙ ap length (without_at q.before q.after k q.element q.clear q.behind) in
       let all = ap length q.is ∙ length-append q.before (x ∷ q.after) in
-      omega (arith, left, all, length-append q.before q.after, length-append (without items k) (item k e ∷ []))
+      omega (arith, left, all, length-append q.before q.after, length-append (without_place items k) (item k e ∷ []))
 
   -- a woken one waits behind all others
   pub again_sorted : (items : Items T S) (due waits next : Option ℕ) (n t k : ℕ) (signal : Option S) (m : Mark T)
@@ -193,7 +193,7 @@ module _ {T S : Type 0} where
   again_sorted items due waits next n t k signal Woken s q is woken after =
       let e = with_value q.element (after_asking Woken signal q.element.value) in
       let left = sorted_without items due waits next n n k q.element s q.here after (rw is (omega arith)) in
-      sorted_push (without items k) (boundary_without due k next) (boundary_without waits k next) n k e left (found_none (without items k) k (gone k items))
+      sorted_push (without_place items k) (boundary_without due k next) (boundary_without waits k next) n k e left (found_none (without_place items k) k (gone k items))
       (refl, refl) (omega (arith, s.fits, length-behind items t k e q))
 
   -- and so it does among the entries
@@ -207,9 +207,9 @@ module _ {T S : Type 0} where
       let x = noticed signal q in
       let y = entry_in (item k (with_value q.element (after_asking Woken signal q.element.value))) in
       let all = entries_in q.before ++ x ∷ entries_in q.after in
-      let left : entries_in (without items k) ≡ entries_in q.before ++ entries_in q.after =
-      ap (λ l. entries_in (without l k)) q.is ∙ ap entries_in (without_at q.before q.after k q.element q.clear q.behind)
+      let left : entries_in (without_place items k) ≡ entries_in q.before ++ entries_in q.after =
+      ap (λ l. entries_in (without_place l k)) q.is ∙ ap entries_in (without_at q.before q.after k q.element q.clear q.behind)
       ∙ entries-append q.before q.after in
-      entries-append (without items k) (item k (with_value q.element (after_asking Woken signal q.element.value)) ∷ [])
+      entries-append (without_place items k) (item k (with_value q.element (after_asking Woken signal q.element.value)) ∷ [])
       ∙ ap (λ l. l ++ y ∷ []) (left ∙ sym (without_entry t (entries_in q.before) (entries_in q.after) x q.ahead q.ticket))
       ∙ sym (asks_at items t k signal old q view ∙ ap (λ b. if b then without_ticket t all ++ y ∷ [] else all) (ap is_woken is))

@@ -1,6 +1,6 @@
 -- The first that waits and the first that is due, and what becomes of them.
 use Rattle.std.proofs.Common.{◌≡◌, ℕ, ◌-◌, ◌≤◌, Bool, [], ◌∷◌, ◌++◌, Option, Some, None, refl, sym, ap, ◌∙◌, arith, true, false, subst, append_assoc}
-use Rattle.flume_state.proofs.Chains.{times, places, found, first_place, place_after, item, after_at, with_value_at, revalued, length-edited, places-edited}
+use Rattle.flume_state.proofs.Chains.{times, places, found, first_place, place_after, item, after_at, with_value_at, with_new_value, length-changed_at, places-changed_at}
 use Rattle.flume_model.specs.Entries.{is_waiting, waiting_count}
 use Rattle.flume_model.specs.declared.entry.Mark.{Mark}
 use Rattle.flume_state.specs.Notices.{due_now}
@@ -8,18 +8,18 @@ use Rattle.flume_state.specs.layout.EntryLayout.{Each, EntryLayout, entries_in, 
 use Rattle.flume_state.specs.Receivers.{EntryList}
 use Rattle.flume_state.specs.declared.entries.Parked.{Parked}
 use Rattle.flume_state.specs.declared.notice.Notice.{Notice}
-use Rattle.flume_state.specs.layout.Ticketed.{Ticketed}
+use Rattle.flume_state.specs.layout.WithTicket.{WithTicket}
 use Rattle.flume_state.proofs.EntryListLemmas.{weight}
 use Rattle.flume_state.proofs.EntryParts.{Apart, alone, edited_at, first_same, front_at, seat_found, with_value, no_first}
 use Rattle.flume_state.proofs.EntrySorted.{Is, Items, each-push, entries-append, waits-append}
 
 module _ {T S : Type 0} where
   -- the entries if the element at a place has another value
-  pub revalued_entries : (items before after : Items T S) (k : ℕ) (e : Ticketed (Parked T S)) (v : Parked T S)
+  pub revalued_entries : (items before after : Items T S) (k : ℕ) (e : WithTicket (Parked T S)) (v : Parked T S)
       → items ≡ before ++ item k e ∷ after → times k (places before) ≡ 0 → times k (places after) ≡ 0
       → entries_in (with_value_at k items v) ≡ entries_in before ++ entry_in (item k (with_value e v)) ∷ entries_in after
   revalued_entries items before after k e v is clear behind =
-      ap (λ l. entries_in (with_value_at k l v)) is ∙ ap entries_in (edited_at (revalued v) k before after e clear behind)
+      ap (λ l. entries_in (with_value_at k l v)) is ∙ ap entries_in (edited_at (with_new_value v) k before after e clear behind)
       ∙ entries-append before (item k (with_value e v) ∷ after)
 
   -- if the first ones don't wait, another is the first that waits
@@ -71,7 +71,7 @@ module _ {T S : Type 0} where
 
   -- the first that waits, at its place alone
   pub record FirstWaiting (items : Items T S) (due waits : Option ℕ) (n : ℕ) (k : ℕ) (s : EntryLayout items due waits n) : Type 0 where
-    pub element : Ticketed (Parked T S)
+    pub element : WithTicket (Parked T S)
     pub after : Items T S
     pub last : s.last ≡ item k element ∷ after
     pub is : items ≡ (s.quiet ++ s.dues) ++ item k element ∷ after
@@ -120,7 +120,7 @@ module _ {T S : Type 0} where
       let x = item k w.element in
       let y = item k (with_value w.element v) in
       let now : with_value_at k items v ≡ (s.quiet ++ s.dues) ++ y ∷ w.after =
-      ap (λ l. with_value_at k l v) w.is ∙ edited_at (revalued v) k (s.quiet ++ s.dues) w.after w.element w.clear w.behind in
+      ap (λ l. with_value_at k l v) w.is ∙ edited_at (with_new_value v) k (s.quiet ++ s.dues) w.after w.element w.clear w.behind in
       let joined : s.dues ++ y ∷ w.after ≡ (s.dues ++ y ∷ []) ++ w.after = sym (append_assoc s.dues (y ∷ []) w.after) in
       let one : weight (entry_in x) ≡ 1 = rw w.class.0 refl in
       let zero_weight : weight (entry_in y) ≡ 0 = rw awake refl in
@@ -138,8 +138,8 @@ module _ {T S : Type 0} where
             ∙ first_same s.dues w.after k w.element (with_value w.element v) ∙ ap first_place joined;
         first_waits = ap (λ l. place_after l k) w.is ∙ after_at (s.quiet ++ s.dues) w.after k w.element w.clear;
         count = omega (arith, s.count, one, zero_weight, before, later);
-        apart = λ j. let same = ap (times j) (places-edited (revalued v) items k) in let most = s.apart j in omega arith;
-        fits = omega (arith, s.fits, length-edited (revalued v) items k);
+        apart = λ j. let same = ap (times j) (places-changed_at (with_new_value v) items k) in let most = s.apart j in omega arith;
+        fits = omega (arith, s.fits, length-changed_at (with_new_value v) items k);
       }
 
   -- and is marked among the entries

@@ -1,12 +1,12 @@
 -- The parked receiver that a ticket finds, in the chain and among the entries.
 use Rattle.std.proofs.Common.{◌≡◌, ℕ, ◌==◌, List, [], ◌∷◌, ◌++◌, Some, None, refl, sym, ap, ◌∙◌, inl, inr, if◌then◌else◌, eq-eqb, subst}
 use Rattle.std.proofs.lemmas.Bool.{cases_Bool, eqb-true}
-use Rattle.flume_state.proofs.Chains.{times, places, found, without, item, without_at}
-use Rattle.flume_model.specs.Entries.{entry_of, without as without_ticket}
+use Rattle.flume_state.proofs.Chains.{times, places, found, without_place, item, without_at}
+use Rattle.flume_model.specs.Entries.{entry_of, without_ticket}
 use Rattle.flume_model.specs.declared.entry.Entry.{Entry}
 use Rattle.flume_model.proofs.EntryLists.{none_parts}
 use Rattle.flume_state.specs.layout.EntryLayout.{entries_in, entry_in}
-use Rattle.flume_state.specs.layout.Ticketed.{place_of, Ticketed}
+use Rattle.flume_state.specs.layout.WithTicket.{place_of, WithTicket}
 use Rattle.flume_state.specs.Receivers.{EntryList, noticed_receiver}
 use Rattle.flume_state.specs.declared.entries.Parked.{Parked}
 use Rattle.flume_state.specs.declared.notice.Notice.{Notice}
@@ -58,7 +58,7 @@ module _ {T S : Type 0} where
   -- the first element with a ticket
   record FirstWith (items : Items T S) (t k : ℕ) : Type 0 where
     pub before : Items T S
-    pub element : Ticketed (Parked T S)
+    pub element : WithTicket (Parked T S)
     pub after : Items T S
     pub is : items ≡ before ++ item k element ∷ after
     pub ticket : element.label ≡ t
@@ -95,7 +95,7 @@ module _ {T S : Type 0} where
   -- the element with a ticket, at its place alone, and its entry
   pub record Seated (items : Items T S) (t k : ℕ) : Type 0 where
     pub before : Items T S
-    pub element : Ticketed (Parked T S)
+    pub element : WithTicket (Parked T S)
     pub after : Items T S
     pub is : items ≡ before ++ item k element ∷ after
     pub ticket : element.label ≡ t
@@ -129,9 +129,9 @@ module _ {T S : Type 0} where
 
   -- the entries without it
   pub seat_without : (items : Items T S) (t k : ℕ) → Seated items t k
-      → entries_in (without items k) ≡ without_ticket t (entries_in items)
+      → entries_in (without_place items k) ≡ without_ticket t (entries_in items)
   seat_without items t k s =
-      ap (λ l. entries_in (without l k)) s.is ∙ ap entries_in (without_at s.before s.after k s.element s.clear s.behind)
+      ap (λ l. entries_in (without_place l k)) s.is ∙ ap entries_in (without_at s.before s.after k s.element s.clear s.behind)
       ∙ entries-append s.before s.after
       ∙ sym (ap (without_ticket t) s.entries
       ∙ without_entry t (entries_in s.before) (entries_in s.after) (entry_in (item k s.element)) s.ahead s.ticket)

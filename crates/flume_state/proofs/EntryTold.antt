@@ -3,7 +3,7 @@ use Rattle.std.proofs.Common.{◌≡◌, ◌≢◌, ℕ, Bool, [], ◌∷◌, �
 use Rattle.std.proofs.lemmas.Bool.{cases_Bool, eqb-true}
 use Rattle.std.specs.Option.{option_eq}
 use Rattle.std.proofs.lemmas.List.Elements.{All-append, All-cons, All-nil}
-use Rattle.flume_state.proofs.Chains.{times, places, found, first_place, place_after, once_same, item, after_at, with_value_at, revalued, length-edited, places-edited}
+use Rattle.flume_state.proofs.Chains.{times, places, found, first_place, place_after, once_same, item, after_at, with_value_at, with_new_value, length-changed_at, places-changed_at}
 use Rattle.flume_model.specs.Entries.{waiting_count}
 use Rattle.flume_model.specs.declared.entry.Entry.{Entry}
 use Rattle.flume_state.specs.Notices.{no_longer_due}
@@ -11,7 +11,7 @@ use Rattle.flume_state.specs.layout.EntryLayout.{Each, EntryLayout, entries_in, 
 use Rattle.flume_state.specs.Receivers.{EntryList, NoDueReceiver, NamesReceiver}
 use Rattle.flume_state.specs.declared.entries.Parked.{Parked}
 use Rattle.flume_state.specs.declared.notice.Notice.{Notice}
-use Rattle.flume_state.specs.layout.Ticketed.{Ticketed}
+use Rattle.flume_state.specs.layout.WithTicket.{WithTicket}
 use Rattle.flume_state.proofs.EntryParts.{Apart, Front, alone, counted, edited_at, front_at, seat_found, with_value}
 use Rattle.flume_state.proofs.EntrySorted.{Is, Items, each-push, entries-append, waits-append}
 use Rattle.flume_state.proofs.EntryDues.{revalued_entries}
@@ -65,7 +65,7 @@ module _ {T S : Type 0} where
 
   -- the first that is due, at its place alone
   pub record Dues (items : Items T S) (due waits : Option ℕ) (n : ℕ) (k : ℕ) (s : EntryLayout items due waits n) : Type 0 where
-    pub element : Ticketed (Parked T S)
+    pub element : WithTicket (Parked T S)
     pub others : Items T S
     pub dues : s.dues ≡ item k element ∷ others
     pub is : items ≡ s.quiet ++ item k element ∷ (others ++ s.last)
@@ -111,7 +111,7 @@ module _ {T S : Type 0} where
       let x = item k d.element in
       let y = item k (with_value d.element v) in
       let now : with_value_at k items v ≡ s.quiet ++ y ∷ (d.others ++ s.last) =
-      ap (λ l. with_value_at k l v) d.is ∙ edited_at (revalued v) k s.quiet (d.others ++ s.last) d.element d.clear d.behind in
+      ap (λ l. with_value_at k l v) d.is ∙ edited_at (with_new_value v) k s.quiet (d.others ++ s.last) d.element d.clear d.behind in
       let before = ap (λ l. waiting_count (entries_in l)) d.is ∙ waits-append s.quiet (x ∷ (d.others ++ s.last)) in
       let later = ap (λ l. waiting_count (entries_in l)) now ∙ waits-append s.quiet (y ∷ (d.others ++ s.last)) in
       record {
@@ -125,8 +125,8 @@ module _ {T S : Type 0} where
         first_due = ap (λ l. place_after l k) d.is ∙ after_at s.quiet (d.others ++ s.last) k d.element d.clear;
         first_waits = s.first_waits;
         count = omega (arith, s.count, before, later);
-        apart = λ j. let same = ap (times j) (places-edited (revalued v) items k) in let most = s.apart j in omega arith;
-        fits = omega (arith, s.fits, length-edited (revalued v) items k);
+        apart = λ j. let same = ap (times j) (places-changed_at (with_new_value v) items k) in let most = s.apart j in omega arith;
+        fits = omega (arith, s.fits, length-changed_at (with_new_value v) items k);
       }
 
   -- and it was named
@@ -140,5 +140,5 @@ module _ {T S : Type 0} where
     found = sym view ∙ ap entries_in d.is ∙ entries-append s.quiet (item k d.element ∷ (d.others ++ s.last));
     is_it = refl;
     was_due = d.class.1;
-    told = revalued_entries items s.quiet (d.others ++ s.last) k d.element (told_value d.element.value) d.is d.clear d.behind;
+    named = revalued_entries items s.quiet (d.others ++ s.last) k d.element (told_value d.element.value) d.is d.clear d.behind;
   }

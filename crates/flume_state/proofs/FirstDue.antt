@@ -2,24 +2,24 @@
 use Rattle.std.proofs.Common.{◌≡◌, ℕ, ◌≤◌, true, false, List, [], ◌∷◌, ◌++◌, Option, Some, None, sym, ap, subst, ◌∙◌, append_assoc, ◌≢◌}
 use Rattle.flume_state.proofs.Chains.{times, found, place_after, item, after_at, with_value_at}
 use Rattle.flume_state.specs.declared.sends.LiveSend.{LiveSend}
-use Rattle.flume_state.specs.layout.Ticketed.{Ticketed, tickets}
+use Rattle.flume_state.specs.layout.WithTicket.{WithTicket, tickets}
 use Rattle.flume_state.specs.Sends.{send_due_in, is_due_send}
 use Rattle.flume_state.specs.layout.SendLayout.{Element, by_ticket, EachDueIs, SendLayout}
-use Rattle.flume_state.proofs.ByTicket.{under, Stands, stands_amid, stands_value, stands_written}
+use Rattle.flume_state.proofs.ByTicket.{under, Occupied, stands_amid, stands_value, stands_written}
 use Rattle.flume_state.proofs.EntryParts.{Apart, alone, front_at, seat_found}
 use Rattle.flume_state.proofs.SendLines.{lined_append}
 
 module _ {S : Type 0} where
   -- the first send that is due, by its ticket and its value
   pub record FirstDue (items : List (Element S)) (t p : ℕ) (v : LiveSend S) : Type 0 where
-    pub stands : Stands t p v items
-    pub none_due : EachDueIs false stands.before
-    pub all_due : EachDueIs true stands.after
+    pub occupied : Occupied t p v items
+    pub none_due : EachDueIs false occupied.before
+    pub all_due : EachDueIs true occupied.after
     pub due : v.notice.due ≡ true
 
   -- the first of those that are due, at its place
   record Late (items quiet : List (Element S)) (p : ℕ) : Type 0 where
-    pub element : Ticketed (LiveSend S)
+    pub element : WithTicket (LiveSend S)
     pub tail : List (Element S)
     pub is : items ≡ quiet ++ item p element ∷ tail
     pub at : found items p ≡ Some element
@@ -44,19 +44,19 @@ module _ {S : Type 0} where
       let h = late_of items d p l is apart in
       let both : Some h.element ≡ Some (under t v) = sym h.at ∙ at in
       let same : h.element ≡ under t v = cc in
-      let whole = h.is ∙ ap (λ (e : Ticketed (LiveSend S)). l.quiet ++ item p e ∷ h.tail) same in
+      let whole = h.is ∙ ap (λ (e : WithTicket (LiveSend S)). l.quiet ++ item p e ∷ h.tail) same in
       record {
-        stands = stands_amid t p v items l.quiet h.tail apart single whole;
+        occupied = stands_amid t p v items l.quiet h.tail apart single whole;
         none_due = l.none_due;
         all_due = h.dues.1;
-        due = sym (ap (λ (e : Ticketed (LiveSend S)). e.value.notice.due) same) ∙ h.dues.0;
+        due = sym (ap (λ (e : WithTicket (LiveSend S)). e.value.notice.due) same) ∙ h.dues.0;
       }
 
   -- it is named: the next is the first that is due
   pub told_kept : (items : List (Element S)) (t p : ℕ) (v w : LiveSend S) → FirstDue items t p v → w.notice.due ≡ false
       → SendLayout (with_value_at p items w) (place_after (with_value_at p items w) p)
   told_kept items t p v w f e =
-      let s = f.stands in
+      let s = f.occupied in
       let is = stands_written t p v w items s in
       record {
         quiet = s.before ++ item p (under t w) ∷ [];
@@ -69,7 +69,7 @@ module _ {S : Type 0} where
 
   -- it was due
   pub told_due : (items : List (Element S)) (t p : ℕ) (v : LiveSend S) → FirstDue items t p v → is_due_send (by_ticket items) t ≡ true
-  told_due items t p v f = ap send_due_in (stands_value t p v items f.stands) ∙ f.due
+  told_due items t p v f = ap send_due_in (stands_value t p v items f.occupied) ∙ f.due
 
   -- the first that is due is there
   pub due_stands : (items : List (Element S)) (d : Option ℕ) (p : ℕ) → SendLayout items d → d ≡ Some p → Apart items → found items p ≢ None

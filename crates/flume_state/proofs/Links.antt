@@ -4,22 +4,22 @@ use Rattle.std.proofs.lemmas.Bool.{cases_Bool, eqb-true}
 use Rattle.std.proofs.lemmas.List.{map-append}
 use Rattle.std.proofs.lemmas.Iterator.Adapters.{option_map_id}
 use Rattle.std.specs.FinMap.{empty, get, remove}
-use Rattle.flume_state.proofs.Chains.{Placed, times, places, found, without, put_before, first_place, place_after, revalued, with_value_at, times-append, with_same, item, found_none, found_put, none_placed, places-append, without_missing, places-edited, found-edited}
+use Rattle.flume_state.proofs.Chains.{ChainItem, times, places, found, without_place, put_before, first_place, place_after, with_new_value, with_value_at, times-append, with_same, item, found_none, found_put, none_placed, places-append, without_missing, places-changed_at, found-changed_at}
 use Rattle.flume_state.specs.declared.sends.LiveSend.{LiveSend}
 use Rattle.flume_state.specs.declared.sends.PlacedSend.{PlacedSend}
-use Rattle.flume_state.specs.layout.Ticketed.{Ticketed, place_of, tickets, put_ahead}
+use Rattle.flume_state.specs.layout.WithTicket.{WithTicket, place_of, tickets, put_before_or_last}
 use Rattle.flume_state.specs.Sends.{changed}
 use Rattle.flume_state.specs.layout.SendLayout.{Element, SendLayout, by_ticket}
 use Rattle.flume_state.specs.layout.Pairing.{SendList, Link, send_in, sends_in, live_sends, link_of, link_at}
 use Rattle.flume_state.proofs.TicketLemmas.{Amid, put_amid, without_amid, without_fresh, own, others_none}
-use Rattle.flume_state.proofs.ByTicket.{under, held, Stands, stands, stands_value}
+use Rattle.flume_state.proofs.ByTicket.{under, held, Occupied, occupied, stands_value}
 use Rattle.flume_state.proofs.EntryParts.{Apart, passes}
 use Rattle.flume_state.proofs.SendSteps.{get_none, written_view, spent_view}
 use Rattle.flume_state.proofs.FirstDue.{FirstDue, first_due, due_stands}
 
 module _ {S : Type 0} where
   -- an element without the place of its message
-  abbrev pub bare : Ticketed (PlacedSend S) → Ticketed (LiveSend S)
+  abbrev pub bare : WithTicket (PlacedSend S) → WithTicket (LiveSend S)
   bare e = record { label = e.label; value = e.value.send }
 
   pub found_sends : (xs : SendList S) (k : ℕ) → found (sends_in xs) k ≡ option_map bare (found xs k)
@@ -46,27 +46,27 @@ module _ {S : Type 0} where
   place_sends t [] = refl
   place_sends t (x ∷ xs) = ap (λ o. if x.element.label == t then Some x.place else o) (place_sends t xs)
 
-  put_before_sends : (xs : SendList S) (k : ℕ) (x : Placed (Ticketed (PlacedSend S))) → sends_in (put_before xs k x) ≡ put_before (sends_in xs) k (send_in x)
+  put_before_sends : (xs : SendList S) (k : ℕ) (x : ChainItem (WithTicket (PlacedSend S))) → sends_in (put_before xs k x) ≡ put_before (sends_in xs) k (send_in x)
   put_before_sends [] k x = refl
   put_before_sends (y ∷ xs) k x =
       passes sends_in (k == y.place) (x ∷ y ∷ xs) (y ∷ put_before xs k x)
       ∙ ap (λ (l : List (Element S)). if k == y.place then send_in x ∷ send_in y ∷ sends_in xs else send_in y ∷ l) (put_before_sends xs k x)
 
-  pub put_sends : (xs : SendList S) (d : Option ℕ) (x : Placed (Ticketed (PlacedSend S))) → sends_in (put_ahead xs d x) ≡ put_ahead (sends_in xs) d (send_in x)
+  pub put_sends : (xs : SendList S) (d : Option ℕ) (x : ChainItem (WithTicket (PlacedSend S))) → sends_in (put_before_or_last xs d x) ≡ put_before_or_last (sends_in xs) d (send_in x)
   put_sends xs None x = map-append send_in xs (x ∷ [])
   put_sends xs (Some k) x = put_before_sends xs k x
 
-  pub without_sends : (xs : SendList S) (k : ℕ) → sends_in (without xs k) ≡ without (sends_in xs) k
+  pub without_sends : (xs : SendList S) (k : ℕ) → sends_in (without_place xs k) ≡ without_place (sends_in xs) k
   without_sends [] k = refl
   without_sends (x ∷ xs) k =
-      passes sends_in (x.place == k) (without xs k) (x ∷ without xs k)
+      passes sends_in (x.place == k) (without_place xs k) (x ∷ without_place xs k)
       ∙ ap (λ (l : List (Element S)). if x.place == k then l else send_in x ∷ l) (without_sends xs k)
 
   pub written_sends : (xs : SendList S) (k : ℕ) (w : PlacedSend S) → sends_in (with_value_at k xs w) ≡ with_value_at k (sends_in xs) w.send
   written_sends [] k w = refl
   written_sends (x ∷ xs) k w =
       ap₂ (λ (y : Element S) (ys : List (Element S)). y ∷ ys)
-      (passes send_in (k == x.place) (item x.place (revalued w x.element)) x)
+      (passes send_in (k == x.place) (item x.place (with_new_value w x.element)) x)
       (written_sends xs k w)
 
   first_sends : (xs : SendList S) → first_place (sends_in xs) ≡ first_place xs
@@ -84,14 +84,14 @@ module _ {S : Type 0} where
   -- a send among others, if it is found by its place: with its ticket
   pub record Seat (xs : SendList S) (p t : ℕ) (o : PlacedSend S) : Type 0 where
     pub is : found xs p ≡ Some (under t o)
-    pub stands : Stands t p o.send (sends_in xs)
+    pub occupied : Occupied t p o.send (sends_in xs)
 
   -- it is so if it is found
   pub seat_of : (xs : SendList S) (p t : ℕ) (o : PlacedSend S) → Apart xs → ((u : ℕ) → times u (tickets xs) ≤ 1)
       → found xs p ≡ Some (under t o) → Seat xs p t o
   seat_of xs p t o apart single is = record {
     is = is;
-    stands = stands t p o.send (sends_in xs) (apart_sends xs apart) (single_sends xs single) (found_sends xs p ∙ ap (option_map bare) is);
+    occupied = occupied t p o.send (sends_in xs) (apart_sends xs apart) (single_sends xs single) (found_sends xs p ∙ ap (option_map bare) is);
   }
 
   -- and if its ticket does
@@ -99,22 +99,22 @@ module _ {S : Type 0} where
       → place_of t xs ≡ Some p → Some o ≡ option_map (λ e. e.value) (found xs p) → Seat xs p t o
   seat_at xs p t o apart single place value =
       let r = held t p xs apart place in
-      let both : Some o ≡ Some r.0 = value ∙ ap (option_map (λ (e : Ticketed (PlacedSend S)). e.value)) r.1 in
+      let both : Some o ≡ Some r.0 = value ∙ ap (option_map (λ (e : WithTicket (PlacedSend S)). e.value)) r.1 in
       let one : r.0 ≡ o = cc in
       seat_of xs p t o apart single (r.1 ∙ ap (λ (w : PlacedSend S). Some (under t w)) one)
 
   -- the ticket of an element is where the element is
-  pub ticket_place : (xs : SendList S) (p : ℕ) (e : Ticketed (PlacedSend S)) → Apart xs → ((u : ℕ) → times u (tickets xs) ≤ 1)
+  pub ticket_place : (xs : SendList S) (p : ℕ) (e : WithTicket (PlacedSend S)) → Apart xs → ((u : ℕ) → times u (tickets xs) ≤ 1)
       → found xs p ≡ Some e → place_of e.label xs ≡ Some p
   ticket_place xs p e apart single is =
       let at = without_amid xs p e apart is in
-      own xs (without xs p) (item p e) empty at e.label refl (others_none xs (without xs p) (item p e) empty at e.label refl (single e.label))
+      own xs (without_place xs p) (item p e) empty at e.label refl (others_none xs (without_place xs p) (item p e) empty at e.label refl (single e.label))
 
   -- a send that is read at a place is there
   pub seat : (xs : SendList S) (p : ℕ) (o : PlacedSend S) → Apart xs → ((u : ℕ) → times u (tickets xs) ≤ 1)
       → Some o ≡ option_map (λ e. e.value) (found xs p) → (t : ℕ) × Seat xs p t o
   seat xs p o apart single value =
-      elim (found xs p) as (λ (x : Option (Ticketed (PlacedSend S))). found xs p ≡ x → Some o ≡ option_map (λ e. e.value) x → (t : ℕ) × Seat xs p t o) [
+      elim (found xs p) as (λ (x : Option (WithTicket (PlacedSend S))). found xs p ≡ x → Some o ≡ option_map (λ e. e.value) x → (t : ℕ) × Seat xs p t o) [
         | None ↦ λ is v. absurd (let no : ⊥ = cc in no)
         | Some e ↦ λ is v. (
             let one : e.value ≡ o = cc in
@@ -126,7 +126,7 @@ module _ {S : Type 0} where
   pub link_place : (xs : SendList S) (k : ℕ) (l : Link) → Apart xs → ((u : ℕ) → times u (tickets xs) ≤ 1)
       → link_at xs k ≡ Some l → place_of l.ticket xs ≡ Some k
   link_place xs k l apart single is =
-      elim (found xs k) as (λ (x : Option (Ticketed (PlacedSend S))). found xs k ≡ x → option_map link_of x ≡ Some l → place_of l.ticket xs ≡ Some k) [
+      elim (found xs k) as (λ (x : Option (WithTicket (PlacedSend S))). found xs k ≡ x → option_map link_of x ≡ Some l → place_of l.ticket xs ≡ Some k) [
         | None ↦ λ at none. absurd (let no : ⊥ = cc in no)
         | Some e ↦ λ at some. (
             let ticket : e.label ≡ l.ticket = ap (λ (q : Link). q.ticket) (let both : link_of e ≡ l = cc in both) in
@@ -140,23 +140,23 @@ module _ {S : Type 0} where
       → Some t ≡ option_map (λ e. e.label) (found xs p) → Some o ≡ option_map (λ e. e.value) (found xs p) → FirstDue (sends_in xs) t p o.send
   first_sent xs d t p o l is apart single ticket value =
       let s = seat xs p o apart single value in
-      let both : Some t ≡ Some s.0 = ticket ∙ ap (option_map (λ (e : Ticketed (PlacedSend S)). e.label)) s.1.is in
+      let both : Some t ≡ Some s.0 = ticket ∙ ap (option_map (λ (e : WithTicket (PlacedSend S)). e.label)) s.1.is in
       let one : s.0 ≡ t = cc in
       first_due (sends_in xs) d t p o.send l is (apart_sends xs apart) (single_sends xs single)
       (found_sends xs p ∙ ap (option_map bare) (s.1.is ∙ ap (λ u. Some (under u o)) one))
 
-  none_found : {X : Type 0} (f : Ticketed (PlacedSend S) → X) (x : Option (Ticketed (PlacedSend S))) → None ≡ option_map f x → x ≡ None
+  none_found : {X : Type 0} (f : WithTicket (PlacedSend S) → X) (x : Option (WithTicket (PlacedSend S))) → None ≡ option_map f x → x ≡ None
   none_found f None is = refl
   none_found f (Some e) is = absurd (let no : ⊥ = cc in no)
 
   -- and whatever is read of it is there
-  pub due_found : {X : Type 0} (f : Ticketed (PlacedSend S) → X) (xs : SendList S) (d : Option ℕ) (p : ℕ) → SendLayout (sends_in xs) d → d ≡ Some p
+  pub due_found : {X : Type 0} (f : WithTicket (PlacedSend S) → X) (xs : SendList S) (d : Option ℕ) (p : ℕ) → SendLayout (sends_in xs) d → d ≡ Some p
       → Apart xs → None ≡ option_map f (found xs p) → ⊥
   due_found f xs d p l is apart none =
       due_stands (sends_in xs) d p l is (apart_sends xs apart) (found_sends xs p ∙ ap (option_map bare) (none_found f (found xs p) none))
 
   -- the links if one element more is among others
-  link_amid : (all rest : SendList S) (p : ℕ) (e : Ticketed (PlacedSend S)) → Amid all rest (item p e) → times p (places rest) ≡ 0
+  link_amid : (all rest : SendList S) (p : ℕ) (e : WithTicket (PlacedSend S)) → Amid all rest (item p e) → times p (places rest) ≡ 0
       → (k : ℕ) → link_at all k ≡ (if k == p then Some (link_of e) else link_at rest k)
   link_amid all rest p e at none k =
       let both = ap (times p) (ap places at.others ∙ places-append at.before at.after) in
@@ -167,28 +167,28 @@ module _ {S : Type 0} where
       ∙ passes (option_map link_of) (k == p) (Some e) (found rest k)
 
   pub link_put : (xs : SendList S) (d : Option ℕ) (p t : ℕ) (o : PlacedSend S) → found xs p ≡ None
-      → (k : ℕ) → link_at (put_ahead xs d (item p (under t o))) k ≡ (if k == p then Some (link_of (under t o)) else link_at xs k)
+      → (k : ℕ) → link_at (put_before_or_last xs d (item p (under t o))) k ≡ (if k == p then Some (link_of (under t o)) else link_at xs k)
   link_put xs d p t o fresh k =
       link_amid _ xs p (under t o) (put_amid xs d (item p (under t o))) (none_placed xs p fresh) k
 
-  pub link_moved : (xs : SendList S) (p : ℕ) (e : Ticketed (PlacedSend S)) → Apart xs → found xs p ≡ Some e
-      → (k : ℕ) → link_at (without xs p ++ item p e ∷ []) k ≡ link_at xs k
+  pub link_moved : (xs : SendList S) (p : ℕ) (e : WithTicket (PlacedSend S)) → Apart xs → found xs p ≡ Some e
+      → (k : ℕ) → link_at (without_place xs p ++ item p e ∷ []) k ≡ link_at xs k
   link_moved xs p e apart is k =
       let at = without_amid xs p e apart is in
-      let none = without_fresh xs (without xs p) (item p e) at (apart p) in
-      link_amid _ (without xs p) p e (put_amid (without xs p) None (item p e)) none k ∙ sym (link_amid xs (without xs p) p e at none k)
+      let none = without_fresh xs (without_place xs p) (item p e) at (apart p) in
+      link_amid _ (without_place xs p) p e (put_amid (without_place xs p) None (item p e)) none k ∙ sym (link_amid xs (without_place xs p) p e at none k)
 
-  pub link_without : (xs : SendList S) (p : ℕ) (e : Ticketed (PlacedSend S)) → Apart xs → found xs p ≡ Some e
-      → (k : ℕ) → link_at (without xs p) k ≡ (if k == p then None else link_at xs k)
+  pub link_without : (xs : SendList S) (p : ℕ) (e : WithTicket (PlacedSend S)) → Apart xs → found xs p ≡ Some e
+      → (k : ℕ) → link_at (without_place xs p) k ≡ (if k == p then None else link_at xs k)
   link_without xs p e apart is k =
       let at = without_amid xs p e apart is in
-      let none = without_fresh xs (without xs p) (item p e) at (apart p) in
+      let none = without_fresh xs (without_place xs p) (item p e) at (apart p) in
       elim (cases_Bool (k == p)) [
         | inl h ↦
-            ap (link_at (without xs p)) (eqb-true k p h) ∙ ap (option_map link_of) (found_none (without xs p) p none)
+            ap (link_at (without_place xs p)) (eqb-true k p h) ∙ ap (option_map link_of) (found_none (without_place xs p) p none)
             ∙ sym (ap (λ b. if b then None else link_at xs k) h)
         | inr h ↦
-            sym (link_amid xs (without xs p) p e at none k ∙ ap (λ b. if b then Some (link_of e) else link_at (without xs p) k) h)
+            sym (link_amid xs (without_place xs p) p e at none k ∙ ap (λ b. if b then Some (link_of e) else link_at (without_place xs p) k) h)
             ∙ sym (ap (λ b. if b then None else link_at xs k) h)
       ]
 
@@ -196,15 +196,15 @@ module _ {S : Type 0} where
   pub link_written : (xs : SendList S) (p t : ℕ) (f : Link → Link) (o w : PlacedSend S) → link_of (under t w) ≡ f (link_of (under t o)) → found xs p ≡ Some (under t o)
       → (k : ℕ) → link_at (with_value_at p xs w) k ≡ (if k == p then option_map f (link_at xs k) else link_at xs k)
   link_written xs p t f o w same is k =
-      ap (option_map link_of) (found-edited (revalued w) xs p k)
+      ap (option_map link_of) (found-changed_at (with_new_value w) xs p k)
       ∙ elim (cases_Bool (k == p)) [
         | inl h ↦
-            ap (λ b. option_map link_of (if b then option_map (revalued w) (found xs p) else found xs k)) h
-            ∙ ap (λ x. option_map link_of (option_map (revalued w) x)) is ∙ ap Some same
+            ap (λ b. option_map link_of (if b then option_map (with_new_value w) (found xs p) else found xs k)) h
+            ∙ ap (λ x. option_map link_of (option_map (with_new_value w) x)) is ∙ ap Some same
             ∙ sym (ap (λ q. option_map f (link_at xs q)) (eqb-true k p h) ∙ ap (λ x. option_map f (option_map link_of x)) is)
             ∙ sym (ap (λ b. if b then option_map f (link_at xs k) else link_at xs k) h)
         | inr h ↦
-            ap (λ b. option_map link_of (if b then option_map (revalued w) (found xs p) else found xs k)) h
+            ap (λ b. option_map link_of (if b then option_map (with_new_value w) (found xs p) else found xs k)) h
             ∙ sym (ap (λ b. if b then option_map f (link_at xs k) else link_at xs k) h)
       ]
 
@@ -218,32 +218,32 @@ module _ {S : Type 0} where
       inner false x = refl
 
   -- what a send that is written leaves
-  pub live_written : (xs : SendList S) (p t : ℕ) (o w : PlacedSend S) (f : LiveSend S → LiveSend S) → w.send ≡ f o.send → Stands t p o.send (sends_in xs)
+  pub live_written : (xs : SendList S) (p t : ℕ) (o w : PlacedSend S) (f : LiveSend S → LiveSend S) → w.send ≡ f o.send → Occupied t p o.send (sends_in xs)
       → live_sends (with_value_at p xs w) ≡ changed (live_sends xs) t f
   live_written xs p t o w f same s =
       ap by_ticket (written_sends xs p w ∙ ap (with_value_at p (sends_in xs)) same) ∙ written_view (sends_in xs) t p o.send f s
 
   -- what one leaves that is written, and then goes behind all others
   pub record Moved (xs new : SendList S) (p t : ℕ) (w : PlacedSend S) : Type 0 where
-    pub sends : sends_in new ≡ without (with_value_at p (sends_in xs) w.send) p ++ item p (under t w.send) ∷ []
+    pub sends : sends_in new ≡ without_place (with_value_at p (sends_in xs) w.send) p ++ item p (under t w.send) ∷ []
     pub links : (k : ℕ) → link_at new k ≡ link_at (with_value_at p xs w) k
 
   pub moved : (xs new : SendList S) (p t : ℕ) (o w : PlacedSend S) (r : Bool) → Apart xs → Seat xs p t o
       → (r ≡ true ↔ IsSome (found (with_value_at p xs w) p))
-      → (r ≡ true → (e : Ticketed (PlacedSend S)) → found (with_value_at p xs w) p ≡ Some e → new ≡ without (with_value_at p xs w) p ++ item p e ∷ [])
+      → (r ≡ true → (e : WithTicket (PlacedSend S)) → found (with_value_at p xs w) p ≡ Some e → new ≡ without_place (with_value_at p xs w) p ++ item p e ∷ [])
       → Moved xs new p t w
   moved xs new p t o w r apart s stood back =
-      let at = found-edited (revalued w) xs p p ∙ with_same (found xs) p (option_map (revalued w) (found xs p)) ∙ ap (option_map (revalued w)) s.is in
+      let at = found-changed_at (with_new_value w) xs p p ∙ with_same (found xs) p (option_map (with_new_value w) (found xs p)) ∙ ap (option_map (with_new_value w)) s.is in
       let is = back (stood.1 (ap is_some at)) (under t w) at in
       record {
         sends =
             ap sends_in is
-            ∙ map-append send_in (without (with_value_at p xs w) p) (item p (under t w) ∷ [])
+            ∙ map-append send_in (without_place (with_value_at p xs w) p) (item p (under t w) ∷ [])
             ∙ ap (λ (l : List (Element S)). l ++ item p (under t w.send) ∷ [])
-            (without_sends (with_value_at p xs w) p ∙ ap (λ (l : List (Element S)). without l p) (written_sends xs p w));
+            (without_sends (with_value_at p xs w) p ∙ ap (λ (l : List (Element S)). without_place l p) (written_sends xs p w));
         links = λ k.
             ap (λ l. link_at l k) is
-            ∙ link_moved (with_value_at p xs w) p (under t w) (λ j. rw (places-edited (revalued w) xs p) (apart j)) at k;
+            ∙ link_moved (with_value_at p xs w) p (under t w) (λ j. rw (places-changed_at (with_new_value w) xs p) (apart j)) at k;
       }
 
   pub record Spent (xs new : SendList S) (p : ℕ) : Type 0 where
@@ -252,9 +252,9 @@ module _ {S : Type 0} where
     pub none : IfNone (link_at xs p) (new ≡ xs)
 
   pub spent : (xs new : SendList S) (p : ℕ) → Apart xs → ((u : ℕ) → times u (tickets xs) ≤ 1)
-      → new ≡ without xs p → Spent xs new p
+      → new ≡ without_place xs p → Spent xs new p
   spent xs new p apart single taken =
-      elim (found xs p) as (λ (x : Option (Ticketed (PlacedSend S))). found xs p ≡ x → Spent xs new p) [
+      elim (found xs p) as (λ (x : Option (WithTicket (PlacedSend S))). found xs p ≡ x → Spent xs new p) [
         | None ↦ λ is. (
             let same = taken ∙ without_missing xs p is in
             record {
@@ -267,9 +267,9 @@ module _ {S : Type 0} where
             }
             )
         | Some e ↦ λ is. (
-            let r = seat xs p e.value apart single (sym (ap (option_map (λ (x : Ticketed (PlacedSend S)). x.value)) is)) in
+            let r = seat xs p e.value apart single (sym (ap (option_map (λ (x : WithTicket (PlacedSend S)). x.value)) is)) in
             record {
-              live = rw r.1.is (ap by_ticket (ap sends_in taken ∙ without_sends xs p) ∙ spent_view (sends_in xs) r.0 p e.value.send r.1.stands);
+              live = rw r.1.is (ap by_ticket (ap sends_in taken ∙ without_sends xs p) ∙ spent_view (sends_in xs) r.0 p e.value.send r.1.occupied);
               link = λ k. ap (λ y. link_at y k) taken ∙ link_without xs p e apart is k;
               none = rw r.1.is tt;
             }
@@ -277,16 +277,16 @@ module _ {S : Type 0} where
       ] refl
 
   -- what is said of the place that a ticket may have
-  pub told : (xs : SendList S) (t : ℕ) (r : Option ℕ) → Apart xs → ((u : ℕ) → times u (tickets xs) ≤ 1) → r ≡ place_of t xs
+  pub named : (xs : SendList S) (t : ℕ) (r : Option ℕ) → Apart xs → ((u : ℕ) → times u (tickets xs) ≤ 1) → r ≡ place_of t xs
       → IfSome r (λ p. option_map (λ l. l.ticket) (link_at xs p) ≡ Some t)
       × IfSome r (λ p. option_map (λ l. l.accepted) (link_at xs p) ≡ option_map (λ s. s.accepted) (get (live_sends xs) t))
       × IfNone r (get (live_sends xs) t ≡ None)
-  told xs t None apart single is = (tt, tt, get_none (sends_in xs) t (place_sends t xs ∙ sym is))
-  told xs t (Some p) apart single is =
+  named xs t None apart single is = (tt, tt, get_none (sends_in xs) t (place_sends t xs ∙ sym is))
+  named xs t (Some p) apart single is =
       let r = held t p xs apart (sym is) in
       let s = seat_of xs p t r.0 apart single r.1 in (
         ap (λ x. option_map (λ l. l.ticket) (option_map link_of x)) s.is,
-        ap (λ x. option_map (λ l. l.accepted) (option_map link_of x)) s.is ∙ sym (ap (option_map (λ s. s.accepted)) (stands_value t p r.0.send (sends_in xs) s.stands)),
+        ap (λ x. option_map (λ l. l.accepted) (option_map link_of x)) s.is ∙ sym (ap (option_map (λ s. s.accepted)) (stands_value t p r.0.send (sends_in xs) s.occupied)),
         tt,
       )
 

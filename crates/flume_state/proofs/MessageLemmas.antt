@@ -1,6 +1,6 @@
 -- The messages of a chain under its methods.
 use Rattle.std.proofs.Common.{◌≡◌, ℕ, suc, ◌-◌, List, [], ◌∷◌, ◌++◌, length, Option, Some, None, Result, Ok, Err, refl, sym, ap, ◌∙◌, arith, length-append, OnErr, append-nil}
-use Rattle.flume_chain.specs.Chained.{Placed}
+use Rattle.flume_chain.specs.ChainState.{ChainItem}
 use Rattle.flume_state.specs.layout.MessageLayout.{Message, BlockedAt, MessageList, queued_ahead, blocked_ahead, queued_of, blocked_of, messages_of, MessageLayout}
 
 module _ {T : Type 0} where
@@ -14,16 +14,16 @@ module _ {T : Type 0} where
   queued_ahead_append None m ls ms ns h = ap (λ (l : List T). m ∷ l) h
   queued_ahead_append (Some t) m ls ms ns h = h
 
-  pub queued_append : (xs ys : List (Placed (Message T))) → queued_of (xs ++ ys) ≡ queued_of xs ++ queued_of ys
+  pub queued_append : (xs ys : List (ChainItem (Message T))) → queued_of (xs ++ ys) ≡ queued_of xs ++ queued_of ys
   queued_append [] ys = refl
   queued_append (x ∷ xs) ys = queued_ahead_append x.element.label x.element.value _ _ _ (queued_append xs ys)
 
   -- two rows of blocked messages are joined
   blocked_ahead_append : (k : ℕ) (o : Option ℕ) (m : T) (ls ms ns : List (BlockedAt T)) → ls ≡ ms ++ ns → blocked_ahead k o m ls ≡ blocked_ahead k o m ms ++ ns
   blocked_ahead_append k None m ls ms ns h = h
-  blocked_ahead_append k (Some t) m ls ms ns h = ap (λ (l : List (BlockedAt T)). record { place = k; owner = t; message = m } ∷ l) h
+  blocked_ahead_append k (Some t) m ls ms ns h = ap (λ (l : List (BlockedAt T)). record { place = k; send_place = t; message = m } ∷ l) h
 
-  pub blocked_append : (xs ys : List (Placed (Message T))) → blocked_of (xs ++ ys) ≡ blocked_of xs ++ blocked_of ys
+  pub blocked_append : (xs ys : List (ChainItem (Message T))) → blocked_of (xs ++ ys) ≡ blocked_of xs ++ blocked_of ys
   blocked_append [] ys = refl
   blocked_append (x ∷ xs) ys = blocked_ahead_append x.place x.element.label x.element.value _ _ _ (blocked_append xs ys)
 
@@ -34,21 +34,21 @@ module _ {T : Type 0} where
   unblocked k (Some t) m ms bs h = absurd cc
 
   -- if none is blocked, all are queued
-  queued_count : (xs : List (Placed (Message T))) → blocked_of xs ≡ [] → length (queued_of xs) ≡ length xs
+  queued_count : (xs : List (ChainItem (Message T))) → blocked_of xs ≡ [] → length (queued_of xs) ≡ length xs
   queued_count [] h = refl
   queued_count (x ∷ xs) h =
       let first = unblocked x.place x.element.label x.element.value (queued_of xs) (blocked_of xs) h in
       ap length first.2 ∙ ap suc (queued_count xs first.1)
 
   -- if none is queued, all are blocked
-  blocked_count : (xs : List (Placed (Message T))) → queued_of xs ≡ [] → length (blocked_of xs) ≡ length xs
+  blocked_count : (xs : List (ChainItem (Message T))) → queued_of xs ≡ [] → length (blocked_of xs) ≡ length xs
   blocked_count [] h = refl
   blocked_count (x ∷ xs) h =
       let own = unqueued x.element.label x.element.value (queued_of xs) h in
       ap (λ o. length (blocked_ahead x.place o x.element.value (blocked_of xs))) own.1 ∙ ap suc (blocked_count xs own.2)
 
   -- what of two rows joined isn't queued isn't in either of them
-  pub none_queued_append : (xs ys : List (Placed (Message T))) → queued_of (xs ++ ys) ≡ [] → (queued_of xs ≡ []) × (queued_of ys ≡ [])
+  pub none_queued_append : (xs ys : List (ChainItem (Message T))) → queued_of (xs ++ ys) ≡ [] → (queued_of xs ≡ []) × (queued_of ys ≡ [])
   none_queued_append [] ys h = (refl, h)
   none_queued_append (x ∷ xs) ys h =
       let both : queued_ahead x.element.label x.element.value (queued_of xs) ++ queued_of ys ≡ [] = sym (queued_append (x ∷ xs) ys) ∙ h in
@@ -59,7 +59,7 @@ module _ {T : Type 0} where
       nothing (l ∷ ls) ms h = absurd cc
 
   -- the messages of queued elements and of blocked ones behind them
-  messages_joined : (xs ys : List (Placed (Message T))) (space : ℕ) → blocked_of xs ≡ [] → queued_of ys ≡ []
+  messages_joined : (xs ys : List (ChainItem (Message T))) (space : ℕ) → blocked_of xs ≡ [] → queued_of ys ≡ []
       → messages_of (xs ++ ys) space ≡ record { queued = queued_of xs; blocked = blocked_of ys; space = space }
   messages_joined xs ys space none_blocked none_queued =
       let queued : queued_of (xs ++ ys) ≡ queued_of xs = queued_append xs ys ∙ ap (λ l. queued_of xs ++ l) none_queued ∙ append-nil (queued_of xs) in
@@ -67,12 +67,12 @@ module _ {T : Type 0} where
       λ i. record { queued = queued i; blocked = blocked i; space = space }
 
   -- the messages of elements that are laid out
-  pub laid : (items : List (Placed (Message T))) (first : Option ℕ) (count space : ℕ) (w : MessageLayout items first count)
+  pub laid : (items : List (ChainItem (Message T))) (first : Option ℕ) (count space : ℕ) (w : MessageLayout items first count)
       → messages_of items space ≡ record { queued = queued_of w.front; blocked = blocked_of w.back; space = space }
   laid items first count space w = ap (λ l. messages_of l space) w.is ∙ messages_joined w.front w.back space w.none_blocked w.none_queued
 
   -- how many are queued, and how many blocked
-  pub counts : (items : List (Placed (Message T))) (first : Option ℕ) (count space : ℕ) (list : MessageList T) → MessageLayout items first count
+  pub counts : (items : List (ChainItem (Message T))) (first : Option ℕ) (count space : ℕ) (list : MessageList T) → MessageLayout items first count
       → messages_of items space ≡ list → (length items - count ≡ length list.queued) × (count ≡ length list.blocked)
   counts items first count space list w view =
       let is = sym (laid items first count space w) ∙ view in

@@ -2,15 +2,15 @@
 use Rattle.std.proofs.Common.{◌≡◌, ◌≢◌, ℕ, ◌≤◌, ◌==◌, Bool, true, false, List, [], ◌∷◌, ◌++◌, Option, Some, None, refl, sym, ap, ap₂, subst, ◌∙◌, inl, inr, arith, if◌then◌else◌, map, All, option_map, IfSome}
 use Rattle.std.specs.FinMap.{remove}
 use Rattle.std.specs.Option.{option_map_or}
-use Rattle.flume_chain.specs.Chained.{found}
+use Rattle.flume_chain.specs.ChainState.{found}
 use Rattle.std.proofs.lemmas.Bool.{cases_eq, eq-eqb, ne_eqb, eqb-false}
 use Rattle.std.proofs.lemmas.List.{map-append}
 use Rattle.std.proofs.lemmas.List.Elements.{All-nil, All-cons, All-head, All-tail, All-append, All-push, All-map}
 use Rattle.flume_state.proofs.Chains.{times, times-append, once_same, once_none}
 use Rattle.flume_state.specs.Messages.{Blocked, Messages, Admits, TakesBack}
 use Rattle.flume_state.specs.Sends.{SendMap, changed, accepted_now}
-use Rattle.flume_state.specs.layout.MessageLayout.{BlockedAt, MessageList, AdmitsOwner, TakesOut}
-use Rattle.flume_state.specs.layout.Pairing.{SendList, Link, link_of, link_at, at_message, accepting, owner_at, ticket_at, under_ticket, under_tickets, live_sends, HasLink, Pairing}
+use Rattle.flume_state.specs.layout.MessageLayout.{BlockedAt, MessageList, AdmitsSend, TakesOut}
+use Rattle.flume_state.specs.layout.Pairing.{SendList, Link, link_of, link_at, at_message, accepting, send_place_at, ticket_at, under_ticket, under_tickets, live_sends, HasLink, Pairing}
 
 -- the places of blocked messages
 abbrev pub places_of : {T : Type 0} → List (BlockedAt T) → List ℕ
@@ -22,7 +22,7 @@ Elsewhere k blocked = All (λ b. b.place ≢ k) blocked
 
 -- none of these blocked messages has an owner
 abbrev pub OfOthers : {T : Type 0} → ℕ → List (BlockedAt T) → Type 0
-OfOthers o blocked = All (λ b. b.owner ≢ o) blocked
+OfOthers o blocked = All (λ b. b.send_place ≢ o) blocked
 
 module _ {T : Type 0} where
   -- a place that is counted nowhere is that of none
@@ -41,28 +41,28 @@ module _ {T : Type 0} where
       (elsewhere b.place before (omega (arith, all, most, here)), elsewhere b.place after (omega (arith, all, most, here)))
 
   -- no owner is found at a place that none has
-  pub owner_none : (k : ℕ) (bs : List (BlockedAt T)) → Elsewhere k bs → owner_at bs k ≡ None
+  pub owner_none : (k : ℕ) (bs : List (BlockedAt T)) → Elsewhere k bs → send_place_at bs k ≡ None
   owner_none k [] none = refl
   owner_none k (b ∷ bs) none =
-      ap (λ c. if c then Some b.owner else owner_at bs k) (ne_eqb b.place k (All-head (λ (c : BlockedAt T). c.place ≢ k) b bs none)) ∙ owner_none k bs (All-tail (λ (c : BlockedAt T). c.place ≢ k) b bs none)
+      ap (λ c. if c then Some b.send_place else send_place_at bs k) (ne_eqb b.place k (All-head (λ (c : BlockedAt T). c.place ≢ k) b bs none)) ∙ owner_none k bs (All-tail (λ (c : BlockedAt T). c.place ≢ k) b bs none)
 
   -- the owner of one that has its place for itself
-  pub owner_here : (before after : List (BlockedAt T)) (b : BlockedAt T) → Elsewhere b.place before → owner_at (before ++ b ∷ after) b.place ≡ Some b.owner
-  owner_here [] after b none = ap (λ c. if c then Some b.owner else owner_at after b.place) (eq-eqb b.place b.place refl)
+  pub owner_here : (before after : List (BlockedAt T)) (b : BlockedAt T) → Elsewhere b.place before → send_place_at (before ++ b ∷ after) b.place ≡ Some b.send_place
+  owner_here [] after b none = ap (λ c. if c then Some b.send_place else send_place_at after b.place) (eq-eqb b.place b.place refl)
   owner_here (c ∷ before) after b none =
-      ap (λ d. if d then Some c.owner else owner_at (before ++ b ∷ after) b.place) (ne_eqb c.place b.place (All-head (λ (d : BlockedAt T). d.place ≢ b.place) c before none))
+      ap (λ d. if d then Some c.send_place else send_place_at (before ++ b ∷ after) b.place) (ne_eqb c.place b.place (All-head (λ (d : BlockedAt T). d.place ≢ b.place) c before none))
       ∙ owner_here before after b (All-tail (λ (d : BlockedAt T). d.place ≢ b.place) c before none)
 
   -- the owners at other places are found without one
-  pub owner_without : (before after : List (BlockedAt T)) (b : BlockedAt T) (k : ℕ) → b.place ≢ k → owner_at (before ++ b ∷ after) k ≡ owner_at (before ++ after) k
-  owner_without [] after b k ne = ap (λ c. if c then Some b.owner else owner_at after k) (ne_eqb b.place k ne)
-  owner_without (c ∷ before) after b k ne = ap (λ o. if c.place == k then Some c.owner else o) (owner_without before after b k ne)
+  pub owner_without : (before after : List (BlockedAt T)) (b : BlockedAt T) (k : ℕ) → b.place ≢ k → send_place_at (before ++ b ∷ after) k ≡ send_place_at (before ++ after) k
+  owner_without [] after b k ne = ap (λ c. if c then Some b.send_place else send_place_at after k) (ne_eqb b.place k ne)
+  owner_without (c ∷ before) after b k ne = ap (λ o. if c.place == k then Some c.send_place else o) (owner_without before after b k ne)
 
   -- an owner that is found is found with more behind
-  pub owner_more : (bs more : List (BlockedAt T)) (k o : ℕ) → owner_at bs k ≡ Some o → owner_at (bs ++ more) k ≡ Some o
+  pub owner_more : (bs more : List (BlockedAt T)) (k o : ℕ) → send_place_at bs k ≡ Some o → send_place_at (bs ++ more) k ≡ Some o
   owner_more [] more k o is = absurd (let no : ⊥ = cc in no)
   owner_more (b ∷ bs) more k o is =
-      elim (b.place == k) as (λ c. (if c then Some b.owner else owner_at bs k) ≡ Some o → (if c then Some b.owner else owner_at (bs ++ more) k) ≡ Some o) [
+      elim (b.place == k) as (λ c. (if c then Some b.send_place else send_place_at bs k) ≡ Some o → (if c then Some b.send_place else send_place_at (bs ++ more) k) ≡ Some o) [
         | true ↦ λ e. e
         | false ↦ λ e. owner_more bs more k o e
       ] is
@@ -133,15 +133,15 @@ module _ {T S : Type 0} where
 
   -- the owners of these blocked messages have the links that they had
   abbrev pub SameLinks : (new old : SendList S) → List (BlockedAt T) → Type 0
-  SameLinks new old bs = All (λ b. link_at new b.owner ≡ link_at old b.owner) bs
+  SameLinks new old bs = All (λ b. link_at new b.send_place ≡ link_at old b.send_place) bs
 
   -- so each is under its ticket as before
   pub named_kept : (new old : SendList S) (bs : List (BlockedAt T)) → SameLinks new old bs → under_tickets new bs ≡ under_tickets old bs
   named_kept new old [] same = refl
   named_kept new old (b ∷ bs) same =
       ap₂ (λ (n : ℕ) (rest : List (Blocked T)). let c : Blocked T = record { ticket = n; message = b.message } in c ∷ rest)
-      (ticket_kept new old b.owner (All-head (λ (c : BlockedAt T). link_at new c.owner ≡ link_at old c.owner) b bs same))
-      (named_kept new old bs (All-tail (λ (c : BlockedAt T). link_at new c.owner ≡ link_at old c.owner) b bs same))
+      (ticket_kept new old b.send_place (All-head (λ (c : BlockedAt T). link_at new c.send_place ≡ link_at old c.send_place) b bs same))
+      (named_kept new old bs (All-tail (λ (c : BlockedAt T). link_at new c.send_place ≡ link_at old c.send_place) b bs same))
 
   -- and has its send as before
   pub held_kept : (new old : SendList S) (bs : List (BlockedAt T)) → SameLinks new old bs → All (HasLink old) bs → All (HasLink new) bs
@@ -160,7 +160,7 @@ module _ {T S : Type 0} where
       absurd (let none : ⊥ = cc in none)
 
   -- the owner of one message is that of no other
-  pub others : (sends : SendList S) (b : BlockedAt T) (bs : List (BlockedAt T)) → HasLink sends b → All (HasLink sends) bs → Elsewhere b.place bs → OfOthers b.owner bs
+  pub others : (sends : SendList S) (b : BlockedAt T) (bs : List (BlockedAt T)) → HasLink sends b → All (HasLink sends) bs → Elsewhere b.place bs → OfOthers b.send_place bs
   others sends b bs own held apart k d lt same =
       let h = held k d lt in
       absurd (apart k d lt (ap message_in (sym h.is ∙ ap (link_at sends) same ∙ own.is)))
@@ -199,11 +199,11 @@ module _ {T S : Type 0} where
 
   -- the first blocked message joins the queue, and its send is accepted
   pub admits : (new old : SendList S) (l m : MessageList T) (o : ℕ) → Pairing l.blocked old → ((k : ℕ) → times k (places_of l.blocked) ≤ 1)
-      → AdmitsOwner l m o → LinksBut new old o (λ k. option_map (accepting true) (link_at old k))
+      → AdmitsSend l m o → LinksBut new old o (λ k. option_map (accepting true) (link_at old k))
       → IfSome (link_at old o) (λ i. live_sends new ≡ changed (live_sends old) i.ticket accepted_now)
       → Pairs m new (λ line. Admits (line_of l old) line)
   admits new old l m o paired apart a links live =
-      let b : BlockedAt T = record { place = a.place; owner = o; message = a.message } in
+      let b : BlockedAt T = record { place = a.place; send_place = o; message = a.message } in
       let p = subst (λ bs. Pairing bs old) a.leaves paired in
       let own = All-head (HasLink old) b m.blocked p.held in
       let rest = All-tail (HasLink old) b m.blocked p.held in
@@ -220,7 +220,7 @@ module _ {T S : Type 0} where
               let found = p.owns k i (sym (but_one new old o _ links k ne) ∙ is) held_back in
               elim (cases_eq a.place i.message) [
                 | inl e ↦ (
-                    let both : Some o ≡ Some k = sym (ap (λ c. if c then Some o else owner_at m.blocked i.message) (eq-eqb a.place i.message e)) ∙ found in
+                    let both : Some o ≡ Some k = sym (ap (λ c. if c then Some o else send_place_at m.blocked i.message) (eq-eqb a.place i.message e)) ∙ found in
                     absurd (ne (let name : k ≡ o = cc in name))
                     )
                 | inr other ↦ sym (owner_without [] m.blocked b i.message other) ∙ found
@@ -239,10 +239,10 @@ module _ {T S : Type 0} where
   pub blocks : (new mid old : SendList S) (l m : MessageList T) (o place ticket : ℕ) (message : T) → Pairing l.blocked old → link_at old o ≡ None
       → LinksBut mid old o (λ _. Some (record { ticket = ticket; message = 0; accepted = false }))
       → LinksBut new mid o (λ k. option_map (at_message place) (link_at mid k))
-      → m.blocked ≡ l.blocked ++ record { place = place; owner = o; message = message } ∷ [] → Elsewhere place l.blocked
+      → m.blocked ≡ l.blocked ++ record { place = place; send_place = o; message = message } ∷ [] → Elsewhere place l.blocked
       → Pairs m new (λ line. line.blocked ≡ under_tickets old l.blocked ++ record { ticket = ticket; message = message } ∷ [])
   blocks new mid old l m o place ticket message p fresh first second is apart =
-      let b : BlockedAt T = record { place = place; owner = o; message = message } in
+      let b : BlockedAt T = record { place = place; send_place = o; message = message } in
       let but : (k : ℕ) → k ≢ o → link_at new k ≡ link_at old k = λ k ne. but_one new mid o _ second k ne ∙ but_one mid old o _ first k ne in
       let made = at_one new mid o _ second ∙ ap (option_map (at_message place)) (at_one mid old o _ first) in
       let other = not_owner old o l.blocked (λ i h. let no : None ≡ Some i = sym fresh ∙ h in absurd (let none : ⊥ = cc in none)) p.held in
@@ -253,7 +253,7 @@ module _ {T S : Type 0} where
           owns = λ k i h held_back. elim (cases_eq k o) [
             | inl e ↦ (
                 let at : i.message ≡ place = ap message_in (sym h ∙ ap (link_at new) e ∙ made) in
-                ap (owner_at (l.blocked ++ b ∷ [])) at ∙ owner_here l.blocked [] b apart ∙ ap Some (sym e)
+                ap (send_place_at (l.blocked ++ b ∷ [])) at ∙ owner_here l.blocked [] b apart ∙ ap Some (sym e)
                 )
             | inr ne ↦ owner_more l.blocked (b ∷ []) i.message k (p.owns k i (sym (but k ne) ∙ h) held_back)
           ];
@@ -306,15 +306,15 @@ module _ {T S : Type 0} where
       → IfSome (link_at old o) (λ i. live_sends new ≡ remove (live_sends old) i.ticket)
       → Pairs m new (λ line. TakesBack (line_of l old) line ticket message)
   withdraws new old l m o place ticket message paired apart is only t links live =
-      let b : BlockedAt T = record { place = place; owner = t.owner; message = message } in
+      let b : BlockedAt T = record { place = place; send_place = t.send_place; message = message } in
       let p = subst (λ bs. Pairing bs old) t.found paired in
       let alone = around t.before t.after b (subst (λ bs. (k : ℕ) → times k (places_of bs) ≤ 1) t.found apart) in
-      let both : Some t.owner ≡ Some o = sym (owner_here t.before t.after b alone.0) ∙ p.owns o _ is refl in
-      let name : t.owner ≡ o = cc in
+      let both : Some t.send_place ≡ Some o = sym (owner_here t.before t.after b alone.0) ∙ p.owns o _ is refl in
+      let name : t.send_place ≡ o = cc in
       let parts = parts_of old t.before t.after b p.held in
       let ahead = subst (λ k. OfOthers k t.before) name (others old b t.before parts.own parts.ahead alone.0) in
       let behind = subst (λ k. OfOthers k t.after) name (others old b t.after parts.own parts.behind alone.1) in
-      let same = same_but new old o _ (t.before ++ t.after) links (All-append (λ (c : BlockedAt T). c.owner ≢ o) t.before t.after ahead behind) in
+      let same = same_but new old o _ (t.before ++ t.after) links (All-append (λ (c : BlockedAt T). c.send_place ≢ o) t.before t.after ahead behind) in
       let names : under_tickets new (t.before ++ t.after) ≡ under_tickets old t.before ++ under_tickets old t.after =
       named_kept new old (t.before ++ t.after) same ∙ map-append (under_ticket old) t.before t.after in
       let becomes = subst (λ i. IfSome i (λ i. live_sends new ≡ remove (live_sends old) i.ticket)) is live in
@@ -326,7 +326,7 @@ module _ {T S : Type 0} where
               let no : None ≡ Some i = sym (at_one new old o _ links) ∙ ap (link_at new) (sym e) ∙ h in absurd (let none : ⊥ = cc in none) in
               let found = p.owns k i (sym (but_one new old o _ links k ne) ∙ h) held_back in
               let other : place ≢ i.message = λ e.
-              let one : Some k ≡ Some t.owner = sym found ∙ ap (owner_at (t.before ++ b ∷ t.after)) (sym e) ∙ owner_here t.before t.after b alone.0 in
+              let one : Some k ≡ Some t.send_place = sym found ∙ ap (send_place_at (t.before ++ b ∷ t.after)) (sym e) ∙ owner_here t.before t.after b alone.0 in
               ne (let same_name : k ≡ o = cc in same_name) in
               sym (owner_without t.before t.after b i.message other) ∙ found;
         });

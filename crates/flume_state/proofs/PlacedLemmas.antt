@@ -1,48 +1,48 @@
 -- Elements in order, each place of one at most: one among others, and what is read and written there.
 use Rattle.std.proofs.Common.{◌≡◌, ◌≢◌, ℕ, List, [], ◌∷◌, ◌++◌, Option, Some, sym, ap, subst, ◌∙◌, arith}
 use Rattle.std.proofs.lemmas.List.{map-append, append-nil}
-use Rattle.flume_state.proofs.Chains.{once, times, Placed, places, found, without, first_place, place_after, times-append, once_same, edited, without_at, put_before_at, after_at}
-use Rattle.flume_state.specs.layout.Ticketed.{put_ahead}
+use Rattle.flume_state.proofs.Chains.{once, times, ChainItem, places, found, without_place, first_place, place_after, times-append, once_same, changed_at, without_at, put_before_at, after_at}
+use Rattle.flume_state.specs.layout.WithTicket.{put_before_or_last}
 use Rattle.flume_state.proofs.EntryParts.{Apart, alone, edited_at, seat_found}
 
 module _ {E : Type 0} where
   -- an element is found at its place
-  pub found_here : (xs ys : List (Placed E)) (x : Placed E) → Apart (xs ++ x ∷ ys) → found (xs ++ x ∷ ys) x.place ≡ Some x.element
+  pub found_here : (xs ys : List (ChainItem E)) (x : ChainItem E) → Apart (xs ++ x ∷ ys) → found (xs ++ x ∷ ys) x.place ≡ Some x.element
   found_here xs ys x apart =
       seat_found xs ys x.place x.element (alone xs ys x.place x.element apart).0
 
   -- without its place the others are left
-  pub without_here : (xs ys : List (Placed E)) (x : Placed E) → Apart (xs ++ x ∷ ys) → without (xs ++ x ∷ ys) x.place ≡ xs ++ ys
+  pub without_here : (xs ys : List (ChainItem E)) (x : ChainItem E) → Apart (xs ++ x ∷ ys) → without_place (xs ++ x ∷ ys) x.place ≡ xs ++ ys
   without_here xs ys x apart =
       without_at xs ys x.place x.element (alone xs ys x.place x.element apart).0 (alone xs ys x.place x.element apart).1
 
   -- an element changed at its place leaves the others
-  pub edited_here : (f : E → E) (xs ys : List (Placed E)) (x : Placed E) → Apart (xs ++ x ∷ ys)
-      → edited f x.place (xs ++ x ∷ ys) ≡ xs ++ record x { element = f x.element } ∷ ys
+  pub edited_here : (f : E → E) (xs ys : List (ChainItem E)) (x : ChainItem E) → Apart (xs ++ x ∷ ys)
+      → changed_at f x.place (xs ++ x ∷ ys) ≡ xs ++ record x { element = f x.element } ∷ ys
   edited_here f xs ys x apart =
       let at = alone xs ys x.place x.element apart in
       edited_at f x.place xs ys x.element at.0 at.1
 
   -- one more ahead of the first of those behind is between both parts
-  pub put_ahead_between : (xs ys : List (Placed E)) (x : Placed E) → Apart (xs ++ ys)
-      → put_ahead (xs ++ ys) (first_place ys) x ≡ xs ++ x ∷ ys
-  put_ahead_between xs [] x apart = ap (λ (l : List (Placed E)). l ++ x ∷ []) (append-nil xs)
+  pub put_ahead_between : (xs ys : List (ChainItem E)) (x : ChainItem E) → Apart (xs ++ ys)
+      → put_before_or_last (xs ++ ys) (first_place ys) x ≡ xs ++ x ∷ ys
+  put_ahead_between xs [] x apart = ap (λ (l : List (ChainItem E)). l ++ x ∷ []) (append-nil xs)
   put_ahead_between xs (y ∷ ys) x apart = put_before_at xs ys y.place y.element x (alone xs ys y.place y.element apart).0
 
   -- the first place of some that come last, once an element of them is out: the next one's if it
   -- was the first
-  pub first_left : (items front before after : List (Placed E)) (x : Placed E) (first next : Option ℕ) → Apart items
+  pub first_left : (items front before after : List (ChainItem E)) (x : ChainItem E) (first next : Option ℕ) → Apart items
       → items ≡ front ++ before ++ x ∷ after → first ≡ first_place (before ++ x ∷ after)
       → (first ≡ Some x.place → next ≡ place_after items x.place) → (first ≢ Some x.place → next ≡ first) → next ≡ first_place (before ++ after)
   first_left items front [] after x first next apart is begins same other =
-      same begins ∙ ap (λ (l : List (Placed E)). place_after l x.place) is
+      same begins ∙ ap (λ (l : List (ChainItem E)). place_after l x.place) is
       ∙ after_at (front ++ []) after x.place x.element (alone (front ++ []) after x.place x.element (subst Apart is apart)).0
   first_left items front (y ∷ before) after x first next apart is begins same other =
       other (λ e.
       let both : Some y.place ≡ Some x.place = sym begins ∙ e in
       let name : y.place ≡ x.place = cc in
       let none = (alone (front ++ y ∷ before) after x.place x.element (subst Apart is apart)).0 in
-      let names = ap (times x.place) (map-append (λ (z : Placed E). z.place) front (y ∷ before)) in
+      let names = ap (times x.place) (map-append (λ (z : ChainItem E). z.place) front (y ∷ before)) in
       let split = times-append x.place (places front) (places (y ∷ before)) in
       let here = ap (λ k. once k x.place) name in
       let one = once_same x.place in

@@ -3,9 +3,9 @@ use Rattle.std.proofs.Common.{◌≡◌, ℕ, ◌==◌, Bool, true, false, List,
 use Rattle.std.proofs.lemmas.Bool.{cases_Bool}
 use Rattle.std.proofs.lemmas.List.{append_assoc}
 use Rattle.std.specs.Option.{option_or}
-use Rattle.flume_state.proofs.Chains.{without, first_place, item}
+use Rattle.flume_state.proofs.Chains.{without_place, first_place, item}
 use Rattle.flume_state.specs.declared.sends.LiveSend.{LiveSend}
-use Rattle.flume_state.specs.layout.Ticketed.{put_ahead}
+use Rattle.flume_state.specs.layout.WithTicket.{put_before_or_last}
 use Rattle.flume_state.specs.layout.SendLayout.{Element, EachDueIs, SendLayout}
 use Rattle.flume_state.proofs.EntryParts.{Apart, first-push, first_same}
 use Rattle.flume_state.proofs.PlacedLemmas.{put_ahead_between}
@@ -31,10 +31,10 @@ module _ {S : Type 0} where
   lined_cut due [] ys x h = h.1
   lined_cut due (y ∷ xs) ys x h = (h.0, lined_cut due xs ys x h.1)
 
-  pub lined_without : (due : Bool) (xs : List (Element S)) (p : ℕ) → EachDueIs due xs → EachDueIs due (without xs p)
+  pub lined_without : (due : Bool) (xs : List (Element S)) (p : ℕ) → EachDueIs due xs → EachDueIs due (without_place xs p)
   lined_without due [] p h = h
   lined_without due (x ∷ xs) p h =
-      elim (x.place == p) as (λ b. EachDueIs due (if b then without xs p else x ∷ without xs p)) [
+      elim (x.place == p) as (λ b. EachDueIs due (if b then without_place xs p else x ∷ without_place xs p)) [
         | true ↦ lined_without due xs p h.1
         | false ↦ (h.0, lined_without due xs p h.1)
       ]
@@ -136,14 +136,14 @@ module _ {S : Type 0} where
 
   -- one more that isn't due is ahead of the first that is
   pub put_is : (items : List (Element S)) (d : Option ℕ) (x : Element S) (l : SendLayout items d)
-      → Apart items → put_ahead items d x ≡ l.quiet ++ x ∷ l.late
+      → Apart items → put_before_or_last items d x ≡ l.quiet ++ x ∷ l.late
   put_is items d x l apart =
-      ap₂ (λ (xs : List (Element S)) (o : Option ℕ). put_ahead xs o x) l.parts l.first
+      ap₂ (λ (xs : List (Element S)) (o : Option ℕ). put_before_or_last xs o x) l.parts l.first
       ∙ put_ahead_between l.quiet l.late x (subst Apart l.parts apart)
 
   -- and the chain is one of such sends again
   pub put_lined : (items : List (Element S)) (d : Option ℕ) (p t : ℕ) (w : LiveSend S) → w.notice.due ≡ false → SendLayout items d
-      → Apart items → SendLayout (put_ahead items d (item p (under t w))) d
+      → Apart items → SendLayout (put_before_or_last items d (item p (under t w))) d
   put_lined items d p t w e l apart = record {
     quiet = l.quiet ++ item p (under t w) ∷ [];
     late = l.late;

@@ -2,14 +2,14 @@
 use Rattle.std.proofs.Common.{◌≡◌, ◌==◌, ℕ, true, false, List, [], ◌∷◌, ◌++◌, Option, Some, None, refl, sym, if◌then◌else◌, ap, ap₂, subst, ◌∙◌, arith, append-nil, nat_eq}
 use Rattle.std.specs.FinMap.{get, insert, remove}
 use Rattle.std.specs.Option.{option_or, option_eq}
-use Rattle.flume_state.proofs.Chains.{times, without, place_after, item, without-append, with_value_at}
+use Rattle.flume_state.proofs.Chains.{times, without_place, place_after, item, without_place-append, with_value_at}
 use Rattle.flume_state.specs.declared.sends.LiveSend.{LiveSend}
 use Rattle.flume_state.specs.Sends.{changed, send_due_in, NoDueSend}
 use Rattle.flume_state.specs.layout.SendLayout.{Element, by_ticket, EachDueIs, SendLayout}
-use Rattle.flume_state.specs.layout.Ticketed.{place_of, tickets, put_ahead}
+use Rattle.flume_state.specs.layout.WithTicket.{place_of, tickets, put_before_or_last}
 use Rattle.flume_state.proofs.SendsLaws.{changed_none}
 use Rattle.flume_state.proofs.TicketLemmas.{times_both, times_none}
-use Rattle.flume_state.proofs.ByTicket.{under, value_of, get_by_ticket, value_none, by_ticket_insert, by_ticket_changed, by_ticket_moved, by_ticket_removed, Stands, stands_without, stands_written, stands_again}
+use Rattle.flume_state.proofs.ByTicket.{under, value_of, get_by_ticket, value_none, by_ticket_insert, by_ticket_changed, by_ticket_moved, by_ticket_removed, Occupied, stands_without, stands_written, stands_again}
 use Rattle.flume_state.specs.layout.EntryLayout.{boundary_without}
 use Rattle.flume_state.proofs.EntryParts.{Apart, off_first, no_first}
 use Rattle.flume_state.proofs.SendLines.{written_lined, moved_lined, lined_without, put_is}
@@ -25,7 +25,7 @@ module _ {S : Type 0} where
   none_changed items t f is = sym (changed_none (by_ticket items) t f (get_none items t is))
 
   -- a send that is written is a changed one
-  pub written_view : (items : List (Element S)) (t p : ℕ) (v : LiveSend S) (f : LiveSend S → LiveSend S) → Stands t p v items
+  pub written_view : (items : List (Element S)) (t p : ℕ) (v : LiveSend S) (f : LiveSend S → LiveSend S) → Occupied t p v items
       → by_ticket (with_value_at p items (f v)) ≡ changed (by_ticket items) t f
   written_view items t p v f s =
       ap by_ticket (stands_written t p v (f v) items s)
@@ -33,29 +33,29 @@ module _ {S : Type 0} where
       ∙ ap (λ n. changed (by_ticket n) t f) (sym s.is)
 
   -- a send that is written is due if it was
-  pub written_kept : (items : List (Element S)) (d : Option ℕ) (t p : ℕ) (v w : LiveSend S) → w.notice.due ≡ v.notice.due → Stands t p v items
+  pub written_kept : (items : List (Element S)) (d : Option ℕ) (t p : ℕ) (v w : LiveSend S) → w.notice.due ≡ v.notice.due → Occupied t p v items
       → SendLayout items d → SendLayout (with_value_at p items w) d
   written_kept items d t p v w same s l =
       subst (λ (xs : List (Element S)). SendLayout xs d) (sym (stands_written t p v w items s))
       (written_lined s.before s.after p t v w d same (subst (λ (xs : List (Element S)). SendLayout xs d) s.is l))
 
   -- a send that is written and goes behind all others
-  moved_is : (items : List (Element S)) (t p : ℕ) (v w : LiveSend S) (s : Stands t p v items)
-      → without (with_value_at p items w) p ++ item p (under t w) ∷ [] ≡ (s.before ++ s.after) ++ item p (under t w) ∷ []
+  moved_is : (items : List (Element S)) (t p : ℕ) (v w : LiveSend S) (s : Occupied t p v items)
+      → without_place (with_value_at p items w) p ++ item p (under t w) ∷ [] ≡ (s.before ++ s.after) ++ item p (under t w) ∷ []
   moved_is items t p v w s =
       ap (λ (xs : List (Element S)). xs ++ item p (under t w) ∷ []) (stands_without t p w (with_value_at p items w) (stands_again t p v w items s))
 
   -- it is a changed one
-  pub moved_view : (items : List (Element S)) (t p : ℕ) (v : LiveSend S) (f : LiveSend S → LiveSend S) → Stands t p v items
-      → by_ticket (without (with_value_at p items (f v)) p ++ item p (under t (f v)) ∷ []) ≡ changed (by_ticket items) t f
+  pub moved_view : (items : List (Element S)) (t p : ℕ) (v : LiveSend S) (f : LiveSend S → LiveSend S) → Occupied t p v items
+      → by_ticket (without_place (with_value_at p items (f v)) p ++ item p (under t (f v)) ∷ []) ≡ changed (by_ticket items) t f
   moved_view items t p v f s =
       ap by_ticket (moved_is items t p v (f v) s)
       ∙ by_ticket_moved t p v f s.before s.after s.none_ahead s.none_behind
       ∙ ap (λ n. changed (by_ticket n) t f) (sym s.is)
 
   -- and is the last that became due
-  pub moved_kept : (items : List (Element S)) (d : Option ℕ) (t p : ℕ) (v w : LiveSend S) → v.notice.due ≡ false → w.notice.due ≡ true → Stands t p v items
-      → SendLayout items d → SendLayout (without (with_value_at p items w) p ++ item p (under t w) ∷ []) (option_or d (Some p))
+  pub moved_kept : (items : List (Element S)) (d : Option ℕ) (t p : ℕ) (v w : LiveSend S) → v.notice.due ≡ false → w.notice.due ≡ true → Occupied t p v items
+      → SendLayout items d → SendLayout (without_place (with_value_at p items w) p ++ item p (under t w) ∷ []) (option_or d (Some p))
   moved_kept items d t p v w was is s l =
       subst (λ (xs : List (Element S)). SendLayout xs (option_or d (Some p))) (sym (moved_is items t p v w s))
       (moved_lined s.before s.after p t v w d was is (subst (λ (xs : List (Element S)). SendLayout xs d) s.is l))
@@ -63,7 +63,7 @@ module _ {S : Type 0} where
   -- one that blocks is one more
   pub put_view : (items : List (Element S)) (d : Option ℕ) (t p : ℕ) (w : LiveSend S) → SendLayout items d
       → Apart items → place_of t items ≡ None
-      → by_ticket (put_ahead items d (item p (under t w))) ≡ insert (by_ticket items) t w
+      → by_ticket (put_before_or_last items d (item p (under t w))) ≡ insert (by_ticket items) t w
   put_view items d t p w l apart none =
       let both = ap (λ xs. times t (tickets xs)) l.parts ∙ times_both (λ y. y.element.label) t l.quiet l.late in
       let nowhere = times_none t items none in
@@ -72,8 +72,8 @@ module _ {S : Type 0} where
       ∙ ap (λ n. insert (by_ticket n) t w) (sym l.parts)
 
   -- one that is spent is one less
-  pub spent_view : (items : List (Element S)) (t p : ℕ) (v : LiveSend S) → Stands t p v items
-      → by_ticket (without items p) ≡ remove (by_ticket items) t
+  pub spent_view : (items : List (Element S)) (t p : ℕ) (v : LiveSend S) → Occupied t p v items
+      → by_ticket (without_place items p) ≡ remove (by_ticket items) t
   spent_view items t p v s =
       ap by_ticket (stands_without t p v items s)
       ∙ by_ticket_removed t p v s.before s.after s.none_ahead s.none_behind
@@ -81,11 +81,11 @@ module _ {S : Type 0} where
 
   -- the chain without one: the first that is due is the next one, if it was that
   pub spent_kept : (items : List (Element S)) (d : Option ℕ) (p : ℕ) → Apart items → SendLayout items d
-      → SendLayout (without items p) (boundary_without d p (place_after items p))
+      → SendLayout (without_place items p) (boundary_without d p (place_after items p))
   spent_kept items d p apart l = record {
-    quiet = without l.quiet p;
-    late = without l.late p;
-    parts = ap (λ (xs : List (Element S)). without xs p) l.parts ∙ without-append l.quiet l.late p;
+    quiet = without_place l.quiet p;
+    late = without_place l.late p;
+    parts = ap (λ (xs : List (Element S)). without_place xs p) l.parts ∙ without_place-append l.quiet l.late p;
     none_due = lined_without false l.quiet p l.none_due;
     all_due = lined_without true l.late p l.all_due;
     first =

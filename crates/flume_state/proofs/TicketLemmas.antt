@@ -2,9 +2,9 @@
 use Rattle.std.proofs.Common.{◌≡◌, ◌≢◌, ℕ, ◌+◌, ◌≤◌, ◌==◌, Bool, true, false, cond, if◌then◌else◌, List, [], ◌∷◌, ◌++◌, map, Option, Some, None, option_map, refl, sym, ap, subst, ◌∙◌, arith, ⊎_elim, inl, inr, append-nil, nat_cmp}
 use Rattle.std.proofs.lemmas.Bool.{cases_eq, cases_Bool, eq-eqb, ne_eqb}
 use Rattle.std.specs.FinMap.{empty, get, insert, remove, get-empty}
-use Rattle.flume_state.proofs.Chains.{Placed, once, times, places, found, without, put_before, once_same, once_none, once_more, item, without_at}
+use Rattle.flume_state.proofs.Chains.{ChainItem, once, times, places, found, without_place, put_before, once_same, once_none, once_more, item, without_at}
 use Rattle.flume_state.proofs.EntryParts.{Apart, seat}
-use Rattle.flume_state.specs.layout.Ticketed.{Ticketed, tickets, place_of, put_ahead, Agrees}
+use Rattle.flume_state.specs.layout.WithTicket.{WithTicket, tickets, place_of, put_before_or_last, Agrees}
 use Rattle.flume_state.specs.layout.Places.{PlaceMap}
 use Rattle.flume_state.proofs.SendsLaws.{get-insert_same, get-insert_other, get-remove_same, get-remove_other}
 
@@ -30,13 +30,13 @@ module _ {X : Type 0} (f : X → ℕ) where
 
 module _ {E : Type 0} where
   -- an element among others changes the place of no ticket but its own
-  pub place_amid : (t : ℕ) (xs ys : List (Placed (Ticketed E))) (x : Placed (Ticketed E)) → once x.element.label t ≡ 0
+  pub place_amid : (t : ℕ) (xs ys : List (ChainItem (WithTicket E))) (x : ChainItem (WithTicket E)) → once x.element.label t ≡ 0
       → place_of t (xs ++ x ∷ ys) ≡ place_of t (xs ++ ys)
   place_amid t [] ys x other = ap (λ b. cond b (Some x.place) (place_of t ys)) (once_none x.element.label t other)
   place_amid t (y ∷ xs) ys x other = ap (cond (y.element.label == t) (Some y.place)) (place_amid t xs ys x other)
 
   -- an element has the place of its ticket, if no other one has that
-  pub place_own : (t : ℕ) (xs ys : List (Placed (Ticketed E))) (x : Placed (Ticketed E)) → x.element.label ≡ t
+  pub place_own : (t : ℕ) (xs ys : List (ChainItem (WithTicket E))) (x : ChainItem (WithTicket E)) → x.element.label ≡ t
       → times t (tickets (xs ++ ys)) ≡ 0 → place_of t (xs ++ x ∷ ys) ≡ Some x.place
   place_own t [] ys x own none = ap (λ b. cond b (Some x.place) (place_of t ys)) (eq-eqb x.element.label t own)
   place_own t (y ∷ xs) ys x own none =
@@ -44,13 +44,13 @@ module _ {E : Type 0} where
       ∙ place_own t xs ys x own (omega arith)
 
   -- a ticket that no element has has no place
-  pub place_none : (t : ℕ) (xs : List (Placed (Ticketed E))) → times t (tickets xs) ≡ 0 → place_of t xs ≡ None
+  pub place_none : (t : ℕ) (xs : List (ChainItem (WithTicket E))) → times t (tickets xs) ≡ 0 → place_of t xs ≡ None
   place_none t [] none = refl
   place_none t (y ∷ xs) none =
       ap (λ b. cond b (Some y.place) (place_of t xs)) (once_none y.element.label t (omega arith)) ∙ place_none t xs (omega arith)
 
   -- and one that has no place no element has
-  pub times_none : (t : ℕ) (xs : List (Placed (Ticketed E))) → place_of t xs ≡ None → times t (tickets xs) ≡ 0
+  pub times_none : (t : ℕ) (xs : List (ChainItem (WithTicket E))) → place_of t xs ≡ None → times t (tickets xs) ≡ 0
   times_none t [] none = refl
   times_none t (y ∷ xs) none =
       let both = neither (y.element.label == t) y.place (place_of t xs) none in
@@ -59,13 +59,13 @@ module _ {E : Type 0} where
       omega arith
 
   -- rest is items but for one element, which is somewhere among them
-  pub record Amid (items rest : List (Placed (Ticketed E))) (x : Placed (Ticketed E)) : Type 0 where
-    pub before : List (Placed (Ticketed E))
-    pub after : List (Placed (Ticketed E))
+  pub record Amid (items rest : List (ChainItem (WithTicket E))) (x : ChainItem (WithTicket E)) : Type 0 where
+    pub before : List (ChainItem (WithTicket E))
+    pub after : List (ChainItem (WithTicket E))
     pub whole : items ≡ before ++ x ∷ after
     pub others : rest ≡ before ++ after
 
-module _ {E : Type 0} (items rest : List (Placed (Ticketed E))) (x : Placed (Ticketed E)) (m : PlaceMap) (at : Amid items rest x) where
+module _ {E : Type 0} (items rest : List (ChainItem (WithTicket E))) (x : ChainItem (WithTicket E)) (m : PlaceMap) (at : Amid items rest x) where
   counts : (t : ℕ) → times t (tickets items) ≡ once x.element.label t + times t (tickets rest)
   counts t = rw at.whole (rw at.others (times_amid (λ y. y.element.label) t at.before at.after x))
 
@@ -126,7 +126,7 @@ module _ {E : Type 0} (items rest : List (Placed (Ticketed E))) (x : Placed (Tic
 
 module _ {E : Type 0} where
   -- one more ahead of that at a place, or behind all others
-  put_before_amid : (items : List (Placed (Ticketed E))) (k : ℕ) (x : Placed (Ticketed E)) → Amid (put_before items k x) items x
+  put_before_amid : (items : List (ChainItem (WithTicket E))) (k : ℕ) (x : ChainItem (WithTicket E)) → Amid (put_before items k x) items x
   put_before_amid [] k x = record { before = []; after = []; whole = refl; others = refl }
   put_before_amid (y ∷ ys) k x = elim (cases_Bool (k == y.place)) [
     | inl t ↦ record {
@@ -140,31 +140,31 @@ module _ {E : Type 0} where
         record {
           before = y ∷ r.before;
           after = r.after;
-          whole = ap (λ b. cond b (x ∷ y ∷ ys) (y ∷ put_before ys k x)) t ∙ ap (λ (l : List (Placed (Ticketed E))). y ∷ l) r.whole;
-          others = ap (λ (l : List (Placed (Ticketed E))). y ∷ l) r.others;
+          whole = ap (λ b. cond b (x ∷ y ∷ ys) (y ∷ put_before ys k x)) t ∙ ap (λ (l : List (ChainItem (WithTicket E))). y ∷ l) r.whole;
+          others = ap (λ (l : List (ChainItem (WithTicket E))). y ∷ l) r.others;
         }
         )
   ]
 
   -- one more if it is put
-  pub put_amid : (items : List (Placed (Ticketed E))) (next : Option ℕ) (x : Placed (Ticketed E)) → Amid (put_ahead items next x) items x
+  pub put_amid : (items : List (ChainItem (WithTicket E))) (next : Option ℕ) (x : ChainItem (WithTicket E)) → Amid (put_before_or_last items next x) items x
   put_amid items None x = record { before = items; after = []; whole = refl; others = sym (append-nil items) }
   put_amid items (Some k) x = put_before_amid items k x
 
   -- those without a place are all but the element found there, if each place is of one
-  pub without_amid : (items : List (Placed (Ticketed E))) (k : ℕ) (e : Ticketed E) → Apart items → found items k ≡ Some e
-      → Amid items (without items k) (item k e)
+  pub without_amid : (items : List (ChainItem (WithTicket E))) (k : ℕ) (e : WithTicket E) → Apart items → found items k ≡ Some e
+      → Amid items (without_place items k) (item k e)
   without_amid items k e apart is =
       let s = seat items k e apart is in
       record {
         before = s.before;
         after = s.after;
         whole = s.is;
-        others = ap (λ (l : List (Placed (Ticketed E))). without l k) s.is ∙ without_at s.before s.after k e s.ahead s.behind;
+        others = ap (λ (l : List (ChainItem (WithTicket E))). without_place l k) s.is ∙ without_at s.before s.after k e s.ahead s.behind;
       }
 
   -- the place of an element that is taken out names no other
-  pub without_fresh : (items rest : List (Placed (Ticketed E))) (x : Placed (Ticketed E)) → Amid items rest x
+  pub without_fresh : (items rest : List (ChainItem (WithTicket E))) (x : ChainItem (WithTicket E)) → Amid items rest x
       → times x.place (places items) ≤ 1 → times x.place (places rest) ≡ 0
   without_fresh items rest x at most =
       let sum : times x.place (places items) ≡ once x.place x.place + times x.place (places rest) =
@@ -173,19 +173,19 @@ module _ {E : Type 0} where
       omega arith
 
   -- once the element at a place is dropped and its ticket removed, the map is that of the others
-  pub left_agrees : (items : List (Placed (Ticketed E))) (m : PlaceMap) (k t : ℕ) → Some t ≡ option_map (λ e. e.label) (found items k)
-      → Agrees items m → Agrees (without items k) (remove m t)
+  pub left_agrees : (items : List (ChainItem (WithTicket E))) (m : PlaceMap) (k t : ℕ) → Some t ≡ option_map (λ e. e.label) (found items k)
+      → Agrees items m → Agrees (without_place items k) (remove m t)
   left_agrees items m k t is a =
-      elim (found items k) as (λ (o : Option (Ticketed E)). found items k ≡ o → Some t ≡ option_map (λ e. e.label) o → Agrees (without items k) (remove m t)) [
+      elim (found items k) as (λ (o : Option (WithTicket E)). found items k ≡ o → Some t ≡ option_map (λ e. e.label) o → Agrees (without_place items k) (remove m t)) [
         | None ↦ λ at none. absurd (let no : ⊥ = cc in no)
         | Some e ↦ λ at some. (
             let own_ticket : e.label ≡ t = cc in
-            ticketed_out items (without items k) (item k e) m (without_amid items k e a.apart at) t own_ticket a
+            ticketed_out items (without_place items k) (item k e) m (without_amid items k e a.apart at) t own_ticket a
             )
       ] refl is
 
 -- the empty map is that of no elements
-pub empty_agrees : (E : Type 0) (items : List (Placed (Ticketed E))) (m : PlaceMap) → items ≡ [] → m ≡ empty → Agrees items m
+pub empty_agrees : (E : Type 0) (items : List (ChainItem (WithTicket E))) (m : PlaceMap) → items ≡ [] → m ≡ empty → Agrees items m
 empty_agrees E items m none nowhere = rw none (rw nowhere (record {
   found = λ t. get-empty nat_cmp t;
   single = λ t. omega arith;

@@ -1,5 +1,4 @@
--- For every contract: which tickets are due after a step. It speaks of the states before and after,
--- the step and its reply alone.
+-- For every contract: which tickets are due after a step.
 use Rattle.std.specs.Prelude.{◌≡◌, ◌==◌, ℕ, Bool, false, not, ◌&&◌, ◌||◌, Option, Some, None}
 use Rattle.std.specs.Option.{is_some}
 use Rattle.std.specs.FinMap.{get}
@@ -32,8 +31,7 @@ module _ {S : Type 0} where
   accepted_in None = false
   accepted_in (Some send) = send.accepted
 
-  -- Given the closing and the send as it was and as it is: it is due exactly if it is live, and was
-  -- due before, or was accepted meanwhile, or was blocked as the channel was closed.
+  -- when a send is due: by the closing, and by the send as it was and as it is
   abbrev pub SendDue : Bool → Option (LiveSend S) → Option (LiveSend S) → Type 0
   SendDue closed old new =
       send_due_in new
@@ -56,16 +54,14 @@ module _ {T S : Type 0} where
   closed_between old new =
       not (is_closed old.senders old.receivers) && is_closed new.senders new.receivers
 
-  -- Given whether it waits on or again, and the receiver as it was and as it is: it is due exactly
-  -- if it is parked, doesn't wait so, and was due before, or was woken or filled meanwhile.
+  -- when a receiver is due: by whether it waits on or again, and as it was and as it is
   abbrev pub ReceiverDue : Bool → Option (Entry T (Notice S)) → Option (Entry T (Notice S)) → Type 0
   ReceiverDue waits old new =
       receiver_due_in new
       ≡ (is_some new && not waits && (receiver_due_in old || (waits_in old && not (waits_in new))))
 
-  -- After the step a ticket is due exactly if it is live, doesn't wait on or again by the step, and
-  -- was due before, or was accepted, woken or filled by it, or was blocked as it closed the
-  -- channel.
+  -- after the step a ticket is due exactly if it is live, doesn't wait on or again by the step, and
+  -- was due before, or was accepted, woken or filled by it, or was blocked as it closed the channel
   pub record BecomesDue {A : Type 0} (old : State T S) (step : Step T) (reply : Reply T A)
       (new : State T S) : Type 0 where
     pub sends : (t : ℕ) → SendDue (closed_between old new) (get old.sends t) (get new.sends t)

@@ -9,7 +9,7 @@ use Rattle.flume_model.specs.declared.step.Kind.{Kind}
 use Rattle.flume_state.specs.Messages.{Blocked}
 use Rattle.flume_state.specs.Notices.{due_now}
 use Rattle.flume_state.specs.Sends.{SendMap, changed, accepted_now, noticed_send}
-use Rattle.flume_model.specs.Entries.{all_woken, entry_of, without, round_for, round_for_fills}
+use Rattle.flume_model.specs.Entries.{all_woken, entry_of, without_ticket, round_for, round_for_fills}
 use Rattle.flume_model.specs.Entries.{passes_on, leave_fills, waiting_count}
 use Rattle.flume_state.specs.Receivers.{EntryList, new_receiver, after_fill}
 use Rattle.flume_state.specs.State.{State, with_nothing_left}
@@ -76,14 +76,13 @@ module _ {T S : Type 0} where
 
   -- the state without the parked receiver that has this ticket
   abbrev pub without_receiver : ℕ → State T S → State T S
-  without_receiver ticket s = record s { entries = without ticket s.entries }
+  without_receiver ticket s = record s { entries = without_ticket ticket s.entries }
 
   -- the state after the front of the line was handed out, which left this of the queue
   abbrev pub after_take : List T → State T S → State T S
   after_take rest s = after_refill (record (with_front s) { queue = rest })
 
-  -- the state without the parked receiver that has this ticket, and after a wake round if it passes
-  -- its wake on
+  -- the state after this receiver has left, with a wake round if it passes its wake on
   abbrev pub after_withdrawal : ℕ → State T S → State T S
   after_withdrawal ticket s =
       if passes_on (entry_of ticket s.entries) then after_wake_round (without_receiver ticket s)

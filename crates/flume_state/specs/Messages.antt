@@ -9,8 +9,7 @@ pub record Blocked (T : Type 0) : Type 0 where
   pub ticket : ℕ
   pub message : T
 
--- what a contract sees of a line: the queued messages, and behind them the blocked ones; how many
--- messages fit before one needs an allocation, those that are there included; and the live sends
+-- what a contract sees of a line; `space` messages fit, those there included, with no allocation
 pub record Messages (T S : Type 0) : Type 0 where
   pub queued : List T
   pub blocked : List (Blocked T)

@@ -1,7 +1,5 @@
--- For every contract: what becomes of the notice that a blocked send or a parked receiver left, its
--- signal and whether it is due. What is said of both has two names, with `send` in the one and
--- `receiver` in the other: `NoDueSend` and `NoDueReceiver`, `send_due_in` and `receiver_due_in`,
--- `noticed_send` and `noticed_receiver`.
+-- For every contract: what becomes of the notice that a blocked send or a parked receiver left.
+-- What is said of both has two names, as `NoDueSend` and `NoDueReceiver`.
 use Rattle.std.specs.Prelude.{true, false, Option, Some, None}
 use Rattle.flume_state.specs.declared.notice.Notice.{Notice}
 

@@ -36,10 +36,10 @@ looks (Some IsWoken) = true
 looks _ = false
 
 -- it blocks, and isn't filled: it leaves with the front of the line
-abbrev pub blocks : Option ReceiverStatus → Bool
-blocks (Some BlockWaiting) = true
-blocks (Some BlockWoken) = true
-blocks _ = false
+abbrev pub is_unfilled_block : Option ReceiverStatus → Bool
+is_unfilled_block (Some BlockWaiting) = true
+is_unfilled_block (Some BlockWoken) = true
+is_unfilled_block _ = false
 
 -- it doesn't block, and isn't filled: it leaves with no message
 abbrev pub only_leaves : Option ReceiverStatus → Bool
@@ -98,4 +98,4 @@ module _ {T S : Type 0} where
     pub found : old ≡ before ++ entry ∷ later
     pub is_it : entry.ticket ≡ ticket
     pub was_due : entry.notice.due ≡ true
-    pub told : new ≡ before ++ record entry { notice = no_longer_due entry.notice } ∷ later
+    pub named : new ≡ before ++ record entry { notice = no_longer_due entry.notice } ∷ later

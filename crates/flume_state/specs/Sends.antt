@@ -24,8 +24,8 @@ abbrev pub send_map_code : {S : Type 0} → Coded S → Coded (SendMap S)
 send_map_code c = code coded_ℕ (live_send_code c)
 
 -- a send that has just blocked
-abbrev pub blocked : {S : Type 0} → S → LiveSend S
-blocked signal = record { accepted = false; notice = new_notice signal }
+abbrev pub newly_blocked : {S : Type 0} → S → LiveSend S
+newly_blocked signal = record { accepted = false; notice = new_notice signal }
 
 -- a send whose message was accepted, which is due
 abbrev pub accepted_now : {S : Type 0} → LiveSend S → LiveSend S

@@ -22,9 +22,9 @@ module _ {T S : Type 0} where
       (option_map (λ e. e.notice.signal) (entry_of t s.entries))
 
   -- a ticket that was due is named: one of a send, or of a parked receiver
-  pub data Names (old new : State T S) (ticket : ℕ) : Type 0 where
+  pub data NamesDueTicket (old new : State T S) (ticket : ℕ) : Type 0 where
     Send : is_due_send old.sends ticket ≡ true
         → new ≡ record old { sends = noticed_send no_longer_due ticket old.sends }
-        → Names old new ticket
+        → NamesDueTicket old new ticket
     Receive : NamesReceiver old.entries new.entries ticket
-        → new ≡ record old { entries = new.entries } → Names old new ticket
+        → new ≡ record old { entries = new.entries } → NamesDueTicket old new ticket

@@ -11,16 +11,13 @@ use Rattle.flume_state.specs.Receivers.{EntryList}
 
 -- the state of a channel
 pub record State (T S : Type 0) : Type 0 where
-  -- the capacity; none of an unbounded channel
   pub capacity : Option ℕ
   -- the greatest capacity so far, the one in force included
   pub greatest : Option ℕ
-  -- the queued messages, the front first, and the blocked ones behind them
   pub queue : List T
   pub blocked : List (Blocked T)
   -- how many messages fit before one more needs an allocation, those that are there included
   pub space : ℕ
-  -- the live send tickets, the parked receivers, and the next ticket
   pub sends : SendMap S
   pub entries : EntryList T S
   pub next : ℕ

@@ -4,7 +4,7 @@ ghost use Rattle.std.specs.Prelude.{Some, None, OnOk, OnErr, OnSome};
 ghost use Rattle.std.specs.Option.{option_map, option_copied};
 ghost use Rattle.flume_model.specs.Entries.{is_woken, some_wait, waiting_count};
 ghost use Rattle.flume_model.specs.Entries.{entry_of, held_by, held_in};
-ghost use Rattle.flume_model.specs.Entries.{without, again};
+ghost use Rattle.flume_model.specs.Entries.{without_ticket, again};
 ghost use Rattle.flume_state.specs.Receivers.{new_receiver, waits_on, noticed_receiver};
 ghost use Rattle.flume_state.specs.Receivers.{status_by, status_of};
 ghost use Rattle.flume_state.specs.layout.EntryLayout.{after_asking, boundary_without};
@@ -12,7 +12,7 @@ ghost use Rattle.flume_state.specs.layout.EntryLayout.{after_asking, boundary_wi
 mod wakes;
 
 use crate::notice::Notice;
-use crate::ticketed::TicketChain;
+use crate::ticket_chain::TicketChain;
 use flume_model::entry::Mark;
 use flume_model::step::Kind;
 use std::alloc::{AllocError, Allocator};
@@ -22,11 +22,8 @@ use std::mem;
 /// The state of a parked receiver, as far as it decides how it is answered.
 #[derive(Clone, Copy, Drop)]
 pub enum ReceiverStatus {
-    /// It holds a message.
     Filled,
-    /// It blocks, and waits.
     BlockWaiting,
-    /// It blocks, and was woken.
     BlockWoken,
     /// It is of another kind, and waits.
     Waiting,
@@ -34,7 +31,6 @@ pub enum ReceiverStatus {
     Woken,
 }
 
-// A parked receiver without its ticket.
 #[derive(Drop)]
 struct Parked<T, S> {
     kind: Kind,
@@ -42,12 +38,11 @@ struct Parked<T, S> {
     notice: Notice<S>,
 }
 
-/// The parked receivers, the waiting ones in the order in which they began to wait. Only `park`
-/// allocates.
+/// The parked receivers, in order. Only `park` allocates.
 #[derive(Drop)]
 pub struct Entries<T, S, A: Allocator> {
     // First those that neither wait nor are due, then those that are due, then those that wait: so
-    // a wake round meets only those that it wakes, and no call looks past another receiver.
+    // a wake round meets only those that it wakes.
     chain: TicketChain<Parked<T, S>, A>,
     // The place of the first that is due or waits.
     due: Option<u32>,
@@ -84,8 +79,7 @@ fn message_in<T: Drop>(mark: Mark<T>) -> Option<T>
 }
 
 impl<T: Drop, S: Drop> Parked<T, S> {
-    // It asks again, and waits on: it isn't due, and has another signal if one is given. A filled
-    // one stays as it is. Answers whether it was woken.
+    // A filled one stays as it is. Answers whether it was woken.
     fn ask_again(&mut self, signal: Option<S>) -> bool
         ensures asked { self.new ≡ after_asking self.old.mark signal self.old }
         ensures woken { result ≡ is_woken self.old.mark }
@@ -104,7 +98,7 @@ impl<T: Drop, S: Drop> Parked<T, S> {
     }
 }
 
-// A boundary, off the element at a place, which has this one behind it.
+// A boundary, once the element at a place, with `next` behind it, has left.
 #[inline(always)]
 fn boundary_without(boundary: Option<u32>, place: u32, next: Option<u32>) -> Option<u32>
     ensures boundary { result ≡ boundary_without boundary place next }
@@ -165,9 +159,8 @@ impl<T: Drop, S: Drop, A: Allocator + Copy> Entries<T, S, A> {
         self.waiting
     }
 
-    /// Parks a receiver under this ticket, behind all others. It waits, and isn't due. All room for
-    /// what happens to it later is made here. If memory runs out, or a receiver is parked under the
-    /// ticket already, nothing changes.
+    /// Parks a receiver under this ticket, behind all others; it isn't due. If memory runs out, or
+    /// a receiver is parked under the ticket already, nothing changes.
     pub fn park(&mut self, ticket: u64, kind: Kind, signal: S) -> Result<(), AllocError>
         ensures parked { OnOk result (self.new ≡ self.old ++ new_receiver ticket kind signal ∷ []) }
         ensures unchanged { OnErr result (self.new ≡ self.old) }
@@ -195,8 +188,7 @@ impl<T: Drop, S: Drop, A: Allocator + Copy> Entries<T, S, A> {
         Some(ReceiverStatus::of(parked.kind, &parked.mark))
     }
 
-    /// The signal that the receiver with this ticket left last. `None` if nobody is parked under
-    /// it.
+    /// The signal that this receiver left last. `None` if nobody is parked under the ticket.
     pub fn signal(&self, ticket: u64) -> Option<&S>
         ensures signal { option_copied result
             ≡ option_map (λ e. e.notice.signal) (entry_of ticket self.now) }
@@ -206,11 +198,10 @@ impl<T: Drop, S: Drop, A: Allocator + Copy> Entries<T, S, A> {
         Some(&parked.notice.signal)
     }
 
-    /// Removes the receiver with this ticket, and gives the message that it holds, if it does. The
-    /// others keep their order. Nothing changes if nobody is parked under it.
+    /// Removes the receiver with this ticket, if there is one, and gives the message that it holds.
     pub fn remove(&mut self, ticket: u64) -> Option<T>
         ensures held { result ≡ held_by (entry_of ticket self.old) }
-        ensures removed { self.new ≡ without ticket self.old }
+        ensures removed { self.new ≡ without_ticket ticket self.old }
     {
         let place = self.chain.find(ticket)?;
         let next = self.chain.next(place);
@@ -225,9 +216,8 @@ impl<T: Drop, S: Drop, A: Allocator + Copy> Entries<T, S, A> {
         message_in(mark)
     }
 
-    /// The receiver with this ticket waits on, or, if it was woken, again behind all others, and
-    /// isn't due any more; a signal given here replaces the one that it left. A filled one stays as
-    /// it is. Nothing changes if nobody is parked under the ticket.
+    /// The receiver with this ticket is no longer due, and waits on, behind all others if it was
+    /// woken; a signal given here replaces its own. A filled one stays as it is.
     pub fn wait_on(&mut self, ticket: u64, signal: Option<S>)
         ensures waits { held_by (entry_of ticket self.old) ≡ None → self.new
             ≡ again ticket (noticed_receiver (waits_on signal) ticket self.old) }

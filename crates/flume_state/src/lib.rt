@@ -1,24 +1,20 @@
-//! The state of a channel: the inside of `flume_core`, the only library that calls it, with which
-//! it may change.
+//! The state of a channel, for `flume_core` alone, with which it may change.
 //!
-//! - `line`: the messages, queued and blocked, and the live sends. `messages` and `sends` are its
-//!   two halves, `maybe_place` the label of a message.
+//! - `line`: the messages and the live sends, in `messages` and `sends`.
 //! - `entries`: the parked receivers, and which of them a new message wakes.
 //! - `notice`: the signal of a ticket, and whether the ticket is due.
-//! - `ticketed`, `places`: chains in which an element is found by its ticket, through a table of
-//!   places.
+//! - `ticket_chain`, `places`: chains in which an element is found by its ticket.
 //!
-//! The definitions in `specs/`, except its folder `layout/`, are cited by every contract about a
-//! channel's state: `State.antt` is what a contract sees of a channel, `Effects.antt` what each
-//! step leaves of it, and `Due.antt` whose ticket becomes due. Those in `specs/layout/` say how the
-//! lists of a state lie in their chains; no contract above this crate names one.
+//! In `specs/`, `State.antt` is what a contract sees of a channel, `Effects.antt` what each step
+//! leaves of it, and `Due.antt` whose ticket becomes due. `layout/` says how the lists of a state
+//! lie in their chains; no contract above this crate names one of its definitions.
 #![tactic(auto)]
 
 pub mod entries;
 pub mod line;
-pub mod maybe_place;
 pub mod messages;
 pub mod notice;
+pub mod optional_place;
 pub mod places;
 pub mod sends;
-pub mod ticketed;
+pub mod ticket_chain;

@@ -1,5 +1,4 @@
-//! The line of a channel: its queued messages, behind them those whose senders block, and the live
-//! sends.
+//! The line of a channel: its queued messages, its blocked ones, and the live sends.
 ghost use Rattle.std.specs.Prelude.{◌≡◌, ◌≢◌, ◌<◌, ◌≤◌, ◌+◌, ℕ, true, false, [], ◌∷◌, ◌++◌, length};
 ghost use Rattle.std.specs.Prelude.{Some, None, IfNone, IfSome, IfOk, IfErr, OnOk, OnErr, IsOk};
 ghost use Rattle.std.specs.Prelude.{◌↔◌};
@@ -8,7 +7,7 @@ ghost use Rattle.std.specs.Option.{option_map, option_copied};
 ghost use Rattle.std.specs.FinMap.{empty, get, insert, remove};
 ghost use Rattle.flume_state.specs.Messages.{Admits, TakesBack, count};
 ghost use Rattle.flume_state.specs.Notices.{no_longer_due, with_signal};
-ghost use Rattle.flume_state.specs.Sends.{blocked, noticed_send, is_due_send, NoDueSend};
+ghost use Rattle.flume_state.specs.Sends.{newly_blocked, noticed_send, is_due_send, NoDueSend};
 ghost use Rattle.flume_state.specs.Effects.{with_all_due};
 
 use crate::messages::MessageChain;
@@ -16,12 +15,11 @@ use crate::sends::Sends;
 use std::alloc::{AllocError, Allocator};
 use std::marker::Model;
 
-/// The messages of a channel, the queued ones and behind them the blocked ones, and the live sends.
-/// Only `push_queued`, `block` and `drain_queued` allocate.
+/// The queued messages, behind them the blocked ones, and the live sends. Only `push_queued`,
+/// `block` and `drain_queued` allocate.
 #[derive(Drop)]
 pub struct Line<T, S, A: Allocator> {
-    // A blocked message and its send have each other's place: so a ticket leads to its message, and
-    // a message that joins the queue to its send, with no search.
+    // A blocked message and its send have each other's place: so neither is searched for.
     messages: MessageChain<T, A>,
     sends: Sends<S, A>,
 }
@@ -46,8 +44,7 @@ impl<T, S, A: Allocator> Model for Line<T, S, A> {
     ghost invariant = { λ s. Pairing s.messages.blocked s.sends };
 }
 
-// Methods that only forward to the chain of messages or to the sends are here since both are
-// private, so that neither changes without the other.
+// Some methods only forward, so that neither part changes without the other.
 impl<T: Drop, S: Drop, A: Allocator + Copy> Line<T, S, A> {
     /// A line with no messages and no sends.
     ///
@@ -92,9 +89,8 @@ impl<T: Drop, S: Drop, A: Allocator + Copy> Line<T, S, A> {
         self.messages.room()
     }
 
-    /// Queues a message behind the other queued ones, and before the blocked ones. If there is no
-    /// memory for it, the message comes back, and the line stays as it was; while there is room, it
-    /// isn't refused.
+    /// Queues a message behind the queued ones. If there is no memory for it, the message comes
+    /// back, and the line stays as it was; while there is room, it isn't refused.
     #[inline(always)]
     pub fn push_queued(&mut self, message: T) -> Result<(), T>
         ensures pushed { OnOk result (self.new ≡ record self.old {
@@ -109,38 +105,36 @@ impl<T: Drop, S: Drop, A: Allocator + Copy> Line<T, S, A> {
         self.messages.push_queued(message)
     }
 
-    /// Puts a message behind all others, blocked under this ticket, which is live from now on, with
-    /// this signal and not due. If memory runs out, or the ticket is live already, the message
-    /// comes back, and the line stays as it was.
+    /// Puts a message behind all others, blocked under this ticket and not due. If memory runs out,
+    /// or the ticket is live already, the message comes back, and the line stays as it was.
     pub fn block(&mut self, ticket: u64, message: T, signal: S) -> Result<(), T>
         ensures blocked { OnOk result (self.new ≡ record self.old {
           blocked = self.old.blocked ++ record { ticket = ticket; message = message } ∷ [];
           space = self.new.space;
-          sends = insert self.old.sends ticket (blocked signal);
+          sends = insert self.old.sends ticket (newly_blocked signal);
         }) }
         ensures space { self.old.space ≤ self.new.space }
         ensures returned { IfErr result (λ back. back ≡ message) }
         ensures unchanged { OnErr result (self.new ≡ self.old) }
     {
-        // The send first: it is taken back if there is no memory for the message. The other way
-        // round the message's place would stay, and a refusal would leave more room than it found.
-        let Ok(owner) = self.sends.block(ticket, signal) else {
+        // The send first: a message's place would stay after a refusal, which would leave more
+        // room.
+        let Ok(send_place) = self.sends.block(ticket, signal) else {
             return Err(message);
         };
-        match self.messages.push_blocked(owner, message) {
+        match self.messages.push_blocked(send_place, message) {
             Ok(place) => {
-                self.sends.set_message(owner, place);
+                self.sends.set_message(send_place, place);
                 Ok(())
             }
             Err(back) => {
-                self.sends.spend(owner);
+                self.sends.spend(send_place);
                 Err(back)
             }
         }
     }
 
-    /// Lets the first blocked message into the queue, behind all queued ones: its send is accepted,
-    /// and due. False if no message is blocked, and then nothing changes.
+    /// Queues the first blocked message: its send is accepted, and due. False if none is blocked.
     #[inline(always)]
     pub fn admit(&mut self) -> bool
         ensures admitted { result ≡ true → Admits self.old self.new }
@@ -148,15 +142,14 @@ impl<T: Drop, S: Drop, A: Allocator + Copy> Line<T, S, A> {
         ensures unchanged { result ≡ false → self.new ≡ self.old }
     {
         self.messages.facts();
-        let Some(owner) = self.messages.admit() else {
+        let Some(send_place) = self.messages.admit() else {
             return false;
         };
-        self.sends.accept(owner);
+        self.sends.accept(send_place);
         true
     }
 
-    /// Takes the message at the front of the queue. `None` if none is queued, though some may be
-    /// blocked, and then nothing changes.
+    /// Takes the message at the front of the queue. `None` if none is queued.
     #[inline(always)]
     pub fn take_queued(&mut self) -> Option<T>
         ensures taken { IfSome result (λ m.
@@ -167,8 +160,7 @@ impl<T: Drop, S: Drop, A: Allocator + Copy> Line<T, S, A> {
         self.messages.take_queued()
     }
 
-    /// Takes all queued messages, the front first, and leaves the blocked ones. If there is no
-    /// memory for their list, nothing changes. It never fails if none is queued.
+    /// Takes all queued messages. If there is no memory for their list, nothing changes.
     #[inline(always)]
     pub fn drain_queued(&mut self) -> Result<Vec<T, A>, AllocError>
         ensures drained { IfOk result (λ list. list.items ≡ self.old.queued) }
@@ -189,18 +181,16 @@ impl<T: Drop, S: Drop, A: Allocator + Copy> Line<T, S, A> {
         self.messages.mark_blocked(&mut self.sends);
     }
 
-    /// Takes out the first blocked message with this ticket, which isn't live any more. The others
-    /// keep their order. `None` if none has it, and then nothing changes. It costs the same however
-    /// many are blocked.
+    /// Takes out the first blocked message with this ticket, which is spent. `None` if none has it.
     pub fn withdraw(&mut self, ticket: u64) -> Option<T>
         ensures taken { IfSome result (λ m. TakesBack self.old self.new ticket m) }
         ensures absent { IfNone result (All (λ b. b.ticket ≢ ticket) self.old.blocked) }
         ensures unchanged { IfNone result (self.new ≡ self.old) }
     {
         self.messages.facts();
-        let (owner, place) = self.sends.blocked_at(ticket)?;
+        let (send_place, place) = self.sends.blocked_at(ticket)?;
         let message = self.messages.withdraw(place)?;
-        self.sends.spend(owner);
+        self.sends.spend(send_place);
         Some(message)
     }
 
@@ -231,7 +221,7 @@ impl<T: Drop, S: Drop, A: Allocator + Copy> Line<T, S, A> {
         self.sends.set_signal(ticket, signal);
     }
 
-    /// The ticket, whose message was accepted, isn't live any more.
+    /// Spends the ticket, whose message was accepted.
     #[inline(always)]
     pub fn spend_accepted(&mut self, ticket: u64)
         requires accepted { option_map (λ s. s.accepted) (get self.old.sends ticket) ≡ Some true }
@@ -242,8 +232,7 @@ impl<T: Drop, S: Drop, A: Allocator + Copy> Line<T, S, A> {
         }
     }
 
-    /// A live ticket that was due, and isn't afterwards. `None` if none is due: then nothing
-    /// changes, and only one place is read. It searches no tickets.
+    /// A live ticket that was due, and isn't afterwards. `None` if none is due. Searches nothing.
     #[inline(always)]
     pub fn next_due(&mut self) -> Option<u64>
         ensures was_due { IfSome result (λ t. is_due_send self.old.sends t ≡ true) }

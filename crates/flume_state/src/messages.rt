@@ -3,26 +3,25 @@ ghost use Rattle.std.specs.Prelude.{◌≡◌, ◌≢◌, ◌<◌, ◌≤◌, �
 ghost use Rattle.std.specs.Prelude.{IfNone, IfSome, IfOk, IfErr, OnOk, OnErr, IsOk, map};
 ghost use Rattle.std.specs.List.{All};
 ghost use Rattle.std.specs.Option.{option_and_then};
-ghost use Rattle.flume_chain.specs.Chained.{found, place_after, times};
-ghost use Rattle.flume_state.specs.layout.MessageLayout.{AdmitsOwner, TakesOut, message_count};
+ghost use Rattle.flume_chain.specs.ChainState.{found, place_after, times};
+ghost use Rattle.flume_state.specs.layout.MessageLayout.{AdmitsSend, TakesOut, messages_in_chain};
 ghost use Rattle.flume_state.specs.layout.Pairing.{HasLink, link_at, live_sends, under_tickets};
 ghost use Rattle.flume_state.specs.Effects.{with_all_due};
 
-use crate::maybe_place::MaybePlace;
+use crate::optional_place::OptionalPlace;
 use crate::sends::Sends;
-use crate::ticketed::push;
+use crate::ticket_chain::push;
 use flume_chain::chain::Chain;
-use flume_chain::labelled::Labelled;
+use flume_chain::labelled::LabelledValue;
 use std::alloc::{AllocError, Allocator};
 use std::marker::Model;
 
-/// Messages in order: the queued ones, and behind them the blocked ones, each with its owner, which
-/// is the place of its send. Only `push_queued`, `push_blocked` and `drain_queued` allocate.
+/// The queued messages, and behind them the blocked ones, each with the place of its send. Only
+/// `push_queued`, `push_blocked` and `drain_queued` allocate.
 #[derive(Drop)]
 pub struct MessageChain<T, A: Allocator> {
-    // A blocked one that joins the queue stays in its node: letting it in allocates nothing and
-    // looks at no other message.
-    chain: Chain<MaybePlace, T, A>,
+    // A blocked one that joins the queue stays in its node, so nothing is allocated.
+    chain: Chain<OptionalPlace, T, A>,
     blocked: Option<u32>,
     blocked_len: usize,
 }
@@ -39,7 +38,7 @@ impl<T, A: Allocator> Model for MessageChain<T, A> {
 }
 
 fn first_without<T: Drop, A: Allocator>(
-    chain: &Chain<MaybePlace, T, A>,
+    chain: &Chain<OptionalPlace, T, A>,
     first: Option<u32>,
     place: u32,
 ) -> Option<u32>
@@ -52,10 +51,12 @@ fn first_without<T: Drop, A: Allocator>(
     first
 }
 
-// The owner of the blocked message at a place.
 #[inline(always)]
-fn owner_at<T: Drop, A: Allocator>(chain: &Chain<MaybePlace, T, A>, place: u32) -> Option<u32>
-    ensures owner { result ≡ option_and_then (λ e. e.label) (found chain.now.items place) }
+fn send_place_at<T: Drop, A: Allocator>(
+    chain: &Chain<OptionalPlace, T, A>,
+    place: u32,
+) -> Option<u32>
+    ensures send_place { result ≡ option_and_then (λ e. e.label) (found chain.now.items place) }
 {
     chain.label(place)?.get()
 }
@@ -82,7 +83,7 @@ impl<T: Drop, A: Allocator + Copy> MessageChain<T, A> {
         }
     }
 
-    /// What holds of all: no two blocked ones have the same place. Does nothing.
+    /// What holds of all messages. Does nothing.
     #[inline(always)]
     pub fn facts(&self)
         ensures apart { (k : ℕ) → times k (map (λ b. b.place) self.now.blocked) ≤ 1 }
@@ -109,14 +110,13 @@ impl<T: Drop, A: Allocator + Copy> MessageChain<T, A> {
     /// How many more messages fit before one needs an allocation.
     #[inline(always)]
     pub fn room(&self) -> usize
-        ensures room { result + message_count self.now ≡ self.now.space }
+        ensures room { result + messages_in_chain self.now ≡ self.now.space }
     {
         self.chain.room()
     }
 
-    /// Queues a message behind the other queued ones, and before the blocked ones. If there is no
-    /// memory for it, the message comes back, and nothing changes; while there is room, it isn't
-    /// refused.
+    /// Queues a message behind the queued ones. If there is no memory for it, the message comes
+    /// back, and nothing changes; while there is room, it isn't refused.
     #[inline(always)]
     pub fn push_queued(&mut self, message: T) -> Result<(), T>
         ensures pushed { OnOk result (self.new ≡ record self.old {
@@ -124,13 +124,13 @@ impl<T: Drop, A: Allocator + Copy> MessageChain<T, A> {
           space = self.new.space;
         }) }
         ensures space { self.old.space ≤ self.new.space }
-        ensures succeeds { message_count self.old < self.old.space → IsOk result }
+        ensures succeeds { messages_in_chain self.old < self.old.space → IsOk result }
         ensures returned { IfErr result (λ back. back ≡ message) }
         ensures unchanged { OnErr result (self.new ≡ self.old) }
     {
         self.chain.facts();
-        let label = MaybePlace::none();
-        let element = Labelled {
+        let label = OptionalPlace::none();
+        let element = LabelledValue {
             label,
             value: message,
         };
@@ -140,13 +140,12 @@ impl<T: Drop, A: Allocator + Copy> MessageChain<T, A> {
         Ok(())
     }
 
-    /// Puts a message behind all others, as one that is blocked and has this owner, and returns its
-    /// own place, which no other has. If memory runs out, or the owner is the greatest number,
-    /// which is no place, the message comes back, and nothing changes.
-    pub fn push_blocked(&mut self, owner: u32, message: T) -> Result<u32, T>
+    /// Puts a blocked message behind all others, and returns its place. If memory runs out, or
+    /// `send_place` is no place, the message comes back, and nothing changes.
+    pub fn push_blocked(&mut self, send_place: u32, message: T) -> Result<u32, T>
         ensures pushed { IfOk result (λ place. self.new ≡ record self.old {
           blocked = self.old.blocked
-              ++ record { place = place; owner = owner; message = message } ∷ [];
+              ++ record { place = place; send_place = send_place; message = message } ∷ [];
           space = self.new.space;
         }) }
         ensures fresh { IfOk result (λ place. All (λ b. b.place ≢ place) self.old.blocked) }
@@ -155,11 +154,11 @@ impl<T: Drop, A: Allocator + Copy> MessageChain<T, A> {
         ensures unchanged { OnErr result (self.new ≡ self.old) }
     {
         self.chain.facts();
-        let Some(label) = MaybePlace::of(owner) else {
+        let Some(label) = OptionalPlace::of(send_place) else {
             return Err(message);
         };
         let queued = self.queued_len();
-        let element = Labelled {
+        let element = LabelledValue {
             label,
             value: message,
         };
@@ -173,25 +172,23 @@ impl<T: Drop, A: Allocator + Copy> MessageChain<T, A> {
         }
     }
 
-    /// Lets the first blocked message into the queue, behind all queued ones, and returns its
-    /// owner. `None` if no message is blocked, and then nothing changes.
+    /// Queues the first blocked message, and returns its send's place. `None` if none is blocked.
     #[inline(always)]
     pub fn admit(&mut self) -> Option<u32>
-        ensures admitted { IfSome result (λ owner. AdmitsOwner self.old self.new owner) }
+        ensures admitted { IfSome result (λ send_place. AdmitsSend self.old self.new send_place) }
         ensures none_blocked { IfNone result (self.old.blocked ≡ []) }
         ensures unchanged { IfNone result (self.new ≡ self.old) }
     {
         self.chain.facts();
         let place = self.blocked?;
-        let owner = owner_at(&self.chain, place)?;
-        self.chain.set_label(place, MaybePlace::none());
+        let send_place = send_place_at(&self.chain, place)?;
+        self.chain.set_label(place, OptionalPlace::none());
         self.blocked = self.chain.next(place);
         self.blocked_len -= 1;
-        Some(owner)
+        Some(send_place)
     }
 
-    /// Takes the message at the front of the queue. `None` if none is queued, though some may be
-    /// blocked, and then nothing changes.
+    /// Takes the message at the front of the queue. `None` if none is queued.
     #[inline(always)]
     pub fn take_queued(&mut self) -> Option<T>
         ensures taken { IfSome result (λ m.
@@ -205,8 +202,7 @@ impl<T: Drop, A: Allocator + Copy> MessageChain<T, A> {
         Some(self.chain.pop_front()?.value)
     }
 
-    /// Takes all queued messages, the front first, and leaves the blocked ones. If there is no
-    /// memory for their list, nothing changes. It never fails if none is queued.
+    /// Takes all queued messages. If there is no memory for their list, nothing changes.
     pub fn drain_queued(&mut self) -> Result<Vec<T, A>, AllocError>
         ensures drained { IfOk result (λ list. list.items ≡ self.old.queued) }
         ensures becomes { OnOk result (self.new ≡ record self.old { queued = [] }) }
@@ -230,22 +226,21 @@ impl<T: Drop, A: Allocator + Copy> MessageChain<T, A> {
         self.chain.facts();
         let mut next = self.blocked;
         while let Some(place) = next {
-            if let Some(owner) = owner_at(&self.chain, place) {
-                sends.mark_due(owner);
+            if let Some(send_place) = send_place_at(&self.chain, place) {
+                sends.mark_due(send_place);
             }
             next = self.chain.next(place);
         }
     }
 
-    /// Takes out the blocked message at a place. The others keep their order. `None` if there is no
-    /// blocked one there, and then nothing changes.
+    /// Takes out the blocked message at a place. `None` if there is none there.
     pub fn withdraw(&mut self, place: u32) -> Option<T>
         ensures taken { IfSome result (λ m. TakesOut self.old self.new place m) }
         ensures absent { IfNone result (All (λ b. b.place ≢ place) self.old.blocked) }
         ensures unchanged { IfNone result (self.new ≡ self.old) }
     {
         self.chain.facts();
-        owner_at(&self.chain, place)?;
+        send_place_at(&self.chain, place)?;
         let first = first_without(&self.chain, self.blocked, place);
         let element = self.chain.remove(place)?;
         self.blocked = first;

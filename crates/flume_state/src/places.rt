@@ -12,8 +12,7 @@ use ticket_table::TicketTable;
 /// The place of each of some tickets. Only `insert` allocates.
 #[derive(Drop)]
 pub struct Places<A: Allocator> {
-    // A ticket that was alone when it came, and its place: so one that comes by itself needs no
-    // table.
+    // A ticket that was alone when it came: so one that comes by itself needs no table.
     lone: Option<(u64, u32)>,
     table: TicketTable<A>,
 }
@@ -65,9 +64,8 @@ impl<A: Allocator + Copy> Places<A> {
         }
     }
 
-    /// Gives `ticket` a place, instead of the one that it had, if any. Replacing one doesn't
-    /// allocate, nor does a ticket that comes while no other has a place. If memory runs out,
-    /// nothing changes.
+    /// Gives `ticket` a place, instead of any other. Allocates only for a new ticket while another
+    /// has a place. If memory runs out, nothing changes.
     #[inline(always)]
     pub fn insert(&mut self, ticket: u64, place: u32) -> Result<(), AllocError>
         ensures inserted { OnOk result (self.new ≡ insert self.old ticket place) }

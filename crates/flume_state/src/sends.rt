@@ -4,14 +4,14 @@ ghost use Rattle.std.specs.Prelude.{OnOk, OnErr, IfOk, IfSome, IfNone, if◌then
 ghost use Rattle.std.specs.Option.{option_map, option_copied};
 ghost use Rattle.std.specs.FinMap.{get, insert, remove};
 ghost use Rattle.flume_state.specs.Notices.{due_now, no_longer_due, with_signal};
-ghost use Rattle.flume_state.specs.Sends.{blocked, accepted_now, changed, noticed_send};
+ghost use Rattle.flume_state.specs.Sends.{newly_blocked, accepted_now, changed, noticed_send};
 ghost use Rattle.flume_state.specs.Sends.{is_due_send, NoDueSend};
 ghost use Rattle.flume_state.specs.layout.SendLayout.{due_accepting};
 ghost use Rattle.flume_state.specs.layout.Pairing.{Link, link_at, live_sends, at_message};
 ghost use Rattle.flume_state.specs.layout.Pairing.{accepting};
 
 use crate::notice::Notice;
-use crate::ticketed::TicketChain;
+use crate::ticket_chain::TicketChain;
 use std::alloc::{AllocError, Allocator};
 use std::marker::Model;
 
@@ -24,7 +24,7 @@ pub struct LiveSend<S> {
     pub notice: Notice<S>,
 }
 
-/// A live send, with the place of its message, which says nothing once the message was accepted.
+/// A live send, with the place of its message.
 #[derive(Drop)]
 pub struct PlacedSend<S> {
     /// Where its message is in the chain of messages, while it is blocked.
@@ -33,13 +33,11 @@ pub struct PlacedSend<S> {
     pub send: LiveSend<S>,
 }
 
-/// The live send of each live ticket. Each has a place, which it keeps while it is live. Only
-/// `block` allocates.
+/// The live send of each live ticket, each at a place that it keeps. Only `block` allocates.
 #[derive(Drop)]
 pub struct Sends<S, A: Allocator> {
-    // First those that aren't due, then those that are, in the order in which they became due: so
-    // `next_due` reads one place. Nothing reads the order of the first ones. The order of blocked
-    // messages is that of their chain.
+    // First those that aren't due, whose order nothing reads, then those that are, in the order in
+    // which they became due: so `next_due` reads one place.
     chain: TicketChain<PlacedSend<S>, A>,
     due: Option<u32>,
 }
@@ -76,14 +74,12 @@ impl<S: Drop, A: Allocator + Copy> Sends<S, A> {
         }
     }
 
-    /// Makes `ticket` live, with its message blocked and not due, and returns its place, which no
-    /// other has. The place of its message has to be set next. All room for what happens to it
-    /// later is made here. If memory runs out, or the ticket is live already, which no caller
-    /// passes, nothing changes.
+    /// Makes `ticket` live, blocked and not due, and returns its place. The place of its message
+    /// has to be set next. If memory runs out, or the ticket is live already, nothing changes.
     #[inline(always)]
     pub fn block(&mut self, ticket: u64, signal: S) -> Result<u32, AllocError>
         ensures live { OnOk result (live_sends self.new
-            ≡ insert (live_sends self.old) ticket (blocked signal)) }
+            ≡ insert (live_sends self.old) ticket (newly_blocked signal)) }
         ensures link { IfOk result (λ p. (k : ℕ) → link_at self.new k ≡ if k == p
             then Some (record { ticket = ticket; message = 0; accepted = false })
             else link_at self.old k) }
@@ -104,8 +100,7 @@ impl<S: Drop, A: Allocator + Copy> Sends<S, A> {
         }
     }
 
-    /// Sets the place of the message of the send at this place. Nothing changes if there is no such
-    /// send.
+    /// Sets the place of the message of the send at this place, if there is one.
     #[inline(always)]
     pub fn set_message(&mut self, place: u32, message: u32)
         ensures live { live_sends self.new ≡ live_sends self.old }
@@ -119,8 +114,7 @@ impl<S: Drop, A: Allocator + Copy> Sends<S, A> {
         placed.message = message;
     }
 
-    /// The place of the send with this ticket, and that of its message, while this is blocked.
-    /// `None` if the ticket isn't live, or its message was accepted.
+    /// The places of the blocked send with this ticket and of its message. `None` if there is none.
     #[inline(always)]
     pub fn blocked_at(&self, ticket: u64) -> Option<(u32, u32)>
         ensures found { IfSome result (λ b. link_at self.now b.0
@@ -182,10 +176,8 @@ impl<S: Drop, A: Allocator + Copy> Sends<S, A> {
         placed.send.notice.signal = signal;
     }
 
-    /// The message of the send at this place was taken into the queue: its ticket is accepted, and
-    /// due. Nothing changes if there is no such send.
-    // This and `mark_due` forward to `make_due`, so that each call says which of its two cases it
-    // means.
+    /// The send at this place is accepted, and due. Nothing changes if there is none.
+    // Apart from `mark_due`, so that each call says which of the two it means.
     #[inline(never)]
     pub fn accept(&mut self, place: u32)
         ensures live { IfSome (link_at self.old place) (λ l. live_sends self.new
@@ -196,8 +188,7 @@ impl<S: Drop, A: Allocator + Copy> Sends<S, A> {
         self.make_due(place, true);
     }
 
-    /// Makes the ticket of the send at this place due, accepted or not as it was. Nothing changes
-    /// if there is no such send.
+    /// Makes the ticket of the send at this place due. Nothing changes if there is no such send.
     pub fn mark_due(&mut self, place: u32)
         ensures live { IfSome (link_at self.old place) (λ l. live_sends self.new
             ≡ noticed_send due_now l.ticket (live_sends self.old)) }
@@ -206,8 +197,7 @@ impl<S: Drop, A: Allocator + Copy> Sends<S, A> {
         self.make_due(place, false);
     }
 
-    // Makes the ticket of the send at this place due, and accepted if `accepts`. One that wasn't
-    // due goes behind all others.
+    // One that wasn't due goes behind all others.
     fn make_due(&mut self, place: u32, accepts: bool)
         ensures live { IfSome (link_at self.old place) (λ l. live_sends self.new
             ≡ changed (live_sends self.old) l.ticket (due_accepting accepts)) }
@@ -240,8 +230,7 @@ impl<S: Drop, A: Allocator + Copy> Sends<S, A> {
         self.chain.find(ticket)
     }
 
-    /// The ticket of the send at this place isn't live any more. Nothing changes if there is no
-    /// such send.
+    /// Spends the ticket of the send at this place. Nothing changes if there is no such send.
     #[inline(always)]
     pub fn spend(&mut self, place: u32)
         ensures live { IfSome (link_at self.old place) (λ l. live_sends self.new
@@ -257,8 +246,7 @@ impl<S: Drop, A: Allocator + Copy> Sends<S, A> {
         self.chain.discard(place);
     }
 
-    /// A live ticket that was due, and isn't afterwards. `None` if none is due: then nothing
-    /// changes, and only one place is read. It searches no tickets.
+    /// A live ticket that was due, and isn't afterwards. `None` if none is due. Searches nothing.
     #[inline(always)]
     pub fn next_due(&mut self) -> Option<u64>
         ensures was_due { IfSome result (λ t. is_due_send (live_sends self.old) t ≡ true) }
@@ -269,7 +257,7 @@ impl<S: Drop, A: Allocator + Copy> Sends<S, A> {
         ensures unchanged { IfNone result (self.new ≡ self.old) }
     {
         match self.due {
-            Some(_) => self.tell_first(),
+            Some(_) => self.take_first_due(),
             None => None,
         }
     }
@@ -277,7 +265,7 @@ impl<S: Drop, A: Allocator + Copy> Sends<S, A> {
     // The out-of-line part of `next_due`.
     #[cold]
     #[inline(never)]
-    fn tell_first(&mut self) -> Option<u64>
+    fn take_first_due(&mut self) -> Option<u64>
         ensures was_due { IfSome result (λ t. is_due_send (live_sends self.old) t ≡ true) }
         ensures taken { IfSome result (λ t. live_sends self.new
             ≡ noticed_send no_longer_due t (live_sends self.old)) }

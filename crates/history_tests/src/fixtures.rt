@@ -1,6 +1,5 @@
-//! What several tests use: answers compared in one place, and histories that are written as text.
-//! What can't be had fails the test here: a `?` in a test costs the prover a second, and an abort
-//! none.
+//! What several tests use. What can't be had fails the test here: a `?` in a test costs the prover
+//! a second, and an abort none.
 use flume_history::check::Checked;
 use flume_model::step::{Reply, Step};
 use flume_script::reading::{opening_of, step_of};
@@ -13,9 +12,9 @@ pub(crate) type Pair<A = Global> = (Step<u64>, Reply<u64, A>);
 
 /// A channel's capacity, and its history.
 #[derive(Drop)]
-pub(crate) struct Told<A: Allocator> {
+pub(crate) struct History<A: Allocator> {
     pub(crate) capacity: Option<usize>,
-    pub(crate) history: Vec<Pair<A>, A>,
+    pub(crate) pairs: Vec<Pair<A>, A>,
 }
 
 fn reply_of<A: Allocator + Copy>(rt: &impl Abort, alloc: A, text: &str) -> Reply<u64, A> {
@@ -26,7 +25,7 @@ fn reply_of<A: Allocator + Copy>(rt: &impl Abort, alloc: A, text: &str) -> Reply
         .unwrap_or(rest)
         .split_whitespace()
     {
-        had(rt, numbers.push(number.parse().expect(rt, "a number")));
+        unwrap(rt, numbers.push(number.parse().expect(rt, "a number")));
     }
     let number = numbers.first().copied();
     match word {
@@ -45,32 +44,31 @@ fn reply_of<A: Allocator + Copy>(rt: &impl Abort, alloc: A, text: &str) -> Reply
     }
 }
 
-/// The history of a text: a line that opens a channel, and then lines of a step, an arrow and its
-/// reply.
-pub(crate) fn told_by<A: Allocator + Copy>(rt: &impl Abort, alloc: A, text: &str) -> Told<A> {
+/// The history of a text: an opening, and lines of a step, an arrow and its reply.
+pub(crate) fn history_of<A: Allocator + Copy>(rt: &impl Abort, alloc: A, text: &str) -> History<A> {
     let mut lines = text.split("\n");
     let opening = lines.next().unwrap_or("");
     let capacity = opening_of(opening.as_bytes()).expect(rt, "an opening");
-    let mut history = Vec::new(alloc);
+    let mut pairs = Vec::new(alloc);
     for line in lines {
-        let (step, told) = line.split_once(" -> ").expect(rt, "an arrow");
+        let (step, reply) = line.split_once(" -> ").expect(rt, "an arrow");
         let step = step_of(step.as_bytes()).expect(rt, "a step");
-        had(rt, history.push((step, reply_of(rt, alloc, told))));
+        unwrap(rt, pairs.push((step, reply_of(rt, alloc, reply))));
     }
-    Told { capacity, history }
+    History { capacity, pairs }
 }
 
-/// The check answers so, of what has this title.
+/// The check answers as expected.
 pub(crate) fn is(rt: &impl Abort, title: &str, answer: Checked, wanted: Checked) {
     assert_eq!(rt; answer, wanted, "{title}");
 }
 
-/// It holds; if not, this name fails the test.
-pub(crate) fn holds(rt: &impl Abort, fault: &str, is_so: bool) {
-    assert!(rt; is_so, "{fault}");
+/// It holds; if not, the test fails with this fault.
+pub(crate) fn holds(rt: &impl Abort, fault: &str, truth: bool) {
+    assert!(rt; truth, "{fault}");
 }
 
 /// The result of a call that fails for memory alone.
-pub(crate) fn had<T, E: Debug + Drop>(rt: &impl Abort, answer: Result<T, E>) -> T {
+pub(crate) fn unwrap<T, E: Debug + Drop>(rt: &impl Abort, answer: Result<T, E>) -> T {
     answer.expect(rt, "there is memory")
 }

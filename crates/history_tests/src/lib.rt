@@ -1,18 +1,18 @@
-//! Tests of `flume_history`: histories written by hand, and those of a channel with one reply
-//! changed, compared with a second judge.
+//! Tests of `flume_history`: histories written by hand, and random ones, compared with a second
+//! judge.
 #![tactic(auto)]
 
-#[cfg(test)]
-mod altered;
-#[cfg(test)]
-mod counts;
-#[cfg(test)]
-mod drawn;
 #[cfg(test)]
 mod fixtures;
 #[cfg(test)]
 mod memory;
 #[cfg(test)]
+mod random_histories;
+#[cfg(test)]
+mod random_replies;
+#[cfg(test)]
 mod rows;
 #[cfg(test)]
-mod slow;
+mod slow_judge;
+#[cfg(test)]
+mod slow_judge_ends;

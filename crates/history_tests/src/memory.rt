@@ -1,15 +1,15 @@
 //! The check itself runs out of memory, and then says nothing of the history.
-use crate::fixtures::{holds, is, told_by};
-use ends_tests::counting::Counting;
+use crate::fixtures::{history_of, holds, is};
 use flume_history::check::{Checked, check_history};
 use std::alloc::Global;
 use std::process::Abort;
+use test_support::counting::Counting;
 
 // More growths than a check has.
 const MOST: u64 = 1000;
 
-// Messages queue and block, a receiver parks, and what is queued is drained: the check keeps each.
-const KEEPS: &str = "bounded 2
+// The check stores messages, tickets and a drained list.
+const STORES: &str = "bounded 2
 recv plain -> parked 1
 try_send 1 -> sent
 try_send 2 -> sent
@@ -18,30 +18,30 @@ drain -> drained 1 2
 try_recv -> got 3";
 
 // Steps for which a channel allocates nothing, with their replies.
-const KEEPS_NOTHING: &str = "bounded 2
+const STORES_NOTHING: &str = "bounded 2
 try_recv -> empty
 try_send 5 -> nomemory 5
 drain -> drained
 len -> 0";
 
-// They are wrong at once, and right only if something is kept.
+// They are wrong at once, and right only if something is stored.
 const WRONG_AT_ONCE: &str = "bounded 2
 try_recv -> got 5
 try_send 5 -> sent";
 
-// Checks a history on an allocator that refuses these growths, counted from 1. It answers so, or
-// that there was no memory, if it refused some: how many.
-fn refused(
+// Checks a history with these growths refused, and answers how many were. If any was, the check
+// says that there was no memory.
+fn check_with_refusals(
     rt: &impl Abort,
     alloc: Global,
     (text, wanted): (&str, Checked),
     (first, last): (u64, u64),
 ) -> u64 {
     let heap = Counting::new(alloc);
-    let told = told_by(rt, &heap, text);
+    let history = history_of(rt, &heap, text);
     let live = heap.live();
     heap.refuse_between(first, last);
-    let answer = check_history(&heap, told.capacity, &told.history);
+    let answer = check_history(&heap, history.capacity, &history.pairs);
     let refusals = heap.refusals();
     heap.refuse(false);
     holds(rt, "blocks are left", heap.live() == live);
@@ -55,10 +55,10 @@ fn refused(
 }
 
 #[test]
-fn a_check_that_was_refused_memory_tells_nothing_of_the_history(rt: HostRuntime) {
+fn a_check_that_was_refused_memory_says_nothing_of_the_history(rt: HostRuntime) {
     let mut growths = 0u64;
     for first in 1..MOST {
-        if refused(&rt, rt.alloc(), (KEEPS, Checked::Run), (first, first)) == 0 {
+        if check_with_refusals(&rt, rt.alloc(), (STORES, Checked::Run), (first, first)) == 0 {
             break;
         }
         growths = growths.saturating_add(1);
@@ -71,12 +71,12 @@ fn a_check_that_was_refused_memory_tells_nothing_of_the_history(rt: HostRuntime)
 }
 
 #[test]
-fn a_check_that_keeps_nothing_takes_no_memory(rt: HostRuntime) {
+fn a_check_that_stores_nothing_takes_no_memory(rt: HostRuntime) {
     for row in [
-        (KEEPS_NOTHING, Checked::Run),
+        (STORES_NOTHING, Checked::Run),
         (WRONG_AT_ONCE, Checked::Breaks(0)),
     ] {
-        let refusals = refused(&rt, rt.alloc(), row, (1, u64::MAX));
+        let refusals = check_with_refusals(&rt, rt.alloc(), row, (1, u64::MAX));
         holds(&rt, "memory was taken", refusals == 0);
     }
 }

@@ -1,15 +1,15 @@
-//! Histories with one fault, for the list that judges drawn scripts; and messages that the check
-//! compares by their own `Eq`. `flume_replay` has the histories for the check itself.
-use crate::fixtures::{had, holds, is, told_by};
-use core_tests::judge::Told;
+//! Histories with one fault, for the judge of random scripts; and messages that the check compares
+//! by their own `Eq`. `flume_replay` has more histories for the check itself.
+use crate::fixtures::{history_of, holds, is, unwrap};
+use core_tests::judge::Judge;
 use flume_history::check::{Checked, check_history};
 use flume_model::step::{Reply, Step};
 use std::alloc::Global;
 use std::process::Abort;
 
-// Histories with a right reply, and behind a bar one that has a fault: a message that filled
-// a receiver is lost, is given twice, and fills twice; one that was received is received again; two
-// of a drained list change places; a send is accepted twice; and a receiver's ticket is as a send's.
+// Histories with a wrong reply behind a bar: a message that filled a receiver is lost, is got
+// twice, and fills twice; one is received again; two of a drained list change places; a send is
+// accepted twice; and a receiver's ticket serves as a send's.
 const FAULTS: &str = "
 = unbounded
 recv block -> parked 1
@@ -44,25 +44,24 @@ recv plain -> parked 1
 poll_send 1 -> noticket | accepted
 ";
 
-// Whether the list that is kept from the replies alone takes them for right.
 fn is_right(rt: &impl Abort, alloc: Global, text: &str) -> bool {
-    let mut told = Told::nothing(alloc);
-    for (step, reply) in &told_by(rt, alloc, text).history {
-        had(rt, told.add(step, reply));
+    let mut judge = Judge::new(alloc);
+    for (step, reply) in &history_of(rt, alloc, text).pairs {
+        unwrap(rt, judge.add(step, reply));
     }
-    had(rt, told.is_right(alloc))
+    unwrap(rt, judge.is_right(alloc))
 }
 
 #[test]
-fn the_judge_of_drawn_scripts_finds_each_fault(rt: HostRuntime) {
+fn the_judge_of_random_scripts_finds_each_fault(rt: HostRuntime) {
     for block in FAULTS.trim_end().split("\n= ").skip(1) {
         let (right, behind) = block.split_once(" | ").expect(&rt, "a fault");
         let (fault, rest) = behind.split_once("\n").unwrap_or((behind, ""));
         let (before, reply) = right.rsplit_once(" -> ").expect(&rt, "a reply");
-        for (reply, is_so) in [(reply, true), (fault, false)] {
-            let text = had(&rt, format!(in rt.alloc(); "{before} -> {reply}\n{rest}"));
-            let judged = is_right(&rt, rt.alloc(), text.as_str().trim_end());
-            holds(&rt, block, judged == is_so);
+        for (reply, truth) in [(reply, true), (fault, false)] {
+            let text = unwrap(&rt, format!(in rt.alloc(); "{before} -> {reply}\n{rest}"));
+            let judge = is_right(&rt, rt.alloc(), text.as_str().trim_end());
+            holds(&rt, block, judge == truth);
         }
     }
 }
@@ -70,40 +69,40 @@ fn the_judge_of_drawn_scripts_finds_each_fault(rt: HostRuntime) {
 // A number with a label, which its equality ignores.
 #[derive(Clone, Copy, Debug, Drop)]
 #[derive_where(PartialEq, Eq)]
-struct Labelled {
+struct NumberWithLabel {
     number: u64,
     #[derive_where(skip(EqHashOrd))]
     label: u64,
 }
 
-// What the check answers of a message that is sent, but first refused because memory ran out and
-// told as the second one then, and received, and told as the third one.
-fn told_so(rt: &impl Abort, alloc: Global, messages: [Labelled; 3]) -> Checked {
+// What the check answers of a history of these three: one that is sent, the one that came back as
+// memory ran out before, and the one that is received.
+fn check_history_of(rt: &impl Abort, alloc: Global, messages: [NumberWithLabel; 3]) -> Checked {
     let [sent, refused, received] = messages;
     let mut history = Vec::new(alloc);
-    had(
+    unwrap(
         rt,
         history.push((Step::TrySend(sent), Reply::NoMemory(Some(refused)))),
     );
-    had(
+    unwrap(
         rt,
         history.push((Step::TrySend(sent), Reply::Sent { filled: None })),
     );
-    had(rt, history.push((Step::TryRecv, Reply::Got(received))));
+    unwrap(rt, history.push((Step::TryRecv, Reply::Got(received))));
     check_history(alloc, None, &history)
 }
 
 #[test]
 fn messages_are_compared_by_their_eq(rt: HostRuntime) {
-    let sent = Labelled {
+    let sent = NumberWithLabel {
         number: 5,
         label: 1,
     };
-    let equal = Labelled {
+    let equal = NumberWithLabel {
         number: 5,
         label: 2,
     };
-    let other = Labelled {
+    let other = NumberWithLabel {
         number: 6,
         label: 1,
     };
@@ -113,7 +112,12 @@ fn messages_are_compared_by_their_eq(rt: HostRuntime) {
         ([sent, other, equal], Checked::Breaks(0)),
     ];
     for (messages, wanted) in rows {
-        is(&rt, "labelled", told_so(&rt, rt.alloc(), messages), wanted);
+        is(
+            &rt,
+            "labelled",
+            check_history_of(&rt, rt.alloc(), messages),
+            wanted,
+        );
     }
 }
 
@@ -165,8 +169,8 @@ fn the_check_answers_the_worked_histories(rt: HostRuntime) {
             Ok(place) => Checked::Breaks(place),
             Err(_) => Checked::Run,
         };
-        let told = told_by(&rt, rt.alloc(), text);
-        let checked = check_history(rt.alloc(), told.capacity, &told.history);
+        let history = history_of(&rt, rt.alloc(), text);
+        let checked = check_history(rt.alloc(), history.capacity, &history.pairs);
         is(&rt, text, checked, wanted);
     }
 }

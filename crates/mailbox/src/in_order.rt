@@ -21,7 +21,6 @@ pub fn in_order(pairs: &[(u64, u64)]) -> bool
     of_workers(pairs) && counts_up(pairs, 0) && counts_up(pairs, 1) && counts_up(pairs, 2)
 }
 
-// Whether each pair is of a worker.
 fn of_workers(pairs: &[(u64, u64)]) -> bool
     ensures workers { IsTrue result ↔ All (λ pair. pair.0 < 3) pairs.now }
 {

@@ -20,10 +20,10 @@ use std::{io, thread};
 type Message = (u64, u64);
 
 fn main(rt: HostRuntime) -> ExitCode {
-    ExitCode::from(tell(gather(rt), &mut io::writer(&rt)))
+    ExitCode::from(report(gather(rt), &mut io::writer(&rt)))
 }
 
-/// Starts the workers, and gives what they sent.
+/// Starts the workers, and returns what they sent.
 fn gather<R: Runtime>(rt: R) -> io::Result<Vec<Message>> {
     let (tx, mailbox) = flume::on(rt).bounded(1)?;
     let mut workers = Vec::new(rt.alloc());
@@ -42,7 +42,6 @@ fn gather<R: Runtime>(rt: R) -> io::Result<Vec<Message>> {
     Ok(messages)
 }
 
-/// Sends all numbers of a worker.
 fn send_all<R: Waits>(mailbox: &Sender<Message, R>, worker: u64) -> io::Result<()> {
     for number in 1..=MESSAGES {
         mailbox.send((worker, number))?;
@@ -50,7 +49,6 @@ fn send_all<R: Waits>(mailbox: &Sender<Message, R>, worker: u64) -> io::Result<(
     Ok(())
 }
 
-/// Receives until no worker is left.
 fn receive_all<R: Runtime>(rt: &R, mailbox: &Receiver<Message, R>) -> io::Result<Vec<Message>> {
     let mut all = Vec::new(rt.alloc());
     let mut messages = mailbox.iter();
@@ -61,8 +59,8 @@ fn receive_all<R: Runtime>(rt: &R, mailbox: &Receiver<Message, R>) -> io::Result
     Ok(all)
 }
 
-/// Writes what came of the workers, and answers the status. Only memory and threads can be missing.
-fn tell<W: Write>(gathered: io::Result<Vec<Message>>, output: &mut W) -> u8 {
+/// Writes the result, and answers the status. An error is one of memory or threads.
+fn report<W: Write>(gathered: io::Result<Vec<Message>>, output: &mut W) -> u8 {
     let (written, status) = match gathered {
         Err(_) => (output.write_all(b"out of memory\n"), 3),
         Ok(messages) if !in_order(&messages) => (output.write_all(b"out of order\n"), 1),
@@ -74,7 +72,6 @@ fn tell<W: Write>(gathered: io::Result<Vec<Message>>, output: &mut W) -> u8 {
     if written.is_ok() { status } else { 4 }
 }
 
-/// The sum of the numbers.
 fn sum(messages: &[Message]) -> u64 {
     messages
         .iter()

@@ -3,7 +3,6 @@ use crate::in_order::{MESSAGES, WORKERS, in_order};
 use std::alloc::Global;
 use std::test::Fail;
 
-// The messages of all workers, those of one after those of the other.
 fn one_after_the_other(alloc: Global) -> Result<Vec<(u64, u64)>, Fail> {
     let mut messages = Vec::new(alloc);
     for worker in 0..WORKERS {

@@ -1,2 +1,2 @@
-pub mod Places
-pub mod Received
+pub mod PlaceLemmas
+pub mod ReceivedLemmas

@@ -1,3 +1,3 @@
-pub mod Answered
-pub mod Found
-pub mod Worked
+pub mod RightAnswers
+pub mod TruePlaces
+pub mod SlotValues

@@ -3,8 +3,8 @@ ghost use Rattle.std.specs.Prelude.{◌≡◌};
 
 use crate::work::Work;
 
-/// A job, its number in the list, and its value. The type itself says that the value is that of the
-/// job: so it holds of each answer, by whichever way it came.
+/// A job, its number in the list, and its value. The type says that the value is that of the job,
+/// so it holds of each answer that comes.
 ///
 /// ```
 /// let answer = Answer::of(&Square, 0, 7);
@@ -22,7 +22,7 @@ pub struct Answer<W: Work> {
 }
 
 impl<W: Work> Answer<W> {
-    /// Does the job, and makes the answer of it.
+    /// Does the job.
     ///
     /// ```
     /// Answer::of(&Square, 0, 7).value;   // 49

@@ -1,9 +1,9 @@
 //! The result, from answers that come in any order.
 ghost use Rattle.std.specs.Prelude.{◌≡◌, List, IfOk, IfErr, map};
 ghost use Rattle.std.specs.Iterator.{IsFinite, AlwaysYields};
-ghost use Rattle.parallel_map.specs.Answered.{Brings, AreComplete};
-ghost use Rattle.parallel_map.specs.Worked.{Lacks};
-ghost use Rattle.parallel_map.specs.Found.{IsFound};
+ghost use Rattle.parallel_map.specs.RightAnswers.{Brings, AreComplete};
+ghost use Rattle.parallel_map.specs.SlotValues.{Lacks};
+ghost use Rattle.parallel_map.specs.TruePlaces.{IsFound};
 
 use crate::answer::Answer;
 use crate::error::WorkError;
@@ -12,10 +12,9 @@ use crate::work::Work;
 use std::alloc::Global;
 
 /// The values of all jobs, in the order of the jobs. Each answer is compared with the list, so the
-/// iterator needn't be trusted. `Unknown`: an answer is to no job; `Doubled`: a second one to the
-/// same job. It stops at the first of these. `Missing`: the iterator ended, and this is the first
-/// job without an answer. If the iterator gives one right answer for each job, in any order, the
-/// only error is `NoMemory` (`served`).
+/// iterator needn't be trusted. `Unknown`: an answer is to no job. `Doubled`: a second one is to
+/// the same job. It stops at the first of these. `Missing`: the iterator ended, and this is the
+/// first job without an answer.
 ///
 /// ```
 /// let mixed = [Answer::of(&Square, 1, 3), Answer::of(&Square, 0, 2)];
@@ -33,7 +32,7 @@ pub fn collect<W: Work, I: Iterator<Item = Answer<W>> + Drop>(
     ensures values { IfOk result (λ values. values.items ≡ map W.meaning jobs.now) }
     ensures error { IfErr result (Brings I.next_gives (λ answer. (answer.number, answer.job))
         jobs.now answers) }
-    ensures served { (all : List _)
+    ensures only_no_memory { (all : List _)
         → AlwaysYields I.next_gives (λ answer. answer) answers all
         → AreComplete jobs.now (map (λ answer. (answer.number, answer.job)) all)
         → IfErr result (λ error. error ≡ WorkError.NoMemory) }
@@ -45,9 +44,8 @@ pub fn collect<W: Work, I: Iterator<Item = Answer<W>> + Drop>(
     in_order(alloc, slots)
 }
 
-/// The number of a job of the value `true`: that of the first answer with this value, at which it
-/// stops. `None` if each job was answered, and none has this value. The errors are those of
-/// `collect`.
+/// The number of a job of the value `true`: that of the first answer with this value. `None`: there
+/// is no such job. The errors are those of `collect`.
 ///
 /// ```
 /// let answers = Vec::from_array(alloc, [Answer::of(&IsEven, 1, 8)])?;
@@ -64,7 +62,7 @@ pub fn position<W: Work<Value = bool>, I: Iterator<Item = Answer<W>> + Drop>(
     ensures found { IfOk result (IsFound (map W.meaning jobs.now)) }
     ensures error { IfErr result (Brings I.next_gives (λ answer. (answer.number, answer.job))
         jobs.now answers) }
-    ensures served { (all : List _)
+    ensures only_no_memory { (all : List _)
         → AlwaysYields I.next_gives (λ answer. answer) answers all
         → AreComplete jobs.now (map (λ answer. (answer.number, answer.job)) all)
         → IfErr result (λ error. error ≡ WorkError.NoMemory) }
@@ -81,7 +79,7 @@ pub fn position<W: Work<Value = bool>, I: Iterator<Item = Answer<W>> + Drop>(
     Ok(first_true(&values))
 }
 
-#[tactic(auto, using(crate::proofs::Places::take_found))]
+#[tactic(auto, using(crate::proofs::PlaceLemmas::take_found))]
 fn in_order<W: Work>(alloc: Global, slots: Slots<'_, W>) -> Result<Vec<W::Value>, WorkError>
     ensures values { IfOk result (λ values. values.items ≡ map W.meaning slots.entry.jobs.now) }
     ensures missing { IfErr result (Lacks slots.entry.jobs.now slots.entry.values.items) }

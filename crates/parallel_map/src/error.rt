@@ -1,4 +1,4 @@
-//! Why there is no result.
+//! The error.
 use flume::error::NoMemory;
 use std::alloc::{AllocError, AllocFailed};
 use std::error::Error;
@@ -6,8 +6,7 @@ use std::io::ErrorKind;
 use std::thread::SpawnError;
 use std::{fmt, io};
 
-/// Why there is no result. The last three say that the answers weren't those to the jobs; with a
-/// correct channel none of them comes.
+/// Why there is no result. With a correct channel none of the last three comes.
 ///
 /// ```
 /// let none = Vec::<Answer<Square>>::new(alloc);
@@ -22,9 +21,9 @@ pub enum WorkError {
     NoThread,
     /// No answer has this number.
     Missing(usize),
-    /// A second answer has this number.
+    /// Two answers have this number.
     Doubled(usize),
-    /// An answer has this number, and the list hasn't its job there.
+    /// An answer has this number, but another job.
     Unknown(usize),
 }
 
@@ -40,7 +39,7 @@ impl WorkError {
     }
 }
 
-/// One text for each case, padded and cut as text is.
+/// Padded and cut as text is.
 impl fmt::Display for WorkError {
     fn fmt<W: fmt::Write>(&self, f: &mut fmt::Formatter<W>) -> fmt::Result {
         f.pad(self.text())

@@ -1,7 +1,7 @@
 //! What is made of the answers to jobs.
 ghost use Rattle.std.specs.Prelude.{◌≡◌, List, IfOk, map};
 ghost use Rattle.std.specs.Iterator.{IsFinite};
-ghost use Rattle.parallel_map.specs.Found.{IsFound};
+ghost use Rattle.parallel_map.specs.TruePlaces.{IsFound};
 
 use crate::answer::Answer;
 use crate::answers::{collect, position};
@@ -9,15 +9,13 @@ use crate::error::WorkError;
 use crate::work::Work;
 use std::alloc::Global;
 
-/// A way to make a result of the answers, which come in any order.
+/// A way to make a result of the answers.
 pub(crate) trait Gather<W: Work> {
-    /// The result.
     type Result: Drop;
 
-    // When it is right for these jobs.
     ghost is_right: { List W.Job → Self.Result → Type 0 };
 
-    /// The result. It may stop before the answers end.
+    /// It may stop before the answers end.
     fn gather<I: Iterator<Item = Answer<W>> + Drop>(
         &self,
         alloc: Global,
@@ -29,7 +27,6 @@ pub(crate) trait Gather<W: Work> {
         ensures right { IfOk result (is_right jobs.now) };
 }
 
-/// The values of all jobs.
 pub(crate) struct Values;
 
 impl<W: Work> Gather<W> for Values {
@@ -47,7 +44,6 @@ impl<W: Work> Gather<W> for Values {
     }
 }
 
-/// The number of a job of the value `true`.
 pub(crate) struct Place;
 
 impl<W: Work<Value = bool>> Gather<W> for Place {

@@ -1,6 +1,6 @@
-//! What threads make of a list of jobs.
+//! Lists of jobs, done by threads.
 ghost use Rattle.std.specs.Prelude.{◌≡◌, IfOk, map};
-ghost use Rattle.parallel_map.specs.Found.{IsFound};
+ghost use Rattle.parallel_map.specs.TruePlaces.{IsFound};
 
 use crate::error::WorkError;
 use crate::gather::{Place, Values};
@@ -8,9 +8,9 @@ use crate::threads::by_threads;
 use crate::work::Work;
 use flume::Runtime;
 
-/// The values of all jobs, in the order of the jobs, by this many threads: at least one, and
-/// another one that hands the jobs to them. All have ended when it returns. `NoMemory`: an
-/// allocation failed, in one of them or here.
+/// The values of all jobs, in the order of the jobs, by this many threads, at least one, and
+/// another one that hands out the jobs. All have ended when it returns. The errors are those of
+/// [`WorkError`].
 ///
 /// ```
 /// let squares = parallel_map(rt, &Square, &[1, 2, 3], 2)?;
@@ -30,11 +30,11 @@ where
     by_threads(rt, work, jobs, workers, &Values)
 }
 
-/// The number of a job of the value `true`, by threads as those of `parallel_map`. If there are
-/// several such jobs it is one of them. `None`: there is none.
+/// The number of some job of the value `true`, by threads as of `parallel_map`. `None`: there is
+/// none.
 ///
-/// Once it knows the number it drops its receiver. Then the workers' sends answer `Disconnected`
-/// and they end, and so does the thread that hands out the jobs.
+/// Once it knows the number it drops its receiver. Then the workers' sends answer `Disconnected`,
+/// and all threads end.
 ///
 /// ```
 /// let found = position_any(rt, &IsEven, &[7, 8, 9], 2)?;

@@ -2,25 +2,23 @@
 ghost use Rattle.std.specs.Prelude.{◌≡◌, ◌≢◌, ℕ, ◌<◌, map, length, Some, None};
 ghost use Rattle.std.specs.Prelude.{IfOk, IfErr, OnOk, IfSome, IfNone};
 ghost use Rattle.std.specs.List.{slice_get};
-ghost use Rattle.parallel_map.specs.Worked.{AreWorked, held, Places, IsRefused};
-ghost use Rattle.parallel_map.specs.Answered.{IsTo};
+ghost use Rattle.parallel_map.specs.SlotValues.{HoldRightValues, held, Places, IsRefused};
+ghost use Rattle.parallel_map.specs.RightAnswers.{IsTo};
 
 use crate::answer::Answer;
 use crate::error::WorkError;
 use crate::work::Work;
 use std::alloc::{AllocError, Global};
 
-/// The jobs of a list, and the values that came so far. A place that isn't empty holds the value of
-/// the job that is there.
+/// The jobs of a list, and the values that came so far.
 #[derive(Drop)]
 pub(crate) struct Slots<'a, W: Work> {
     pub(crate) jobs: &'a [W::Job],
     pub(crate) values: Vec<Option<W::Value>>,
-    ghost worked: { AreWorked (map W.meaning jobs.now) values.items },
+    ghost right_values: { HoldRightValues (map W.meaning jobs.now) values.items },
 }
 
 impl<'a, W: Work> Slots<'a, W> {
-    /// No value came yet.
     pub(crate) fn new(alloc: Global, jobs: &'a [W::Job]) -> Result<Self, AllocError>
         ensures jobs { IfOk result (λ slots. slots.jobs.now ≡ jobs.now) }
         ensures empty { IfOk result (λ slots. (k : ℕ) → held slots.values.items k ≡ 0) }
@@ -29,8 +27,6 @@ impl<'a, W: Work> Slots<'a, W> {
         Ok(Slots { jobs, values })
     }
 
-    /// Puts the value of an answer into its place, if the answer is to the job that is there and
-    /// the place is empty.
     pub(crate) fn put(&mut self, answer: Answer<W>) -> Result<(), WorkError>
         ensures jobs { self.new.jobs.now ≡ self.old.jobs.now }
         ensures value { OnOk result (slice_get (map W.meaning self.old.jobs.now) answer.number
@@ -62,7 +58,6 @@ impl<'a, W: Work> Slots<'a, W> {
         Ok(())
     }
 
-    /// Takes the value out of a place.
     pub(crate) fn take(&mut self, number: usize) -> Option<W::Value>
         requires within { number < length self.old.jobs.now }
         ensures jobs { self.new.jobs.now ≡ self.old.jobs.now }

@@ -10,16 +10,13 @@ use flume::{Receiver, Runtime, SendError, Sender, Waits};
 use std::thread;
 use std::thread::{JoinHandle, Threads};
 
-// How many jobs and how many answers wait in a channel at most.
 const CAPACITY: usize = 16;
 
-// What a thread returns: whether an allocation failed in it.
+// What a thread returns.
 type Ended = Result<(), NoMemory>;
 
-/// What is made of the answers of this many threads, at least one. Another thread hands the jobs to
-/// them, since this one, which receives the answers, can't wait for room. At the end of the scope
-/// all have ended, even if one couldn't be started: then the ends of the channels are dropped, so
-/// the others end.
+/// Another thread hands out the jobs, since this one, which receives the answers, can't wait for
+/// room. If a thread can't be started, the ends of the channels are dropped, so the others end.
 pub(crate) fn by_threads<W: Work + Sync, R: Runtime, G: Gather<W>>(
     rt: R,
     work: &W,
@@ -48,12 +45,11 @@ where
             drop(to_do);
             drop(done);
             threads.push(scope.spawn(move || feed(jobs, &give))?)?;
-            received(rt, jobs, answers, threads, gather)
+            gather_and_join(rt, jobs, answers, threads, gather)
         },
     )
 }
 
-// Does jobs until there are no more, or no one receives the answers.
 fn serve<W: Work, R: Waits>(
     work: &W,
     to_do: &Receiver<(usize, W::Job), R>,
@@ -70,7 +66,6 @@ fn serve<W: Work, R: Waits>(
     jobs.ended()
 }
 
-// Sends all jobs with their numbers, as long as there is a worker.
 fn feed<J: Copy, R: Waits>(jobs: &[J], give: &Sender<(usize, J), R>) -> Ended {
     for (number, job) in jobs.iter().enumerate() {
         match give.send((number, *job)) {
@@ -82,8 +77,8 @@ fn feed<J: Copy, R: Waits>(jobs: &[J], give: &Sender<(usize, J), R>) -> Ended {
     Ok(())
 }
 
-// What is made of the answers that come. Then the receiver is dropped, and so the threads end.
-fn received<W: Work, R: Runtime, G: Gather<W>>(
+// The receiver is dropped first, so that the threads end.
+fn gather_and_join<W: Work, R: Runtime, G: Gather<W>>(
     rt: R,
     jobs: &[W::Job],
     answers: Receiver<Answer<W>, R>,
@@ -101,7 +96,6 @@ fn received<W: Work, R: Runtime, G: Gather<W>>(
     found
 }
 
-// Waits until all have ended. `Err`: an allocation failed in one of them.
 fn join_all<R: Threads>(rt: &R, threads: Vec<JoinHandle<Ended>>) -> Ended {
     let mut ended = Ok(());
     for thread in threads {

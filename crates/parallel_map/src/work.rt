@@ -1,12 +1,11 @@
 //! What is done for each job.
 ghost use Rattle.std.specs.Prelude.{◌≡◌, true};
 
-/// A kind of work: which jobs there are, and the value of each. The value is a function of the job
-/// alone (`meaning`), so what else the work needs is in the job. It is a plain value, as a number:
-/// what takes memory of its own, as a `Vec` does, isn't determined by its job.
+/// A kind of work. The value is a function of the job alone (`meaning`). So it is a plain value, as
+/// a number: what has memory of its own, as a `Vec`, isn't determined by its job.
 ///
-/// Jobs that `==` holds equal have to be the same (`exact`): the receiver of an answer compares
-/// its job so. For numbers the prover finds that.
+/// Jobs that are equal by `==` have to be the same (`exact`), since the receiver of an answer
+/// compares them so. For numbers the prover finds that.
 ///
 /// ```
 /// // The square of a number.
@@ -33,13 +32,11 @@ pub trait Work {
     /// What comes of it.
     type Value: Drop;
 
-    // The value of each job.
     ghost meaning: { Self.Job → Self.Value };
 
     /// The value of the job. Called by several threads at once.
     fn work(&self, job: Self::Job) -> Self::Value
         ensures value { result ≡ meaning job };
 
-    // Jobs that are equal by `==` are the same.
     ghost exact: { (one other : Self.Job) → Self.Job.eq one other ≡ true → one ≡ other };
 }

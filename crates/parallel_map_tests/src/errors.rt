@@ -1,4 +1,4 @@
-//! The errors: their texts and kinds, and what becomes one.
+//! The errors: their texts, kinds and conversions.
 use flume::error::NoMemory;
 use parallel_map::WorkError;
 use std::alloc::{AllocError, AllocFailed};
@@ -7,7 +7,6 @@ use std::io::ErrorKind;
 use std::test::Fail;
 use std::thread::SpawnError;
 
-// Each error, and its text.
 const TEXTS: &[(WorkError, &str)] = &[
     (WorkError::NoMemory, "out of memory"),
     (WorkError::NoThread, "no thread could be started"),
@@ -36,7 +35,7 @@ fn each_error_has_its_text_and_kind(rt: HostRuntime) -> Result<(), Fail> {
 }
 
 #[test]
-fn what_says_what_was_refused_becomes_the_error_that_says_it(rt: HostRuntime) {
+fn errors_of_memory_and_threads_are_converted(rt: HostRuntime) {
     assert_eq!(rt; WorkError::from(NoMemory), WorkError::NoMemory);
     assert_eq!(rt; WorkError::from(AllocError), WorkError::NoMemory);
     let failed = AllocFailed { value: 7u64 };

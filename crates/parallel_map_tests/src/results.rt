@@ -1,5 +1,5 @@
-//! What no clause says: that right answers are taken, that each job is done once, and which error
-//! wrong answers bring.
+//! What no clause says: right answers are taken, each job is done once, and which error wrong
+//! answers are.
 ghost use Rattle.std.specs.Prelude.{◌%◌, ◌==◌};
 ghost use Rattle.std.proofs.Common.{rules};
 
@@ -9,13 +9,12 @@ use std::alloc::{AllocError, Global};
 use std::sync::atomic::{AtomicU64, Ordering};
 use std::test::Fail;
 
-// What is left of a number when it is divided by 7. It counts its calls.
+// The remainder of a division by 7. It counts its calls.
 #[derive(Drop)]
 struct Remainder {
     calls: AtomicU64,
 }
 
-// One that wasn't called.
 fn not_called() -> Remainder {
     Remainder {
         calls: AtomicU64::new(0),
@@ -37,7 +36,6 @@ impl Work for Remainder {
     }
 }
 
-// Whether a number is this one.
 struct IsNinety;
 
 impl Work for IsNinety {
@@ -54,7 +52,6 @@ impl Work for IsNinety {
     }
 }
 
-// The numbers below this one.
 fn numbers(alloc: Global, end: u64) -> Result<Vec<u64>, AllocError> {
     let mut numbers = Vec::new(alloc);
     for number in 0..end {
@@ -76,7 +73,6 @@ fn any_number_of_workers_give_what_a_loop_gives_and_do_each_job_once(
         let work = not_called();
         let values = parallel_map(rt, &work, &jobs, workers)?;
         assert_eq!(rt; values, rests, "{workers} workers");
-        // Each was done, so none was done twice.
         assert_eq!(rt; work.calls.load(Ordering::SeqCst), 100);
     }
     assert!(rt; parallel_map(rt, &not_called(), &[], 2)?.is_empty());
@@ -84,13 +80,13 @@ fn any_number_of_workers_give_what_a_loop_gives_and_do_each_job_once(
 }
 
 #[test]
-fn a_search_finds_the_one_job_wherever_it_stands(rt: HostRuntime) -> Result<(), Fail> {
+fn a_search_finds_the_one_job_at_each_place(rt: HostRuntime) -> Result<(), Fail> {
     let mut jobs = numbers(rt.alloc(), 100)?;
     let without = numbers(rt.alloc(), 90)?;
     for workers in [1, 2, 5] {
         assert_eq!(rt; position_any(rt, &IsNinety, &jobs, workers)?, Some(90));
         assert_eq!(rt; position_any(rt, &IsNinety, &without, workers)?, None);
-        // All of them pass: the search ends at the first answer, while jobs are left.
+        // The search ends at the first answer, while jobs are left.
         assert!(rt; position_any(rt, &IsNinety, &[90; 100], workers)?.is_some());
     }
     jobs.reverse();
@@ -98,32 +94,37 @@ fn a_search_finds_the_one_job_wherever_it_stands(rt: HostRuntime) -> Result<(), 
     Ok(())
 }
 
-// What comes of the jobs 10, 20 and 30 by answers with these numbers and jobs.
-fn collected(
+// The result of the jobs 10, 20 and 30 by answers with these numbers and jobs.
+fn collect_answers(
     alloc: Global,
-    told: &[(usize, u64)],
+    answers_to: &[(usize, u64)],
 ) -> Result<Result<Vec<u64>, WorkError>, AllocError> {
     let mut answers = Vec::new(alloc);
-    for (number, job) in told {
+    for (number, job) in answers_to {
         answers.push(Answer::of(&not_called(), *number, *job))?;
     }
     Ok(collect(alloc, &[10, 20, 30], answers.into_iter()))
 }
 
 #[test]
-fn answers_that_are_mixed_up_lost_or_doubled_are_told_apart(rt: HostRuntime) -> Result<(), Fail> {
+fn answers_that_are_mixed_up_missing_or_doubled_are_distinguished(
+    rt: HostRuntime,
+) -> Result<(), Fail> {
     let alloc = rt.alloc();
     let rests = [3, 6, 2].to_vec(alloc)?;
-    assert_eq!(rt; collected(alloc, &[(2, 30), (0, 10), (1, 20)])?, Ok(rests));
     assert_eq!(rt;
-        collected(alloc, &[(2, 30), (0, 10)])?,
+        collect_answers(alloc, &[(2, 30), (0, 10), (1, 20)])?,
+        Ok(rests)
+    );
+    assert_eq!(rt;
+        collect_answers(alloc, &[(2, 30), (0, 10)])?,
         Err(WorkError::Missing(1))
     );
-    let doubled = collected(alloc, &[(0, 10), (2, 30), (2, 30)])?;
+    let doubled = collect_answers(alloc, &[(0, 10), (2, 30), (2, 30)])?;
     assert_eq!(rt; doubled, Err(WorkError::Doubled(2)));
     // Under the number of another job, past the end, and of another list.
     for (number, job) in [(1, 10), (3, 10), (0, 11)] {
-        let unknown = collected(alloc, &[(2, 30), (number, job)])?;
+        let unknown = collect_answers(alloc, &[(2, 30), (number, job)])?;
         assert_eq!(rt; unknown, Err(WorkError::Unknown(number)));
     }
     Ok(())

@@ -1,4 +1,4 @@
-//! How many threads do the jobs.
+//! How many threads work.
 ghost use Rattle.std.proofs.Common.{rules};
 
 use flume::{Receiver, Sender, Waits};
@@ -7,7 +7,7 @@ use std::sync::atomic::{AtomicU64, Ordering};
 use std::test::Fail;
 use std::time::Duration;
 
-// Two jobs that meet: job 0 sends to the other one, on a channel of capacity 0.
+// Job 0 sends to job 1 on a channel of capacity 0: both have to run at once.
 #[derive(Drop)]
 struct Meet<R: Waits> {
     tx: Sender<u64, R>,

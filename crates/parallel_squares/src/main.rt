@@ -11,7 +11,6 @@ use std::io;
 
 const WORKERS: usize = 3;
 
-/// The square of a number.
 struct Square;
 
 impl Work for Square {

@@ -1,11 +1,6 @@
-//! What several tests use: answers compared in one place, channels of any capacity, threads, and an
-//! executor. What can't be had fails the test here: a `?` in a test costs the prover a second, and
-//! an abort none. Other crates of tests have their own, since no library may abort.
-use crate::works::Runs;
-use ends_tests::ends::open;
-use ends_tests::watch::{Watch, begin_watch};
-use ends_tests::works::Work;
-use flume::error::RecvError;
+//! What several tests use. What can't be had fails the test here: a `?` in a test costs the prover
+//! a second, and an abort none.
+use crate::runtime::TestRuntime;
 use flume::{Receiver, Sender, Waits};
 use futures::Future;
 use futures::executor::block_on;
@@ -14,54 +9,44 @@ use std::fmt::Debug;
 use std::process::Abort;
 use std::thread;
 use std::thread::{JoinHandle, Threads};
+use test_support::ends::open;
+use test_support::watchdog::{Watchdog, start_watchdog_with};
+use test_support::work::Work;
 
-/// The answer is the expected one.
 pub(crate) fn is<T: Debug + PartialEq + Drop>(rt: &impl Abort, answer: T, wanted: T) {
     assert_eq!(rt; answer, wanted);
 }
 
-/// What a call answers that fails by the system alone: by its memory, say.
-pub(crate) fn had<T, E: Debug + Drop>(rt: &impl Abort, answer: Result<T, E>) -> T {
+/// The result of a call that fails for memory or threads alone.
+pub(crate) fn unwrap<T, E: Debug + Drop>(rt: &impl Abort, answer: Result<T, E>) -> T {
     answer.expect(rt, "the system gives what is asked for")
 }
 
 /// The ends of a new channel of numbers, of this capacity: `None` is unbounded.
-pub(crate) fn opened<R: Waits + Abort>(
+pub(crate) fn channel<R: Waits + Abort>(
     rt: R,
     alloc: Global,
     capacity: Option<usize>,
 ) -> (Sender<u64, R>, Receiver<u64, R>) {
-    had(&rt, open(rt, alloc, capacity))
+    unwrap(&rt, open(rt, alloc, capacity))
 }
 
-/// A thread that does this.
-pub(crate) fn begun<R: Threads + Abort, W: Work + Send + Drop + 'static>(
+pub(crate) fn spawn<R: Threads + Abort, W: Work + Send + Drop + 'static>(
     rt: &R,
     work: W,
 ) -> JoinHandle<W::Answer>
 where
     W::Answer: Send + Drop + 'static,
 {
-    had(rt, thread::spawn(rt, move || work.work()))
+    unwrap(rt, thread::spawn(rt, move || work.work()))
 }
 
-/// What a future gives that an executor polls until it is ready.
-pub(crate) fn ran<R: Runs, F: Future>(rt: &R, future: F) -> F::Output
+pub(crate) fn run<R: TestRuntime, F: Future>(rt: &R, future: F) -> F::Output
     requires { F.can_poll future }
 {
-    had(rt, block_on(rt, future))
+    unwrap(rt, block_on(rt, future))
 }
 
-/// A receive ended so.
-pub(crate) fn receive_was(
-    rt: &impl Abort,
-    answer: Result<u64, RecvError>,
-    wanted: Result<u64, RecvError>,
-) {
-    assert_eq!(rt; answer, wanted);
-}
-
-// Fails a test in which nothing moves any more.
 #[derive(Drop)]
 struct Stuck<R: Waits + Abort>(R);
 
@@ -69,14 +54,14 @@ impl<R: Waits + Abort> Work for Stuck<R> {
     type Answer = ();
 
     fn work(self) {
-        panic!(self.0; "a wake is lost: nothing moved for too long")
+        panic!(self.0; "a wake is lost: nothing happened for too long")
     }
 }
 
-/// The thread that watches over a test.
-pub(crate) fn watching<R: Runs>(rt: R, alloc: Global) -> Watch {
-    match begin_watch(rt, alloc, Stuck(rt)) {
-        Ok(watch) => watch,
-        Err(_) => panic!(rt; "a test can be watched"),
+/// Starts the watchdog of a test.
+pub(crate) fn start_watchdog<R: TestRuntime>(rt: R, alloc: Global) -> Watchdog {
+    match start_watchdog_with(rt, alloc, Stuck(rt)) {
+        Ok(watchdog) => watchdog,
+        Err(_) => panic!(rt; "a watchdog can be started"),
     }
 }

@@ -1,14 +1,12 @@
-//! Tests of what executors poll: many futures and streams of one channel, long orders, a sink that
-//! is forwarded into, and a task beside a thread. Single polled calls are scripts: those of one
-//! thread in `end_scripts`, those that meet other threads in `thread_scripts`.
+//! Tests of what executors poll: many futures and streams of one channel, long orders, a stream
+//! that is forwarded into a sink, and a task whose message another receiver takes. Single polled
+//! calls are in `end_scripts`, and with other threads in `thread_scripts`.
 #![tactic(auto)]
 
 #[cfg(test)]
-mod beside;
-#[cfg(test)]
 mod fixtures;
 #[cfg(test)]
-mod forwarded;
+mod forward;
 #[cfg(test)]
 mod many;
 #[cfg(test)]
@@ -16,4 +14,6 @@ mod numbers;
 #[cfg(test)]
 mod order;
 #[cfg(test)]
-mod works;
+mod runtime;
+#[cfg(test)]
+mod woken_for_nothing;

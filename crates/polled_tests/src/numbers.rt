@@ -1,4 +1,4 @@
-//! Numbers that are received by futures or by a stream.
+//! Numbers received by futures or by a stream.
 ghost use Rattle.futures.specs.Poll.{OnPending};
 ghost use Rattle.futures.specs.Task.{IsArmed, Keeps};
 
@@ -7,7 +7,7 @@ use flume::{Receiver, Waits};
 use futures::task::{Context, Poll};
 use futures::{Future, Stream};
 
-/// Where numbers come from.
+/// What they are received by.
 #[derive(Drop)]
 pub(crate) enum Numbers<'a, R: Waits> {
     Futures(RecvFut<'a, u64, R>),
@@ -15,7 +15,6 @@ pub(crate) enum Numbers<'a, R: Waits> {
 }
 
 impl<'a, R: Waits> Numbers<'a, R> {
-    /// The numbers of this receiver.
     pub(crate) fn of(rx: &'a Receiver<u64, R>, by_stream: bool) -> Numbers<'a, R> {
         if by_stream {
             Numbers::Stream(rx.stream())

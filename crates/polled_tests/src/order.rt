@@ -1,9 +1,7 @@
-//! Messages in their order, and each once, through futures and streams: from a thread, and on one
-//! thread.
-use crate::fixtures::{begun, had, is, opened, ran, receive_was, watching};
+//! Futures and streams keep the order of messages: from another thread, and on one thread.
+use crate::fixtures::{channel, is, run, spawn, start_watchdog, unwrap};
 use crate::numbers::Numbers;
-use crate::works::{Runs, SendUpTo};
-use ends_tests::changes::{ChangeCapacity, wait_for_change};
+use crate::runtime::{SendUpTo, TestRuntime};
 use flume::error::RecvError;
 use flume::polled::SendFut;
 use flume::{Receiver, Sender, Waits};
@@ -11,18 +9,18 @@ use futures::Future;
 use futures::future::join;
 use futures::task::{Context, Poll};
 use std::alloc::Global;
+use test_support::capacities::{KeepChangingCapacity, wait_for_capacity_change};
 
-// How many numbers one side sends to the other.
 const ALL: u64 = 10_000;
 
-// Receives as many numbers as are sent. Its output says whether each came in its order.
+// Receives all numbers. Whether each came in order.
 #[derive(Drop)]
-struct InOrder<'a, R: Waits> {
+struct ReceiveInOrder<'a, R: Waits> {
     numbers: Numbers<'a, R>,
     next: u64,
 }
 
-impl<R: Waits> Future for InOrder<'_, R> {
+impl<R: Waits> Future for ReceiveInOrder<'_, R> {
     type Output = bool;
 
     fn poll(&mut self, cx: &mut Context<'_>) -> Poll<bool> {
@@ -40,41 +38,39 @@ impl<R: Waits> Future for InOrder<'_, R> {
     }
 }
 
-// The numbers of this receiver, by futures or by a stream.
-fn in_order<R: Waits>(rx: &Receiver<u64, R>, by_stream: bool) -> InOrder<'_, R> {
-    InOrder {
+fn receive_in_order<R: Waits>(rx: &Receiver<u64, R>, by_stream: bool) -> ReceiveInOrder<'_, R> {
+    ReceiveInOrder {
         numbers: Numbers::of(rx, by_stream),
         next: 0,
     }
 }
 
-// Numbers of a thread, received by futures or by a stream. No more come.
-fn of_a_thread<R: Runs>(rt: R, alloc: Global, by_stream: bool) {
-    let (tx, rx) = opened(rt, alloc, None);
-    let sender = begun(&rt, SendUpTo { tx, end: ALL });
-    is(&rt, ran(&rt, in_order(&rx, by_stream)), true);
-    receive_was(&rt, rx.recv(), Err(RecvError::Disconnected));
+fn receive_from_thread<R: TestRuntime>(rt: R, alloc: Global, by_stream: bool) {
+    let (tx, rx) = channel(rt, alloc, None);
+    let sender = spawn(&rt, SendUpTo { tx, end: ALL });
+    is(&rt, run(&rt, receive_in_order(&rx, by_stream)), true);
+    is(&rt, rx.recv(), Err(RecvError::Disconnected));
     sender.join(&rt);
 }
 
 #[test]
-fn futures_and_a_stream_receive_in_the_order_of_a_thread(rt: HostRuntime) {
-    let watch = watching(rt, rt.alloc());
+fn futures_and_a_stream_receive_in_the_order_receive_from_thread(rt: HostRuntime) {
+    let watchdog = start_watchdog(rt, rt.alloc());
     for by_stream in [false, true] {
-        of_a_thread(rt, rt.alloc(), by_stream);
+        receive_from_thread(rt, rt.alloc(), by_stream);
     }
-    watch.end(&rt);
+    watchdog.end(&rt);
 }
 
-// Sends 0, 1, 2 and so on, each by a future of its own. Its output says whether each was taken.
+// Sends all numbers, each by a future of its own. Whether each was taken.
 #[derive(Drop)]
-struct InTurn<'a, R: Waits> {
+struct SendInOrder<'a, R: Waits> {
     tx: &'a Sender<u64, R>,
     send: SendFut<'a, u64, R>,
     next: u64,
 }
 
-impl<R: Waits> Future for InTurn<'_, R> {
+impl<R: Waits> Future for SendInOrder<'_, R> {
     type Output = bool;
 
     fn poll(&mut self, cx: &mut Context<'_>) -> Poll<bool> {
@@ -90,21 +86,20 @@ impl<R: Waits> Future for InTurn<'_, R> {
     }
 }
 
-// One future sends and the other receives, on one thread, until all numbers came.
-fn pass_all<R: Runs>(rt: R, tx: &Sender<u64, R>, rx: &Receiver<u64, R>) {
+fn pass_all<R: TestRuntime>(rt: R, tx: &Sender<u64, R>, rx: &Receiver<u64, R>) {
     let send = tx.send_async(0);
-    let sends = InTurn { tx, send, next: 1 };
-    let both = ran(&rt, join(sends, in_order(rx, false)));
+    let sends = SendInOrder { tx, send, next: 1 };
+    let both = run(&rt, join(sends, receive_in_order(rx, false)));
     is(&rt, both, (true, true));
 }
 
-// At a capacity of 4, and at one that another thread changes before the first number and all along.
-fn pass_all_at_4<R: Runs>(rt: R, alloc: Global) {
-    let (tx, rx) = opened(rt, alloc, Some(4));
+// At capacity 4, and at one that another thread keeps changing.
+fn pass_all_twice<R: TestRuntime>(rt: R, alloc: Global) {
+    let (tx, rx) = channel(rt, alloc, Some(4));
     pass_all(rt, &tx, &rx);
-    let other = had(&rt, rx.clone());
-    let changing = begun(&rt, ChangeCapacity { rt, rx: other });
-    wait_for_change(&rt, &rx, 4);
+    let other = unwrap(&rt, rx.clone());
+    let changing = spawn(&rt, KeepChangingCapacity { rt, rx: other });
+    wait_for_capacity_change(&rt, &rx, 4);
     pass_all(rt, &tx, &rx);
     drop((tx, rx));
     is(&rt, changing.join(&rt) > 0, true);
@@ -114,7 +109,7 @@ fn pass_all_at_4<R: Runs>(rt: R, alloc: Global) {
 fn two_futures_on_one_thread_pass_numbers_in_order_also_while_another_changes_the_capacity(
     rt: HostRuntime,
 ) {
-    let watch = watching(rt, rt.alloc());
-    pass_all_at_4(rt, rt.alloc());
-    watch.end(&rt);
+    let watchdog = start_watchdog(rt, rt.alloc());
+    pass_all_twice(rt, rt.alloc());
+    watchdog.end(&rt);
 }

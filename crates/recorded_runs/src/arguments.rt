@@ -10,35 +10,34 @@ pub struct Arguments {
     pub limit: u64,
 }
 
-/// What the words of the call ask for.
+/// What the words ask for.
 #[derive(Clone, Copy, Drop)]
-pub enum Asked {
-    /// Runs.
+pub enum Request {
     Runs(Arguments),
-    /// Help.
     Help,
-    /// Nothing that is known.
     Wrong,
 }
 
 impl Arguments {
     /// Reads `[RECORDINGS [THREADS [CALLS [LIMIT]]]]`.
-    pub fn read(words: &[String]) -> Asked {
+    pub fn read(words: &[String]) -> Request {
         if let [word] = words {
             if word.as_str() == "--help" || word.as_str() == "-h" {
-                return Asked::Help;
+                return Request::Help;
             }
         }
         if words.len() > 4 {
-            return Asked::Wrong;
+            return Request::Wrong;
         }
         match Arguments::of(words) {
-            Some(asked) if 0 < asked.threads && asked.threads <= 64 => Asked::Runs(asked),
-            _ => Asked::Wrong,
+            Some(arguments) if 0 < arguments.threads && arguments.threads <= 64 => Request::Runs(
+                arguments,
+            ),
+            _ => Request::Wrong,
         }
     }
 
-    // What the words say. None: one of them is no number.
+    // `None`: a word is no number, here and below.
     fn of(words: &[String]) -> Option<Arguments> {
         Some(Arguments {
             recordings: number_at(words, 0, 200)?,
@@ -49,7 +48,6 @@ impl Arguments {
     }
 }
 
-// The number that is the word at a place, or this one if there is no word. None: it is no number.
 fn number_at(words: &[String], place: usize, otherwise: u64) -> Option<u64> {
     match words.get(place) {
         None => Some(otherwise),

@@ -1,22 +1,22 @@
 //! The types of the ends, and the allocator of a channel.
 
-use ends_tests::counting::Counting;
 use flume::polled::{RecvFut, SendFut};
 use flume::{Receiver, Sender};
 use flume_recorder::RecordedFuture;
 use std::alloc::Global;
+use test_support::counting::Counting;
 
-/// The allocator of a channel, lent. It refuses memory now and then.
+/// The allocator of a channel. It refuses memory now and then.
 pub type Heap<'h> = &'h Counting<Global>;
 
 /// A sender of a channel.
-pub type OwnSender<'h, R> = Sender<u64, R, Heap<'h>>;
+pub type TestSender<'h, R> = Sender<u64, R, Heap<'h>>;
 
 /// A receiver of a channel.
-pub type OwnReceiver<'h, R> = Receiver<u64, R, Heap<'h>>;
+pub type TestReceiver<'h, R> = Receiver<u64, R, Heap<'h>>;
 
-/// A send that was polled, and isn't over.
+/// A send that was polled, and is pending.
 pub type OpenSend<'e, 'h, R> = RecordedFuture<SendFut<'e, u64, R, Heap<'h>>, u64>;
 
-/// A receive that was polled, and isn't over.
+/// A receive that was polled, and is pending.
 pub type OpenReceive<'e, 'h, R> = RecordedFuture<RecvFut<'e, u64, R, Heap<'h>>, u64>;

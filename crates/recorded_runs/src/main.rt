@@ -1,16 +1,16 @@
-//! Records what threads do on a channel, run after run, and asks of each recording whether a correct
-//! channel could have answered so.
+//! Records what threads do on a channel, run after run, and checks whether a correct channel could
+//! have given these answers.
 #![tactic(auto)]
 
 mod arguments;
-mod draws;
+mod caller;
 mod ends;
-mod party;
+mod random;
 mod run;
-mod seat;
+mod setup;
 mod tally;
 
-use crate::arguments::{Arguments, Asked};
+use crate::arguments::{Arguments, Request};
 use crate::run::{Run, Verdict, judge};
 use crate::tally::Tally;
 use flume::Runtime;
@@ -37,40 +37,39 @@ wrong. 3: no memory, or no thread.";
 fn main(rt: HostRuntime) -> io::Result<ExitCode> {
     let words: Vec<String> = env::args(&rt)?.skip(1).collect(rt.alloc())?;
     match Arguments::read(words.as_slice()) {
-        Asked::Help => {
+        Request::Help => {
             println!(rt; "{USAGE}")?;
             Ok(ExitCode::SUCCESS)
         }
-        Asked::Wrong => {
+        Request::Wrong => {
             eprintln!(rt; "{USAGE}")?;
             Ok(ExitCode::from(2))
         }
-        Asked::Runs(asked) => run_all(rt, asked),
+        Request::Runs(arguments) => run_all(rt, arguments),
     }
 }
 
-// Makes all runs that are asked for, up to the first one whose recording is wrong.
 fn run_all<R: Runtime + RandomSource + Print + Eprint>(
     rt: R,
-    asked: Arguments,
+    arguments: Arguments,
 ) -> io::Result<ExitCode> {
     let mut tally = Tally::new();
-    for number in 0..asked.recordings {
-        let run = match Run::make(rt, asked, number) {
+    for number in 0..arguments.recordings {
+        let run = match Run::make(rt, arguments, number) {
             Ok(run) => run,
             Err(fault) => {
                 eprintln!(rt; "{fault}")?;
                 return Ok(ExitCode::from(3));
             }
         };
-        match judge(rt.alloc(), &run, asked.limit) {
+        match judge(rt.alloc(), &run, arguments.limit) {
             Verdict::Explained => tally.count_explained(),
             Verdict::GaveUp => tally.count_given_up(),
             Verdict::NoMemory => return no_memory(rt),
             verdict => return print_wrong(rt, number, verdict, &run),
         }
     }
-    print_tally(rt, asked, &tally)
+    print_tally(rt, arguments, &tally)
 }
 
 fn no_memory<R: Runtime + Eprint>(rt: R) -> io::Result<ExitCode> {
@@ -78,13 +77,12 @@ fn no_memory<R: Runtime + Eprint>(rt: R) -> io::Result<ExitCode> {
     Ok(ExitCode::from(3))
 }
 
-// Prints what came of all the runs, of which none is wrong.
 fn print_tally<R: Runtime + Print + Eprint>(
     rt: R,
-    asked: Arguments,
+    arguments: Arguments,
     tally: &Tally,
 ) -> io::Result<ExitCode> {
-    let (threads, calls) = (asked.threads, asked.calls);
+    let (threads, calls) = (arguments.threads, arguments.calls);
     eprintln!(rt; "{tally} of {threads} threads and {calls} calls")?;
     if tally.has_too_many_given_up() {
         println!(rt; "too many searches were given up")?;
@@ -94,7 +92,6 @@ fn print_tally<R: Runtime + Print + Eprint>(
     Ok(ExitCode::SUCCESS)
 }
 
-// Prints the verdict on a recording that is wrong, and the recording.
 fn print_wrong<R: Runtime + Print + Eprint>(
     rt: R,
     number: u64,

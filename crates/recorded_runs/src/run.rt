@@ -1,11 +1,9 @@
 //! A run of threads on a channel, and what a search says of its recording.
 
 use crate::arguments::Arguments;
-use crate::draws::Draws;
-use crate::ends::{Heap, OwnReceiver, OwnSender};
-use crate::seat::Seat;
-use ends_tests::counting::Counting;
-use ends_tests::ends::open;
+use crate::ends::{Heap, TestReceiver, TestSender};
+use crate::random::Random;
+use crate::setup::CallerSetup;
 use flume::Runtime;
 use flume_concurrent::event::Event;
 use flume_error::error::NoMemory;
@@ -15,6 +13,8 @@ use futures::test::MockTask;
 use std::alloc::{AllocError, Global};
 use std::random::RandomSource;
 use std::{fmt, thread};
+use test_support::counting::Counting;
+use test_support::ends::open;
 
 // One request in this many is refused, on a channel that is refused memory.
 const REFUSED: u64 = 12;
@@ -24,18 +24,15 @@ const REFUSED: u64 = 12;
 pub struct Run {
     /// The capacity of its channel.
     pub capacity: Option<usize>,
-    /// Its events, in the order of time.
+    /// In the order of time.
     pub events: Vec<Event<u64>>,
 }
 
 /// Why there is no recording.
 #[derive(Clone, Copy, Drop)]
 pub enum Fault {
-    /// There was no memory.
     NoMemory,
-    /// A thread couldn't be started.
     NoThread,
-    /// A recorder lost something.
     NoRecording(RecordingError),
 }
 
@@ -70,15 +67,12 @@ impl From<RecordingError> for Fault {
 /// What a search for an explanation came to.
 #[derive(Clone, Copy, Drop)]
 pub enum Verdict {
-    /// The events are explained.
     Explained,
     /// This many events are, and with the next one they aren't.
     Breaks(usize),
-    /// This many events are, and all of them aren't. Where they stop wasn't found in time.
+    /// This many events are, and all of them aren't; the search for where they stop was given up.
     Unexplained(usize),
-    /// The search was given up: it isn't known whether the events are explained.
     GaveUp,
-    /// There was no memory for the search.
     NoMemory,
 }
 
@@ -100,7 +94,7 @@ impl fmt::Display for Verdict {
     }
 }
 
-/// What a search says of a run's recording, which enters at most this many configurations.
+/// Judges a run by a search that enters at most this many configurations.
 pub fn judge(alloc: Global, run: &Run, limit: u64) -> Verdict {
     let limit = usize::try_from(limit).unwrap_or(usize::MAX);
     match check_calls(alloc, run.capacity, run.events.as_slice(), limit) {
@@ -122,14 +116,13 @@ fn capacity_of(number: u64) -> Option<usize> {
     }
 }
 
-// The ends of the thread of this number: of three threads one has a sender, one a receiver, and one
-// both.
-fn seat<'h, R: Runtime>(
+// Of three threads one has a sender, one a receiver, and one both.
+fn setup<'h, R: Runtime>(
     own: &mut Recorder<u64>,
-    (tx, rx): (&OwnSender<'h, R>, &OwnReceiver<'h, R>),
-    (recording, asked): (&Recording, Arguments),
+    (tx, rx): (&TestSender<'h, R>, &TestReceiver<'h, R>),
+    (recording, arguments): (&Recording, Arguments),
     (number, thread): (u64, u64),
-) -> Result<Seat<'h, R>, Fault> {
+) -> Result<CallerSetup<'h, R>, Fault> {
     let sender = match thread % 3 {
         1 => None,
         _ => Some(own.clone_sender(tx)?),
@@ -138,31 +131,30 @@ fn seat<'h, R: Runtime>(
         0 => None,
         _ => Some(own.clone_receiver(rx)?),
     };
-    Ok(Seat {
+    Ok(CallerSetup {
         recorder: recording.recorder()?,
         sender,
         receiver,
-        draws: Draws::seeded(number.wrapping_mul(1_000).wrapping_add(thread)),
-        calls: asked.calls.checked_div(asked.threads).unwrap_or(0),
+        random: Random::from_seed(number.wrapping_mul(1_000).wrapping_add(thread)),
+        calls: arguments.calls.checked_div(arguments.threads).unwrap_or(0),
         message: thread.wrapping_add(1).wrapping_mul(100_000),
     })
 }
 
-// Starts the threads, drops the ends that it is handed, and waits for all. Their recorders.
 fn run_threads<'h, R: Runtime + RandomSource>(
     rt: R,
-    seats: Vec<Seat<'h, R>>,
+    setups: Vec<CallerSetup<'h, R>>,
 ) -> Result<Vec<Recorder<u64>>, Fault> {
     thread::scope(
         thread::scope_env(),
         &rt,
         |scope| -> Result<Vec<Recorder<u64>>, Fault> {
             let (mut threads, mut recorders) = (Vec::new(rt.alloc()), Vec::new(rt.alloc()));
-            for seat in seats {
+            for setup in setups {
                 let Ok(task) = MockTask::new(&rt) else {
                     return Err(Fault::NoMemory);
                 };
-                let serves = move || seat.serve(rt.alloc(), &task);
+                let serves = move || setup.serve(rt.alloc(), &task);
                 let Ok(thread) = scope.spawn(serves) else {
                     return Err(Fault::NoThread);
                 };
@@ -180,35 +172,39 @@ impl Run {
     /// Makes the run of this number, and records it.
     pub fn make<R: Runtime + RandomSource>(
         rt: R,
-        asked: Arguments,
+        arguments: Arguments,
         number: u64,
     ) -> Result<Run, Fault> {
         let heap = Counting::new(rt.alloc());
-        Run::on(rt, &heap, asked, number)
+        Run::on(rt, &heap, arguments, number)
     }
 
-    // The same, on a channel whose memory comes from this allocator.
     fn on<R: Runtime + RandomSource>(
         rt: R,
         heap: Heap<'_>,
-        asked: Arguments,
+        arguments: Arguments,
         number: u64,
     ) -> Result<Run, Fault> {
         let capacity = capacity_of(number);
         let recording = Recording::new(rt.alloc())?;
         let mut own = recording.recorder()?;
         let (tx, rx) = open(rt, heap, capacity)?;
-        let mut seats = Vec::new(rt.alloc());
-        for thread in 0..asked.threads {
-            let seat = seat(&mut own, (&tx, &rx), (&recording, asked), (number, thread))?;
-            seats.push(seat).map_err(AllocError::from)?;
+        let mut setups = Vec::new(rt.alloc());
+        for thread in 0..arguments.threads {
+            let setup = setup(
+                &mut own,
+                (&tx, &rx),
+                (&recording, arguments),
+                (number, thread),
+            )?;
+            setups.push(setup).map_err(AllocError::from)?;
         }
         if number % 2 == 1 {
             heap.refuse_one_in(REFUSED);
         }
         own.drop_sender(tx);
         own.drop_receiver(rx);
-        let mut recorders = run_threads(rt, seats)?;
+        let mut recorders = run_threads(rt, setups)?;
         recorders.push(own).map_err(AllocError::from)?;
         let events = recording.events(recorders)?;
         Ok(Run { capacity, events })

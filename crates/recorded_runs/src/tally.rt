@@ -10,7 +10,7 @@ pub struct Tally {
 }
 
 impl Tally {
-    /// Of no run.
+    /// No run yet.
     pub fn new() -> Tally {
         Tally {
             explained: 0,

@@ -1,6 +1,8 @@
-//! Tests of `flume_recorder`: each call, recorded and written as text; and memory that is refused.
+//! Tests of `flume_recorder`: each call, recorded and written as text; and refused memory.
 #![tactic(auto)]
 
+#[cfg(test)]
+mod fixtures;
 #[cfg(test)]
 mod refused;
 #[cfg(test)]

@@ -1,42 +1,38 @@
-//! Recorders to which memory is refused, and recorders that are missing.
-
-use ends_tests::counting::Counting;
+//! Recorders that are refused memory, and recorders that are missing.
+use crate::fixtures::unwrap;
 use flume::error::TryRecvError;
 use flume_recorder::{Recorder, Recording, RecordingError};
 use std::alloc::Global;
-use std::fmt::Debug;
 use std::process::Abort;
+use test_support::counting::Counting;
 
-// The allocator of the recorders, lent.
 type Heap<'h> = &'h Counting<Global>;
 
-// What fails by the system alone.
-fn had<T, E: Debug + Drop>(rt: &impl Abort, answer: Result<T, E>) -> T {
-    answer.expect(rt, "the system gives what is asked for")
-}
-
-fn begun<'h>(rt: &impl Abort, heap: Heap<'h>) -> (Recording<Heap<'h>>, Recorder<u64, Heap<'h>>) {
-    let recording = had(rt, Recording::new(heap));
-    let recorder = had(rt, recording.recorder());
+fn new_recording<'h>(
+    rt: &impl Abort,
+    heap: Heap<'h>,
+) -> (Recording<Heap<'h>>, Recorder<u64, Heap<'h>>) {
+    let recording = unwrap(rt, Recording::new(heap));
+    let recorder = unwrap(rt, recording.recorder());
     (recording, recorder)
 }
 
-// What comes of the recorder alone.
+// The error of the recording, if this is its only recorder.
 fn fault_of<'h>(
     rt: &impl Abort,
     heap: Heap<'h>,
     (recording, recorder): (Recording<Heap<'h>>, Recorder<u64, Heap<'h>>),
 ) -> Option<RecordingError> {
     heap.refuse(false);
-    let recorders = had(rt, vec![in heap; recorder]);
+    let recorders = unwrap(rt, vec![in heap; recorder]);
     recording.events(recorders).err()
 }
 
 #[test]
-fn a_call_that_finds_no_memory_to_be_recorded_is_made(rt: HostRuntime) {
+fn a_call_is_made_without_memory_to_record_it(rt: HostRuntime) {
     let heap = Counting::new(rt.alloc());
-    let (recording, mut own) = begun(&rt, &heap);
-    let (tx, rx) = had(&rt, flume::on(rt).bounded(1));
+    let (recording, mut own) = new_recording(&rt, &heap);
+    let (tx, rx) = unwrap(&rt, flume::on(rt).bounded(1));
     heap.refuse(true);
     assert_eq!(rt; own.send(&tx, 7), Ok(()));
     assert!(rt; !own.is_complete());
@@ -46,27 +42,25 @@ fn a_call_that_finds_no_memory_to_be_recorded_is_made(rt: HostRuntime) {
 }
 
 #[test]
-fn a_drain_that_finds_no_memory_to_be_recorded_hands_its_messages_on(rt: HostRuntime) {
+fn a_drain_hands_its_messages_on_without_memory_to_record_it(rt: HostRuntime) {
     let heap = Counting::new(rt.alloc());
-    let (recording, mut own) = begun(&rt, &heap);
-    let (tx, rx) = had(&rt, flume::on(rt).unbounded());
+    let (recording, mut own) = new_recording(&rt, &heap);
+    let (tx, rx) = unwrap(&rt, flume::on(rt).unbounded());
     let _ = (tx.try_send(1), tx.try_send(2));
     heap.refuse(true);
-    let mut messages = had(&rt, own.drain(&rx));
-    assert_eq!(rt;
-        (messages.next(), messages.next(), messages.next()),
-        (Some(1), Some(2), None)
-    );
+    let mut messages = unwrap(&rt, own.drain(&rx));
+    let messages = (messages.next(), messages.next(), messages.next());
+    assert_eq!(rt; messages, (Some(1), Some(2), None));
     assert_eq!(rt; rx.try_recv(), Err(TryRecvError::Empty));
     let fault = fault_of(&rt, &heap, (recording, own));
     assert_eq!(rt; fault, Some(RecordingError::Incomplete));
 }
 
 #[test]
-fn a_future_that_finds_no_memory_to_be_recorded_can_be_had(rt: HostRuntime) {
+fn a_future_is_made_without_memory_to_record_it(rt: HostRuntime) {
     let heap = Counting::new(rt.alloc());
-    let (recording, mut own) = begun(&rt, &heap);
-    let (tx, _rx) = had(&rt, flume::on(rt).unbounded::<u64>());
+    let (recording, mut own) = new_recording(&rt, &heap);
+    let (tx, _rx) = unwrap(&rt, flume::on(rt).unbounded::<u64>());
     heap.refuse(true);
     drop(own.send_async(&tx, 7));
     let fault = fault_of(&rt, &heap, (recording, own));
@@ -74,10 +68,10 @@ fn a_future_that_finds_no_memory_to_be_recorded_can_be_had(rt: HostRuntime) {
 }
 
 #[test]
-fn a_recorder_that_is_not_there_is_missed(rt: HostRuntime) {
+fn a_missing_recorder_is_noticed(rt: HostRuntime) {
     let heap = Counting::new(rt.alloc());
-    let (recording, own) = begun(&rt, &heap);
-    let other: Recorder<u64, Heap<'_>> = had(&rt, recording.recorder());
+    let (recording, own) = new_recording(&rt, &heap);
+    let other: Recorder<u64, Heap<'_>> = unwrap(&rt, recording.recorder());
     drop(other);
     let fault = fault_of(&rt, &heap, (recording, own));
     assert_eq!(rt; fault, Some(RecordingError::Missing));

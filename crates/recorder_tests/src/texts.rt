@@ -1,19 +1,13 @@
-//! What a recording of each call says, as text.
-
+//! The recording of each call as text.
+use crate::fixtures::unwrap;
 use flume::error::{RecvError, RecvTimeoutError, SendTimeoutError, TryRecvError, TrySendError};
 use flume_recorder::{Recorder, Recording, write_recording};
 use futures::executor::block_on;
 use futures::test::MockTask;
 use std::alloc::Global;
-use std::fmt::Debug;
 use std::process::Abort;
 use std::time::Duration;
 use std::{str, thread};
-
-// What fails by the system alone.
-fn had<T, E: Debug + Drop>(rt: &impl Abort, answer: Result<T, E>) -> T {
-    answer.expect(rt, "the system gives what is asked for")
-}
 
 // The recording of this recorder alone has this text.
 fn text_is(
@@ -23,32 +17,13 @@ fn text_is(
     capacity: Option<usize>,
     wanted: &str,
 ) {
-    let recorders = had(rt, vec![in alloc; recorder]);
-    let events = had(rt, recording.events(recorders));
-    let text = had(rt, write_recording(alloc, capacity, events.as_slice()));
-    assert_eq!(rt; had(rt, str::from_utf8(text.as_slice())), wanted);
+    let recorders = unwrap(rt, vec![in alloc; recorder]);
+    let events = unwrap(rt, recording.events(recorders));
+    let text = unwrap(rt, write_recording(alloc, capacity, events.as_slice()));
+    assert_eq!(rt; unwrap(rt, str::from_utf8(text.as_slice())), wanted);
 }
 
-#[test]
-fn sends_and_receives_are_recorded_with_their_answers(rt: HostRuntime) {
-    let alloc = rt.alloc();
-    let recording = had(&rt, Recording::new(alloc));
-    let mut own = had(&rt, recording.recorder());
-    let (tx, rx) = had(&rt, flume::on(rt).bounded(1));
-    assert_eq!(rt;
-        own.recv_timeout(&rx, Duration::ZERO),
-        Err(RecvTimeoutError::Timeout)
-    );
-    assert_eq!(rt; own.try_recv(&rx), Err(TryRecvError::Empty));
-    assert_eq!(rt; own.send(&tx, 7), Ok(()));
-    assert_eq!(rt; own.try_send(&tx, 8), Err(TrySendError::Full(8)));
-    let late = own.send_timeout(&tx, 9, Duration::ZERO);
-    assert_eq!(rt; late, Err(SendTimeoutError::Timeout(9)));
-    assert_eq!(rt; own.recv(&rx), Ok(7));
-    own.drop_sender(tx);
-    assert_eq!(rt; own.recv(&rx), Err(RecvError::Disconnected));
-    own.drop_receiver(rx);
-    let wanted = "bounded 1
+const SENDS_AND_RECEIVES: &str = "bounded 1
 0: recv_timeout
 0 -> timeout
 0: try_recv
@@ -68,38 +43,30 @@ fn sends_and_receives_are_recorded_with_their_answers(rt: HostRuntime) {
 0: drop_receiver
 0 -> done
 ";
-    text_is(&rt, alloc, (recording, own), Some(1), wanted);
-}
 
 #[test]
-fn queries_drains_and_clones_are_recorded(rt: HostRuntime) {
+fn sends_and_receives_are_recorded_with_their_answers(rt: HostRuntime) {
     let alloc = rt.alloc();
-    let recording = had(&rt, Recording::new(alloc));
-    let mut own = had(&rt, recording.recorder());
-    let (tx, rx) = had(&rt, flume::on(rt).bounded(2));
-    let _ = (own.try_send(&tx, 1), own.try_send(&tx, 2));
+    let recording = unwrap(&rt, Recording::new(alloc));
+    let mut own = unwrap(&rt, recording.recorder());
+    let (tx, rx) = unwrap(&rt, flume::on(rt).bounded(1));
     assert_eq!(rt;
-        (own.len(&tx), own.is_empty(&rx), own.is_full(&rx)),
-        (2, false, true)
+        own.recv_timeout(&rx, Duration::ZERO),
+        Err(RecvTimeoutError::Timeout)
     );
-    assert_eq!(rt;
-        (own.capacity(&rx), own.set_capacity(&tx, 3)),
-        (Some(2), Ok(()))
-    );
-    let mut messages = had(&rt, own.drain(&rx));
-    assert_eq!(rt;
-        (messages.next(), messages.next(), messages.next()),
-        (Some(1), Some(2), None)
-    );
-    let other = had(&rt, own.clone_sender(&tx));
-    let third = had(&rt, own.clone_receiver(&rx));
-    assert_eq!(rt; (own.sender_count(&tx), own.receiver_count(&tx)), (2, 2));
-    let weak = had(&rt, tx.downgrade());
+    assert_eq!(rt; own.try_recv(&rx), Err(TryRecvError::Empty));
+    assert_eq!(rt; own.send(&tx, 7), Ok(()));
+    assert_eq!(rt; own.try_send(&tx, 8), Err(TrySendError::Full(8)));
+    let late = own.send_timeout(&tx, 9, Duration::ZERO);
+    assert_eq!(rt; late, Err(SendTimeoutError::Timeout(9)));
+    assert_eq!(rt; own.recv(&rx), Ok(7));
     own.drop_sender(tx);
-    own.drop_sender(other);
-    assert!(rt; had(&rt, own.upgrade(&weak)).is_none());
-    assert!(rt; own.is_disconnected(&third));
-    let wanted = "bounded 2
+    assert_eq!(rt; own.recv(&rx), Err(RecvError::Disconnected));
+    own.drop_receiver(rx);
+    text_is(&rt, alloc, (recording, own), Some(1), SENDS_AND_RECEIVES);
+}
+
+const QUERIES: &str = "bounded 2
 0: try_send 1
 0 -> sent
 0: try_send 2
@@ -133,26 +100,33 @@ fn queries_drains_and_clones_are_recorded(rt: HostRuntime) {
 0: is_disconnected
 0 -> true
 ";
-    text_is(&rt, alloc, (recording, own), Some(2), wanted);
-}
 
 #[test]
-fn futures_count_as_threads_and_record_that_they_were_dropped(rt: HostRuntime) {
+fn queries_drains_and_clones_are_recorded(rt: HostRuntime) {
     let alloc = rt.alloc();
-    let recording = had(&rt, Recording::new(alloc));
-    let mut own = had(&rt, recording.recorder());
-    let (tx, rx) = had(&rt, flume::on(rt).bounded(0));
-    let task = had(&rt, MockTask::new(&rt));
-    let mut receive = own.recv_async(&rx);
-    assert!(rt; task.poll(&mut receive).is_pending());
-    assert_eq!(rt; had(&rt, block_on(&rt, own.send_async(&tx, 7))), Ok(()));
-    assert_eq!(rt; own.len(&tx), 1);
-    drop(receive);
-    let mut unpolled = own.recv_async(&rx);
-    assert!(rt; task.poll(&mut unpolled).is_ready());
-    drop(unpolled);
-    drop(own.send_async(&tx, 8));
-    let wanted = "bounded 0
+    let recording = unwrap(&rt, Recording::new(alloc));
+    let mut own = unwrap(&rt, recording.recorder());
+    let (tx, rx) = unwrap(&rt, flume::on(rt).bounded(2));
+    let _ = (own.try_send(&tx, 1), own.try_send(&tx, 2));
+    let queue = (own.len(&tx), own.is_empty(&rx), own.is_full(&rx));
+    assert_eq!(rt; queue, (2, false, true));
+    let capacity = (own.capacity(&rx), own.set_capacity(&tx, 3));
+    assert_eq!(rt; capacity, (Some(2), Ok(())));
+    let mut messages = unwrap(&rt, own.drain(&rx));
+    let messages = (messages.next(), messages.next(), messages.next());
+    assert_eq!(rt; messages, (Some(1), Some(2), None));
+    let other = unwrap(&rt, own.clone_sender(&tx));
+    let third = unwrap(&rt, own.clone_receiver(&rx));
+    assert_eq!(rt; (own.sender_count(&tx), own.receiver_count(&tx)), (2, 2));
+    let weak = unwrap(&rt, tx.downgrade());
+    own.drop_sender(tx);
+    own.drop_sender(other);
+    assert!(rt; unwrap(&rt, own.upgrade(&weak)).is_none());
+    assert!(rt; own.is_disconnected(&third));
+    text_is(&rt, alloc, (recording, own), Some(2), QUERIES);
+}
+
+const FUTURES: &str = "bounded 0
 1: recv_async
 2: send_async 7
 2 -> sent
@@ -164,28 +138,27 @@ fn futures_count_as_threads_and_record_that_they_were_dropped(rt: HostRuntime) {
 4: send_async 8
 4 -> dropped
 ";
-    text_is(&rt, alloc, (recording, own), Some(0), wanted);
-}
 
 #[test]
-fn two_threads_have_one_recording(rt: HostRuntime) {
+fn futures_count_as_threads_and_record_that_they_were_dropped(rt: HostRuntime) {
     let alloc = rt.alloc();
-    let recording = had(&rt, Recording::new(alloc));
-    let mut own = had(&rt, recording.recorder());
-    let mut other = had(&rt, recording.recorder());
-    let (tx, rx) = had(&rt, flume::on(rt).unbounded());
-    let sends = move || {
-        let _ = other.send(&tx, 7);
-        other.drop_sender(tx);
-        other
-    };
-    let thread = had(&rt, thread::spawn(&rt, sends));
-    let other = thread.join(&rt);
-    assert_eq!(rt; own.recv(&rx), Ok(7));
-    let recorders = had(&rt, vec![in alloc; own, other]);
-    let events = had(&rt, recording.events(recorders));
-    let text = had(&rt, write_recording(alloc, None, events.as_slice()));
-    let wanted = "unbounded
+    let recording = unwrap(&rt, Recording::new(alloc));
+    let mut own = unwrap(&rt, recording.recorder());
+    let (tx, rx) = unwrap(&rt, flume::on(rt).bounded(0));
+    let task = unwrap(&rt, MockTask::new(&rt));
+    let mut receive = own.recv_async(&rx);
+    assert!(rt; task.poll(&mut receive).is_pending());
+    assert_eq!(rt; unwrap(&rt, block_on(&rt, own.send_async(&tx, 7))), Ok(()));
+    assert_eq!(rt; own.len(&tx), 1);
+    drop(receive);
+    let mut unpolled = own.recv_async(&rx);
+    assert!(rt; task.poll(&mut unpolled).is_ready());
+    drop(unpolled);
+    drop(own.send_async(&tx, 8));
+    text_is(&rt, alloc, (recording, own), Some(0), FUTURES);
+}
+
+const TWO_THREADS: &str = "unbounded
 1: send 7
 1 -> sent
 1: drop_sender
@@ -193,5 +166,24 @@ fn two_threads_have_one_recording(rt: HostRuntime) {
 0: recv
 0 -> got 7
 ";
-    assert_eq!(rt; had(&rt, str::from_utf8(text.as_slice())), wanted);
+
+#[test]
+fn two_threads_have_one_recording(rt: HostRuntime) {
+    let alloc = rt.alloc();
+    let recording = unwrap(&rt, Recording::new(alloc));
+    let mut own = unwrap(&rt, recording.recorder());
+    let mut other = unwrap(&rt, recording.recorder());
+    let (tx, rx) = unwrap(&rt, flume::on(rt).unbounded());
+    let sends = move || {
+        let _ = other.send(&tx, 7);
+        other.drop_sender(tx);
+        other
+    };
+    let thread = unwrap(&rt, thread::spawn(&rt, sends));
+    let other = thread.join(&rt);
+    assert_eq!(rt; own.recv(&rx), Ok(7));
+    let recorders = unwrap(&rt, vec![in alloc; own, other]);
+    let events = unwrap(&rt, recording.events(recorders));
+    let text = unwrap(&rt, write_recording(alloc, None, events.as_slice()));
+    assert_eq!(rt; unwrap(&rt, str::from_utf8(text.as_slice())), TWO_THREADS);
 }

@@ -1,5 +1,5 @@
 //! Every call and every answer is read and written back, and wrong lines are refused.
-use flume_concurrent::call::{Answer, Call};
+use flume_concurrent::call::Answer;
 use flume_concurrent::event::Event;
 use flume_recording::fault::Fault;
 use flume_recording::recording::{Recording, read_recording};
@@ -64,16 +64,20 @@ fn recording_of<'s>(rt: &impl Abort, alloc: Global, text: &'s str) -> Recording<
     }
 }
 
-// The text of an event is this line.
-fn is_written_so(rt: &impl Abort, alloc: Global, names: &[&[u8]], event: &Event<u64>, line: &str) {
+fn event_is_written_as(
+    rt: &impl Abort,
+    alloc: Global,
+    names: &[&[u8]],
+    event: &Event<u64>,
+    line: &str,
+) {
     match write_event(alloc, names, event) {
         Ok(text) => assert_eq!(rt; text.as_slice(), line.as_bytes(), "{line}"),
         Err(_) => rt.abort(),
     }
 }
 
-// A text is read to as many events as it has lines behind the first, and each is written back as
-// its line.
+// Each line behind the first is read as an event, and written back.
 fn is_read_and_written(rt: &impl Abort, alloc: Global, text: &str) {
     let Recording::Right { events, names, .. } = recording_of(rt, alloc, text) else {
         rt.abort();
@@ -81,12 +85,11 @@ fn is_read_and_written(rt: &impl Abort, alloc: Global, text: &str) {
     let mut lines = text.trim_end().split("\n").skip(1);
     for event in &events {
         let line = lines.next().expect(rt, "a line for each event");
-        is_written_so(rt, alloc, &names, event, line);
+        event_is_written_as(rt, alloc, &names, event, line);
     }
     assert!(rt; lines.next().is_none(), "an event for each line");
 }
 
-// The first wrong line of a text is this one, for this reason.
 fn is_wrong(rt: &impl Abort, alloc: Global, text: &str, number: usize, reason: Fault) {
     let Recording::Wrong { line, fault } = recording_of(rt, alloc, text) else {
         rt.abort();
@@ -94,38 +97,53 @@ fn is_wrong(rt: &impl Abort, alloc: Global, text: &str, number: usize, reason: F
     assert_eq!(rt; (line, fault), (number, reason), "{text}");
 }
 
-// The answers of a text that are a number, or the capacity of a channel.
+// How many answers are a number, and how many a capacity.
 fn numbers_in(events: &[Event<u64>]) -> (usize, usize) {
     let (mut numbers, mut capacities) = (0usize, 0usize);
     for event in events {
-        match event {
-            Event::Returns {
-                answer: Answer::Number(_),
-                ..
-            } => {
-                numbers = numbers.saturating_add(1);
+        if let Event::Returns { answer, .. } = event {
+            match answer {
+                Answer::Number(_) => numbers = numbers.saturating_add(1),
+                Answer::Capacity(Some(_)) => capacities = capacities.saturating_add(1),
+                _ => {}
             }
-            Event::Returns {
-                answer: Answer::Capacity(Some(_)),
-                ..
-            } => {
-                capacities = capacities.saturating_add(1);
-            }
-            _ => {}
         }
     }
     (numbers, capacities)
 }
 
+// Each of the parts, which `|` separates, makes this line of a text wrong.
+fn each_is_wrong(
+    (rt, alloc): (&impl Abort, Global),
+    (before, after): (&str, &str),
+    parts: &str,
+    (line, fault): (usize, Fault),
+) {
+    for part in parts.split("|") {
+        let mut text = String::new(alloc);
+        if write!(text, "{before}{part}{after}").is_err() {
+            rt.abort();
+        }
+        is_wrong(rt, alloc, &text, line, fault);
+    }
+}
+
 #[test]
-fn all_calls_and_answers(rt: HostRuntime) {
+fn all_calls_and_answers_are_read_and_written(rt: HostRuntime) {
     is_read_and_written(&rt, rt.alloc(), ALL);
 }
 
 #[test]
-fn no_events(rt: HostRuntime) {
+fn a_recording_may_have_no_events(rt: HostRuntime) {
     is_read_and_written(&rt, rt.alloc(), "bounded 3");
     is_read_and_written(&rt, rt.alloc(), "bounded 3\n");
+}
+
+fn thread_of(event: &Event<u64>) -> usize {
+    match event {
+        Event::Begins { thread, .. } => *thread,
+        Event::Returns { thread, .. } => *thread,
+    }
 }
 
 #[test]
@@ -141,28 +159,13 @@ fn threads_are_numbered_as_they_appear(rt: HostRuntime) {
         rt.abort();
     };
     assert_eq!(&rt; capacity, Some(0));
-    assert_eq!(&rt; names.len(), 3);
-    assert_eq!(&rt; names[0], b"b".as_slice());
-    assert_eq!(&rt; names[1], b"a".as_slice());
-    assert_eq!(&rt; names[2], b"c".as_slice());
+    let wanted = [b"b".as_slice(), b"a".as_slice(), b"c".as_slice()];
+    assert_eq!(&rt; names.as_slice(), wanted.as_slice());
     let threads = [0usize, 1, 0, 2, 1];
     assert_eq!(&rt; events.len(), threads.len());
     for (event, wanted) in events.iter().zip(&threads) {
-        let thread = match event {
-            Event::Begins { thread, .. } => *thread,
-            Event::Returns { thread, .. } => *thread,
-        };
-        assert_eq!(&rt; thread, *wanted);
+        assert_eq!(&rt; thread_of(event), *wanted);
     }
-    assert!(&rt;
-        matches!(
-            &events[1],
-            Event::Begins {
-                call: Call::Send(1),
-                ..
-            }
-        )
-    );
 }
 
 #[test]
@@ -177,122 +180,36 @@ fn numbers_are_read_by_their_calls(rt: HostRuntime) {
 }
 
 #[test]
-fn wrong_openings(rt: HostRuntime) {
+fn the_first_line_is_an_opening(rt: HostRuntime) {
     for text in ["", "\n", "bounded", "bounded x\na: recv", "a: recv\n"] {
         is_wrong(&rt, rt.alloc(), text, 1, Fault::NoOpening);
     }
 }
 
-#[test]
-fn lines_that_are_no_event(rt: HostRuntime) {
-    for line in [
-        "",
-        "a",
-        "a:recv",
-        ": recv",
-        " -> sent",
-        "a b: recv",
-        "a:b: recv",
-        "a - sent",
-    ] {
-        for end in ["", "\n"] {
-            let lines = ["unbounded\na: recv\na -> got 1\n", line, end];
-            wrong_in(
-                &rt,
-                rt.alloc(),
-                &lines,
-                if line == "" && end == "" { 0 } else { 4 },
-            );
-        }
-    }
-}
+const NO_EVENTS: &str = "a|a:recv|: recv| -> sent|a b: recv|a:b: recv|a - sent";
 
-// The text of these parts is wrong in this line, as no event, or right at 0.
-fn wrong_in(rt: &impl Abort, alloc: Global, parts: &[&str], number: usize) {
-    let mut text = String::new(alloc);
-    for part in parts {
-        if text.push_str(part).is_err() {
-            rt.abort();
-        }
-    }
-    if number > 0 {
-        is_wrong(rt, alloc, &text, number, Fault::NoEvent);
-    } else {
-        is_read_and_written(rt, alloc, &text);
-    }
-}
+const NO_CALLS: &str = "send|send |send x|send 07|send +7|send -1|send 1 | recv|recv |\
+    send 18446744073709551616|recv 1|Recv|poll 1|send 1 2|set_capacity|";
+
+const NO_ANSWERS: &str = "got|got |got x|got 01|got 18446744073709551616|gots|drained1|drained |\
+    drained 1 |drained  1|drained 1 x|drained 01|drain|007|-1|18446744073709551616|full 1|none 1|\
+    Sent|sent || sent|dropped 1";
 
 #[test]
-fn lines_of_no_call(rt: HostRuntime) {
-    let texts = [
-        "send",
-        "send ",
-        "send x",
-        "send 07",
-        "send +7",
-        "send -1",
-        "send 1 ",
-        " recv",
-        "recv ",
-        "send 18446744073709551616",
-        "recv 1",
-        "Recv",
-        "poll 1",
-        "send 1 2",
-        "set_capacity",
-        "",
-    ];
-    for text in texts {
-        wrong_call(&rt, rt.alloc(), text);
-    }
-}
-
-// Behind `a: ` this is no call.
-fn wrong_call(rt: &impl Abort, alloc: Global, call: &str) {
-    let mut text = String::new(alloc);
-    if write!(text, "bounded 1\na: {call}\nb").is_err() {
-        rt.abort();
-    }
-    is_wrong(rt, alloc, &text, 2, Fault::NoCall);
-}
-
-#[test]
-fn lines_of_no_answer(rt: HostRuntime) {
-    let texts = [
-        "got",
-        "got ",
-        "got x",
-        "got 01",
-        "got 18446744073709551616",
-        "gots",
-        "drained1",
-        "drained ",
-        "drained 1 ",
-        "drained  1",
-        "drained 1 x",
-        "drained 01",
-        "drain",
-        "007",
-        "-1",
-        "18446744073709551616",
-        "full 1",
-        "none 1",
-        "Sent",
-        "sent ",
-        "",
-        " sent",
-        "dropped 1",
-    ];
-    for text in texts {
-        wrong_answer(&rt, rt.alloc(), text);
-    }
-}
-
-// Behind `a -> ` this is no answer.
-fn wrong_answer(rt: &impl Abort, alloc: Global, answer: &str) {
-    let mut text = String::new(alloc);
-    if write!(text, "bounded 1\na: recv\na -> {answer}\nb").is_err() {
-        rt.abort();
-    }
-    is_wrong(rt, alloc, &text, 3, Fault::NoAnswer);
+fn wrong_lines_are_refused_with_their_reason(rt: HostRuntime) {
+    let host = (&rt, rt.alloc());
+    let before = "unbounded\na: recv\na -> got 1\n";
+    each_is_wrong(host, (before, ""), NO_EVENTS, (4, Fault::NoEvent));
+    each_is_wrong(host, (before, "\n"), NO_EVENTS, (4, Fault::NoEvent));
+    // The last line may be empty, and no other.
+    is_read_and_written(&rt, rt.alloc(), before);
+    each_is_wrong(host, (before, "\n"), "", (4, Fault::NoEvent));
+    each_is_wrong(
+        host,
+        ("bounded 1\na: ", "\nb"),
+        NO_CALLS,
+        (2, Fault::NoCall),
+    );
+    let before = "bounded 1\na: recv\na -> ";
+    each_is_wrong(host, (before, "\nb"), NO_ANSWERS, (3, Fault::NoAnswer));
 }

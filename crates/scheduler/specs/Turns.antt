@@ -19,9 +19,9 @@ after_step task = record task { steps = task.steps - 1 }
 
 -- What a turn of the task, with these others behind it, was and left: the others, and behind them
 -- the task with one step less, or without it if that was its last step.
-abbrev pub Turned : Task → List Task → Turn → List Task → Type 0
-Turned task others (Done number) left =
+abbrev pub TakesTurn : Task → List Task → Turn → List Task → Type 0
+TakesTurn task others (Done number) left =
     (task.steps ≤ 1) × (number ≡ task.number) × (left ≡ others)
-Turned task others (Again back) left =
+TakesTurn task others (Again back) left =
     (1 < task.steps) × (back ≡ after_step task) × (left ≡ others ++ after_step task ∷ [])
-Turned task others Idle left = ⊥
+TakesTurn task others Idle left = ⊥

@@ -1,7 +1,7 @@
 //! The queue of the tasks to run: a channel of one owner, without a lock.
 ghost use Rattle.std.specs.Prelude.{◌≡◌, List, [], ◌∷◌, ◌++◌, IfOk, IfNone, IfSome};
 ghost use Rattle.std.specs.Prelude.{Err, None};
-ghost use Rattle.scheduler.specs.Turns.{IsPlain, Turned};
+ghost use Rattle.scheduler.specs.Turns.{IsPlain, TakesTurn};
 
 use flume_core::chan::Chan;
 use flume_core::facts::facts;
@@ -94,7 +94,7 @@ impl RunQueue {
     pub fn turn(&mut self) -> Turn
         ensures idle { self.old ≡ [] → (result ≡ Turn.Idle) × (self.new ≡ []) }
         ensures turned { (task : Task) (others : List Task) → self.old ≡ task ∷ others
-            → Turned task others result self.new }
+            → TakesTurn task others result self.new }
     {
         facts(&self.tasks);
         let Some(task) = take(&mut self.tasks) else {

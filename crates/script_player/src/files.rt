@@ -1,12 +1,12 @@
 //! Files of scripts, played one after the other.
 use crate::lines::Fixture;
 use crate::refused::wrong_if_refused;
-use crate::script::Script;
+use crate::script::ScriptText;
 use std::alloc::Global;
 use std::process::ExitCode;
 use std::{env, fs, io};
 
-// How many scripts and lines a file has, and how many of the scripts are wrong.
+// Of one file.
 #[derive(Clone, Copy, Drop)]
 struct Counts {
     scripts: u64,
@@ -14,9 +14,9 @@ struct Counts {
     wrong: u64,
 }
 
-/// Plays the files that the program's arguments name, in their order, and prints a line for each,
-/// and what is wrong. A file whose name ends in `.wrong` has scripts that are wrong, and whose
-/// titles say of it what is to be found. The status is 0 where all went as it should.
+/// Plays the files that the program's arguments name, and prints a line for each, and what is
+/// wrong. A file `*.wrong` has scripts whose titles say what is wrong with them. The status is 0 if
+/// all is as it should be.
 pub fn play_all<T: Fixture>(rt: &HostRuntime, fixture: &T) -> io::Result<ExitCode> {
     let mut wrong = 0u64;
     let mut files = 0u64;
@@ -33,7 +33,6 @@ pub fn play_all<T: Fixture>(rt: &HostRuntime, fixture: &T) -> io::Result<ExitCod
     })
 }
 
-// Plays the scripts of a file.
 fn play_file<T: Fixture>(rt: &HostRuntime, fixture: &T, name: &str) -> io::Result<Counts> {
     let text = fs::read_to_string(rt, name)?;
     let text = format!(in rt.alloc(); "\n{text}")?;
@@ -45,7 +44,7 @@ fn play_file<T: Fixture>(rt: &HostRuntime, fixture: &T, name: &str) -> io::Resul
     let mut number = 0usize;
     for (at, block) in text.as_str().trim_end().split("\n= ").enumerate() {
         if at > 0 {
-            let script = Script::of(block, number);
+            let script = ScriptText::of(block, number);
             play_one(rt, fixture, name, &script, &mut counts)?;
         }
         number = number.saturating_add(block.split("\n").count());
@@ -61,12 +60,11 @@ fn play_file<T: Fixture>(rt: &HostRuntime, fixture: &T, name: &str) -> io::Resul
     Ok(counts)
 }
 
-// Plays a script, prints what is wrong, and counts.
 fn play_one<T: Fixture>(
     rt: &HostRuntime,
     fixture: &T,
     name: &str,
-    script: &Script<'_>,
+    script: &ScriptText<'_>,
     counts: &mut Counts,
 ) -> io::Result<()> {
     counts.scripts = counts.scripts.saturating_add(1);
@@ -86,11 +84,10 @@ fn play_one<T: Fixture>(
     Ok(())
 }
 
-// What is wrong with a script.
 fn wrong_of<T: Fixture>(
     alloc: Global,
     fixture: &T,
-    script: &Script<'_>,
+    script: &ScriptText<'_>,
 ) -> io::Result<Option<String>> {
     if script.lines.is_empty() {
         return Ok(Some("it has no line".to_string(alloc)?));

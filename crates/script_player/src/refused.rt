@@ -1,26 +1,25 @@
-//! Scripts of which one line is refused memory: each of its growths in turn.
+//! Scripts with a line whose growths of memory are refused in turn.
 use crate::lines::Fixture;
-use crate::script::{Refused, Script};
+use crate::script::{Refused, ScriptText};
 use std::alloc::Global;
 use std::io;
 
 // More growths than a call has.
 const MOST: u64 = 100;
 
-// What is wrong with a script as a growth of its line `! call` is refused.
 #[derive(Drop)]
 enum Outcome {
     Wrong(String),
     Refused,
-    /// The line has no such growth.
+    // The line has no such growth.
     NotRefused,
 }
 
 // Plays a script with this growth refused, alone and with all after it.
-fn with_growth<T: Fixture>(
+fn play_refusing<T: Fixture>(
     alloc: Global,
     fixture: &T,
-    script: &Script<'_>,
+    script: &ScriptText<'_>,
     (growth, call): (u64, usize),
 ) -> io::Result<Outcome> {
     let mut outcome = Outcome::Refused;
@@ -30,7 +29,7 @@ fn with_growth<T: Fixture>(
             last,
             call,
         };
-        let played = fixture.play(&script.refusing(refused))?;
+        let played = fixture.play(&script.with_refused(refused))?;
         if let Some(wrong) = played.wrong {
             let text = format!(in alloc; "{wrong}, with growths from {growth} to {last} refused")?;
             return Ok(Outcome::Wrong(text));
@@ -42,15 +41,14 @@ fn with_growth<T: Fixture>(
     Ok(outcome)
 }
 
-// Plays a script once for each growth of its line `! call`, by the first of the calls. What is
-// wrong, and how many growths there are and one more.
-fn each_growth<T: Fixture>(
+// Refuses each growth of the first call in turn. What is wrong, and the number of growths plus one.
+fn play_first_call<T: Fixture>(
     alloc: Global,
     fixture: &T,
-    script: &Script<'_>,
+    script: &ScriptText<'_>,
 ) -> io::Result<(Option<String>, u64)> {
     for growth in 1..MOST {
-        match with_growth(alloc, fixture, script, (growth, 0))? {
+        match play_refusing(alloc, fixture, script, (growth, 0))? {
             Outcome::Wrong(wrong) => return Ok((Some(wrong), growth)),
             Outcome::Refused => {}
             Outcome::NotRefused if growth > 1 => return Ok((None, growth)),
@@ -61,16 +59,16 @@ fn each_growth<T: Fixture>(
     Ok((Some(wrong.to_string(alloc)?), 1))
 }
 
-// Plays a script with each of these growths refused, by one of the other calls, of which each has
-// to be refused: with memory it would wait.
-fn by_other<T: Fixture>(
+// Refuses each growth of another call in turn. Each has to be refused: with memory the call would
+// wait.
+fn play_other_call<T: Fixture>(
     alloc: Global,
     fixture: &T,
-    script: &Script<'_>,
+    script: &ScriptText<'_>,
     (end, call): (u64, usize),
 ) -> io::Result<Option<String>> {
     for growth in 1..end {
-        match with_growth(alloc, fixture, script, (growth, call))? {
+        match play_refusing(alloc, fixture, script, (growth, call))? {
             Outcome::Wrong(wrong) => return Ok(Some(wrong)),
             Outcome::Refused => {}
             Outcome::NotRefused => {
@@ -82,16 +80,15 @@ fn by_other<T: Fixture>(
     Ok(None)
 }
 
-// Plays a script with the first growth of its line `! call` refused, and with all of them, by each
-// of so many calls, none of which has one.
-fn by_none<T: Fixture>(
+// Refuses the growths of this many calls, which have none.
+fn play_without_growth<T: Fixture>(
     alloc: Global,
     fixture: &T,
-    script: &Script<'_>,
+    script: &ScriptText<'_>,
     calls: usize,
 ) -> io::Result<Option<String>> {
     for call in 0..calls {
-        match with_growth(alloc, fixture, script, (1, call))? {
+        match play_refusing(alloc, fixture, script, (1, call))? {
             Outcome::Wrong(wrong) => return Ok(Some(wrong)),
             Outcome::Refused => {
                 let text = format!(in alloc; "call {call} has a growth, and none is named")?;
@@ -104,7 +101,7 @@ fn by_none<T: Fixture>(
 }
 
 // How many growths a line names: `parker, 4 blocks of a table` names five.
-fn named(names: &str) -> u64 {
+fn count_names(names: &str) -> u64 {
     let mut growths = 0u64;
     for name in names.split(", ") {
         let (first, _) = name.split_once(" ").unwrap_or((name, ""));
@@ -114,33 +111,32 @@ fn named(names: &str) -> u64 {
     growths
 }
 
-// Plays a script with each growth of its line `! call` refused, by each of so many calls. It has as
-// many as are named.
-fn by_each<T: Fixture>(
+// Refuses each growth of each call. The line has as many as it names.
+fn play_each_growth<T: Fixture>(
     alloc: Global,
     fixture: &T,
-    script: &Script<'_>,
+    script: &ScriptText<'_>,
     (calls, names): (usize, &str),
 ) -> io::Result<Option<String>> {
-    let (mut wrong, end) = each_growth(alloc, fixture, script)?;
+    let (mut wrong, end) = play_first_call(alloc, fixture, script)?;
     let growths = end.saturating_sub(1);
-    let named = named(names);
+    let named = count_names(names);
     if wrong.is_none() && growths != named {
         wrong = Some(format!(in alloc; "the number of its growths is {growths}, not {named}")?);
     }
     for call in 1..calls {
         if wrong.is_none() {
-            wrong = by_other(alloc, fixture, script, (end, call))?;
+            wrong = play_other_call(alloc, fixture, script, (end, call))?;
         }
     }
     Ok(wrong)
 }
 
-/// What is wrong with a script whose line `! call` is this, without the `! `.
+/// What is wrong with a script that has this line behind `! `.
 pub(crate) fn wrong_if_refused<T: Fixture>(
     alloc: Global,
     fixture: &T,
-    script: &Script<'_>,
+    script: &ScriptText<'_>,
     line: &str,
 ) -> io::Result<Option<String>> {
     let (asks, answers) = line.split_once(" -> ").unwrap_or((line, ""));
@@ -148,8 +144,8 @@ pub(crate) fn wrong_if_refused<T: Fixture>(
     match answers.split_once(" | ") {
         Some((_, refusal)) => {
             let (_, names) = refusal.split_once(" | ").unwrap_or((refusal, ""));
-            by_each(alloc, fixture, script, (calls, names))
+            play_each_growth(alloc, fixture, script, (calls, names))
         }
-        None => by_none(alloc, fixture, script, calls),
+        None => play_without_growth(alloc, fixture, script, calls),
     }
 }

@@ -1,7 +1,7 @@
-//! A script, as it stands in a file.
+//! The text of a script.
 
-/// Which growths of the line `! call` are refused, from the first to the last, counted from 1; and
-/// which of the calls of that line is made, the first being 0.
+/// Which growths of the line `! call` are refused, counted from 1; and which of its calls is made,
+/// from 0.
 #[derive(Clone, Copy, Drop)]
 pub(crate) struct Refused {
     pub(crate) first: u64,
@@ -16,26 +16,26 @@ pub(crate) const NONE: Refused = Refused {
     call: 0,
 };
 
-/// A script of a file, and which growths are refused as it is played.
+/// A script, and which growths are refused as it is played.
 #[derive(Clone, Copy, Drop)]
-pub struct Script<'a> {
-    /// What it shows.
+pub struct ScriptText<'a> {
+    /// What it is for.
     pub title: &'a str,
     /// How the subject is opened.
     pub opening: &'a str,
-    /// The lines that are played, each ended but the last.
+    /// The lines that are played.
     pub lines: &'a str,
     /// The number of the title's line in the file.
     pub(crate) number: usize,
     pub(crate) refused: Refused,
 }
 
-impl<'a> Script<'a> {
-    /// The script of a block: what stands behind `= `, which has this number in its file.
-    pub(crate) fn of(block: &'a str, number: usize) -> Script<'a> {
+impl<'a> ScriptText<'a> {
+    /// The script of the text behind `= `, on the line of this number.
+    pub(crate) fn of(block: &'a str, number: usize) -> ScriptText<'a> {
         let (title, below) = block.split_once("\n").unwrap_or((block, ""));
         let (opening, lines) = below.split_once("\n").unwrap_or((below, ""));
-        Script {
+        ScriptText {
             title,
             opening,
             lines,
@@ -45,14 +45,9 @@ impl<'a> Script<'a> {
     }
 
     /// The same, with these growths refused.
-    pub(crate) fn refusing(&self, refused: Refused) -> Script<'a> {
-        Script {
-            title: self.title,
-            opening: self.opening,
-            lines: self.lines,
-            number: self.number,
-            refused,
-        }
+    pub(crate) fn with_refused(&self, refused: Refused) -> ScriptText<'a> {
+        let script = *self;
+        ScriptText { refused, ..script }
     }
 
     /// Whether one of its lines is this.
@@ -60,7 +55,7 @@ impl<'a> Script<'a> {
         self.lines.lines().any(|line| line == wanted)
     }
 
-    /// The rest of its first line that begins so.
+    /// The rest of its first line that begins like this.
     pub fn rest_of(&self, start: &str) -> Option<&'a str> {
         for line in self.lines.lines() {
             if let Some(rest) = line.strip_prefix(start) {

@@ -1,12 +1,12 @@
-//! Asks `run_script` for the answers to bad input: to scripts written by hand, and to drawn ones near
-//! the grammar. A second reader, slow and plain, says what each has to be answered.
+//! Compares the answers of `run_script` to bad input with those of a second, slow and plain reader:
+//! to scripts written by hand, and to random ones near the grammar.
 #![tactic(auto)]
 
-mod draws;
+mod random_scripts;
 mod reader;
 mod rows;
 
-use crate::draws::Draws;
+use crate::random_scripts::RandomScripts;
 use crate::reader::read;
 use crate::rows::ROWS;
 use flume_script::run_script;
@@ -16,9 +16,8 @@ use std::{env, io};
 
 const USAGE: &str = "script_tests [SCRIPTS [SEED]]
 
-Draws so many scripts, 4000 where no number is given, and compares the answer to each with a reader's.";
+Makes SCRIPTS random scripts (4000), and compares the answer to each with a reader's.";
 
-// How many scripts are drawn if no number is given.
 const SCRIPTS: u64 = 4000;
 
 fn main(rt: HostRuntime) -> io::Result<ExitCode> {
@@ -26,12 +25,12 @@ fn main(rt: HostRuntime) -> io::Result<ExitCode> {
     for word in env::args(&rt)?.skip(1) {
         words.push(word)?;
     }
-    let Some((scripts, seed)) = asked(&words) else {
+    let Some((scripts, seed)) = parse_arguments(&words) else {
         eprintln!(rt; "{USAGE}")?;
         return Ok(ExitCode::from(2));
     };
     let (fault, wrong) = match fault_of_rows(rt.alloc())? {
-        None => fault_of_draws(rt.alloc(), scripts, seed)?,
+        None => fault_of_random(rt.alloc(), scripts, seed)?,
         fault => (fault, 0),
     };
     if let Some(script) = fault {
@@ -39,18 +38,17 @@ fn main(rt: HostRuntime) -> io::Result<ExitCode> {
         return Ok(ExitCode::FAILURE);
     }
     if wrong < scripts / 4 || scripts.saturating_sub(wrong) < scripts / 4 {
-        eprintln!(rt; "only {wrong} of the drawn scripts are wrong")?;
+        eprintln!(rt; "only {wrong} of the random scripts are wrong")?;
         return Ok(ExitCode::FAILURE);
     }
     let rows = ROWS.len();
     println!(rt;
-        "{rows} scripts by hand and {scripts} drawn ones are answered as the reader says"
+        "{rows} scripts by hand and {scripts} random ones are answered as the reader says"
     )?;
     Ok(ExitCode::SUCCESS)
 }
 
-// How many scripts are asked for, and from which seed. `None` if the words are no such thing.
-fn asked(words: &[String]) -> Option<(u64, u64)> {
+fn parse_arguments(words: &[String]) -> Option<(u64, u64)> {
     match words {
         [] => Some((SCRIPTS, 1)),
         [scripts] => Some((scripts.as_str().parse().ok()?, 1)),
@@ -59,7 +57,6 @@ fn asked(words: &[String]) -> Option<(u64, u64)> {
     }
 }
 
-// How many lines a text has that ends each of them.
 fn lines_in(text: &[u8]) -> u64 {
     let mut lines = 0u64;
     for &byte in text {
@@ -70,8 +67,8 @@ fn lines_in(text: &[u8]) -> u64 {
     lines
 }
 
-// Whether the script is answered as the reader says: with a line for each step, or with the number of
-// the first wrong line.
+// Whether the answer is a line for each step, or the number of the first wrong line, as the reader
+// says.
 fn is_answered(alloc: Global, script: &[u8], read: Result<u64, u64>) -> io::Result<bool> {
     let answer = run_script(alloc, script)?;
     match read {
@@ -86,7 +83,6 @@ fn is_answered(alloc: Global, script: &[u8], read: Result<u64, u64>) -> io::Resu
     }
 }
 
-// The first row that the reader, or `run_script`, answers otherwise.
 fn fault_of_rows(alloc: Global) -> io::Result<Option<Vec<u8>>> {
     for &(script, wrong) in ROWS {
         let read = read(script);
@@ -97,12 +93,12 @@ fn fault_of_rows(alloc: Global) -> io::Result<Option<Vec<u8>>> {
     Ok(None)
 }
 
-// The first drawn script that is answered otherwise than the reader says, and how many were wrong.
-fn fault_of_draws(alloc: Global, scripts: u64, seed: u64) -> io::Result<(Option<Vec<u8>>, u64)> {
-    let mut draws = Draws { state: seed };
+// The first random script that is answered otherwise, and how many were wrong.
+fn fault_of_random(alloc: Global, scripts: u64, seed: u64) -> io::Result<(Option<Vec<u8>>, u64)> {
+    let mut random_scripts = RandomScripts { state: seed };
     let mut wrong = 0u64;
     for _ in 0..scripts {
-        let script = draws.script(alloc)?;
+        let script = random_scripts.script(alloc)?;
         let read = read(&script);
         if read.is_err() {
             wrong = wrong.saturating_add(1);

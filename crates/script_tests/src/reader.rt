@@ -1,28 +1,24 @@
-//! A reader of scripts that is slow and plain. It is written from these rules alone, and not from the
-//! reader of `flume_script`:
+//! A slow and plain reader of scripts, written from these rules alone:
 //!
 //! A script is bytes. A line ends in a line feed; a last line without one counts as well. One
-//! carriage return before the line feed is dropped. Words are parted by exactly one space, with
+//! carriage return before the line feed is dropped. Words are separated by exactly one space, with
 //! none before or after. A number is one or more ASCII digits, at most 2^64 - 1 in value; zeros may
 //! come first. An empty line, a byte outside these forms or a wrong number of words makes a line
 //! wrong. The first line is `unbounded` or `bounded N`, each other one a step. A script without any
 //! line is wrong in line 1.
 
-// Steps of one word, parted by spaces.
 const ALONE: &str = "try_recv drain clone_sender clone_receiver drop_sender drop_receiver len \
     is_empty is_full capacity sender_count receiver_count is_disconnected";
 
-// Steps of a word and a number.
 const WITH_NUMBER: &str = "try_send send poll_send withdraw_send poll withdraw set_capacity";
 
-// What follows `recv`.
 const KINDS: &str = "block plain stream arm";
 
 fn is_one_of(word: &[u8], words: &str) -> bool {
     words.split(" ").any(|other| word == other.as_bytes())
 }
 
-// Whether the word is a number. A value past 2^128 counts as 2^128 - 1, which is too great as well.
+// A value past 2^128 counts as 2^128 - 1, which is too great as well.
 fn is_number(word: &[u8]) -> bool {
     let mut value = 0u128;
     for &byte in word {
@@ -35,8 +31,7 @@ fn is_number(word: &[u8]) -> bool {
     !word.is_empty() && value <= u64::MAX as u128
 }
 
-// The line's part before its first space, and the part after it, if it has one.
-fn parted(line: &[u8]) -> (&[u8], Option<&[u8]>) {
+fn split_word(line: &[u8]) -> (&[u8], Option<&[u8]>) {
     for (place, &byte) in line.iter().enumerate() {
         if byte == 32 {
             let (word, rest) = line.split_at(place);
@@ -46,10 +41,10 @@ fn parted(line: &[u8]) -> (&[u8], Option<&[u8]>) {
     (line, None)
 }
 
-// Whether the line, which has no end any more, is right: the first, or a step. The part after the
-// first space is one word: a number or a kind has no space in it.
+// Whether a line without its end is right. The part after the first space is one word: a number or
+// a kind has no space in it.
 fn is_right(line: &[u8], is_first: bool) -> bool {
-    let (word, rest) = parted(line);
+    let (word, rest) = split_word(line);
     match (is_first, rest) {
         (true, None) => is_one_of(word, "unbounded"),
         (true, Some(rest)) => is_one_of(word, "bounded") && is_number(rest),

@@ -1,11 +1,9 @@
-//! Scripts with what the grammar says of each: the number of the first wrong line, or 0 if each
-//! line is right. They are written by hand, and show that the reader is right; drawn scripts only
-//! show that it agrees.
+//! Scripts written by hand, each with the number of its first wrong line, or 0. They show that the
+//! reader is right; random scripts only show that it agrees.
 
 /// A script, and the number of its first wrong line.
 pub(crate) type Row = (&'static [u8], u64);
 
-/// The rows.
 pub(crate) const ROWS: &[Row] = &[
     // Lines and their ends.
     (b"", 1),

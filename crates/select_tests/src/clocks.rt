@@ -1,42 +1,43 @@
-//! Selections by clocks of the tests' own: one that can't be read, and ones that go on as they are
-//! read. By these a call that waits takes its time.
-use crate::fixtures::{had, later, offered, selected};
-use ends_tests::ends::long;
-use ends_tests::ticking::{Ticking, Unreadable};
+//! Timed calls by a clock that can't be read, and by clocks that each reading advances.
+use crate::fixtures::{far_deadline, is, unwrap};
 use flume::error::{RecvTimeoutError, SelectError, SendTimeoutError};
 use flume::{Receiver, Sender, Waits, bounded};
-use selections::arms::How;
-use selections::shapes::{Won, receive, send};
 use std::alloc::Global;
 use std::process::Abort;
 use std::sync::atomic::{AtomicU64, Ordering};
 use std::time::{Duration, Instant};
+use test_support::arms::HowLong;
+use test_support::clocks::{TickingClock, UnreadableClock};
+use test_support::ends::one_hour;
+use test_support::selections::{Winner, receive, send};
 
 #[test]
-fn a_selection_is_late_where_the_clock_cannot_be_read(rt: HostRuntime) {
-    let (far, timeout) = (How::Deadline(later(&rt)), How::Timeout(long()));
-    let (tx, rx) = had(&rt, bounded(Unreadable { rt }, rt.alloc(), 1, 1));
-    selected(&rt, receive(&rx, far), Err(SelectError::Timeout));
-    selected(&rt, receive(&rx, timeout), Err(SelectError::Timeout));
-    // An arm that can go on does.
-    selected(&rt, send(&tx, 1, far), Ok(Won::Sent(Ok(()))));
-    selected(&rt, send(&tx, 2, far), Err(SelectError::Timeout));
-    selected(&rt, send(&tx, 3, timeout), Err(SelectError::Timeout));
-    selected(&rt, receive(&rx, timeout), Ok(Won::First(Ok(1))));
-    offered(&rt, tx.try_send(4), Ok(()));
+fn a_selection_is_late_if_the_clock_cannot_be_read(rt: HostRuntime) {
+    let (far, timeout) = (
+        HowLong::Deadline(far_deadline(&rt)),
+        HowLong::Timeout(one_hour()),
+    );
+    let (tx, rx) = unwrap(&rt, bounded(UnreadableClock { rt }, rt.alloc(), 1, 1));
+    is(&rt, receive(&rx, far), Err(SelectError::Timeout));
+    is(&rt, receive(&rx, timeout), Err(SelectError::Timeout));
+    is(&rt, send(&tx, 1, far), Ok(Winner::Sent(Ok(()))));
+    is(&rt, send(&tx, 2, far), Err(SelectError::Timeout));
+    is(&rt, send(&tx, 3, timeout), Err(SelectError::Timeout));
+    is(&rt, receive(&rx, timeout), Ok(Winner::First(Ok(1))));
+    is(&rt, tx.try_send(4), Ok(()));
 }
 
-// Whether the call of this number is late, on a channel that neither gives nor takes.
+// Whether the call of this number times out, on a channel where nothing can be sent or received.
 fn is_late<R: Waits>(
     host: &impl Abort,
     (tx, rx): (&Sender<u64, R>, &Receiver<u64, R>),
     (timeout, deadline): (Duration, Instant),
     (call, alloc): (u64, Global),
 ) -> bool {
-    let mut list = had(host, vec![in alloc; 1]);
+    let mut list = unwrap(host, vec![in alloc; 1]);
     match call {
-        0 => receive(rx, How::Timeout(timeout)) == Err(SelectError::Timeout),
-        1 => send(tx, 1, How::Deadline(deadline)) == Err(SelectError::Timeout),
+        0 => receive(rx, HowLong::Timeout(timeout)) == Err(SelectError::Timeout),
+        1 => send(tx, 1, HowLong::Deadline(deadline)) == Err(SelectError::Timeout),
         2 => rx.recv_timeout(timeout) == Err(RecvTimeoutError::Timeout),
         3 => rx.recv_deadline(deadline) == Err(RecvTimeoutError::Timeout),
         4 => tx.send_timeout(1, timeout) == Err(SendTimeoutError::Timeout(1)),
@@ -50,8 +51,8 @@ fn is_late<R: Waits>(
     }
 }
 
-// How many microseconds a clock goes on by as it is read, how many a call waits, and how often it
-// is read then at least and at the most. Nothing is rounded to whole seconds or milliseconds.
+// How many microseconds each reading advances the clock, how many a call waits, and how often it
+// reads the clock at least and at most. Nothing is rounded to seconds or milliseconds.
 const CLOCKS: &[(u64, u64, u64, u64)] = &[(99_000, 100_000, 3, 6), (1, 40, 41, 44)];
 
 #[test]
@@ -59,14 +60,14 @@ fn a_timeout_comes_no_sooner_than_the_clock_shows_it_and_little_later(rt: HostRu
     for &(micros, waits, least, most) in CLOCKS {
         let readings = AtomicU64::new(0);
         let readings = &readings;
-        let ticking = Ticking {
+        let clocks = TickingClock {
             rt,
             readings,
             micros,
         };
-        let (tx, rx) = had(&rt, bounded(ticking, rt.alloc(), 1, 0));
+        let (tx, rx) = unwrap(&rt, bounded(clocks, rt.alloc(), 1, 0));
         let timeout = Duration::from_micros(waits);
-        let began = Instant::now(&ticking).expect(&rt, "this clock can be read");
+        let began = Instant::now(&clocks).expect(&rt, "this clock can be read");
         let deadline = began.checked_add(timeout).expect(&rt, "it has a sum");
         for call in 0..12 {
             readings.store(0, Ordering::SeqCst);

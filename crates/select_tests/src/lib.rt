@@ -1,7 +1,6 @@
-//! Tests of selectors: against each other in two threads, by clocks of the tests' own, over
-//! channels of two types, and by mappers that do more than answer; and of the parker that a
-//! selector sleeps on. What threads do beside a selector is text, in `thread_scripts`; so is what
-//! one thread sees, which `end_scripts` plays.
+//! Tests of selectors: against each other in two threads, by clocks of their own, over channels of
+//! two types, and their mappers; and of the parker that a selector sleeps on. What scripts can say
+//! is in `end_scripts`, and with threads in `thread_scripts`.
 #![tactic(auto)]
 
 #[cfg(test)]

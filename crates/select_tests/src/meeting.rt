@@ -1,49 +1,44 @@
 //! Two selectors against each other, in two threads.
-use crate::fixtures::{Ends, begun, had, holds, is, opened, watching};
-use ends_tests::changes::{ChangeCapacity, wait_for_change};
-use ends_tests::works::Work;
+use crate::fixtures::{Ends, channel, holds, is, spawn, start_watchdog, unwrap};
 use flume::error::SelectError;
 use flume::{Receiver, Sender, Waits};
-use selections::arms::How;
-use selections::shapes::{Won, receive_or_send, send_or_receive};
 use std::alloc::{AllocError, Global};
 use std::process::Abort;
 use std::thread::Threads;
+use test_support::arms::HowLong;
+use test_support::capacities::{KeepChangingCapacity, wait_for_capacity_change};
+use test_support::selections::{Winner, receive_or_send, send_or_receive};
+use test_support::work::Work;
 
-// How many selections each makes, if the other does as well.
 const ROUNDS: u64 = 10_000;
 
-// Sends or receives: in rounds of an even number the send arm comes first.
+// Sends or receives; in even rounds the send arm comes first.
 fn select<R: Waits>(
     tx: &Sender<u64, R>,
     rx: &Receiver<u64, R>,
     round: u64,
-) -> Result<Won, SelectError> {
+) -> Result<Winner, SelectError> {
     if round % 2 == 0 {
-        send_or_receive(tx, round, rx, How::Endless)
+        send_or_receive(tx, round, rx, HowLong::Endless)
     } else {
-        receive_or_send(rx, tx, round, How::Endless)
+        receive_or_send(rx, tx, round, HowLong::Endless)
     }
 }
 
-// What one of the two did, and where it received.
 #[derive(Drop)]
 struct Log<R: Waits> {
     rounds: u64,
-    // The numbers of the rounds in which it sent.
     sent: Vec<u64>,
-    // What it received, in order.
     got: Vec<u64>,
     rx: Receiver<u64, R>,
 }
 
 impl<R: Waits> Log<R> {
-    // Adds what each round did, until all are over or the other has been dropped.
     fn play(&mut self, tx: &Sender<u64, R>) -> Result<(), AllocError> {
         for round in 0..ROUNDS {
             match select(tx, &self.rx, round) {
-                Ok(Won::Sent(Ok(()))) => self.sent.push(round)?,
-                Ok(Won::First(Ok(number))) => self.got.push(number)?,
+                Ok(Winner::Sent(Ok(()))) => self.sent.push(round)?,
+                Ok(Winner::First(Ok(number))) => self.got.push(number)?,
                 Ok(_) => return Ok(()),
                 Err(_) => return Err(AllocError),
             }
@@ -52,8 +47,7 @@ impl<R: Waits> Log<R> {
         Ok(())
     }
 
-    // Adds what is still there.
-    fn take_what_is_left(&mut self) -> Result<(), AllocError> {
+    fn take_the_rest(&mut self) -> Result<(), AllocError> {
         for number in self.rx.try_iter() {
             self.got.push(number)?;
         }
@@ -61,7 +55,6 @@ impl<R: Waits> Log<R> {
     }
 }
 
-// Makes selections against another thread.
 #[derive(Drop)]
 struct Play<R: Waits> {
     alloc: Global,
@@ -98,7 +91,7 @@ fn rises(numbers: &[u64]) -> bool {
 }
 
 // Whether each number of the one is in the other, if both rise.
-fn all_stand_in(some: &[u64], numbers: &[u64]) -> bool {
+fn are_all_in(some: &[u64], numbers: &[u64]) -> bool {
     let mut rest = numbers.iter();
     for wanted in some {
         if !rest.by_ref().any(|number| number == wanted) {
@@ -108,17 +101,14 @@ fn all_stand_in(some: &[u64], numbers: &[u64]) -> bool {
     true
 }
 
-// What came is in order and came once, and what an arm sent came.
+// Messages came once and in order, and what an arm sent came.
 fn compare<R: Waits>(rt: &impl Abort, one: &Log<R>, other: &Log<R>) {
     holds(rt, rises(&one.got) && rises(&other.got));
-    holds(rt, all_stand_in(&one.sent, &other.got));
-    holds(rt, all_stand_in(&other.sent, &one.got));
-    // One of them made all its selections, each of which took a message or gave one.
+    holds(rt, are_all_in(&one.sent, &other.got));
+    holds(rt, are_all_in(&other.sent, &one.got));
     is(rt, one.rounds.max(other.rounds), ROUNDS);
 }
 
-// Two threads make selections against each other, on these two channels. Then both receive what is
-// still there.
 fn meet<R>(rt: R, alloc: Global, first: Ends<u64, R, Global>, second: Ends<u64, R, Global>)
 where
     R: Waits + Threads + Abort + Send + Sync + 'static,
@@ -126,33 +116,33 @@ where
     let (to_other, from_one) = first;
     let (to_one, from_other) = second;
     let (tx, rx) = (to_other, from_other);
-    let one = begun(&rt, Play { alloc, tx, rx });
+    let one = spawn(&rt, Play { alloc, tx, rx });
     let (tx, rx) = (to_one, from_one);
-    let other = begun(&rt, Play { alloc, tx, rx });
-    let (mut one, mut other) = (had(&rt, one.join(&rt)), had(&rt, other.join(&rt)));
-    had(&rt, one.take_what_is_left());
-    had(&rt, other.take_what_is_left());
+    let other = spawn(&rt, Play { alloc, tx, rx });
+    let (mut one, mut other) = (unwrap(&rt, one.join(&rt)), unwrap(&rt, other.join(&rt)));
+    unwrap(&rt, one.take_the_rest());
+    unwrap(&rt, other.take_the_rest());
     compare(&rt, &one, &other);
 }
 
 #[test]
 fn two_selectors_that_meet_lose_and_double_no_message(rt: HostRuntime) {
-    let first = opened(rt, rt.alloc(), Some(0));
-    let second = opened(rt, rt.alloc(), Some(0));
-    let watch = watching(rt, rt.alloc());
+    let first = channel(rt, rt.alloc(), Some(0));
+    let second = channel(rt, rt.alloc(), Some(0));
+    let watchdog = start_watchdog(rt, rt.alloc());
     meet(rt, rt.alloc(), first, second);
-    watch.end(&rt);
+    watchdog.end(&rt);
 }
 
 #[test]
 fn two_selectors_lose_and_double_no_message_while_a_thread_changes_a_capacity(rt: HostRuntime) {
-    let first = opened(rt, rt.alloc(), Some(4));
-    let second = opened(rt, rt.alloc(), Some(0));
-    let rx = had(&rt, first.1.clone());
-    let watch = watching(rt, rt.alloc());
-    let changing = begun(&rt, ChangeCapacity { rt, rx });
-    wait_for_change(&rt, &first.1, 4);
+    let first = channel(rt, rt.alloc(), Some(4));
+    let second = channel(rt, rt.alloc(), Some(0));
+    let rx = unwrap(&rt, first.1.clone());
+    let watchdog = start_watchdog(rt, rt.alloc());
+    let changing = spawn(&rt, KeepChangingCapacity { rt, rx });
+    wait_for_capacity_change(&rt, &first.1, 4);
     meet(rt, rt.alloc(), first, second);
     holds(&rt, changing.join(&rt) > 0);
-    watch.end(&rt);
+    watchdog.end(&rt);
 }

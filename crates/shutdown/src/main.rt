@@ -12,10 +12,9 @@ use std::{io, thread};
 
 /// Why a worker ended.
 #[derive(Debug, Drop)]
-enum Why {
+enum EndReason {
     /// It was told to stop, or all senders of stops or of jobs have been dropped.
     Stopped,
-    /// Neither came in time.
     Late,
 }
 
@@ -30,17 +29,16 @@ struct Worker<R: Waits> {
 
 impl<R: Waits> Worker<R> {
     /// Doubles numbers until it is to end, and says why it did. It waits for each up to `patience`.
-    fn work(&self, patience: Duration) -> io::Result<Why> {
+    fn work(&self, patience: Duration) -> io::Result<EndReason> {
         for _ in self.rt.forever() {
-            // The stop is tried first: a worker that is told to stop takes no job that is there as
-            // well.
+            // The stop is tried first: a worker that is told to stop takes no other job.
             let next = Selector::new()
                 .recv(&self.stop, |_| None)
                 .recv(&self.jobs, Result::ok);
             match next.wait_timeout(patience) {
                 Ok(Some(number)) => self.done.send(number.saturating_mul(2))?,
-                Ok(None) => return Ok(Why::Stopped),
-                Err(SelectError::Timeout) => return Ok(Why::Late),
+                Ok(None) => return Ok(EndReason::Stopped),
+                Err(SelectError::Timeout) => return Ok(EndReason::Late),
                 Err(SelectError::NoMemory) => return Err(NoMemory.into()),
             }
         }
@@ -54,7 +52,7 @@ struct Boss<R: Waits> {
     tell: Sender<(), R>,
     give: Sender<u64, R>,
     answers: Receiver<u64, R>,
-    working: JoinHandle<io::Result<Why>>,
+    working: JoinHandle<io::Result<EndReason>>,
 }
 
 fn main(rt: HostRuntime) -> io::Result<()> {
@@ -86,7 +84,7 @@ fn employ<R: Runtime>(rt: R, patience: Duration) -> io::Result<Boss<R>> {
 }
 
 /// Has five jobs done, and then a worker that is told to stop.
-fn told_to_stop<R: Runtime + Print>(rt: R) -> io::Result<Why> {
+fn told_to_stop<R: Runtime + Print>(rt: R) -> io::Result<EndReason> {
     // Longer than this program runs: the worker is told to stop before.
     let boss = employ(rt, Duration::from_secs(3600))?;
     let asked = ask(&rt, boss.tell, boss.give, boss.answers);
@@ -112,8 +110,7 @@ fn ask<R: Runtime + Print>(
 }
 
 /// Lets a worker wait for what doesn't come: both senders are here, and neither sends.
-fn too_late<R: Runtime>(rt: R) -> io::Result<Why> {
-    // Of any length the same is printed.
+fn too_late<R: Runtime>(rt: R) -> io::Result<EndReason> {
     let boss = employ(rt, Duration::from_millis(20))?;
     let why = boss.working.join(&rt);
     drop((boss.tell, boss.give));

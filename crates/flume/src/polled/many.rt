@@ -19,13 +19,11 @@ use futures::task::Context;
 use std::alloc::Allocator;
 use std::collections::VecDeque;
 
-// What is left of the list, and what the poll answers. `None`: it waits.
+// What is left of the list, and what the poll answers.
 pub(crate) type SendListPoll<T, A> = (VecDeque<T, A>, Option<Result<(), SendError<T>>>);
 
 impl<T: Drop, R: Waits, A: Allocator + Copy> Shared<T, R, A> {
-    // Polls the receive as `poll` does. If that gives a message it takes at most `more` others
-    // under the same lock. All go into the list, which has room for one; if there is no memory for
-    // more room it takes as many as there is room for.
+    // If the list can't grow, it takes as many as there is room for.
     #[inline(never)]
     pub(crate) fn poll_many(
         &self,
@@ -55,9 +53,7 @@ impl<T: Drop, R: Waits, A: Allocator + Copy> Shared<T, R, A> {
         }
     }
 
-    // Polls the send as `poll` does. Once it has ended well the messages are sent, in order, as
-    // many as the channel takes in, under the same lock. The first that finds no room is the
-    // send's then, and is polled.
+    // The first message that finds no room is the send's then, and is polled.
     #[inline(never)]
     pub(crate) fn poll_sends(
         &self,
@@ -82,7 +78,6 @@ impl<T: Drop, R: Waits, A: Allocator + Copy> Shared<T, R, A> {
         self.poll_list(locked, call, task, cx, messages)
     }
 
-    // Of a channel whose lock was taken, by a send that has ended.
     fn poll_list(
         &self,
         locked: &mut Locked<T, Signal<A>, A>,

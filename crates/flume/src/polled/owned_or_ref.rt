@@ -23,7 +23,6 @@ impl<E> OwnedOrRef<'_, E> {
 }
 
 impl<E: Clone> Clone for OwnedOrRef<'_, E> {
-    // An owned end is cloned, and a borrowed one is the same.
     ghost is_clone = { λ end copy.
         (end_of copy ≡ end_of end) ⊎ E.is_clone (end_of end) (end_of copy) };
 

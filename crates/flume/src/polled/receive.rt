@@ -19,13 +19,12 @@ use futures::task::{Context, Poll};
 use std::alloc::{Allocator, Global};
 use std::fmt;
 
-/// The next message, as a future: `Receiver::recv_async` and `Receiver::into_recv_async`. Ready
-/// with `Ok`: the message. With `Disconnected`: none is there, and all senders have been dropped.
-/// With `NoMemory`: none is there, and there was no memory to wait; it is as it was, parked or not,
-/// and polled again it tries again.
+/// The next message, as a future: `Receiver::recv_async` and `Receiver::into_recv_async`.
+/// `Disconnected`: none is there, and all senders have been dropped. `NoMemory`: none is there, and
+/// there was no memory to wait; polled again it tries again.
 ///
-/// Polled after it was ready, it asks for one message more. Dropped while it waits it takes nothing
-/// with it: a message that it was woken for is left to another receiver.
+/// Polled after it was ready, it asks for one message more. If it is dropped while it waits, a
+/// message that it was woken for is left to another receiver.
 pub struct RecvFut<'a, T, R: Waits, A: Allocator + Copy = Global> {
     receiver: OwnedOrRef<'a, Receiver<T, R, A>>,
     call: PolledReceive,
@@ -33,7 +32,7 @@ pub struct RecvFut<'a, T, R: Waits, A: Allocator + Copy = Global> {
 }
 
 impl<T: Drop, R: Waits, A: Allocator + Copy> Receiver<T, R, A> {
-    /// The next message as a future, which borrows the receiver. Takes no memory.
+    /// The next message as a future that borrows the receiver. Doesn't allocate.
     ///
     /// ```
     /// let (tx, rx) = flume::on(rt).unbounded()?;
@@ -47,7 +46,7 @@ impl<T: Drop, R: Waits, A: Allocator + Copy> Receiver<T, R, A> {
         RecvFut::new(OwnedOrRef::Ref(self), Kind::Plain)
     }
 
-    /// The next message as a future that owns the receiver. Takes no memory.
+    /// The next message as a future that owns the receiver. Doesn't allocate.
     pub fn into_recv_async<'a>(self) -> RecvFut<'a, T, R, A>
         ensures channel { end_of result.receiver ≡ self }
         ensures call { result.call ≡ record { kind = Kind.Plain; call = None } }
@@ -81,8 +80,6 @@ impl<'a, T: Drop, R: Waits, A: Allocator + Copy> RecvFut<'a, T, R, A> {
         &self.receiver
     }
 
-    // Polls it, and if it gives a message takes at most `more` others, into a list that has room
-    // for one. `None`: it waits.
     pub(crate) fn poll_many(
         &mut self,
         cx: &mut Context<'_>,
@@ -115,7 +112,7 @@ impl<'a, T: Drop, R: Waits, A: Allocator + Copy> RecvFut<'a, T, R, A> {
         self.receiver().is_empty()
     }
 
-    /// Whether the channel is bounded, and as many messages are queued as its capacity.
+    /// Whether a bounded channel's queue is at or past its capacity.
     pub fn is_full(&self) -> bool
         ensures made { HasReplied {T = T} {A = A} Step.IsFull (Reply.Truth result) }
     {
@@ -136,8 +133,8 @@ impl<'a, T: Drop, R: Waits, A: Allocator + Copy> RecvFut<'a, T, R, A> {
         self.receiver().capacity()
     }
 
-    /// Whether the channel is disconnected and no message is queued, so that no more will come. It
-    /// doesn't say that this future was ready.
+    /// Whether the channel is disconnected and no message is queued. It doesn't say that this
+    /// future was ready.
     pub fn is_terminated(&self) -> bool
         ensures made { IsTerminated T A result }
     {
@@ -181,7 +178,7 @@ impl<T: Drop, R: Waits, A: Allocator + Copy> fmt::Debug for RecvFut<'_, T, R, A>
 }
 
 impl<T: Drop, R: Waits, A: Allocator + Copy> Drop for RecvFut<'_, T, R, A> {
-    // Its task may be polled once more: the waker that it left is dropped, and that wakes the task.
+    // The waker that it left is dropped, and that wakes its task once more.
     #[inline(always)]
     fn drop(self) {
         let Self {

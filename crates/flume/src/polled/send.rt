@@ -25,12 +25,11 @@ use std::fmt;
 use std::mem::replace;
 
 /// A send, as a future: `Sender::send_async` and `Sender::into_send_async`. Nothing is sent until
-/// it is polled. Ready with `Ok`: the message was taken in. With `Disconnected`: all receivers have
-/// been dropped, and it wasn't. With `NoMemory`: there was no room for it, or no memory to wait.
-/// Both errors give the message back.
+/// it is polled. `Disconnected`: all receivers have been dropped, and the message wasn't taken in.
+/// `NoMemory`: out of memory. Both give the message back.
 ///
-/// After it was ready it answers `Ok`, and does nothing. Dropped while it waits it takes its
-/// message back, and drops it.
+/// After it was ready it answers `Ok`, and does nothing. If it is dropped while it waits, it takes
+/// its message back and drops it.
 pub struct SendFut<'a, T, R: Waits, A: Allocator + Copy = Global> {
     sender: OwnedOrRef<'a, Sender<T, R, A>>,
     send: PolledSend<T>,
@@ -38,7 +37,7 @@ pub struct SendFut<'a, T, R: Waits, A: Allocator + Copy = Global> {
 }
 
 impl<T: Drop, R: Waits, A: Allocator + Copy> Sender<T, R, A> {
-    /// Sends a message as a future, which borrows the sender. Takes no memory.
+    /// Sends a message as a future that borrows the sender. Doesn't allocate.
     ///
     /// ```
     /// let (tx, rx) = flume::on(rt).unbounded()?;
@@ -52,7 +51,7 @@ impl<T: Drop, R: Waits, A: Allocator + Copy> Sender<T, R, A> {
         SendFut::new(OwnedOrRef::Ref(self), PolledSend::Unsent(message))
     }
 
-    /// Sends a message as a future that owns the sender. Takes no memory.
+    /// Sends a message as a future that owns the sender. Doesn't allocate.
     pub fn into_send_async<'a>(self, message: T) -> SendFut<'a, T, R, A>
         ensures channel { end_of result.sender ≡ self }
         ensures message { result.send ≡ PolledSend.Unsent message }
@@ -86,8 +85,7 @@ impl<'a, T: Drop, R: Waits, A: Allocator + Copy> SendFut<'a, T, R, A> {
         &self.sender
     }
 
-    // Sends this message next. One that it holds, or that is blocked, is dropped; one that was
-    // taken in is sent.
+    // A message that it holds, or that is blocked, is dropped.
     pub(crate) fn restart(&mut self, message: T)
         ensures send { self.new.send ≡ PolledSend.Unsent message }
         ensures sender { self.new.sender ≡ self.old.sender }
@@ -98,9 +96,6 @@ impl<'a, T: Drop, R: Waits, A: Allocator + Copy> SendFut<'a, T, R, A> {
         self.send = PolledSend::Unsent(message);
     }
 
-    // Polls it, and once it has ended well sends the messages, as many as the channel takes in. It
-    // goes on with the first that finds no room. What isn't sent stays in the list. `None`: it
-    // waits.
     pub(crate) fn poll_sends(
         &mut self,
         cx: &mut Context<'_>,
@@ -136,7 +131,7 @@ impl<'a, T: Drop, R: Waits, A: Allocator + Copy> SendFut<'a, T, R, A> {
         self.sender().is_empty()
     }
 
-    /// Whether the channel is bounded, and as many messages are queued as its capacity.
+    /// Whether a bounded channel's queue is at or past its capacity.
     pub fn is_full(&self) -> bool
         ensures made { HasReplied {T = T} {A = A} Step.IsFull (Reply.Truth result) }
     {
@@ -170,8 +165,7 @@ impl<T: Drop, R: Waits, A: Allocator + Copy> Future for SendFut<'_, T, R, A> {
 
     ghost can_poll = { λ _. ⊤ };
 
-    // Before it was ready any answer may come: what comes back after it parked came through the
-    // lock, of which no contract knows. `poll` says more of what never parked.
+    // What comes back after it parked came through the lock, of which no contract knows.
     ghost gives = { λ future answer. future.send ≡ Finished → answer ≡ Ok tt };
 
     ghost needs = { λ future source. source ≡ future.task.source.id };
@@ -217,7 +211,7 @@ impl<T: Drop, R: Waits, A: Allocator + Copy> fmt::Debug for SendFut<'_, T, R, A>
 }
 
 impl<T: Drop, R: Waits, A: Allocator + Copy> Drop for SendFut<'_, T, R, A> {
-    // Its task may be polled once more: the waker that it left is dropped, and that wakes the task.
+    // The waker that it left is dropped, and that wakes its task once more.
     #[inline(always)]
     fn drop(self) {
         let Self {

@@ -24,16 +24,16 @@ use std::alloc::{AllocError, Allocator, Global};
 use std::collections::VecDeque;
 use std::fmt;
 
-/// A sender as a sink: `Sender::sink` and `Sender::into_sink`. `start_send` only keeps the message,
-/// and drops one that it kept before and that wasn't sent; each poll, `poll_ready`, `poll_flush` or
-/// `poll_close`, sends it. None of them closes the channel. The errors are those of `SendFut`.
+/// A sender as a sink: `Sender::sink` and `Sender::into_sink`. `start_send` keeps the message, and
+/// drops one that it kept before and that wasn't sent. `poll_ready`, `poll_flush` and `poll_close`
+/// send it; none closes the channel. The errors are those of `SendFut`.
 #[derive(Drop)]
 pub struct SendSink<'a, T, R: Waits, A: Allocator + Copy = Global> {
     kept: SendFut<'a, T, R, A>,
 }
 
 impl<T: Drop, R: Waits, A: Allocator + Copy> Sender<T, R, A> {
-    /// The sender as a sink, which borrows it. Takes no memory.
+    /// The sender as a sink that borrows it. Doesn't allocate.
     ///
     /// ```
     /// let (tx, rx) = flume::on(rt).unbounded()?;
@@ -47,7 +47,7 @@ impl<T: Drop, R: Waits, A: Allocator + Copy> Sender<T, R, A> {
         SendSink::new(OwnedOrRef::Ref(self))
     }
 
-    /// The sender as a sink that owns it. Takes no memory.
+    /// The sender as a sink that owns it. Doesn't allocate.
     pub fn into_sink<'a>(self) -> SendSink<'a, T, R, A>
         ensures channel { end_of result.kept.sender ≡ self }
         ensures nothing_kept { result.kept.send ≡ PolledSend.Finished }
@@ -66,15 +66,12 @@ impl<'a, T: Drop, R: Waits, A: Allocator + Copy> SendSink<'a, T, R, A> {
         }
     }
 
-    /// Polls for these messages to be sent, in order, from the front of the list on, behind one
-    /// that the sink keeps. As many as the channel takes in are sent under one lock. If it is full
-    /// the sink keeps the next one, which blocks as one of `start_send` does; the poll is pending,
-    /// and those behind it stay in the list. Ready with `Ok`: all are sent; the list is empty, and
-    /// without its room.
+    /// Polls for these messages to be sent, in order, behind one that the sink keeps. Ready with
+    /// `Ok`: all are sent, and the list is empty, without its room. Pending: the channel is full;
+    /// the sink keeps the next message, and those behind it stay in the list.
     ///
-    /// The errors are those of `SendFut`. An error has the first message that wasn't sent: the one
-    /// that the sink kept, or one of the list. Those behind it stay in the list, and the sink keeps
-    /// none.
+    /// The errors are those of `SendFut`. An error has the first message that wasn't sent. Those
+    /// behind it stay in the list, and the sink keeps none.
     ///
     /// ```
     /// let (tx, rx) = flume::on(rt).bounded(1)?;
@@ -137,7 +134,7 @@ impl<'a, T: Drop, R: Waits, A: Allocator + Copy> SendSink<'a, T, R, A> {
         self.kept.is_empty()
     }
 
-    /// Whether the channel is bounded, and as many messages are queued as its capacity.
+    /// Whether a bounded channel's queue is at or past its capacity.
     pub fn is_full(&self) -> bool
         ensures made { HasReplied {T = T} {A = A} Step.IsFull (Reply.Truth result) }
     {
@@ -169,7 +166,6 @@ impl<'a, T: Drop, R: Waits, A: Allocator + Copy> SendSink<'a, T, R, A> {
 impl<T: Drop, R: Waits, A: Allocator + Copy> Sink<T> for SendSink<'_, T, R, A> {
     type Error = SendError<T>;
 
-    // All that it was given was sent, or came back, or was dropped.
     ghost is_flushed = { λ sink. sink.kept.send ≡ Finished };
 
     ghost is_closed = { λ sink. sink.kept.send ≡ Finished };
@@ -232,7 +228,6 @@ impl<T: Drop, R: Waits, A: Allocator + Copy> Sink<T> for SendSink<'_, T, R, A> {
 }
 
 impl<T: Drop, R: Waits, A: Allocator + Copy> Clone for SendSink<'_, T, R, A> {
-    // A clone keeps no message.
     ghost is_clone = { λ sink copy. (end_of copy.kept.sender ≡ end_of sink.kept.sender)
         × (copy.kept.send ≡ Finished) };
 

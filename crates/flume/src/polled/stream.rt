@@ -25,9 +25,9 @@ use std::alloc::{AllocError, Allocator, Global};
 use std::fmt;
 use std::mem::replace;
 
-/// The messages of a receiver, one after the other, as a stream: `Receiver::stream` and
-/// `Receiver::into_stream`. `None`: none is there and all senders have been dropped, or, if `fault`
-/// says so, there was no memory to wait. After a `None` there may be more.
+/// The messages of a receiver, as a stream: `Receiver::stream` and `Receiver::into_stream`. `None`:
+/// none is there and all senders have been dropped, or, if `fault` says so, there was no memory to
+/// wait: then there may be more.
 #[derive(Drop)]
 pub struct RecvStream<'a, T, R: Waits, A: Allocator + Copy = Global> {
     next: RecvFut<'a, T, R, A>,
@@ -35,7 +35,7 @@ pub struct RecvStream<'a, T, R: Waits, A: Allocator + Copy = Global> {
 }
 
 impl<T: Drop, R: Waits, A: Allocator + Copy> Receiver<T, R, A> {
-    /// The messages as a stream, which borrows the receiver. Takes no memory.
+    /// The messages as a stream that borrows the receiver. Doesn't allocate.
     ///
     /// ```
     /// let (tx, rx) = flume::on(rt).unbounded()?;
@@ -52,7 +52,7 @@ impl<T: Drop, R: Waits, A: Allocator + Copy> Receiver<T, R, A> {
         RecvStream::new(OwnedOrRef::Ref(self))
     }
 
-    /// The messages as a stream that owns the receiver. Takes no memory.
+    /// The messages as a stream that owns the receiver. Doesn't allocate.
     pub fn into_stream<'a>(self) -> RecvStream<'a, T, R, A>
         ensures channel { end_of result.next.receiver ≡ self }
         ensures call { result.next.call ≡ record { kind = Kind.Stream; call = None } }
@@ -74,15 +74,15 @@ impl<'a, T: Drop, R: Waits, A: Allocator + Copy> RecvStream<'a, T, R, A> {
         }
     }
 
-    /// Whether the last poll, `poll_next` or `poll_recv_many`, gave nothing because memory ran out.
-    /// The stream can be polled on after it.
+    /// Whether the last poll gave nothing because memory ran out. The stream can be polled on after
+    /// it.
     pub fn fault(&self) -> bool
         ensures fault { result ≡ self.now.fault }
     {
         self.fault
     }
 
-    /// An error if `fault` is true, for a program that goes on by `?`.
+    /// `NoMemory` if `fault` is true, for a `?`.
     pub fn ended(&self) -> Result<(), NoMemory>
         ensures no_memory { IsErr result ↔ self.now.fault ≡ true }
     {
@@ -90,13 +90,11 @@ impl<'a, T: Drop, R: Waits, A: Allocator + Copy> RecvStream<'a, T, R, A> {
     }
 
     /// Polls for the messages that are there, at most `most`, and puts them behind what `into`
-    /// holds, in order. Ready with how many. Pending: none is there, and the task is woken when one
-    /// may be. With a `most` of 0 it is ready with 0, and looks for none.
+    /// holds, in order. Ready with how many. If `most` is 0, it is ready with 0.
     ///
-    /// `Disconnected`: none is there, and all senders have been dropped. `NoMemory`: there was no
-    /// room for one message in `into`, or no memory to wait. Both leave `into` as it was, and take
-    /// no message. If there is no memory for more room it takes as many as there is room for, one
-    /// at least.
+    /// `Disconnected`: none is there, and all senders have been dropped. `NoMemory`: `into`
+    /// couldn't grow by one message, or there was no memory to wait. Both leave `into` as it was,
+    /// and take nothing. If `into` can't grow further, it takes as many as there is room for.
     ///
     /// ```
     /// let (tx, rx) = flume::on(rt).unbounded()?;
@@ -182,7 +180,7 @@ impl<'a, T: Drop, R: Waits, A: Allocator + Copy> RecvStream<'a, T, R, A> {
         self.next.is_empty()
     }
 
-    /// Whether the channel is bounded, and as many messages are queued as its capacity.
+    /// Whether a bounded channel's queue is at or past its capacity.
     pub fn is_full(&self) -> bool
         ensures made { HasReplied {T = T} {A = A} Step.IsFull (Reply.Truth result) }
     {
@@ -203,7 +201,7 @@ impl<'a, T: Drop, R: Waits, A: Allocator + Copy> RecvStream<'a, T, R, A> {
         self.next.capacity()
     }
 
-    /// Whether the channel is disconnected and no message is queued, so that no more will come.
+    /// Whether the channel is disconnected and no message is queued.
     pub fn is_terminated(&self) -> bool
         ensures made { IsTerminated T A result }
     {

@@ -37,13 +37,11 @@ pub type WithSends<'a, V, L, T, F, R: Waits, A: Allocator + Copy> = Selector<
 >;
 
 impl<'a, V, L: Arms<V, A> + Drop, A: Allocator + Copy> Selector<'a, V, L, A> {
-    /// Adds an arm for each receiver of the list, in its order, which receives a message. They
-    /// share the mapper, which gets the receiver's place in the list, from 0 on, and what the
-    /// mapper of `recv` gets. The channels have one type of messages and, with those of the arms
-    /// before, one of runtimes.
+    /// Adds an arm as of `recv` for each receiver of the list, in order. They share the mapper,
+    /// which also gets the receiver's place in the list, from 0 on.
     ///
-    /// `NoArm`: the list is empty, and no arm was added before. `NoMemory`: there was none for the
-    /// list of arms. The selector is dropped then, and no arm was started.
+    /// `NoArm`: the list is empty, and no arm was added before. `NoMemory`: the list of arms
+    /// couldn't be allocated. Both drop the selector.
     ///
     /// ```
     /// let (_one, first) = flume::on(rt).unbounded::<u64>()?;
@@ -81,13 +79,10 @@ impl<'a, V, L: Arms<V, A> + Drop, A: Allocator + Copy> Selector<'a, V, L, A> {
         Ok(self.with_each(arms, mapper, count, (rt, alloc)))
     }
 
-    /// Adds an arm for each pair of the list, in its order, which sends the pair's message by the
-    /// pair's sender. They share the mapper, which gets the pair's place in the list, from 0 on,
-    /// and what the mapper of `send` gets. At most one of the arms completes; the messages of the
-    /// others go as that of `send`. The channels have one type of messages and, with those of the
-    /// arms before, one of runtimes.
+    /// Adds an arm as of `send` for each pair of the list, in order. They share the mapper, which
+    /// also gets the pair's place in the list, from 0 on.
     ///
-    /// `NoArm` and `NoMemory` as of `recv_each`; the messages are dropped too.
+    /// `NoArm` and `NoMemory` as of `recv_each`; both drop the messages too.
     ///
     /// ```
     /// let (one, _first) = flume::on(rt).bounded::<u64>(0)?;

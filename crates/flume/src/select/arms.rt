@@ -1,4 +1,4 @@
-//! The arms of a selector: one, and a list of them in a type.
+//! The arms of a selector, listed in a type.
 ghost use Rattle.std.specs.Prelude.{◌≡◌, ◌<◌, ◌↔◌, ℕ, Bool, IfSome, IsSome, is_some};
 ghost use Rattle.flume_calls.specs.declared.gates.select.ArmNext.{ArmNext};
 
@@ -9,44 +9,41 @@ use std::alloc::Allocator;
 use std::cmp::max;
 use std::sync::Arc;
 
-/// What a selection does to one of its arms, `SendArm` or `RecvArm`: its turns, and its withdrawal.
+/// What a selection does to one of its arms, `SendArm` or `RecvArm`.
 pub trait ArmTurns<A: Allocator + Copy> {
     /// Of its channel.
     type Runtime: Waits;
 
-    /// Of its result alone; `()`, if the arm is one of a list.
+    /// `()` if the arm is one of a list.
     type Mapper;
 
     ghost mapper: { Self → Self.Mapper };
 
-    // The arm has completed, and holds its result.
     ghost has_completed: { Self → Type 0 };
 
-    // Whether the arm may park, the arm before a turn, what that leads to, and the arm after.
+    // With whether the arm may park.
     ghost turns: { Bool → Self → ArmNext → Self → Type 0 };
 
-    // The arm before its withdrawal, and after.
     ghost withdraws: { Self → Self → Type 0 };
 
     /// The runtime of its channel.
     fn runtime(&self) -> Self::Runtime;
 
-    /// Where its channel takes memory from.
+    /// The allocator of its channel.
     fn alloc(&self) -> A;
 
     /// How often a call on its channel checks for its wake before it sleeps.
     fn checks(&self) -> u32;
 
-    /// One step of its channel: it is started, or polled if it was started before. If it parks it
-    /// leaves a copy of the parker, with its number. With no parker an arm that isn't started is
-    /// only tried: it stays so if it would have to wait.
+    /// Starts the arm, or polls it if it was started before. If it parks it leaves a copy of the
+    /// parker, with its number. Without a parker it doesn't park, and stays as it was if it would
+    /// have to wait.
     fn turn(&mut self, number: usize, parker: Option<&Arc<Parker, A>>) -> ArmNext
         ensures does { turns (is_some parker.entry) self.old result self.new }
         ensures completed { result ≡ ArmNext.Completed → has_completed self.new }
         ensures mapper { mapper self.new ≡ mapper self.old };
 
-    /// Takes it out of its channel, by one step, if it is parked. What it would have sent is
-    /// dropped.
+    /// Takes it out of its channel if it is parked. A message that comes back is dropped.
     fn withdraw(&mut self)
         ensures does { withdraws self.old self.new }
         ensures completed { has_completed self.old → has_completed self.new }
@@ -57,14 +54,13 @@ pub trait ArmTurns<A: Allocator + Copy> {
 pub trait Arm<V, A: Allocator + Copy>: ArmTurns<A> {
     ghost can_map: { Self.Mapper → Type 0 };
 
-    // To a result of the arm.
+    // What the mapper answers to some result.
     ghost maps: { Self.Mapper → V → Type 0 };
 
-    // To the result that the arm holds.
+    // What it answers to the arm's own result.
     ghost answers: { Self → V → Type 0 };
 
-    /// What its mapper answers to its result. `None`: it hasn't completed, and the mapper wasn't
-    /// called.
+    /// What its mapper answers to its result. `None`: it hasn't completed.
     fn value(self) -> Option<V>
         requires can_map { can_map (Self.mapper self) }
         ensures completed { Self.has_completed self ↔ IsSome result }
@@ -72,14 +68,12 @@ pub trait Arm<V, A: Allocator + Copy>: ArmTurns<A> {
         ensures maps { IfSome result (maps (Self.mapper self)) };
 }
 
-/// An arm out of a list. Its mapper is one for all of the list, and gets the arm's place there too.
+/// An arm of a list, whose arms share a mapper, which also gets the arm's place.
 pub trait ListedArm<V, F, A: Allocator + Copy>: ArmTurns<A> {
     ghost can_map: { F → Type 0 };
 
-    // At this place, to a result of the arm.
     ghost maps: { F → ℕ → V → Type 0 };
 
-    // At this place, to the result that the arm holds.
     ghost answers: { Self → F → ℕ → V → Type 0 };
 
     /// As `Arm::value`, with the arm's place.
@@ -90,10 +84,9 @@ pub trait ListedArm<V, F, A: Allocator + Copy>: ArmTurns<A> {
         ensures maps { IfSome result (maps mapper place) };
 }
 
-/// The arms of a selector, numbered from 0 in the order in which they were added: none, or those
-/// before and one more.
+/// The arms of a selector, numbered from 0 in the order in which they were added.
 pub trait Arms<V, A: Allocator + Copy> {
-    /// Their mappers, and how many arms each list has: what nothing changes.
+    /// Their mappers, and how many arms each list has.
     type Mappers;
 
     ghost mappers: { Self → Self.Mappers };
@@ -102,12 +95,10 @@ pub trait Arms<V, A: Allocator + Copy> {
 
     ghost can_map: { Self.Mappers → Type 0 };
 
-    // What the mapper of the arm with this number answers to a result of the arm.
     ghost maps: { Self.Mappers → ℕ → V → Type 0 };
 
     ghost has_completed: { Self → ℕ → Type 0 };
 
-    // By the number of the arm, the rest as of one arm.
     ghost turns: { Bool → Self → ℕ → ArmNext → Self → Type 0 };
 
     ghost withdraws: { Self → ℕ → Self → Type 0 };
@@ -119,36 +110,37 @@ pub trait Arms<V, A: Allocator + Copy> {
     /// The greatest of their numbers of checks.
     fn checks(&self) -> u32;
 
-    /// The turn of the arm with this number. If there is none, nothing is done.
+    /// The turn of the arm with this number, if there is one.
     fn turn(&mut self, arm: usize, parker: Option<&Arc<Parker, A>>) -> ArmNext
         ensures does { turns (is_some parker.entry) self.old arm result self.new }
         ensures completed { result ≡ ArmNext.Completed → has_completed self.new arm }
         ensures mappers { mappers self.new ≡ mappers self.old };
 
-    /// Withdraws the arm with this number. If there is none, nothing is done.
+    /// Withdraws the arm with this number, if there is one.
     fn withdraw(&mut self, arm: usize)
         ensures does { withdraws self.old arm self.new }
         ensures completed { (other : ℕ) → has_completed self.old other
             → has_completed self.new other }
         ensures mappers { mappers self.new ≡ mappers self.old };
 
-    /// What the mapper of the arm with this number answers to its result. `None`: there is no such
-    /// arm, or it hasn't completed.
+    /// What the mapper of the arm with this number answers. `None`: there is no such arm, or it
+    /// hasn't completed.
     fn value(self, arm: usize) -> Option<V>
         requires can_map { can_map (mappers self) }
         ensures completed { has_completed self arm ↔ IsSome result }
         ensures maps { IfSome result (maps (mappers self) arm) };
 }
 
-/// A list of arms that can be waited for, since there is one. All their channels have one type of
-/// allocator: the parker comes from one of them, and a copy of it stands in each.
+/// Arms that can be waited for, since there is one. All their channels have one type of allocator,
+/// since they share the parker.
 pub trait AtLeastOneArm<V, A: Allocator + Copy>: Arms<V, A> {
     /// Of the last arm's channel.
     type Runtime: Waits;
 
-    /// Of the last arm's channel.
+    /// The runtime of the last arm's channel.
     fn runtime(&self) -> Self::Runtime;
 
+    /// The allocator of the last arm's channel.
     fn alloc(&self) -> A;
 
     /// How many arms there are.
@@ -157,10 +149,9 @@ pub trait AtLeastOneArm<V, A: Allocator + Copy>: Arms<V, A> {
         ensures has_one { 0 < result };
 }
 
-/// Arms whose channels have a runtime value of this type. Arms of a list can be added to these.
+/// Arms to which those of a list can be added: their channels have this type of runtime.
 pub trait ArmsOn<R: Waits, V, A: Allocator + Copy>: Arms<V, A> {
-    /// The runtime of the last arm's channel, and where that takes memory from. `None`: there is no
-    /// arm.
+    /// The runtime and the allocator of the last arm's channel. `None`: there is no arm.
     fn last(&self) -> Option<(R, A)>
         ensures last { IsSome result ↔ (0 < Self.count (Self.mappers self.now)) };
 }
@@ -222,7 +213,6 @@ impl<V, A: Allocator + Copy, L: Arms<V, A> + Drop, C: Arm<V, A> + Drop> Arms<V, 
         ByNumber (L.count (L.mappers arms.0)) (L.has_completed arms.0)
         (C.has_completed arms.1) };
 
-    // The other arms are as they were.
     ghost turns = { λ parks old arm next new.
         ByNumber (L.count (L.mappers old.0))
         (λ n. L.turns parks old.0 n next new.0 × (new.1 ≡ old.1))

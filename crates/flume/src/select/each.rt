@@ -1,4 +1,4 @@
-//! The arms of a list: one for each of several ends of one type.
+//! The arms of a list.
 ghost use Rattle.std.specs.Prelude.{◌≡◌, ◌<◌};
 ghost use Rattle.std.specs.NonZero.{non_zero_usize_get};
 ghost use Rattle.flume_calls.specs.declared.gates.select.ArmNext.TheVariants.{NoMemory};
@@ -13,8 +13,7 @@ use std::cmp::max;
 use std::num::NonZeroUsize;
 use std::sync::Arc;
 
-/// The arms before, and one for each end of a list, all of which share a mapper:
-/// `Selector::recv_each` and `Selector::send_each`.
+/// The arms before, and those of a list: `Selector::recv_each` and `Selector::send_each`.
 #[derive(Drop)]
 pub struct Each<L, C, F, R: Waits, A: Allocator + Copy = Global> {
     pub(crate) before: L,
@@ -22,7 +21,6 @@ pub struct Each<L, C, F, R: Waits, A: Allocator + Copy = Global> {
     pub(crate) mapper: F,
     // With those before.
     pub(crate) count: NonZeroUsize,
-    // Of one arm's channel, as `alloc`.
     pub(crate) rt: R,
     pub(crate) alloc: A,
 }

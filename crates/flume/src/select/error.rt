@@ -13,9 +13,9 @@ use std::{fmt, io};
 /// No arms of a list were added to a selector.
 #[derive(Clone, Copy, Debug, PartialEq, Eq, Drop)]
 pub enum EachError {
-    /// The list is empty, and no arm was added before: there is nothing to wait for.
+    /// The list is empty, and no arm was added before.
     NoArm,
-    /// Memory was wanted, and there was none.
+    /// An allocation failed.
     NoMemory,
 }
 
@@ -30,7 +30,7 @@ impl EachError {
     }
 }
 
-/// One text for each case, padded and cut as text is.
+/// Padded and cut as text is.
 impl fmt::Display for EachError {
     ghost output = { λ e. Some (each_text e) };
 
@@ -51,7 +51,6 @@ impl From<AllocError> for EachError {
     }
 }
 
-/// Of the kind `InvalidInput` if there is no arm, and `OutOfMemory` if there was none.
 impl From<EachError> for io::Error {
     ghost from_gives = { λ e error. error_kind error ≡ each_kind e };
 

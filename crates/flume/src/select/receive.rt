@@ -25,13 +25,13 @@ use std::sync::Arc;
 enum ReceiveState<T> {
     Unstarted,
     Parked(RecvCall),
-    // With the message; `None`: none is there, and the channel is closed.
+    // `None`: the channel is closed.
     Completed(Option<T>),
-    // Withdrawn, or refused because memory ran out.
+    // Withdrawn, or out of memory.
     Finished,
 }
 
-/// A receive, and what is to be made of its result: `Selector::recv`.
+/// An arm that receives: `Selector::recv`.
 #[derive(Drop)]
 pub struct RecvArm<'a, T, F, R: Waits, A: Allocator + Copy = Global> {
     receiver: &'a Receiver<T, R, A>,
@@ -87,7 +87,6 @@ impl<'a, T: Drop, F: Drop, R: Waits, A: Allocator + Copy> RecvArm<'a, T, F, R, A
         answer
     }
 
-    // A message that it gets so is dropped.
     fn leave(&self, call: RecvCall)
         ensures withdrawn { HasWithdrawnReceive T A call }
     {

@@ -24,13 +24,13 @@ use std::sync::Arc;
 enum SendState<T> {
     Unstarted(T),
     Parked(SendCall),
-    // The message was taken in, or comes back since the channel is closed.
+    // `Err`: the channel is closed.
     Completed(Result<(), T>),
-    // Withdrawn, or refused because memory ran out.
+    // Withdrawn, or out of memory.
     Finished,
 }
 
-/// A send of one message, and what is to be made of its result: `Selector::send`.
+/// An arm that sends: `Selector::send`.
 #[derive(Drop)]
 pub struct SendArm<'a, T, F, R: Waits, A: Allocator + Copy = Global> {
     sender: &'a Sender<T, R, A>,

@@ -15,8 +15,7 @@ use flume_model::step::{Kind, Reply, Step};
 use std::alloc::Allocator;
 use std::marker::Model;
 
-/// A parked receive, under its ticket. Each turn is one step of the channel, and says what comes
-/// next; the caller waits between turns.
+/// A parked receive. The caller waits between its turns.
 #[derive(Drop)]
 pub struct RecvCall {
     ticket: u64,
@@ -39,13 +38,13 @@ pub enum RecvNext<T> {
     NeedSignal,
     /// The call is parked.
     Park(RecvCall),
-    /// Out of memory; the call is parked as before. No turn of a `Chan` answers this: it is for a
-    /// gate over another channel, as the abstract channel allows it.
+    /// Out of memory; the call is parked as before. No turn of a `Chan` answers this, but the
+    /// abstract channel allows it.
     Refused(RecvCall),
 }
 
 impl RecvCall {
-    /// The ticket under which it is parked.
+    /// Its ticket.
     #[inline(always)]
     pub fn ticket(&self) -> u64
         ensures ticket { result ≡ self.now }
@@ -53,10 +52,9 @@ impl RecvCall {
         self.ticket
     }
 
-    /// The first turn, `Chan::try_recv`: asks for the message at the front, and doesn't park.
-    /// `Done(Ok)`: the message. `NeedSignal`: there is none, and the channel is open.
-    /// `Done(Err(Disconnected))`: there is none, and the channel is closed. The last two leave the
-    /// channel as it was. Doesn't allocate.
+    /// The first turn, `Chan::try_recv`, which doesn't park. `Done(Ok)`: the message at the front.
+    /// `NeedSignal`: there is none in an open channel. `Done(Err(Disconnected))`: there is none in
+    /// a closed one. The last two change nothing. Doesn't allocate.
     ///
     /// ```
     /// let mut chan: Chan<u64, u32> = Chan::new(alloc, None);
@@ -68,17 +66,16 @@ impl RecvCall {
     pub fn first<T: Drop, S: Drop, A: Allocator + Copy>(chan: &mut Chan<T, S, A>) -> RecvNext<T>
         ensures turn { Turned {A = A} Step.TryRecv after_try_recv chan.old chan.new result }
         ensures answers { IsFirst result }
-        ensures served { IsntRefused result }
+        ensures not_refused { IsntRefused result }
         ensures outcome { FirstReceiveOutcome chan.old chan.new result }
     {
         FirstReceive.apply(chan)
     }
 
-    /// The turn that may park, `Chan::recv`: asks for the message at the front, with a kind and a
-    /// signal in case there is none. `Done(Ok)`: the message. `Park`: a receiver of this kind waits
-    /// behind all others, under the call's ticket and with the signal. `Done(Err(Disconnected))`:
-    /// no message is left, and the channel is closed. `Done(Err(NoMemory))`: there was no room to
-    /// park, or every ticket was issued. Both errors leave the channel as it was.
+    /// The turn that may park, `Chan::recv`. `Done(Ok)`: the message at the front. `Park`: a
+    /// receiver of this kind waits behind all others, with the signal. `Done(Err(Disconnected))`:
+    /// no message, and the channel is closed. `Done(Err(NoMemory))`: out of memory, or every ticket
+    /// was issued. Both errors change nothing.
     ///
     /// ```
     /// let mut chan: Chan<u64, u32> = Chan::new(alloc, None);
@@ -98,11 +95,11 @@ impl RecvCall {
 
     /// A later turn: `Chan::poll`, or `Chan::withdraw` if `late` says that the deadline is reached.
     /// `Done(Ok)`: the message that filled it, or else the front: before the deadline if it doesn't
-    /// block or was woken, at the deadline if it blocks. `Park`: not late, and it waits on; a
-    /// signal given here replaces the one that the call left. `Done(Err(Disconnected))`: no message
-    /// for it, and the channel is closed, or the ticket is spent. `Done(Err(Timeout))`: late, no
-    /// message for it, and the channel is open. Either error, if late, passes on a wake that it
-    /// had. All but `Park` spend the ticket. Doesn't allocate.
+    /// block or was woken, at the deadline if it blocks. `Park`: it waits on, and a signal given
+    /// here replaces the one that it left. `Done(Err(Disconnected))`: no message for it in a closed
+    /// channel, or the ticket is spent. `Done(Err(Timeout))`: late, and no message for it in an
+    /// open channel. A late error passes on a wake that it had. All but `Park` spend the ticket.
+    /// Doesn't allocate.
     ///
     /// ```
     /// let mut chan: Chan<u64, u32> = Chan::new(alloc, None);
@@ -120,7 +117,7 @@ impl RecvCall {
         ensures turn { Turned {A = A} (step_of_parked_receive self late)
             (after_parked_receive self late) chan.old chan.new result }
         ensures answers { IsAgain self late result }
-        ensures served { IsntRefused result }
+        ensures not_refused { IsntRefused result }
         ensures outcome { AgainReceiveOutcome self late signal chan.old chan.new result }
     {
         let call = self;
@@ -128,7 +125,7 @@ impl RecvCall {
     }
 }
 
-/// A receive's first turn, as a value: `RecvCall::first`.
+/// `RecvCall::first`, as a value.
 #[derive(Clone, Copy, Drop)]
 pub struct FirstReceive;
 
@@ -155,12 +152,12 @@ impl<T: Drop, S: Drop, A: Allocator + Copy> Turn<T, S, A> for FirstReceive {
     }
 }
 
-/// A receive's turn that may park, as a value: `RecvCall::park`.
+/// `RecvCall::park`, as a value.
 #[derive(Drop)]
 pub struct ParkReceive<S> {
-    /// The kind of receiver that parks if there is no message.
+    /// The kind of receiver that parks.
     pub kind: Kind,
-    /// What is left then.
+    /// What it leaves then.
     pub signal: S,
 }
 
@@ -187,14 +184,14 @@ impl<T: Drop, S: Drop, A: Allocator + Copy> Turn<T, S, A> for ParkReceive<S> {
     }
 }
 
-/// A parked receive's turn, as a value: `RecvCall::again`.
+/// `RecvCall::again`, as a value.
 #[derive(Drop)]
 pub struct AgainReceive<S> {
     /// The receive.
     pub call: RecvCall,
     /// Whether its deadline is reached.
     pub late: bool,
-    /// What is to replace the signal that it left.
+    /// Replaces the signal that it left.
     pub signal: Option<S>,
 }
 
@@ -210,9 +207,7 @@ impl<T: Drop, S: Drop, A: Allocator + Copy> Turn<T, S, A> for AgainReceive<S> {
 
     ghost answers = { λ turn next. IsAgain turn.call turn.late next × IsntRefused next };
 
-    // A call keeps its ticket until it is spent, so an unknown ticket comes only of a call that is
-    // asked of another channel than the one in which it parked. It ends the receive as a closed
-    // channel does.
+    // `NoTicket` comes only if the call is asked of another channel than the one it parked in.
     fn apply(self, chan: &mut Chan<T, S, A>) -> RecvNext<T> {
         let AgainReceive { call, late, signal } = self;
         if late {

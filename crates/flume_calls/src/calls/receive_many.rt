@@ -1,14 +1,14 @@
-//! Receives of many messages: what is there is taken with nothing between.
+//! Receives of many messages.
 ghost use Rattle.std.specs.Prelude.{◌≡◌, [], ◌+◌, ◌<◌, ◌≤◌, Ok, IfOk, IfErr};
 ghost use Rattle.std.specs.Prelude.{vec_len, vec_capacity};
 ghost use Rattle.flume_model.specs.declared.step.Step.TheVariants.{TryRecv};
 ghost use Rattle.flume_state.specs.State.{message_count};
-ghost use Rattle.flume_calls.specs.ManyReceives.{Takes, TakesAll, AnswersMore, IsWithin};
-ghost use Rattle.flume_calls.specs.ManyReceives.{MoreTable, FirstManyTable, AndMore};
-ghost use Rattle.flume_calls.specs.ManyReceives.{given, with_more};
+ghost use Rattle.flume_calls.specs.ManyReceives.{Takes, TakesAll, AnswersMore, IsAtMost};
+ghost use Rattle.flume_calls.specs.ManyReceives.{MoreTable, FirstManyTable, TurnAndMore};
+ghost use Rattle.flume_calls.specs.ManyReceives.{given_by, with_more};
 ghost use Rattle.flume_calls.specs.ManyReceives.{FirstManyOutcome};
 ghost use Rattle.flume_calls.specs.ReceiveTurns as receive;
-ghost use Rattle.flume_calls.specs.Batches.{IsBatch, both_lead, by_steps};
+ghost use Rattle.flume_calls.specs.Batches.{IsBatch, join_steps, by_steps};
 
 use super::receive::RecvNext;
 use crate::turn::Turn;
@@ -20,18 +20,19 @@ use std::alloc::Allocator;
 /// What a receive of many messages leads to.
 #[derive(Drop)]
 pub struct ManyNext<T, A: Allocator> {
-    /// What it was given, and behind it each message that it took, in order.
+    /// What it was given, and behind it the messages that it took.
     pub into: Vec<T, A>,
     /// As of a receive of one message; `Done(Ok)` says how many came.
     pub next: RecvNext<usize>,
 }
 
-/// A first receive of many: takes what is there, and doesn't park.
+/// A first receive of many, which doesn't park. `Done(Err(NoMemory))`: the list couldn't grow, and
+/// nothing was taken.
 #[derive(Drop)]
 pub struct FirstReceiveMany<T, A: Allocator> {
     /// What the messages are put behind.
     pub into: Vec<T, A>,
-    /// How many it takes at the most.
+    /// How many it takes at most.
     pub most: usize,
 }
 
@@ -45,7 +46,7 @@ impl<T: Drop, S: Drop, A: Allocator + Copy> Turn<T, S, A> for FirstReceiveMany<T
     ghost leads = { λ _ old new answer does. by_steps does.0 };
 
     ghost answers = { λ turn answer.
-        receive.IsFirst answer.next × IsWithin turn.most answer.next };
+        receive.IsFirst answer.next × IsAtMost turn.most answer.next };
 
     fn apply(self, chan: &mut Chan<T, S, A>) -> ManyNext<T, A> {
         let FirstReceiveMany { mut into, most } = self;
@@ -68,12 +69,13 @@ impl<T: Drop, S: Drop, A: Allocator + Copy> Turn<T, S, A> for FirstReceiveMany<T
     }
 }
 
-/// Takes what is there, and nothing if none is there: for a call that has a message already.
+/// Takes what is there, for a call that has a message already. Answers how many. If the list can't
+/// grow, it takes as many as there is room for.
 #[derive(Drop)]
 pub struct MoreReceives<T, A: Allocator> {
     /// What the messages are put behind.
     pub into: Vec<T, A>,
-    /// How many it takes at the most.
+    /// How many it takes at most.
     pub most: usize,
 }
 
@@ -96,14 +98,14 @@ impl<T: Drop, S: Drop, A: Allocator + Copy> Turn<T, S, A> for MoreReceives<T, A>
     }
 }
 
-/// A turn of a receive, and then, if it gave a message, what else is there.
+/// A turn of a receive, and if it gave a message, then [`MoreReceives`].
 #[derive(Drop)]
 pub struct ReceiveAndMore<C, T, A: Allocator> {
     /// The turn.
     pub turn: C,
-    /// What the messages are put behind. It has room for one.
+    /// What the messages are put behind.
     pub into: Vec<T, A>,
-    /// How many it takes at the most besides the one that the turn gives.
+    /// How many it takes at most besides the one that the turn gives.
     pub more: usize,
     pub ghost room: { vec_len into < vec_capacity into },
 }
@@ -117,11 +119,11 @@ where
 {
     type Answer = ManyNext<T, A>;
 
-    ghost does = { λ turn old new answer. AndMore A (C.does turn.turn) turn.into turn.more
+    ghost does = { λ turn old new answer. TurnAndMore A (C.does turn.turn) turn.into turn.more
         old new answer.into answer.next };
 
     ghost leads = { λ turn old new answer does.
-        both_lead (C.leads turn.turn old does.between does.first does.turn).1 does.led };
+        join_steps (C.leads turn.turn old does.between does.first does.turn).1 does.reachable };
 
     ghost answers = { λ turn answer. AnswersMore (C.answers turn.turn) turn.into
         turn.more answer.into answer.next };
@@ -146,7 +148,7 @@ where
 
 fn message_of<T: Drop>(turn: RecvNext<T>) -> Result<T, RecvNext<usize>>
     ensures message { IfOk result (λ message. turn ≡ RecvNext.Done (Ok message)) }
-    ensures none { IfErr result (λ next. (given turn ≡ []) × (next ≡ with_more 0 turn)) }
+    ensures none { IfErr result (λ next. (given_by turn ≡ []) × (next ≡ with_more 0 turn)) }
 {
     match turn {
         RecvNext::Done(Ok(message)) => Ok(message),
@@ -157,7 +159,6 @@ fn message_of<T: Drop>(turn: RecvNext<T>) -> Result<T, RecvNext<usize>>
     }
 }
 
-// Takes what is there, at most `more`: as many as there is room for, if the list can't grow.
 fn take_more<T: Drop, S: Drop, A: Allocator + Copy>(
     chan: &mut Chan<T, S, A>,
     into: &mut Vec<T, A>,

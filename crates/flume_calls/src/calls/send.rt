@@ -15,8 +15,7 @@ use flume_model::step::{Reply, Step};
 use std::alloc::Allocator;
 use std::marker::Model;
 
-/// A parked send, under its ticket. Each turn is one step of the channel, and says what comes next;
-/// the caller waits between turns.
+/// A parked send. The caller waits between its turns.
 #[derive(Drop)]
 pub struct SendCall {
     ticket: u64,
@@ -35,14 +34,14 @@ impl Model for SendCall {
 pub enum SendNext<T> {
     /// The call has ended.
     Done(Result<(), SendTimeoutError<T>>),
-    /// The channel is full, and nothing was done: the call may park, with this message.
+    /// The channel is full, and nothing was done: the call may park.
     NeedSignal(T),
     /// The call is parked.
     Park(SendCall),
 }
 
 impl SendCall {
-    /// The ticket under which it is parked.
+    /// Its ticket.
     #[inline(always)]
     pub fn ticket(&self) -> u64
         ensures ticket { result ≡ self.now }
@@ -50,10 +49,10 @@ impl SendCall {
         self.ticket
     }
 
-    /// The first turn, `Chan::try_send`: offers the message, and doesn't park. `Done(Ok)`: it was
-    /// taken in. `NeedSignal`: the channel is full; the message comes back, for `park`.
-    /// `Done(Err(Disconnected))`: the channel is closed. `Done(Err(NoMemory))`: the queue couldn't
-    /// grow. The last three hand the message back and leave the channel as it was.
+    /// The first turn, `Chan::try_send`, which doesn't park. `Done(Ok)`: the message was taken in.
+    /// `NeedSignal`: the channel is full. `Done(Err(Disconnected))`: it is closed.
+    /// `Done(Err(NoMemory))`: the queue couldn't grow. The last three hand the message back and
+    /// change nothing.
     ///
     /// ```
     /// let mut chan: Chan<u64, u32> = Chan::new(alloc, Some(1));
@@ -73,11 +72,10 @@ impl SendCall {
         FirstSend { message }.apply(chan)
     }
 
-    /// The turn that may park, `Chan::send`: offers the message, with a signal in case it blocks.
-    /// `Done(Ok)`: it was taken in. `Park`: it is blocked, under the call's ticket and with the
-    /// signal. `Done(Err(Disconnected))`: the channel is closed. `Done(Err(NoMemory))`: there was
-    /// no room, or every ticket was issued. Both errors hand the message back and leave the channel
-    /// as it was.
+    /// The turn that may park, `Chan::send`. `Done(Ok)`: the message was taken in. `Park`: it is
+    /// blocked, with the signal. `Done(Err(Disconnected))`: the channel is closed.
+    /// `Done(Err(NoMemory))`: out of memory, or every ticket was issued. Both errors hand the
+    /// message back and change nothing.
     ///
     /// ```
     /// let mut chan: Chan<u64, u32> = Chan::new(alloc, Some(0));
@@ -96,11 +94,10 @@ impl SendCall {
     }
 
     /// A later turn: `Chan::poll_send`, or `Chan::withdraw_send` if `late` says that the deadline
-    /// is reached. `Done(Ok)`: the message was taken in, whatever `late` says, or the ticket is
-    /// spent. `Park`: still blocked, and not late; a signal given here replaces the one that the
-    /// call left. `Done(Err(Disconnected))`: still blocked, and the channel is closed.
-    /// `Done(Err(Timeout))`: still blocked in an open channel, and late. Both errors hand back the
-    /// message that was blocked, and spend the ticket. Doesn't allocate.
+    /// is reached. `Done(Ok)`: the message was taken in, or the ticket is spent. `Park`: still
+    /// blocked, and a signal given here replaces the one that it left. `Done(Err(Disconnected))`:
+    /// still blocked in a closed channel. `Done(Err(Timeout))`: late, and still blocked in an open
+    /// one. Both errors hand the message back. All but `Park` spend the ticket. Doesn't allocate.
     ///
     /// ```
     /// let mut chan: Chan<u64, u32> = Chan::new(alloc, Some(0));
@@ -123,8 +120,7 @@ impl SendCall {
         AgainSend { call, late, signal }.apply(chan)
     }
 
-    /// Whether it is blocked, in an open channel: `again`, not late, answers `Park` then. No step;
-    /// doesn't allocate.
+    /// Whether it is blocked in an open channel. No step; doesn't allocate.
     #[inline(always)]
     pub fn would_wait<T: Drop, S: Drop, A: Allocator + Copy>(&self, chan: &Chan<T, S, A>) -> bool
         ensures waits { IsTrue result ↔ IsHeldBack self.now chan.now }
@@ -133,7 +129,7 @@ impl SendCall {
     }
 }
 
-/// A send's first turn, as a value: `SendCall::first`.
+/// `SendCall::first`, as a value.
 #[derive(Drop)]
 pub struct FirstSend<T> {
     /// What is offered.
@@ -165,12 +161,12 @@ impl<T: Drop, S: Drop, A: Allocator + Copy> Turn<T, S, A> for FirstSend<T> {
     }
 }
 
-/// A send's turn that may park, as a value: `SendCall::park`.
+/// `SendCall::park`, as a value.
 #[derive(Drop)]
 pub struct ParkSend<T, S> {
     /// What is offered.
     pub message: T,
-    /// What is left if it blocks.
+    /// What it leaves if it blocks.
     pub signal: S,
 }
 
@@ -200,14 +196,14 @@ impl<T: Drop, S: Drop, A: Allocator + Copy> Turn<T, S, A> for ParkSend<T, S> {
     }
 }
 
-/// A parked send's turn, as a value: `SendCall::again`.
+/// `SendCall::again`, as a value.
 #[derive(Drop)]
 pub struct AgainSend<S> {
     /// The send.
     pub call: SendCall,
     /// Whether its deadline is reached.
     pub late: bool,
-    /// What is to replace the signal that it left.
+    /// Replaces the signal that it left.
     pub signal: Option<S>,
 }
 
@@ -222,9 +218,8 @@ impl<T: Drop, S: Drop, A: Allocator + Copy> Turn<T, S, A> for AgainSend<S> {
 
     ghost answers = { λ turn. IsAgain turn.call turn.late };
 
-    // A call keeps its ticket until it is spent, so an unknown ticket comes only of a call that is
-    // asked of another channel than the one in which it parked. It ends the send with `Ok`: each
-    // error of a send hands its message back, and here there is none.
+    // `NoTicket` comes only if the call is asked of another channel than the one it parked in. The
+    // answer is `Ok`, since there is no message to hand back.
     fn apply(self, chan: &mut Chan<T, S, A>) -> SendNext<T> {
         let AgainSend { call, late, signal } = self;
         if late {

@@ -1,4 +1,4 @@
-//! The sends of a list of messages, one after another.
+//! The sends of a list of messages.
 ghost use Rattle.std.specs.Prelude.{◌≡◌, ◌∷◌, ◌<◌};
 ghost use Rattle.std.specs.VecDeque.{deque_len, deque_capacity};
 ghost use Rattle.flume_calls.specs.Batches.{IsBatch, by_steps};
@@ -10,11 +10,9 @@ use flume_model::step::Reply;
 use std::alloc::Allocator;
 use std::collections::VecDeque;
 
-/// Offers these messages in order by `Chan::try_send`, up to the first that isn't taken in. `Ok`:
-/// all were taken in. `Full`, `Disconnected`, `NoMemory`: the last step had this reply, and left
-/// the channel as it was; the error has the messages that weren't taken in, in order, the refused
-/// one first. `NoMemory` comes only if the channel had no room for one more. An empty list makes no
-/// step. Allocates only in the channel.
+/// Offers these messages in order by `Chan::try_send`, up to the first that is refused. `Full`,
+/// `Disconnected`, `NoMemory`: why it was refused. The error has the messages that weren't taken
+/// in, in order. An empty list makes no step. Allocates only in the channel.
 ///
 /// ```
 /// let messages = VecDeque::from_vec(vec![in alloc; 1, 2, 3]?);

@@ -9,9 +9,8 @@ use crate::calls::{RecvCall, RecvNext};
 use flume_core::error::RecvTimeoutError::{self, NoMemory};
 use std::sync::Wait;
 
-/// The way of a blocking receive of messages `T` to its channel. Each turn has a relation, which
-/// says what it does from the gate before to the gate after, and what it answers. The turns of a
-/// call that waits can rely on `is_armed`, which holds from `arm` on.
+/// How a blocking receive of messages `T` reaches its channel. Each method has a relation from the
+/// gate before to the gate after.
 pub trait RecvGate<T> {
     /// What the call waits on.
     type Waiter: Drop;
@@ -19,62 +18,57 @@ pub trait RecvGate<T> {
     /// The signal that the call leaves as it parks.
     type Signal: Drop;
 
-    // The gate before, the gate after, and the answer.
     ghost firsts: { Self → Self → RecvNext T → Type 0 };
 
-    // The gate before, the gate after, and whether there is something to wait on.
-    ghost arms: { Self → Self → Bool → Type 0 };
+    // With whether there is a waiter.
+    ghost makes: { Self → Self → Bool → Type 0 };
 
-    // The gate before, the gate after, and the answer.
     ghost parks: { Self → Self → RecvNext T → Type 0 };
 
-    // The gate before, the ticket, whether the deadline is reached, the gate after, and the answer.
+    // With the ticket, and whether the deadline is reached.
     ghost agains: { Self → ℕ → Bool → Self → RecvNext T → Type 0 };
 
-    // The gate before, the gate after, and the answer.
     ghost waits: { Self → Self → Bool → Type 0 };
 
-    // What holds of the gate from `arm` on until the call has ended.
-    ghost is_armed: { Self → Type 0 };
+    // Holds from `make_waiter` on until the call has ended.
+    ghost is_ready: { Self → Type 0 };
 
-    /// The first turn, which doesn't park. `Done(Err(NoMemory))`: there is a message, but the
-    /// channel was out of memory to hand it out.
+    /// The first turn, which doesn't park. `Done(Err(NoMemory))`: there is a message, but no memory
+    /// to hand it out.
     fn first(&mut self) -> RecvNext<T>
         ensures does { firsts self.old self.new result }
         ensures answers { IsFirst result };
 
-    /// Makes what the call waits on, and the signal that it leaves. `None`: there was no memory for
-    /// them.
-    fn arm(&mut self) -> Option<(Self::Waiter, Self::Signal)>
-        ensures does { arms self.old self.new (is_some result) }
-        ensures armed { IfSome result (λ _. is_armed self.new) };
+    /// Makes the waiter and its signal. `None`: out of memory.
+    fn make_waiter(&mut self) -> Option<(Self::Waiter, Self::Signal)>
+        ensures does { makes self.old self.new (is_some result) }
+        ensures ready { IfSome result (λ _. is_ready self.new) };
 
     /// The turn that parks the call if it can't end at once.
     fn park(&mut self, signal: Self::Signal) -> RecvNext<T>
-        requires armed { is_armed self.old }
+        requires ready { is_ready self.old }
         ensures does { parks self.old self.new result }
         ensures answers { IsParking result }
-        ensures armed { (ticket : ℕ) → result ≡ RecvNext.Park ticket → is_armed self.new };
+        ensures ready { (ticket : ℕ) → result ≡ RecvNext.Park ticket → is_ready self.new };
 
-    /// A turn of the parked call. If it is late it ends the call.
+    /// A turn of the parked call.
     fn again(&mut self, call: RecvCall, late: bool) -> RecvNext<T>
-        requires armed { is_armed self.old }
+        requires ready { is_ready self.old }
         ensures does { agains self.old call late self.new result }
         ensures answers { IsAgain call late result }
-        ensures armed { (ticket : ℕ)
+        ensures ready { (ticket : ℕ)
             → (result ≡ RecvNext.Park ticket) ⊎ (result ≡ RecvNext.Refused ticket)
-            → is_armed self.new };
+            → is_ready self.new };
 
     /// Waits for a wake or for the deadline. True, at once, if the deadline is reached.
     fn wait(&mut self, waiter: &Self::Waiter) -> bool
         ensures does { waits self.old self.new result }
-        ensures armed { is_armed self.old → is_armed self.new };
+        ensures ready { is_ready self.old → is_ready self.new };
 }
 
-/// A receive that waits. It parks if its first turn doesn't end it, and then asks and waits until
-/// it ends as its last turn says. `NoMemory`: the first turn said so, or there was no memory for
-/// what the call parks on. If a turn of the parked call is out of memory, the call withdraws, and
-/// ends with the message if one came, and else with `NoMemory`.
+/// A receive that waits. It ends as its last turn says. `NoMemory`: there was no memory for the
+/// waiter, or a turn was out of memory. A parked call withdraws then, and ends with the message if
+/// one came.
 ///
 /// ```
 /// // The gate is of an empty channel, and it has a deadline.
@@ -89,9 +83,9 @@ pub fn recv_over<T: Drop, G: RecvGate<T>, R: Wait>(
     rt: &R,
     gate: &mut G,
 ) -> Result<T, RecvTimeoutError>
-    ensures run { WholeReceive G.firsts G.arms G.parks G.agains G.waits gate.old gate.new result }
+    ensures run { WholeReceive G.firsts G.makes G.parks G.agains G.waits gate.old gate.new result }
     ensures no_memory { IsNeverRefused G.agains → result ≡ Err RecvTimeoutError.NoMemory
-        → EndsUnparked G.firsts G.arms G.parks gate.old gate.new }
+        → EndsUnparked G.firsts G.makes G.parks gate.old gate.new }
 {
     match gate.first() {
         RecvNext::Done(result) => result,
@@ -100,7 +94,7 @@ pub fn recv_over<T: Drop, G: RecvGate<T>, R: Wait>(
     }
 }
 
-/// A receive whose first turn found no message, from then on.
+/// [`recv_over`] from a first turn on that found no message.
 ///
 /// ```
 /// // The gate is of a channel that was empty when it was asked, and it has a deadline.
@@ -116,12 +110,12 @@ pub fn waiting_receive<T: Drop, G: RecvGate<T>, R: Wait>(
     gate: &mut G,
 ) -> Result<T, RecvTimeoutError>
     ensures run { (start : G) → G.firsts start gate.old RecvNext.NeedSignal
-        → WholeReceive G.firsts G.arms G.parks G.agains G.waits start gate.new result }
+        → WholeReceive G.firsts G.makes G.parks G.agains G.waits start gate.new result }
     ensures no_memory { (start : G) → G.firsts start gate.old RecvNext.NeedSignal
         → IsNeverRefused G.agains → result ≡ Err RecvTimeoutError.NoMemory
-        → EndsUnparked G.firsts G.arms G.parks start gate.new }
+        → EndsUnparked G.firsts G.makes G.parks start gate.new }
 {
-    let Some((waiter, signal)) = gate.arm() else {
+    let Some((waiter, signal)) = gate.make_waiter() else {
         return Err(NoMemory);
     };
     match gate.park(signal) {
@@ -138,7 +132,7 @@ fn parked_receive<T: Drop, G: RecvGate<T>, R: Wait>(
     waiter: &G::Waiter,
     mut call: RecvCall,
 ) -> Result<T, RecvTimeoutError>
-    requires armed { G.is_armed gate.old }
+    requires ready { G.is_ready gate.old }
     ensures run { ParkedReceive G.agains G.waits gate.old call gate.new result }
     ensures wants_no_memory { IsNeverRefused G.agains → result ≢ Err RecvTimeoutError.NoMemory }
 {
@@ -146,7 +140,7 @@ fn parked_receive<T: Drop, G: RecvGate<T>, R: Wait>(
         call = match gate.again(call, false) {
             RecvNext::Done(result) => return result,
             RecvNext::Park(same) => same,
-            RecvNext::Refused(same) => return withdrawn(gate, same),
+            RecvNext::Refused(same) => return withdraw_refused(gate, same),
             RecvNext::NeedSignal => unreachable!(),
         };
         if gate.wait(waiter) {
@@ -160,8 +154,11 @@ fn parked_receive<T: Drop, G: RecvGate<T>, R: Wait>(
 }
 
 #[inline(always)]
-fn withdrawn<T: Drop, G: RecvGate<T>>(gate: &mut G, call: RecvCall) -> Result<T, RecvTimeoutError>
-    requires armed { G.is_armed gate.old }
+fn withdraw_refused<T: Drop, G: RecvGate<T>>(
+    gate: &mut G,
+    call: RecvCall,
+) -> Result<T, RecvTimeoutError>
+    requires ready { G.is_ready gate.old }
     ensures withdraws { (answer : Result T RecvTimeoutError)
         × G.agains gate.old call true gate.new (RecvNext.Done answer)
         × (result ≡ got_or_no_memory answer) }

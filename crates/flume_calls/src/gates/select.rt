@@ -1,11 +1,11 @@
-//! A selection through a gate: the first of several arms that completes.
+//! A selection through a gate.
 ghost use Rattle.std.specs.Prelude.{◌≡◌, ◌≢◌, ◌<◌, ◌↔◌, ℕ, Bool, Some, IfOk, IfSome, IsTrue};
 ghost use Rattle.std.specs.Prelude.{Err, true, false, is_some};
 ghost use Rattle.flume_core.specs.declared.error.SelectError.{SelectError};
 ghost use Rattle.flume_calls.specs.declared.gates.select.ArmNext.{ArmNext};
-ghost use Rattle.flume_calls.specs.SelectGates.{next_arm, IsRound, IfCompleted, Withdraws, Ends};
-ghost use Rattle.flume_calls.specs.SelectGates.{HasCompleted, StartedSelection, WholeSelection};
-ghost use Rattle.flume_calls.specs.SelectGates.{TriedSelection};
+ghost use Rattle.flume_calls.specs.SelectGates.{next_arm, IsRound, IfCompleted, Withdraws};
+ghost use Rattle.flume_calls.specs.SelectGates.{EndsAfter, HasCompleted, StartedSelection};
+ghost use Rattle.flume_calls.specs.SelectGates.{WholeSelection, TriedSelection};
 ghost use Rattle.flume_calls.specs.declared.gates.select.RoundEnd.{RoundEnd};
 
 use flume_core::error::{NoMemory, SelectError};
@@ -16,14 +16,14 @@ use std::sync::Wait;
 pub enum ArmNext {
     /// The arm has completed.
     Completed,
-    /// The arm has to wait: it is parked, or, if it may not park, wasn't started.
+    /// The arm has to wait: it is parked, or may not park and wasn't started.
     Waits,
     /// Out of memory.
     NoMemory,
 }
 
-/// The way of a selection to its channels: its arms, numbered from 0, and what it waits on. Each
-/// call has a relation, which says what it does from the gate before to the gate after.
+/// How a selection reaches its channels. The arms are numbered from 0. Each method has a relation
+/// from the gate before to the gate after.
 pub trait SelectGate {
     /// What the selection waits on.
     type Waiter: Drop;
@@ -33,25 +33,20 @@ pub trait SelectGate {
 
     ghost kept: { Self → Self.Kept };
 
-    // How many arms there are.
     ghost count: { Self.Kept → ℕ };
 
-    // The arm that each round begins with.
     ghost start: { Self.Kept → ℕ };
 
-    // The gate, and an arm of it that has completed.
-    ghost holds: { Self → ℕ → Type 0 };
+    ghost is_done: { Self → ℕ → Type 0 };
 
-    // The gate before, the gate after, and whether there is something to wait on.
+    // With whether there is a waiter.
     ghost makes: { Self → Self → Bool → Type 0 };
 
-    // Whether the arm may park, the gate before, the arm, the gate after, and the answer.
+    // With whether the arm may park, and the arm.
     ghost turns: { Bool → Self → ℕ → Self → ArmNext → Type 0 };
 
-    // The gate before, the gate after, and the answer.
     ghost waits: { Self → Self → Bool → Type 0 };
 
-    // The gate before, the arm, and the gate after.
     ghost withdraws: { Self → ℕ → Self → Type 0 };
 
     /// How many arms there are.
@@ -63,17 +58,17 @@ pub trait SelectGate {
         ensures start { result ≡ start (kept self.now) }
         ensures within { result < count (kept self.now) };
 
-    /// Makes what the selection waits on. `None`: there was no memory for it.
+    /// Makes the waiter. `None`: out of memory.
     fn make_waiter(&mut self) -> Option<Self::Waiter>
         ensures does { makes self.old self.new (is_some result) }
         ensures kept { kept self.new ≡ kept self.old };
 
-    /// The arm's turn: it is started, or polled if it was started before. Without a waiter it may
-    /// not park: it is only tried, and stays as it was if it would have to wait.
+    /// Starts the arm, or polls it if it was started before. Without a waiter it may not park, and
+    /// stays as it was if it would have to wait.
     fn turn(&mut self, arm: usize, waiter: Option<&Self::Waiter>) -> ArmNext
         requires within { arm < count (kept self.old) }
         ensures does { turns (is_some waiter.entry) self.old arm self.new result }
-        ensures completed { result ≡ ArmNext.Completed → holds self.new arm }
+        ensures completed { result ≡ ArmNext.Completed → is_done self.new arm }
         ensures kept { kept self.new ≡ kept self.old };
 
     /// Waits for a wake or for the deadline. True, at once, if the deadline is reached.
@@ -85,25 +80,23 @@ pub trait SelectGate {
     fn withdraw(&mut self, arm: usize)
         requires within { arm < count (kept self.old) }
         ensures does { withdraws self.old arm self.new }
-        ensures others { (other : ℕ) → other ≢ arm → holds self.old other → holds self.new other }
+        ensures others { (other : ℕ) → other ≢ arm → is_done self.old other
+            → is_done self.new other }
         ensures kept { kept self.new ≡ kept self.old };
 }
 
 #[derive(Clone, Copy, Drop)]
 enum RoundEnd {
-    // Each arm had its turn, and waits.
     AllWait,
-    // After this many arms, which wait, this one completed.
+    // `before`: how many arms had their turn before this one.
     Completed { before: usize, arm: usize },
-    // After this many arms, which wait, memory ran out in one.
     NoMemory { before: usize },
 }
 
-/// The number of the first arm that completes. The arms are started in cyclic order from the start
-/// arm on. If none completes, all are polled in that order after each wait, and once more at the
-/// deadline. In the end every started arm is withdrawn, except the one that completed. `Timeout`:
-/// the deadline is reached, and no arm completed. `NoMemory`: out of memory in an arm, or, before
-/// any was started, for what the selection waits on.
+/// The number of the first arm that completes. The arms have their turns in cyclic order from the
+/// start arm on: as the call begins, after each wait, and at the deadline. Every started arm is
+/// withdrawn, except the one that completed. `Timeout`: none completed by the deadline.
+/// `NoMemory`: out of memory for the waiter or in an arm.
 ///
 /// ```
 /// // The gate is of two arms, of which arm 0 starts.
@@ -115,7 +108,7 @@ enum RoundEnd {
 pub fn select_over<R: Wait, G: SelectGate>(rt: &R, gate: &mut G) -> Result<usize, SelectError>
     ensures run { WholeSelection G.makes (G.turns true) G.waits G.withdraws
         (G.count (G.kept gate.old)) (G.start (G.kept gate.old)) gate.old gate.new result }
-    ensures completed { IfOk result (HasCompleted G.holds (G.count (G.kept gate.old)) gate.new) }
+    ensures completed { IfOk result (HasCompleted G.is_done (G.count (G.kept gate.old)) gate.new) }
     ensures in_time { ((old new : G) → G.kept old ≡ G.kept gate.old → ¬ (G.waits old new true))
         → result ≢ Err SelectError.Timeout }
     ensures kept { G.kept gate.new ≡ G.kept gate.old }
@@ -136,9 +129,9 @@ pub fn select_over<R: Wait, G: SelectGate>(rt: &R, gate: &mut G) -> Result<usize
     }
 }
 
-/// The number of the first arm that needn't wait: each is tried once, in cyclic order from the
-/// start arm on. None is parked, and nothing is made to wait on. `None`: each would have to wait.
-/// `NoMemory`: out of memory in an arm, and those after it weren't tried.
+/// The number of the first arm that needn't wait, in cyclic order from the start arm on. None is
+/// parked. `None`: each would have to wait. `NoMemory`: out of memory in an arm, and those after it
+/// weren't tried.
 ///
 /// ```
 /// // The gate is of two arms, of which arm 0 starts.
@@ -151,7 +144,7 @@ pub fn try_select_over<G: SelectGate>(gate: &mut G) -> Result<Option<usize>, NoM
     ensures run { TriedSelection (G.turns false) (G.count (G.kept gate.old))
         (G.start (G.kept gate.old)) gate.old gate.new result }
     ensures completed { IfOk result (λ arm. IfSome arm
-        (HasCompleted G.holds (G.count (G.kept gate.old)) gate.new)) }
+        (HasCompleted G.is_done (G.count (G.kept gate.old)) gate.new)) }
     ensures kept { G.kept gate.new ≡ G.kept gate.old }
 {
     let nothing: Option<G::Waiter> = None;
@@ -169,7 +162,7 @@ fn started_selection<R: Wait, G: SelectGate>(
 ) -> Result<usize, SelectError>
     ensures run { StartedSelection (G.turns true) G.waits G.withdraws (G.count (G.kept gate.old))
         (G.start (G.kept gate.old)) gate.old gate.new result }
-    ensures completed { IfOk result (HasCompleted G.holds (G.count (G.kept gate.old)) gate.new) }
+    ensures completed { IfOk result (HasCompleted G.is_done (G.count (G.kept gate.old)) gate.new) }
     ensures in_time { ((old new : G) → G.kept old ≡ G.kept gate.old → ¬ (G.waits old new true))
         → result ≢ Err SelectError.Timeout }
     ensures kept { G.kept gate.new ≡ G.kept gate.old }
@@ -178,23 +171,22 @@ fn started_selection<R: Wait, G: SelectGate>(
         let polled = round(gate, Some(waiter));
         match polled {
             RoundEnd::AllWait => {}
-            _ => return ended(gate, polled),
+            _ => return end_selection(gate, polled),
         }
         if gate.wait(waiter) {
             let last = round(gate, Some(waiter));
-            return ended(gate, last);
+            return end_selection(gate, last);
         }
     }
     unreachable!()
 }
 
-// Ends a selection whose arms are all started, after this round.
-fn ended<G: SelectGate>(gate: &mut G, round: RoundEnd) -> Result<usize, SelectError>
-    requires completed { IfCompleted (HasCompleted G.holds (G.count (G.kept gate.old)) gate.old)
+fn end_selection<G: SelectGate>(gate: &mut G, round: RoundEnd) -> Result<usize, SelectError>
+    requires completed { IfCompleted (HasCompleted G.is_done (G.count (G.kept gate.old)) gate.old)
         round }
-    ensures ends { Ends G.withdraws (G.count (G.kept gate.old)) (G.start (G.kept gate.old))
+    ensures ends { EndsAfter G.withdraws (G.count (G.kept gate.old)) (G.start (G.kept gate.old))
         (G.count (G.kept gate.old)) round gate.old gate.new result }
-    ensures completed { IfOk result (HasCompleted G.holds (G.count (G.kept gate.old)) gate.new) }
+    ensures completed { IfOk result (HasCompleted G.is_done (G.count (G.kept gate.old)) gate.new) }
     ensures late { result ≡ Err SelectError.Timeout → round ≡ RoundEnd.AllWait }
     ensures kept { G.kept gate.new ≡ G.kept gate.old }
 {
@@ -215,13 +207,11 @@ fn ended<G: SelectGate>(gate: &mut G, round: RoundEnd) -> Result<usize, SelectEr
     }
 }
 
-// After a wake every arm has its turn again, whichever was woken: another receiver may have taken
-// the message by then, and a further arm may be ready too. So which arm completes depends on the
-// channels and the start arm alone.
+// Every arm has its turn again, whichever was woken: another receiver may have taken the message.
 fn round<G: SelectGate>(gate: &mut G, waiter: Option<&G::Waiter>) -> RoundEnd
     ensures round { IsRound (G.turns (is_some waiter.entry)) (G.count (G.kept gate.old))
         (G.start (G.kept gate.old)) gate.old gate.new result }
-    ensures completed { IfCompleted (HasCompleted G.holds (G.count (G.kept gate.old)) gate.new)
+    ensures completed { IfCompleted (HasCompleted G.is_done (G.count (G.kept gate.old)) gate.new)
         result }
     ensures kept { G.kept gate.new ≡ G.kept gate.old }
 {
@@ -237,12 +227,11 @@ fn round<G: SelectGate>(gate: &mut G, waiter: Option<&G::Waiter>) -> RoundEnd
     RoundEnd::AllWait
 }
 
-// Withdraws this many arms, in cyclic order from the start arm on, except the one spared.
 fn withdraw<G: SelectGate>(gate: &mut G, started: usize, spared: Option<usize>)
     ensures withdrawn { (next : ℕ) × Withdraws G.withdraws (G.count (G.kept gate.old))
         (G.start (G.kept gate.old)) spared gate.old started next gate.new }
-    ensures spared { (arm : ℕ) → spared ≡ Some arm → G.holds gate.old arm
-        → G.holds gate.new arm }
+    ensures spared { (arm : ℕ) → spared ≡ Some arm → G.is_done gate.old arm
+        → G.is_done gate.new arm }
     ensures kept { G.kept gate.new ≡ G.kept gate.old }
 {
     let count = gate.count();

@@ -9,8 +9,8 @@ use flume_core::error::SendTimeoutError;
 use flume_core::error::SendTimeoutError::NoMemory;
 use std::sync::Wait;
 
-/// The way of a blocking send of messages `T` to its channel. Each turn has a relation, which says
-/// what it does from the gate before to the gate after, and what it answers.
+/// How a blocking send of messages `T` reaches its channel. Each method has a relation from the
+/// gate before to the gate after.
 pub trait SendGate<T> {
     /// What the call waits on.
     type Waiter: Drop;
@@ -18,19 +18,16 @@ pub trait SendGate<T> {
     /// The signal that the call leaves as it parks.
     type Signal: Drop;
 
-    // The gate before, the message, the gate after, and the answer.
     ghost firsts: { Self → T → Self → SendNext T → Type 0 };
 
-    // The gate before, the gate after, and whether there is something to wait on.
-    ghost arms: { Self → Self → Bool → Type 0 };
+    // With whether there is a waiter.
+    ghost makes: { Self → Self → Bool → Type 0 };
 
-    // The gate before, the message, the gate after, and the answer.
     ghost parks: { Self → T → Self → SendNext T → Type 0 };
 
-    // The gate before, the ticket, whether the deadline is reached, the gate after, and the answer.
+    // With the ticket, and whether the deadline is reached.
     ghost agains: { Self → ℕ → Bool → Self → SendNext T → Type 0 };
 
-    // The gate before, the gate after, and the answer.
     ghost waits: { Self → Self → Bool → Type 0 };
 
     /// The first turn, which doesn't park.
@@ -38,17 +35,16 @@ pub trait SendGate<T> {
         ensures does { firsts self.old message self.new result }
         ensures answers { IsFirst message result };
 
-    /// Makes what the call waits on, and the signal that it leaves. `None`: there was no memory for
-    /// them.
-    fn arm(&mut self) -> Option<(Self::Waiter, Self::Signal)>
-        ensures does { arms self.old self.new (is_some result) };
+    /// Makes the waiter and its signal. `None`: out of memory.
+    fn make_waiter(&mut self) -> Option<(Self::Waiter, Self::Signal)>
+        ensures does { makes self.old self.new (is_some result) };
 
     /// The turn that parks the call if it can't end at once.
     fn park(&mut self, message: T, signal: Self::Signal) -> SendNext<T>
         ensures does { parks self.old message self.new result }
         ensures answers { IsParking message result };
 
-    /// A turn of the parked call. If it is late it ends the call.
+    /// A turn of the parked call.
     fn again(&mut self, call: SendCall, late: bool) -> SendNext<T>
         ensures does { agains self.old call late self.new result }
         ensures answers { IsAgain call late result };
@@ -58,9 +54,8 @@ pub trait SendGate<T> {
         ensures does { waits self.old self.new result };
 }
 
-/// A send that waits. It parks if its first turn doesn't end it, and then asks and waits until it
-/// ends as its last turn says. If there is no memory for what it parks on, it ends with `NoMemory`,
-/// and the message comes back.
+/// A send that waits. It ends as its last turn says, or with `NoMemory` if there is no memory for
+/// the waiter. Each error hands the message back.
 ///
 /// ```
 /// // The gate is of a full channel, and it has a deadline.
@@ -75,7 +70,7 @@ pub fn send_over<T, G: SendGate<T>, R: Wait>(
     gate: &mut G,
     message: T,
 ) -> Result<(), SendTimeoutError<T>>
-    ensures run { WholeSend G.firsts G.arms G.parks G.agains G.waits
+    ensures run { WholeSend G.firsts G.makes G.parks G.agains G.waits
         gate.old message gate.new result }
     ensures no_memory_holds { (back : T) → result ≡ Err (SendTimeoutError.NoMemory back)
         → back ≡ message }
@@ -87,7 +82,7 @@ pub fn send_over<T, G: SendGate<T>, R: Wait>(
     }
 }
 
-/// A send whose first turn found the channel full, from then on.
+/// [`send_over`] from a first turn on that found the channel full.
 ///
 /// ```
 /// // The gate is of a channel that was full when the message was offered, and it has a deadline.
@@ -103,11 +98,11 @@ pub fn waiting_send<T, G: SendGate<T>, R: Wait>(
     message: T,
 ) -> Result<(), SendTimeoutError<T>>
     ensures run { (start : G) → G.firsts start message gate.old (SendNext.NeedSignal message)
-        → WholeSend G.firsts G.arms G.parks G.agains G.waits start message gate.new result }
+        → WholeSend G.firsts G.makes G.parks G.agains G.waits start message gate.new result }
     ensures no_memory_holds { (back : T) → result ≡ Err (SendTimeoutError.NoMemory back)
         → back ≡ message }
 {
-    let Some((waiter, signal)) = gate.arm() else {
+    let Some((waiter, signal)) = gate.make_waiter() else {
         return Err(NoMemory(message));
     };
     match gate.park(message, signal) {

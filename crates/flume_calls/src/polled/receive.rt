@@ -3,7 +3,7 @@ ghost use Rattle.std.specs.Prelude.{◌≡◌, ◌≢◌, Some, None, Err, true,
 ghost use Rattle.std.specs.Option.{option_map};
 ghost use Rattle.flume_core.specs.Waiting.{FindsNothing};
 ghost use Rattle.flume_calls.specs.Polls.{AtMostOneStep};
-ghost use Rattle.flume_calls.specs.PolledReceives.{ReceivePoll, settles_receive};
+ghost use Rattle.flume_calls.specs.PolledReceives.{ReceivePoll, finishes_receive};
 
 use super::Polled;
 use crate::calls::{AgainReceive, RecvCall, RecvNext};
@@ -12,8 +12,8 @@ use flume_core::error::{RecvError, RecvTimeoutError};
 use flume_model::step::Kind;
 use std::alloc::Allocator;
 
-/// A receive that is polled, as a future or a stream is: it is parked under a ticket, or not. It
-/// can be polled again after it ended, and then asks for the next message.
+/// A receive that is polled, as a future or a stream is. Polled again after it ended, it asks for
+/// the next message.
 #[derive(Drop)]
 pub struct PolledReceive {
     kind: Kind,
@@ -21,7 +21,7 @@ pub struct PolledReceive {
 }
 
 impl PolledReceive {
-    /// A receive that isn't parked, and parks as this kind of receiver. Doesn't allocate.
+    /// A receive that parks as this kind of receiver. Doesn't allocate.
     ///
     /// ```
     /// let mut chan: Chan<u64, u32> = Chan::new(alloc, None);
@@ -36,8 +36,8 @@ impl PolledReceive {
         PolledReceive { kind, call: None }
     }
 
-    /// Ends the receive if it is parked: the turn by which it leaves, which its owner is to
-    /// make. `None`: it isn't parked, and nothing is owed.
+    /// Ends the receive: the turn by which it leaves, which its owner has to make. `None`: it isn't
+    /// parked.
     ///
     /// ```
     /// let mut chan: Chan<u64, u32> = Chan::new(alloc, None);
@@ -61,9 +61,9 @@ impl PolledReceive {
     }
 
     #[inline(always)]
-    fn settle<T>(&mut self, next: RecvNext<T>, signalled: bool) -> Option<Result<T, RecvError>>
+    fn finish_poll<T>(&mut self, next: RecvNext<T>, signalled: bool) -> Option<Result<T, RecvError>>
         requires in_time { next ≢ RecvNext.Done (Err RecvTimeoutError.Timeout) }
-        ensures settles { settles_receive signalled next self.new.call result }
+        ensures finishes { finishes_receive signalled next self.new.call result }
         ensures kind { self.new.kind ≡ self.old.kind }
     {
         let (call, answer) = match next {
@@ -85,8 +85,7 @@ impl PolledReceive {
 }
 
 impl PolledReceive {
-    // `poll` calls one of these two functions, and knows of it only what it ensures: so both have
-    // the clauses of the trait's `poll`.
+    // `poll` knows of `begin` and `ask` only what they ensure, so both have its clauses.
     #[inline(always)]
     fn begin<T: Drop, S: Drop, A: Allocator + Copy>(
         &mut self,
@@ -100,12 +99,11 @@ impl PolledReceive {
         ensures pending { result ≡ None → IsSome signal }
     {
         let Some(signal) = signal else {
-            return self.settle(RecvCall::first(chan), false);
+            return self.finish_poll(RecvCall::first(chan), false);
         };
-        self.settle(RecvCall::park(self.kind, signal, chan), true)
+        self.finish_poll(RecvCall::park(self.kind, signal, chan), true)
     }
 
-    // If it would wait and there is no signal for that, nothing is done.
     #[inline(always)]
     fn ask<T: Drop, S: Drop, A: Allocator + Copy>(
         &mut self,
@@ -124,7 +122,7 @@ impl PolledReceive {
             self.call = Some(call);
             return Some(Err(RecvError::NoMemory));
         }
-        self.settle(call.again(chan, false, signal), signalled)
+        self.finish_poll(call.again(chan, false, signal), signalled)
     }
 }
 

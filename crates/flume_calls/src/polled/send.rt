@@ -1,7 +1,7 @@
 //! A send that is polled.
 ghost use Rattle.std.specs.Prelude.{◌≡◌, ◌≢◌, ℕ, Some, None, true, IsSome};
 ghost use Rattle.flume_calls.specs.Polls.{AtMostOneStep};
-ghost use Rattle.flume_calls.specs.PolledSends.{SendPoll, settles_send, send_waits, ticket_of};
+ghost use Rattle.flume_calls.specs.PolledSends.{SendPoll, finishes_send, send_waits, ticket_of};
 
 use super::Polled;
 use crate::calls::{AgainSend, SendCall, SendNext};
@@ -15,15 +15,15 @@ use std::mem;
 pub enum PolledSend<T> {
     /// Its message isn't offered yet.
     Unsent(T),
-    /// Its message is blocked, or was taken in and it hasn't asked.
+    /// It waits, or hasn't asked since its message was taken in.
     Parked(SendCall),
     /// It has ended. A poll answers `Ok`, and does nothing.
     Finished,
 }
 
 impl<T: Drop> PolledSend<T> {
-    /// Ends the send. An unsent one drops its message; for a parked one, this is the turn that
-    /// takes its message back, which its owner is to make. `None`: there is nothing to do.
+    /// Ends the send: the turn that takes a blocked message back, which its owner has to make.
+    /// `None`: it isn't parked. An unsent message is dropped.
     ///
     /// ```
     /// let mut chan: Chan<u64, u32> = Chan::new(alloc, Some(0));
@@ -51,8 +51,8 @@ impl<T: Drop> PolledSend<T> {
     }
 
     #[inline(always)]
-    fn settle(&mut self, next: SendNext<T>) -> Option<Result<(), SendError<T>>>
-        ensures settles { settles_send next self.new result }
+    fn finish_poll(&mut self, next: SendNext<T>) -> Option<Result<(), SendError<T>>>
+        ensures finishes { finishes_send next self.new result }
     {
         let (send, answer) = match next {
             SendNext::Done(Ok(())) => (PolledSend::Finished, Some(Ok(()))),
@@ -92,12 +92,12 @@ impl<T: Drop> PolledSend<T> {
         ensures pending { result ≡ None → IsSome signal }
     {
         let Some(signal) = signal else {
-            return self.settle(SendCall::first(message, chan));
+            return self.finish_poll(SendCall::first(message, chan));
         };
-        self.settle(SendCall::park(message, signal, chan))
+        self.finish_poll(SendCall::park(message, signal, chan))
     }
 
-    // If it would wait and there is no signal for that, it takes its message back.
+    // A send that would wait without a signal takes its message back.
     #[inline(always)]
     fn ask<S: Drop, A: Allocator + Copy>(
         &mut self,
@@ -111,7 +111,7 @@ impl<T: Drop> PolledSend<T> {
         ensures pending { result ≡ None → IsSome signal }
     {
         let late = signal.is_none() && call.would_wait(chan);
-        self.settle(call.again(chan, late, signal))
+        self.finish_poll(call.again(chan, late, signal))
     }
 }
 

@@ -5,12 +5,13 @@ ghost use Rattle.std.specs.Borrow.{Lends, sem};
 ghost use Rattle.std.specs.Vec.{vec_len, vec_capacity};
 ghost use Rattle.flume_chain.specs.Links.{end, with, next_at, previous_at, element_at};
 ghost use Rattle.flume_chain.specs.Links.{HasNode, Linked, Same, Put, Full, with_value};
-ghost use Rattle.flume_chain.specs.Links.{relabelled};
+ghost use Rattle.flume_chain.specs.Links.{with_new_label};
 ghost use Rattle.std.specs.Option.{option_map};
 
-use super::node::{Node, stands};
-use crate::labelled::Labelled;
+use super::node::{Node, occupied};
+use crate::labelled::LabelledValue;
 use std::alloc::Allocator;
+use std::mem::{forget, replace};
 
 /// The place that no element has: it is before the first and after the last.
 pub(super) const END: u32 = u32::MAX;
@@ -118,10 +119,10 @@ impl<L: Drop, E: Drop, A: Allocator> Links<L, E, A> {
         self.nodes.get(place as usize)?.label()
     }
 
-    /// The value at a place where there is one, for writing.
+    /// The value at an occupied place, for writing.
     #[inline(always)]
     pub fn value_mut(&mut self, place: u32) -> &mut E
-        requires stands { IsSome (element_at self.old place) }
+        requires occupied { IsSome (element_at self.old place) }
         ensures* writes_back { sem 𝓛 (Lends (the_row L.row E.row A.row A.Allocator) E.row self.entry
             result (with_value self.old place)) }
         ensures value { option_map (λ e. e.value) (element_at self.old place) ≡ Some result.now }
@@ -134,7 +135,7 @@ impl<L: Drop, E: Drop, A: Allocator> Links<L, E, A> {
     pub fn set_label(&mut self, place: u32, label: L)
         ensures written { Linked self.old self.new (next_at self.old) (previous_at self.old)
             (with (element_at self.old) place
-            (option_map (relabelled label) (element_at self.old place))) self.old.free }
+            (option_map (with_new_label label) (element_at self.old place))) self.old.free }
     {
         if let Some(node) = self.nodes.get_mut(place as usize) {
             node.set_label(label);
@@ -143,7 +144,7 @@ impl<L: Drop, E: Drop, A: Allocator> Links<L, E, A> {
 
     /// Takes the element at a place out of its node.
     #[inline(always)]
-    pub fn take(&mut self, place: u32) -> Option<Labelled<L, E>>
+    pub fn take(&mut self, place: u32) -> Option<LabelledValue<L, E>>
         ensures element { result ≡ element_at self.old place }
         ensures taken { Linked self.old self.new (next_at self.old) (previous_at self.old)
             (with (element_at self.old) place None) self.old.free }
@@ -165,7 +166,7 @@ impl<L: Drop, E: Drop, A: Allocator> Links<L, E, A> {
 
     #[inline(always)]
     fn set_next(&mut self, place: u32, next: u32)
-        requires stands { HasNode self.old place }
+        requires occupied { HasNode self.old place }
         requires fits { vec_len self.old.nodes ≤ end }
         ensures written { Linked self.old self.new (with (next_at self.old) place next)
             (previous_at self.old) (element_at self.old) self.old.free }
@@ -179,7 +180,7 @@ impl<L: Drop, E: Drop, A: Allocator> Links<L, E, A> {
 
     #[inline(always)]
     fn set_previous(&mut self, place: u32, previous: u32)
-        requires stands { HasNode self.old place }
+        requires occupied { HasNode self.old place }
         requires fits { vec_len self.old.nodes ≤ end }
         ensures written { Linked self.old self.new (next_at self.old)
             (with (previous_at self.old) place previous) (element_at self.old) self.old.free }
@@ -194,10 +195,10 @@ impl<L: Drop, E: Drop, A: Allocator> Links<L, E, A> {
     #[inline(always)]
     fn put(
         &mut self,
-        element: Labelled<L, E>,
+        element: LabelledValue<L, E>,
         previous: u32,
         next: u32,
-    ) -> Result<u32, Labelled<L, E>>
+    ) -> Result<u32, LabelledValue<L, E>>
         requires free { HasNode self.old self.old.free }
         requires fits { vec_len self.old.nodes ≤ end }
         ensures put { IfOk result (λ place. Put self.old self.new place
@@ -211,7 +212,8 @@ impl<L: Drop, E: Drop, A: Allocator> Links<L, E, A> {
         if place != END {
             let node = &mut self.nodes[place as usize];
             self.free = node.next();
-            *node = stands(element, previous, next);
+            // A free node holds nothing to drop.
+            forget(replace(node, occupied(element, previous, next)));
             return Ok(place);
         }
         let place = self.nodes.len();
@@ -221,15 +223,18 @@ impl<L: Drop, E: Drop, A: Allocator> Links<L, E, A> {
         if place == self.nodes.capacity() && self.nodes.reserve(1).is_err() {
             return Err(element);
         }
-        self.nodes.push_reserved(stands(element, previous, next));
+        self.nodes.push_reserved(occupied(element, previous, next));
         Ok(place as u32)
     }
 
-    /// Puts an element before a place, into the free node, or if none is free into one more, and
-    /// returns its place. If there is no memory for one more, or its place would be `END`, the
-    /// element comes back, and nothing changes.
+    /// Puts an element before a place, into a free node if there is one, and returns its place. If
+    /// memory runs out, or only `END` is left, the element comes back, and nothing changes.
     #[inline(always)]
-    pub fn link_before(&mut self, next: u32, element: Labelled<L, E>) -> Result<u32, Labelled<L, E>>
+    pub fn link_before(
+        &mut self,
+        next: u32,
+        element: LabelledValue<L, E>,
+    ) -> Result<u32, LabelledValue<L, E>>
         requires free { HasNode self.old self.old.free }
         requires fits { vec_len self.old.nodes ≤ end }
         requires next { HasNode self.old next }
@@ -268,7 +273,7 @@ impl<L: Drop, E: Drop, A: Allocator> Links<L, E, A> {
 
     /// Links the place before a place with the one after it, and frees the node between them.
     #[inline(always)]
-    pub fn bypass(&mut self, place: u32)
+    pub fn unlink_and_free(&mut self, place: u32)
         requires place { place < vec_len self.old.nodes }
         requires fits { vec_len self.old.nodes ≤ end }
         requires next { HasNode self.old (next_at self.old place) }
@@ -302,10 +307,9 @@ impl<L: Drop, E: Drop, A: Allocator> Links<L, E, A> {
         self.last = place;
     }
 
-    /// Takes the first element out of its node, makes the place after it the first one, and frees
-    /// the node. `None` if no place is the first, and then nothing changes.
+    /// Takes out the first element, and frees its node. `None` if there is none.
     #[inline(always)]
-    pub fn take_first(&mut self) -> Option<Labelled<L, E>>
+    pub fn take_first(&mut self) -> Option<LabelledValue<L, E>>
         requires first { HasNode self.old self.old.first }
         requires fits { vec_len self.old.nodes ≤ end }
         requires next { self.old.first ≢ end → HasNode self.old (next_at self.old self.old.first) }

@@ -1,25 +1,23 @@
-//! A node of a chain: free, or of an element, with the places before and after it.
+//! A node of a chain.
 ghost use Rattle.std.specs.Prelude.{◌≡◌, Some, None, option_copied, IsSome};
 ghost use Rattle.std.specs.Borrow.{Lends, sem};
 ghost use Rattle.std.specs.Option.{option_map};
 ghost use Rattle.flume_chain.specs.Links.{next_of, previous_of, element_of, with_value_of};
-ghost use Rattle.flume_chain.specs.Links.{relabelled};
+ghost use Rattle.flume_chain.specs.Links.{with_new_label};
 
-use crate::labelled::Labelled;
+use crate::labelled::LabelledValue;
 use std::mem;
 use std::mem::size_of;
 
-/// A node: free, or of an element, its label and its value. That of an element has the places
-/// before and after it. `next` of a free one is the place of the next free one, and its `previous`
-/// says nothing. The label is next to these: with a label of 4 bytes, the node of a value of 8
-/// bytes takes 24.
+/// A node: free, or of an element. `next` of a free one is the next free place, and its `previous`
+/// says nothing. With a label of 4 bytes and a value of 8 a node takes 24.
 #[derive(Drop)]
 pub(super) enum Node<L, E> {
     Free {
         previous: u32,
         next: u32,
     },
-    Stands {
+    Occupied {
         previous: u32,
         next: u32,
         label: L,
@@ -39,7 +37,7 @@ impl<L, E> Node<L, E> {
     {
         match self {
             Node::Free { next, .. } => *next,
-            Node::Stands { next, .. } => *next,
+            Node::Occupied { next, .. } => *next,
         }
     }
 
@@ -50,7 +48,7 @@ impl<L, E> Node<L, E> {
     {
         match self {
             Node::Free { previous, .. } => *previous,
-            Node::Stands { previous, .. } => *previous,
+            Node::Occupied { previous, .. } => *previous,
         }
     }
 
@@ -63,7 +61,7 @@ impl<L, E> Node<L, E> {
     {
         match self {
             Node::Free { next, .. } => *next = place,
-            Node::Stands { next, .. } => *next = place,
+            Node::Occupied { next, .. } => *next = place,
         }
     }
 
@@ -76,7 +74,7 @@ impl<L, E> Node<L, E> {
     {
         match self {
             Node::Free { previous, .. } => *previous = place,
-            Node::Stands { previous, .. } => *previous = place,
+            Node::Occupied { previous, .. } => *previous = place,
         }
     }
 
@@ -87,7 +85,7 @@ impl<L, E> Node<L, E> {
     {
         match self {
             Node::Free { .. } => None,
-            Node::Stands { value, .. } => Some(value),
+            Node::Occupied { value, .. } => Some(value),
         }
     }
 
@@ -98,20 +96,20 @@ impl<L, E> Node<L, E> {
     {
         match self {
             Node::Free { .. } => None,
-            Node::Stands { label, .. } => Some(label),
+            Node::Occupied { label, .. } => Some(label),
         }
     }
 
     /// The value of a node that has one, for writing.
     #[inline(always)]
     pub fn value_mut(&mut self) -> &mut E
-        requires stands { IsSome (element_of self.old) }
+        requires occupied { IsSome (element_of self.old) }
         ensures* writes_back { sem 𝓛 (Lends (the_row L.row E.row) E.row self.entry result
             (with_value_of self.old)) }
         ensures value { option_map (λ e. e.value) (element_of self.old) ≡ Some result.now }
     {
         match self {
-            Node::Stands { value, .. } => value,
+            Node::Occupied { value, .. } => value,
             Node::Free { .. } => unreachable!(),
         }
     }
@@ -124,16 +122,16 @@ impl<L: Drop, E: Drop> Node<L, E> {
         ensures next { next_of self.new ≡ next_of self.old }
         ensures previous { previous_of self.new ≡ previous_of self.old }
         ensures element { element_of self.new
-            ≡ option_map (relabelled new) (element_of self.old) }
+            ≡ option_map (with_new_label new) (element_of self.old) }
     {
-        if let Node::Stands { label, .. } = self {
+        if let Node::Occupied { label, .. } = self {
             *label = new;
         }
     }
 
-    /// Takes the element out, if it has one, and leaves the places before and after it.
+    /// Takes the element out, if it has one.
     #[inline(always)]
-    pub fn take(&mut self) -> Option<Labelled<L, E>>
+    pub fn take(&mut self) -> Option<LabelledValue<L, E>>
         ensures element { result ≡ element_of self.old }
         ensures taken { element_of self.new ≡ None }
         ensures next { next_of self.new ≡ next_of self.old }
@@ -145,11 +143,11 @@ impl<L: Drop, E: Drop> Node<L, E> {
         };
         match mem::replace(self, free) {
             Node::Free { .. } => None,
-            Node::Stands { label, value, .. } => Some(Labelled { label, value }),
+            Node::Occupied { label, value, .. } => Some(LabelledValue { label, value }),
         }
     }
 
-    /// Drops the element, if it has one, and leaves the places before and after it.
+    /// Drops the element, if it has one.
     #[inline(always)]
     pub fn discard(&mut self)
         ensures discarded { element_of self.new ≡ None }
@@ -162,10 +160,10 @@ impl<L: Drop, E: Drop> Node<L, E> {
         };
     }
 
-    /// Takes the element of a node that has one out, and leaves the places before and after it.
+    /// Takes the element out of a node that has one.
     #[inline(always)]
-    pub fn take_element(&mut self) -> Labelled<L, E>
-        requires stands { IsSome (element_of self.old) }
+    pub fn take_element(&mut self) -> LabelledValue<L, E>
+        requires occupied { IsSome (element_of self.old) }
         ensures element { element_of self.old ≡ Some result }
         ensures taken { element_of self.new ≡ None }
         ensures next { next_of self.new ≡ next_of self.old }
@@ -180,13 +178,13 @@ impl<L: Drop, E: Drop> Node<L, E> {
 
 /// The node of an element, with the places before and after it.
 #[inline(always)]
-pub(super) fn stands<L, E>(element: Labelled<L, E>, previous: u32, next: u32) -> Node<L, E>
+pub(super) fn occupied<L, E>(element: LabelledValue<L, E>, previous: u32, next: u32) -> Node<L, E>
     ensures next { next_of result ≡ next }
     ensures previous { previous_of result ≡ previous }
     ensures element { element_of result ≡ Some element }
 {
-    let Labelled { label, value } = element;
-    Node::Stands {
+    let LabelledValue { label, value } = element;
+    Node::Occupied {
         previous,
         next,
         label,

@@ -12,10 +12,10 @@ use Rattle.flume_model.specs.declared.step.Reply.{Reply}
 use Rattle.flume_model.specs.declared.step.Reply.TheVariants.{Waiting, Returned, NoTicket}
 use Rattle.flume_model.specs.Limits.{is_closed}
 use Rattle.flume_model.specs.Line.{greater}
-use Rattle.flume_model.specs.Entries.{again, entry_of, passes_on, without}
+use Rattle.flume_model.specs.Entries.{again, entry_of, passes_on, without_ticket}
 use Rattle.flume_state.specs.Messages.{Blocked}
 use Rattle.flume_state.specs.Notices.{due_now, with_signal}
-use Rattle.flume_state.specs.Sends.{blocked, noticed_send, with_notice}
+use Rattle.flume_state.specs.Sends.{newly_blocked, noticed_send, with_notice}
 use Rattle.flume_state.specs.Receivers.{EntryList, new_receiver, noticed_receiver, waits_on}
 use Rattle.flume_state.specs.State.{State}
 use Rattle.flume_state.specs.Effects.{Returns, after_end_dropped, after_withdrawal, after_wake_round, after_take, without_receiver, with_peak, after_admissions, with_capacity}
@@ -87,12 +87,12 @@ module _ {T S A : Type 0} where
       → new ≡ record old {
         blocked = old.blocked ++ message ∷ [];
         space = space;
-        sends = insert old.sends old.next (blocked signal);
+        sends = insert old.sends old.next (newly_blocked signal);
         next = old.next + 1;
       }
       → BecomesDue old step reply new
-  blocks old new step reply message signal space idle led is =
-      by_sides old _ new step reply is refl refl idle (new_sends old.sends old.next signal (tickets_of old led).new_send)
+  blocks old new step reply message signal space idle reachable is =
+      by_sides old _ new step reply is refl refl idle (new_sends old.sends old.next signal (tickets_of old reachable).new_send)
       (λ u. receiver_kept (entry_of u old.entries))
 
   -- a wake round
@@ -110,43 +110,43 @@ module _ {T S A : Type 0} where
 
   -- messages move in, and a receiver leaves
   moved_left : (old mid new : State T S) (step : Step T) (reply : Reply T A) (t : ℕ) → NoneWaits step reply → MovesIn old mid
-      → entry_of t (without t old.entries) ≡ None → new ≡ without_receiver t mid → BecomesDue old step reply new
+      → entry_of t (without_ticket t old.entries) ≡ None → new ≡ without_receiver t mid → BecomesDue old step reply new
   moved_left old mid new step reply t idle moves alone is =
       by_sides old (without_receiver t mid) new step reply is moves.senders moves.receivers idle (accepts_due old.sends mid.sends moves.sends)
-      (subst (λ es. ReceiversDue old.entries (without t es)) (sym moves.entries) (gone_receivers old.entries t alone))
+      (subst (λ es. ReceiversDue old.entries (without_ticket t es)) (sym moves.entries) (gone_receivers old.entries t alone))
 
   -- the front is handed out
   pub took : (old new : State T S) (step : Step T) (reply : Reply T A) (rest : List T) → NoneWaits step reply → IsReachable A old
       → new ≡ after_take rest old → BecomesDue old step reply new
-  took old new step reply rest idle led is =
-      moved old _ new step reply idle (moves_taken old rest (moves_none old (tickets_of old led).live)) is
+  took old new step reply rest idle reachable is =
+      moved old _ new step reply idle (moves_taken old rest (moves_none old (tickets_of old reachable).live)) is
 
   -- the front is handed out to a parked receiver, which leaves
   pub took_parked : (old new : State T S) (step : Step T) (reply : Reply T A) (rest : List T) (t : ℕ) → NoneWaits step reply
       → IsReachable A old → new ≡ without_receiver t (after_take rest old) → BecomesDue old step reply new
-  took_parked old new step reply rest t idle led is =
-      let tickets = tickets_of old led in
+  took_parked old new step reply rest t idle reachable is =
+      let tickets = tickets_of old reachable in
       moved_left old _ new step reply t idle (moves_taken old rest (moves_none old tickets.live)) (tickets.alone t) is
 
   -- a parked receiver leaves
   pub left : (old new : State T S) (step : Step T) (reply : Reply T A) (t : ℕ) → NoneWaits step reply → IsReachable A old
       → new ≡ without_receiver t old → BecomesDue old step reply new
-  left old new step reply t idle led is =
-      let tickets = tickets_of old led in
+  left old new step reply t idle reachable is =
+      let tickets = tickets_of old reachable in
       moved_left old old new step reply t idle (moves_none old tickets.live) (tickets.alone t) is
 
   -- all queued messages are handed out
   pub drained : (old new : State T S) (step : Step T) (reply : Reply T A) → NoneWaits step reply → IsReachable A old
       → new ≡ after_admissions (record old { queue = [] }) → BecomesDue old step reply new
-  drained old new step reply idle led is =
-      let emptied_ = moves_queue old old [] (moves_none old (tickets_of old led).live) in
+  drained old new step reply idle reachable is =
+      let emptied_ = moves_queue old old [] (moves_none old (tickets_of old reachable).live) in
       moved old _ new step reply idle (moves_filled_up old _ emptied_) is
 
   -- the capacity is set
   pub resized_due : (old new : State T S) (step : Step T) (reply : Reply T A) (capacity_ : ℕ) → NoneWaits step reply → IsReachable A old
       → new ≡ with_capacity capacity_ old → BecomesDue old step reply new
-  resized_due old new step reply capacity_ idle led is =
-      let set_ = moves_capacity old old (Some capacity_) (greater old.greatest (Some capacity_)) (moves_none old (tickets_of old led).live) in
+  resized_due old new step reply capacity_ idle reachable is =
+      let set_ = moves_capacity old old (Some capacity_) (greater old.greatest (Some capacity_)) (moves_none old (tickets_of old reachable).live) in
       moved old _ new step reply idle (moves_filled_up old _ set_) is
 
   -- a receiver parks
@@ -154,14 +154,14 @@ module _ {T S A : Type 0} where
       → IsReachable A old
       → new ≡ with_peak (old.entries ++ new_receiver old.next kind signal ∷ []) (record old { next = old.next + 1 })
       → BecomesDue old step reply new
-  parked old new step reply kind signal idle led is =
+  parked old new step reply kind signal idle reachable is =
       by_sides old _ new step reply is refl refl idle (λ t. send_kept (get old.sends t))
-      (new_receivers old.entries old.next kind signal (tickets_of old led).new_receiver)
+      (new_receivers old.entries old.next kind signal (tickets_of old reachable).new_receiver)
 
   -- a parked receiver waits on, or again
   pub waits : (old new : State T S) (t : ℕ) (given : Option S) → IsReachable A old
       → new ≡ with_peak (again t (noticed_receiver (waits_on given) t old.entries)) old → BecomesDue {A = A} old (Poll t) Waiting new
-  waits old new t given led is = subst (λ s. BecomesDue {A = A} old (Poll t) Waiting s) (sym is) record {
+  waits old new t given reachable is = subst (λ s. BecomesDue {A = A} old (Poll t) Waiting s) (sym is) record {
     sends = λ u.
         subst (λ c. SendDue c (get old.sends u) (get old.sends u)) (sym (not_closed (is_closed old.senders old.receivers)))
         (send_kept (get old.sends u));
@@ -173,7 +173,7 @@ module _ {T S A : Type 0} where
 
       by_case : (u : ℕ) (b : Bool) → eqb t u ≡ b → ReceiverDue (eqb t u) (entry_of u old.entries) (entry_of u (again t asked))
       by_case u true e =
-          let alone = ap (entry_of t) (without_noticed (waits_on given) t old.entries) ∙ (tickets_of old led).alone t in
+          let alone = ap (entry_of t) (without_noticed (waits_on given) t old.entries) ∙ (tickets_of old reachable).alone t in
           let idle = again_idle t asked alone (noticed_idle (waits_on given) (λ n. refl) t old.entries) in
           subst (λ w. ReceiverDue w (entry_of u old.entries) (entry_of u (again t asked))) (sym e)
           (receiver_waits (entry_of u old.entries) (entry_of u (again t asked))
@@ -209,7 +209,7 @@ module _ {T S A : Type 0} where
   pub leaves : (old new : State T S) (step : Step T) (reply : Reply T A) (n m : ℕ) → NoneWaits step reply → IsReachable A old
       → new ≡ after_end_dropped (not (is_closed old.senders old.receivers)) (record old { senders = n; receivers = m })
       → BecomesDue old step reply new
-  leaves old new step reply n m idle led is = go (eqb (n + m) 0) (not (is_closed old.senders old.receivers) && is_closed n m) refl refl
+  leaves old new step reply n m idle reachable is = go (eqb (n + m) 0) (not (is_closed old.senders old.receivers) && is_closed n m) refl refl
     where
       Claim : State T S → Type 0
       Claim s = BecomesDue old step reply s
@@ -228,7 +228,7 @@ module _ {T S A : Type 0} where
           }
       go false true is_over is_closed_ =
           let marked = rw (is_over, is_closed_) at is in
-          let tickets = tickets_of old led in
+          let tickets = tickets_of old reachable in
           subst Claim (sym marked) record {
             sends = λ t.
                 let now = all_due_at old.blocked old.sends t
@@ -249,11 +249,11 @@ module _ {T S A : Type 0} where
   -- a parked receiver leaves, and passes its wake on if it was woken
   pub passed : (old new : State T S) (step : Step T) (reply : Reply T A) (t : ℕ) → NoneWaits step reply → IsReachable A old
       → new ≡ after_withdrawal t old → BecomesDue old step reply new
-  passed old new step reply t idle led is = go (passes_on (entry_of t old.entries)) refl
+  passed old new step reply t idle reachable is = go (passes_on (entry_of t old.entries)) refl
     where
       go : (b : Bool) → passes_on (entry_of t old.entries) ≡ b → BecomesDue old step reply new
       go true e =
-          let alone = (tickets_of old led).alone t in
+          let alone = (tickets_of old reachable).alone t in
           by_sides old (after_wake_round (without_receiver t old)) new step reply (rw e at is) refl refl idle (λ u. send_kept (get old.sends u))
           (passed_receivers old.queue old.entries t alone)
-      go false e = left old new step reply t idle led (rw e at is)
+      go false e = left old new step reply t idle reachable (rw e at is)

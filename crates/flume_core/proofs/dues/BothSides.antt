@@ -7,10 +7,10 @@ use Rattle.std.proofs.lemmas.Bool.{cases_eq}
 use Rattle.std.specs.Option.{option_map}
 use Rattle.std.specs.FinMap.{get, insert, remove}
 use Rattle.flume_model.specs.declared.step.Kind.{Kind}
-use Rattle.flume_model.specs.Entries.{entry_of, round_for, without}
+use Rattle.flume_model.specs.Entries.{entry_of, round_for, without_ticket}
 use Rattle.flume_model.proofs.EntryLists.{entry_last, none_same, tickets_round}
 use Rattle.flume_state.specs.Notices.{due_now, with_signal}
-use Rattle.flume_state.specs.Sends.{SendMap, blocked, noticed_send, with_notice}
+use Rattle.flume_state.specs.Sends.{SendMap, newly_blocked, noticed_send, with_notice}
 use Rattle.flume_state.specs.Receivers.{EntryList, new_receiver}
 use Rattle.flume_state.specs.Due.{SendDue, ReceiverDue}
 use Rattle.flume_state.proofs.SendsLaws.{get-insert_same, get-insert_other, get-remove_same, get-remove_other}
@@ -31,12 +31,12 @@ module _ {S : Type 0} where
       (λ ne. subst (λ y. SendDue false (get m t) y) (sym (get-remove_other m k t ne)) (send_kept (get m t))) (cases_eq t k)
 
   -- one that is new
-  pub new_sends : (m : SendMap S) (k : ℕ) (signal : S) → get m k ≡ None → SendsDue m (insert m k (blocked signal))
+  pub new_sends : (m : SendMap S) (k : ℕ) (signal : S) → get m k ≡ None → SendsDue m (insert m k (newly_blocked signal))
   new_sends m k signal none t =
       ⊎_elim (λ e.
-      subst (λ y. SendDue false (get m t) y) (sym (ap (get (insert m k (blocked signal))) e ∙ get-insert_same m k (blocked signal)))
+      subst (λ y. SendDue false (get m t) y) (sym (ap (get (insert m k (newly_blocked signal))) e ∙ get-insert_same m k (newly_blocked signal)))
       (send_new false signal (get m t) (ap (get m) e ∙ none)))
-      (λ ne. subst (λ y. SendDue false (get m t) y) (sym (get-insert_other m k (blocked signal) t ne)) (send_kept (get m t)))
+      (λ ne. subst (λ y. SendDue false (get m t) y) (sym (get-insert_other m k (newly_blocked signal) t ne)) (send_kept (get m t)))
       (cases_eq t k)
 
   -- one with another signal
@@ -55,10 +55,10 @@ module _ {T S : Type 0} where
   ReceiversDue old new = (t : ℕ) → ReceiverDue false (entry_of t old) (entry_of t new)
 
   -- one that leaves
-  pub gone_receivers : (es : EntryList T S) (k : ℕ) → entry_of k (without k es) ≡ None → ReceiversDue es (without k es)
+  pub gone_receivers : (es : EntryList T S) (k : ℕ) → entry_of k (without_ticket k es) ≡ None → ReceiversDue es (without_ticket k es)
   gone_receivers es k alone t =
       ⊎_elim (λ e.
-      subst (λ y. ReceiverDue false (entry_of t es) y) (sym (ap (λ u. entry_of u (without k es)) e ∙ alone)) refl)
+      subst (λ y. ReceiverDue false (entry_of t es) y) (sym (ap (λ u. entry_of u (without_ticket k es)) e ∙ alone)) refl)
       (λ ne. subst (λ y. ReceiverDue false (entry_of t es) y) (sym (entry_without t k es (ne_eqb k t (λ e. ne (sym e)))))
       (receiver_kept (entry_of t es))) (cases_eq t k)
 
@@ -79,11 +79,11 @@ module _ {T S : Type 0} where
   none_round_for t (front ∷ queue) es none = none_same t es _ (sym (tickets_round due_now front es)) none
 
   -- one that leaves and passes its wake on
-  pub passed_receivers : (queue : List T) (es : EntryList T S) (k : ℕ) → entry_of k (without k es) ≡ None
-      → ReceiversDue es (round_for due_now queue (without k es))
+  pub passed_receivers : (queue : List T) (es : EntryList T S) (k : ℕ) → entry_of k (without_ticket k es) ≡ None
+      → ReceiversDue es (round_for due_now queue (without_ticket k es))
   passed_receivers queue es k alone t =
       ⊎_elim (λ e.
       subst (λ y. ReceiverDue false (entry_of t es) y)
-      (sym (ap (λ u. entry_of u (round_for due_now queue (without k es))) e ∙ none_round_for k queue (without k es) alone)) refl)
-      (λ ne. subst (λ x. ReceiverDue false x (entry_of t (round_for due_now queue (without k es))))
-      (entry_without t k es (ne_eqb k t (λ e. ne (sym e)))) (round_for_due t queue (without k es))) (cases_eq t k)
+      (sym (ap (λ u. entry_of u (round_for due_now queue (without_ticket k es))) e ∙ none_round_for k queue (without_ticket k es) alone)) refl)
+      (λ ne. subst (λ x. ReceiverDue false x (entry_of t (round_for due_now queue (without_ticket k es))))
+      (entry_without t k es (ne_eqb k t (λ e. ne (sym e)))) (round_for_due t queue (without_ticket k es))) (cases_eq t k)

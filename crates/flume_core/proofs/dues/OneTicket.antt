@@ -7,7 +7,7 @@ use Rattle.flume_model.specs.Entries.{is_waiting, marked}
 use Rattle.flume_state.specs.declared.notice.Notice.{Notice}
 use Rattle.flume_state.specs.declared.sends.LiveSend.{LiveSend}
 use Rattle.flume_state.specs.Notices.{due_now, with_signal}
-use Rattle.flume_state.specs.Sends.{blocked, accepted_now, with_notice}
+use Rattle.flume_state.specs.Sends.{newly_blocked, accepted_now, with_notice}
 use Rattle.flume_state.specs.Due.{SendDue, ReceiverDue, blocked_in, receiver_due_in}
 
 -- nothing became of a send
@@ -65,7 +65,7 @@ module _ {S : Type 0} where
       accepted_bits send.accepted send.notice.due closed (ap not (let not_accepted : send.accepted ≡ false = cc in not_accepted))
 
   -- one that has just blocked
-  pub send_new : (closed : Bool) (signal : S) (x : Option (LiveSend S)) → x ≡ None → SendDue closed x (Some (blocked signal))
+  pub send_new : (closed : Bool) (signal : S) (x : Option (LiveSend S)) → x ≡ None → SendDue closed x (Some (newly_blocked signal))
   send_new closed signal x none = rw none (none_bits closed)
 
   -- one that was found blocked as the channel was closed, and one that wasn't

@@ -7,7 +7,7 @@ use Rattle.flume_model.specs.declared.step.Kind.TheVariants.{Block, Plain, Strea
 use Rattle.flume_model.specs.declared.entry.Entry.{Entry}
 use Rattle.flume_model.specs.declared.entry.Mark.{Mark}
 use Rattle.flume_model.specs.declared.entry.Mark.TheVariants.{Waiting, Woken, Filled}
-use Rattle.flume_model.specs.Entries.{all_woken, entry_of, round, round_for, without, again}
+use Rattle.flume_model.specs.Entries.{all_woken, entry_of, round, round_for, without_ticket, again}
 use Rattle.flume_state.specs.declared.notice.Notice.{Notice}
 use Rattle.flume_state.specs.Notices.{due_now}
 use Rattle.flume_state.specs.Receivers.{EntryList, noticed_receiver}
@@ -17,12 +17,12 @@ use Rattle.flume_core.proofs.dues.OneTicket.{receiver_kept, receiver_woken}
 
 module _ {T N : Type 0} where
   -- another receiver that leaves
-  pub entry_without : (t u : ℕ) (es : List (Entry T N)) → eqb u t ≡ false → entry_of t (without u es) ≡ entry_of t es
+  pub entry_without : (t u : ℕ) (es : List (Entry T N)) → eqb u t ≡ false → entry_of t (without_ticket u es) ≡ entry_of t es
   entry_without t u [] other = refl
   entry_without t u (e ∷ es) other = by_case (eqb e.ticket u) refl (entry_without t u es other)
     where
-      by_case : (b : Bool) → eqb e.ticket u ≡ b → entry_of t (without u es) ≡ entry_of t es
-          → entry_of t (without u (e ∷ es)) ≡ entry_of t (e ∷ es)
+      by_case : (b : Bool) → eqb e.ticket u ≡ b → entry_of t (without_ticket u es) ≡ entry_of t es
+          → entry_of t (without_ticket u (e ∷ es)) ≡ entry_of t (e ∷ es)
       by_case true same rest =
           let not_it : eqb e.ticket t ≡ false = rw (eqb-true e.ticket u same) other in
           simp (same, not_it) refl
@@ -39,7 +39,7 @@ module _ {T N : Type 0} where
       again_cases (λ l. entry_of t l ≡ entry_of t es) u es refl
       (λ e found woken.
       let not_it : eqb e.ticket t ≡ false = rw (ticket_of u e es found) other in
-      entry_push t (record e { mark = Waiting }) (without u es) not_it ∙ entry_without t u es other)
+      entry_push t (record e { mark = Waiting }) (without_ticket u es) not_it ∙ entry_without t u es other)
 
 module _ {T S : Type 0} where
   -- another receiver's notice is changed
@@ -56,12 +56,12 @@ module _ {T S : Type 0} where
       by_case false differ rest = simp differ (ap (cond (eqb e.ticket t) (Some e)) rest)
 
   -- leaving a receiver out also leaves out how its notice was changed
-  pub without_noticed : (f : Notice S → Notice S) (t : ℕ) (es : EntryList T S) → without t (noticed_receiver f t es) ≡ without t es
+  pub without_noticed : (f : Notice S → Notice S) (t : ℕ) (es : EntryList T S) → without_ticket t (noticed_receiver f t es) ≡ without_ticket t es
   without_noticed f t [] = refl
   without_noticed f t (e ∷ es) = by_case (eqb e.ticket t) refl (without_noticed f t es)
     where
-      by_case : (b : Bool) → eqb e.ticket t ≡ b → without t (noticed_receiver f t es) ≡ without t es
-          → without t (noticed_receiver f t (e ∷ es)) ≡ without t (e ∷ es)
+      by_case : (b : Bool) → eqb e.ticket t ≡ b → without_ticket t (noticed_receiver f t es) ≡ without_ticket t es
+          → without_ticket t (noticed_receiver f t (e ∷ es)) ≡ without_ticket t (e ∷ es)
       by_case true same rest = simp same refl
       by_case false differ rest = simp differ (ap (λ l. e ∷ l) rest)
 
@@ -77,16 +77,16 @@ module _ {T S : Type 0} where
       by_case false differ rest = simp differ rest
 
   -- one that isn't due isn't due either if it waits again
-  pub again_idle : (t : ℕ) (es : EntryList T S) → entry_of t (without t es) ≡ None → receiver_due_in (entry_of t es) ≡ false
+  pub again_idle : (t : ℕ) (es : EntryList T S) → entry_of t (without_ticket t es) ≡ None → receiver_due_in (entry_of t es) ≡ false
       → receiver_due_in (entry_of t (again t es)) ≡ false
   again_idle t es alone idle =
       again_cases (λ l. receiver_due_in (entry_of t l) ≡ false) t es idle
       (λ e found woken.
       let same : e.ticket ≡ t = ticket_of t e es found in
       let x = record e { mark = Waiting } in
-      let last : entry_of t (without t es ++ x ∷ []) ≡ Some x =
-      ap (λ k. entry_of k (without t es ++ x ∷ [])) (sym same)
-      ∙ entry_last (without t es) x (ap (λ k. entry_of k (without t es)) same ∙ alone) in
+      let last : entry_of t (without_ticket t es ++ x ∷ []) ≡ Some x =
+      ap (λ k. entry_of k (without_ticket t es ++ x ∷ [])) (sym same)
+      ∙ entry_last (without_ticket t es) x (ap (λ k. entry_of k (without_ticket t es)) same ∙ alone) in
       ap receiver_due_in last ∙ sym (ap receiver_due_in found) ∙ idle)
 
   -- which tickets are due after a wake round

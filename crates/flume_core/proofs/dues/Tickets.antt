@@ -7,7 +7,7 @@ use Rattle.std.specs.FinMap.{get}
 use Rattle.flume_model.specs.Log.{Log, Opening}
 use Rattle.flume_model.specs.Line.{is_live, next_ticket}
 use Rattle.flume_model.specs.Channel.{has_ticket}
-use Rattle.flume_model.specs.Entries.{entry_of, without}
+use Rattle.flume_model.specs.Entries.{entry_of, without_ticket}
 use Rattle.flume_model.specs.Parked.{entries}
 use Rattle.flume_model.proofs.EntryMarks.{left_out, none_past}
 use Rattle.flume_state.specs.declared.sends.LiveSend.{LiveSend}
@@ -36,19 +36,19 @@ module _ {T S : Type 0} where
   pub record Tickets (s : State T S) : Type 0 where
     pub new_send : get s.sends s.next ≡ None
     pub new_receiver : entry_of s.next s.entries ≡ None
-    pub alone : (t : ℕ) → entry_of t (without t s.entries) ≡ None
+    pub alone : (t : ℕ) → entry_of t (without_ticket t s.entries) ≡ None
     pub listed : (t : ℕ) → blocked_in (get s.sends t) ≡ has_ticket t (offers_of s.blocked)
     pub live : All (λ b. IsBlocked s.sends b.ticket) s.blocked
 
 module _ {T A S : Type 0} where
   -- that is so
   pub tickets_of : (s : State T S) → IsReachable A s → Tickets s
-  tickets_of s led = record {
+  tickets_of s reachable = record {
     new_send = new_send_at (get s.sends s.next) refl;
     new_receiver = none_mapped bare _ (sym (bare_entry s.next s.entries) ∙ ap (entry_of s.next) h.entries_are
         ∙ none_past (next_ticket o log) s.next (entries o log) (omega (arith, h.next_is)) (entries_apart o log h.run));
-    alone = λ t. none_mapped bare _ (sym (bare_entry t (without t s.entries))
-        ∙ ap (entry_of t) (bare_without t s.entries ∙ ap (without t) h.entries_are)
+    alone = λ t. none_mapped bare _ (sym (bare_entry t (without_ticket t s.entries))
+        ∙ ap (entry_of t) (bare_without t s.entries ∙ ap (without_ticket t) h.entries_are)
         ∙ left_out (next_ticket o log) t (entries o log) (entries_apart o log h.run));
     listed = λ t. blocked_bits (get s.sends t) (is_live log t) (has_ticket t (offers_of s.blocked)) (status_is h t)
         (λ of. blocked_are_live o log h.run t (ap (has_ticket t) (blocked_is h) ∙ of));
@@ -56,13 +56,13 @@ module _ {T A S : Type 0} where
   }
     where
       o : Opening
-      o = led.0
+      o = reachable.0
 
       log : Log T A
-      log = led.1
+      log = reachable.1
 
       h : Represents o log s
-      h = led.2
+      h = reachable.2
 
       new_send_at : (x : Option (LiveSend S)) → get s.sends s.next ≡ x → x ≡ None
       new_send_at None e = refl

@@ -13,11 +13,9 @@ use flume_model::step::{Reply, Step};
 use std::alloc::Allocator;
 
 impl<T: Drop, S: Drop, A: Allocator + Copy> Chan<T, S, A> {
-    /// Sets the capacity of a bounded channel. `Done`: it is `capacity` from now on, and while the
-    /// queue is below it the first blocked message moves in: its ticket is accepted. A longer queue
-    /// stays as it is, and no receiver is woken. `Unbounded`: the channel has no capacity to set.
-    /// `Ended`: it has one, and is closed. The last two leave the channel as it was. Doesn't
-    /// allocate.
+    /// Sets the capacity of a bounded channel. `Done`: blocked messages move in while the queue is
+    /// below it, and their tickets are accepted. `Unbounded`: the channel has no capacity to set.
+    /// `Ended`: it has one, and is closed. The last two change nothing. Doesn't allocate.
     ///
     /// ```
     /// let mut chan: Chan<u64, u32> = Chan::new(alloc, Some(0));
@@ -27,9 +25,9 @@ impl<T: Drop, S: Drop, A: Allocator + Copy> Chan<T, S, A> {
     /// ```
     pub fn set_capacity(&mut self, capacity: usize) -> Reply<T, A>
         ensures step { Extends self.old (Step.SetCapacity capacity) result self.new }
-        ensures dues { IsReachable A self.old
+        ensures becomes_due { IsReachable A self.old
             → BecomesDue self.old (Step.SetCapacity capacity) result self.new }
-        ensures comes { PossibleReply (Step.SetCapacity capacity) result }
+        ensures possible_reply { PossibleReply (Step.SetCapacity capacity) result }
         ensures space { self.old.space ≤ self.new.space }
         ensures unbounded { (result ≡ Reply.Unbounded) ↔ (self.old.capacity ≡ None) }
         ensures ended { (result ≡ Reply.Ended)

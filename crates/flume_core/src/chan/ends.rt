@@ -12,13 +12,13 @@ use flume_model::step::{Reply, Step};
 use std::alloc::Allocator;
 
 impl<T: Drop, S: Drop, A: Allocator + Copy> Chan<T, S, A> {
-    /// One more sender. `NoEnd`: none is left, and a closed channel never opens again. `CountFull`:
-    /// no more can be counted. Both leave the channel as it was.
+    /// One more sender. `NoEnd`: none is left. `CountFull`: no more can be counted. Both
+    /// change nothing.
     pub fn clone_sender(&mut self) -> Reply<T, A>
         ensures step { Extends self.old Step.CloneSender result self.new }
-        ensures dues { IsReachable A self.old
+        ensures becomes_due { IsReachable A self.old
             → BecomesDue self.old Step.CloneSender result self.new }
-        ensures comes { PossibleReply Step.CloneSender result }
+        ensures possible_reply { PossibleReply Step.CloneSender result }
         ensures space { self.old.space ≤ self.new.space }
         ensures no_end { (result ≡ Reply.NoEnd) ↔ (self.old.senders ≡ 0) }
         ensures count_full { (result ≡ Reply.CountFull) ↔ (self.old.senders ≡ most) }
@@ -41,9 +41,9 @@ impl<T: Drop, S: Drop, A: Allocator + Copy> Chan<T, S, A> {
     /// One more receiver; as `clone_sender`.
     pub fn clone_receiver(&mut self) -> Reply<T, A>
         ensures step { Extends self.old Step.CloneReceiver result self.new }
-        ensures dues { IsReachable A self.old
+        ensures becomes_due { IsReachable A self.old
             → BecomesDue self.old Step.CloneReceiver result self.new }
-        ensures comes { PossibleReply Step.CloneReceiver result }
+        ensures possible_reply { PossibleReply Step.CloneReceiver result }
         ensures space { self.old.space ≤ self.new.space }
         ensures no_end { (result ≡ Reply.NoEnd) ↔ (self.old.receivers ≡ 0) }
         ensures count_full { (result ≡ Reply.CountFull) ↔ (self.old.receivers ≡ most) }
@@ -63,14 +63,14 @@ impl<T: Drop, S: Drop, A: Allocator + Copy> Chan<T, S, A> {
         }
     }
 
-    /// One sender leaves. `NoEnd`: there is none left, and the channel is as it was. If it was the
-    /// last one, every waiting receiver is woken, and every blocked send is due. Once both sides
-    /// have disconnected, the messages left are dropped and every ticket is spent.
+    /// One sender leaves. `NoEnd`: there is none left, and nothing changes. If this closes the
+    /// channel, every waiting receiver is woken, and every blocked send is due. Once both sides
+    /// have disconnected, no message and no ticket is left.
     pub fn drop_sender(&mut self) -> Reply<T, A>
         ensures step { Extends self.old Step.DropSender result self.new }
-        ensures dues { IsReachable A self.old
+        ensures becomes_due { IsReachable A self.old
             → BecomesDue self.old Step.DropSender result self.new }
-        ensures comes { PossibleReply Step.DropSender result }
+        ensures possible_reply { PossibleReply Step.DropSender result }
         ensures space { self.old.space ≤ self.new.space }
         ensures done { (result ≡ Reply.Done) ↔ (0 < self.old.senders) }
         ensures no_end { (result ≡ Reply.NoEnd) ↔ (self.old.senders ≡ 0) }
@@ -84,16 +84,16 @@ impl<T: Drop, S: Drop, A: Allocator + Copy> Chan<T, S, A> {
         }
         let was_open = self.is_open();
         self.senders -= 1;
-        self.settle(was_open);
+        self.finish_drop(was_open);
         Reply::Done
     }
 
     /// One receiver leaves; as `drop_sender`.
     pub fn drop_receiver(&mut self) -> Reply<T, A>
         ensures step { Extends self.old Step.DropReceiver result self.new }
-        ensures dues { IsReachable A self.old
+        ensures becomes_due { IsReachable A self.old
             → BecomesDue self.old Step.DropReceiver result self.new }
-        ensures comes { PossibleReply Step.DropReceiver result }
+        ensures possible_reply { PossibleReply Step.DropReceiver result }
         ensures space { self.old.space ≤ self.new.space }
         ensures done { (result ≡ Reply.Done) ↔ (0 < self.old.receivers) }
         ensures no_end { (result ≡ Reply.NoEnd) ↔ (self.old.receivers ≡ 0) }
@@ -107,14 +107,12 @@ impl<T: Drop, S: Drop, A: Allocator + Copy> Chan<T, S, A> {
         }
         let was_open = self.is_open();
         self.receivers -= 1;
-        self.settle(was_open);
+        self.finish_drop(was_open);
         Reply::Done
     }
 
-    // An end has left: if it closed the channel, all that wait are woken and all blocked sends are
-    // due; once both sides have disconnected, nothing is kept.
-    fn settle(&mut self, was_open: bool)
-        ensures settled { self.new ≡ after_end_dropped was_open self.old }
+    fn finish_drop(&mut self, was_open: bool)
+        ensures dropped { self.new ≡ after_end_dropped was_open self.old }
     {
         if self.senders == 0 && self.receivers == 0 {
             self.line.clear();

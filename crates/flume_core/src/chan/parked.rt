@@ -4,7 +4,7 @@ ghost use Rattle.std.specs.Prelude.{None};
 ghost use Rattle.flume_model.specs.Limits.{IsOpen, IsClosed, is_closed};
 ghost use Rattle.flume_model.specs.Entries.{entry_of, again, passes_on, leave_fills};
 ghost use Rattle.flume_model.specs.Entries.{round_for_fills};
-ghost use Rattle.flume_state.specs.Receivers.{receiver_status, looks, blocks, noticed_receiver};
+ghost use Rattle.flume_state.specs.Receivers.{receiver_status, looks, is_unfilled_block, noticed_receiver};
 ghost use Rattle.flume_state.specs.Receivers.{waits_on};
 ghost use Rattle.flume_state.specs.Receivers.{only_leaves};
 ghost use Rattle.flume_model.specs.Entries.{held_by};
@@ -26,10 +26,9 @@ use std::alloc::Allocator;
 impl<T: Drop, S: Drop, A: Allocator + Copy> Chan<T, S, A> {
     /// Asks again, as the parked receiver with this ticket. `Got`: the message that filled it, or,
     /// if it doesn't block or was woken, the front of the line. `Ended`: there is none, and the
-    /// channel is closed. Both spend the ticket. `Waiting`: it waits on; one that was woken goes
-    /// behind all others, one that waits keeps its place; a signal given here replaces the one that
-    /// it left. `NoTicket`: nobody is parked under this ticket, and nothing changes. Doesn't
-    /// allocate.
+    /// channel is closed. Both spend the ticket. `Waiting`: it waits on, behind all others if it
+    /// was woken; a signal given here replaces the one that it left. `NoTicket`: nobody is parked
+    /// under this ticket, and nothing changes. Doesn't allocate.
     ///
     /// ```
     /// let mut chan: Chan<u64, u32> = Chan::new(alloc, None);
@@ -38,9 +37,9 @@ impl<T: Drop, S: Drop, A: Allocator + Copy> Chan<T, S, A> {
     /// ```
     pub fn poll(&mut self, ticket: u64, signal: Option<S>) -> Reply<T, A>
         ensures step { Extends self.old (Step.Poll ticket) result self.new }
-        ensures dues { IsReachable A self.old
+        ensures becomes_due { IsReachable A self.old
             → BecomesDue self.old (Step.Poll ticket) result self.new }
-        ensures comes { PossibleReply (Step.Poll ticket) result }
+        ensures possible_reply { PossibleReply (Step.Poll ticket) result }
         ensures space { self.old.space ≤ self.new.space }
         ensures no_ticket { (result ≡ Reply.NoTicket)
             ↔ (entry_of ticket self.old.entries ≡ None) }
@@ -88,9 +87,8 @@ impl<T: Drop, S: Drop, A: Allocator + Copy> Chan<T, S, A> {
     }
 
     /// Leaves, as the parked receiver with this ticket, which is spent. `Got`: the message that
-    /// filled it, or, if it blocks, the front of the line. `Gone`: it leaves with no message; if it
-    /// was woken, it passes its wake on: a wake round follows if a message is queued. `NoTicket`:
-    /// nobody is parked under this ticket, and nothing changes. Doesn't allocate.
+    /// filled it, or, if it blocks, the front of the line. `Gone`: no message; if woken, it passes
+    /// its wake on. `NoTicket`: nobody is parked under it, and nothing changes. Doesn't allocate.
     ///
     /// ```
     /// let mut chan: Chan<u64, u32> = Chan::new(alloc, None);
@@ -101,9 +99,9 @@ impl<T: Drop, S: Drop, A: Allocator + Copy> Chan<T, S, A> {
     /// ```
     pub fn withdraw(&mut self, ticket: u64) -> Reply<T, A>
         ensures step { Extends self.old (Step.Withdraw ticket) result self.new }
-        ensures dues { IsReachable A self.old
+        ensures becomes_due { IsReachable A self.old
             → BecomesDue self.old (Step.Withdraw ticket) result self.new }
-        ensures comes { PossibleReply (Step.Withdraw ticket) result }
+        ensures possible_reply { PossibleReply (Step.Withdraw ticket) result }
         ensures space { self.old.space ≤ self.new.space }
         ensures no_ticket { (result ≡ Reply.NoTicket)
             ↔ (entry_of ticket self.old.entries ≡ None) }
@@ -111,7 +109,7 @@ impl<T: Drop, S: Drop, A: Allocator + Copy> Chan<T, S, A> {
             → held_by (entry_of ticket self.old.entries) ≡ Some message
             → (result ≡ Reply.Got message) × (self.new ≡ without_receiver ticket self.old) }
         ensures got { (message : T) (rest : List T)
-            → blocks (receiver_status ticket self.old.entries) ≡ true
+            → is_unfilled_block (receiver_status ticket self.old.entries) ≡ true
             → (with_front self.old).queue ≡ message ∷ rest
             → (result ≡ Reply.Got message)
             × (self.new ≡ without_receiver ticket (after_take rest self.old)) }
@@ -120,7 +118,7 @@ impl<T: Drop, S: Drop, A: Allocator + Copy> Chan<T, S, A> {
         ensures leaves { (result ≡ Reply.Gone (is_closed self.old.senders self.old.receivers)
             (leave_fills ticket self.old.queue self.old.entries))
             ↔ (only_leaves (receiver_status ticket self.old.entries) ≡ true)
-            ⊎ ((blocks (receiver_status ticket self.old.entries) ≡ true)
+            ⊎ ((is_unfilled_block (receiver_status ticket self.old.entries) ≡ true)
             × ((with_front self.old).queue ≡ [])) }
         ensures unchanged { ChangesNothing (Step.Withdraw ticket) result → self.new ≡ self.old }
     {
@@ -174,7 +172,6 @@ impl<T: Drop, S: Drop, A: Allocator + Copy> Chan<T, S, A> {
         self.count_waiting();
     }
 
-    // A receiver that doesn't block leaves, and passes its wake on if it was woken.
     fn pass_on(&mut self, ticket: u64, woken: bool) -> Reply<T, A>
         requires woken { woken ≡ passes_on (entry_of ticket self.old.entries) }
         ensures gone { result ≡ Reply.Gone (is_closed self.old.senders self.old.receivers)

@@ -5,7 +5,7 @@ ghost use Rattle.flume_model.specs.Limits.{is_closed, is_full};
 ghost use Rattle.flume_model.specs.Entries.{waiting_count};
 ghost use Rattle.flume_state.specs.Sends.{NoDueSend};
 ghost use Rattle.flume_state.specs.Receivers.{NoDueReceiver};
-ghost use Rattle.flume_state.specs.Signals.{Names, signal_of};
+ghost use Rattle.flume_state.specs.Signals.{NamesDueTicket, signal_of};
 ghost use Rattle.flume_state.specs.State.{State, message_count};
 ghost use Rattle.flume_core.specs.Represents.{Extends, SameLogs};
 ghost use Rattle.flume_state.specs.Due.{BecomesDue};
@@ -19,8 +19,8 @@ impl<T: Drop, S: Drop, A: Allocator + Copy> Chan<T, S, A> {
     /// How many messages are queued, as a `Number`.
     pub fn len(&self) -> Reply<T, A>
         ensures step { Extends self.now Step.Len result self.now }
-        ensures dues { BecomesDue self.now Step.Len result self.now }
-        ensures comes { PossibleReply Step.Len result }
+        ensures becomes_due { BecomesDue self.now Step.Len result self.now }
+        ensures possible_reply { PossibleReply Step.Len result }
         ensures number { result ≡ Reply.Number (length self.now.queue) }
     {
         Reply::Number(self.line.queued_len())
@@ -29,8 +29,8 @@ impl<T: Drop, S: Drop, A: Allocator + Copy> Chan<T, S, A> {
     /// Whether no message is queued, as a `Truth`.
     pub fn is_empty(&self) -> Reply<T, A>
         ensures step { Extends self.now Step.IsEmpty result self.now }
-        ensures dues { BecomesDue self.now Step.IsEmpty result self.now }
-        ensures comes { PossibleReply Step.IsEmpty result }
+        ensures becomes_due { BecomesDue self.now Step.IsEmpty result self.now }
+        ensures possible_reply { PossibleReply Step.IsEmpty result }
         ensures truth { result ≡ Reply.Truth (length self.now.queue == 0) }
     {
         Reply::Truth(self.line.queued_len() == 0)
@@ -39,8 +39,8 @@ impl<T: Drop, S: Drop, A: Allocator + Copy> Chan<T, S, A> {
     /// Whether the channel is bounded and its queue at or past its capacity, as a `Truth`.
     pub fn is_full(&self) -> Reply<T, A>
         ensures step { Extends self.now Step.IsFull result self.now }
-        ensures dues { BecomesDue self.now Step.IsFull result self.now }
-        ensures comes { PossibleReply Step.IsFull result }
+        ensures becomes_due { BecomesDue self.now Step.IsFull result self.now }
+        ensures possible_reply { PossibleReply Step.IsFull result }
         ensures truth { result ≡ Reply.Truth (is_full self.now.capacity (length self.now.queue)) }
     {
         Reply::Truth(!self.has_room())
@@ -49,8 +49,8 @@ impl<T: Drop, S: Drop, A: Allocator + Copy> Chan<T, S, A> {
     /// The capacity, or `None` if unbounded.
     pub fn capacity(&self) -> Reply<T, A>
         ensures step { Extends self.now Step.Capacity result self.now }
-        ensures dues { BecomesDue self.now Step.Capacity result self.now }
-        ensures comes { PossibleReply Step.Capacity result }
+        ensures becomes_due { BecomesDue self.now Step.Capacity result self.now }
+        ensures possible_reply { PossibleReply Step.Capacity result }
         ensures capacity { result ≡ Reply.Capacity self.now.capacity }
     {
         Reply::Capacity(self.capacity)
@@ -59,8 +59,8 @@ impl<T: Drop, S: Drop, A: Allocator + Copy> Chan<T, S, A> {
     /// How many senders live, as a `Number`.
     pub fn sender_count(&self) -> Reply<T, A>
         ensures step { Extends self.now Step.SenderCount result self.now }
-        ensures dues { BecomesDue self.now Step.SenderCount result self.now }
-        ensures comes { PossibleReply Step.SenderCount result }
+        ensures becomes_due { BecomesDue self.now Step.SenderCount result self.now }
+        ensures possible_reply { PossibleReply Step.SenderCount result }
         ensures number { result ≡ Reply.Number self.now.senders }
     {
         Reply::Number(self.senders)
@@ -69,8 +69,8 @@ impl<T: Drop, S: Drop, A: Allocator + Copy> Chan<T, S, A> {
     /// How many receivers live, as a `Number`.
     pub fn receiver_count(&self) -> Reply<T, A>
         ensures step { Extends self.now Step.ReceiverCount result self.now }
-        ensures dues { BecomesDue self.now Step.ReceiverCount result self.now }
-        ensures comes { PossibleReply Step.ReceiverCount result }
+        ensures becomes_due { BecomesDue self.now Step.ReceiverCount result self.now }
+        ensures possible_reply { PossibleReply Step.ReceiverCount result }
         ensures number { result ≡ Reply.Number self.now.receivers }
     {
         Reply::Number(self.receivers)
@@ -79,17 +79,15 @@ impl<T: Drop, S: Drop, A: Allocator + Copy> Chan<T, S, A> {
     /// Whether all senders or all receivers have been dropped, as a `Truth`.
     pub fn is_disconnected(&self) -> Reply<T, A>
         ensures step { Extends self.now Step.IsDisconnected result self.now }
-        ensures dues { BecomesDue self.now Step.IsDisconnected result self.now }
-        ensures comes { PossibleReply Step.IsDisconnected result }
+        ensures becomes_due { BecomesDue self.now Step.IsDisconnected result self.now }
+        ensures possible_reply { PossibleReply Step.IsDisconnected result }
         ensures truth { result ≡ Reply.Truth (is_closed self.now.senders self.now.receivers) }
     {
         Reply::Truth(!self.is_open())
     }
 
     /// How many more messages can be stored before a send allocates; 0 at first. The room and the
-    /// messages in the channel together never shrink by a step, which is its clause `space`: a
-    /// message that leaves, queued or blocked, adds at least one to the room, and one that joins
-    /// takes at most one. No step.
+    /// messages together never shrink by a step. No step.
     ///
     /// ```
     /// let mut chan: Chan<u64, ()> = Chan::new(alloc, None);
@@ -104,10 +102,8 @@ impl<T: Drop, S: Drop, A: Allocator + Copy> Chan<T, S, A> {
         self.line.room()
     }
 
-    /// How many sends are blocked: each has its message in the channel, behind the queue. A send
-    /// whose message moved into the queue isn't counted, though it hasn't asked since. Sends stay
-    /// blocked in a closed channel until they take their messages back; once both sides have
-    /// disconnected, none is. Reads a count; no step.
+    /// How many sends are blocked, in a closed channel too. A send whose message moved into the
+    /// queue isn't counted, though it hasn't asked since. No step.
     ///
     /// ```
     /// let mut chan: Chan<u64, ()> = Chan::new(alloc, Some(0));
@@ -122,8 +118,7 @@ impl<T: Drop, S: Drop, A: Allocator + Copy> Chan<T, S, A> {
         self.line.blocked_len()
     }
 
-    /// How many parked receivers wait. One that was woken or filled isn't counted, though it hasn't
-    /// asked since. In a closed channel none waits. Reads a count; no step.
+    /// How many parked receivers wait. One that was woken or filled isn't counted. No step.
     ///
     /// ```
     /// let mut chan: Chan<u64, ()> = Chan::new(alloc, None);
@@ -138,8 +133,7 @@ impl<T: Drop, S: Drop, A: Allocator + Copy> Chan<T, S, A> {
         self.entries.waiting()
     }
 
-    /// How many messages could be received now without waiting, queued or blocked, and at most
-    /// `most`. Reads counts; no step.
+    /// How many messages, queued or blocked, could be received now, and at most `most`. No step.
     ///
     /// ```
     /// let mut chan: Chan<u64, u32> = Chan::new(alloc, Some(1));
@@ -156,16 +150,15 @@ impl<T: Drop, S: Drop, A: Allocator + Copy> Chan<T, S, A> {
         queued + self.line.blocked_len().min(most - queued)
     }
 
-    /// A ticket that is due, and isn't afterwards; all else is as it was. A ticket is due once its
-    /// send was accepted, or found blocked by the step that closed the channel, or its receiver was
-    /// woken or filled. `None` exactly if no ticket is due. It costs the same whatever is parked.
-    /// No step.
+    /// A ticket that is due, and isn't afterwards. `None` if no ticket is due. A ticket becomes due
+    /// if its send is accepted, or is blocked as the channel is closed, or its receiver is woken or
+    /// filled. It costs the same whatever is parked. No step.
     #[inline(always)]
     pub fn next_due(&mut self) -> Option<u64>
-        ensures named { IfSome result (λ ticket. Names self.old self.new ticket) }
+        ensures named { IfSome result (λ ticket. NamesDueTicket self.old self.new ticket) }
         ensures none { IfNone result (NoDueSend self.old.sends × NoDueReceiver self.old.entries) }
         ensures unchanged { IfNone result (self.new ≡ self.old) }
-        ensures stands { SameLogs A self.old self.new }
+        ensures represents { SameLogs A self.old self.new }
     {
         if let Some(ticket) = self.line.next_due() {
             return Some(ticket);

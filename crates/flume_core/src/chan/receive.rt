@@ -29,8 +29,8 @@ impl<T: Drop, S: Drop, A: Allocator + Copy> Chan<T, S, A> {
     #[inline(always)]
     pub fn try_recv(&mut self) -> Reply<T, A>
         ensures step { Extends self.old Step.TryRecv result self.new }
-        ensures dues { IsReachable A self.old → BecomesDue self.old Step.TryRecv result self.new }
-        ensures comes { PossibleReply Step.TryRecv result }
+        ensures becomes_due { IsReachable A self.old → BecomesDue self.old Step.TryRecv result self.new }
+        ensures possible_reply { PossibleReply Step.TryRecv result }
         ensures space { self.old.space ≤ self.new.space }
         ensures got { (message : T) (rest : List T) → (with_front self.old).queue ≡ message ∷ rest
             → (result ≡ Reply.Got message)
@@ -48,10 +48,9 @@ impl<T: Drop, S: Drop, A: Allocator + Copy> Chan<T, S, A> {
         }
     }
 
-    /// Asks for the message at the front as `try_recv` does, and parks instead of `Empty`.
-    /// `Parked`: the receiver waits behind all others under this ticket, with the signal. `Spent`:
-    /// the greatest ticket was reached. `NoMemory`: there was no room to park. The last two leave
-    /// the channel as it was.
+    /// Asks as `try_recv` does, and parks instead of `Empty`. `Parked`: the receiver waits behind
+    /// all others under this ticket. `Spent`: every ticket was issued. `NoMemory`: there was no
+    /// room to park. The last two change nothing.
     ///
     /// ```
     /// let mut chan: Chan<u64, u32> = Chan::new(alloc, None);
@@ -61,9 +60,9 @@ impl<T: Drop, S: Drop, A: Allocator + Copy> Chan<T, S, A> {
     /// ```
     pub fn recv(&mut self, kind: Kind, signal: S) -> Reply<T, A>
         ensures step { Extends self.old (Step.Recv kind) result self.new }
-        ensures dues { IsReachable A self.old
+        ensures becomes_due { IsReachable A self.old
             → BecomesDue self.old (Step.Recv kind) result self.new }
-        ensures comes { PossibleReply (Step.Recv kind) result }
+        ensures possible_reply { PossibleReply (Step.Recv kind) result }
         ensures space { self.old.space ≤ self.new.space }
         ensures got { (message : T) (rest : List T) → (with_front self.old).queue ≡ message ∷ rest
             → (result ≡ Reply.Got message) × (self.new ≡ after_take rest self.old) }
@@ -95,9 +94,9 @@ impl<T: Drop, S: Drop, A: Allocator + Copy> Chan<T, S, A> {
         Reply::Parked(ticket)
     }
 
-    /// Takes all queued messages, and then lets blocked ones in, in order, while the queue has
-    /// room; their tickets are accepted. `Drained`: the messages, in order. `NoMemory`: some are
-    /// queued and there was no room for their list; the channel is as it was.
+    /// Takes all queued messages, and lets blocked ones in while the queue has room: their tickets
+    /// are accepted. `Drained`: the messages, in order. `NoMemory`: some are queued, there was no
+    /// room for their list, and nothing changes.
     ///
     /// ```
     /// let mut chan: Chan<u64, ()> = Chan::new(alloc, None);
@@ -107,8 +106,8 @@ impl<T: Drop, S: Drop, A: Allocator + Copy> Chan<T, S, A> {
     /// ```
     pub fn drain(&mut self) -> Reply<T, A>
         ensures step { Extends self.old Step.Drain result self.new }
-        ensures dues { IsReachable A self.old → BecomesDue self.old Step.Drain result self.new }
-        ensures comes { PossibleReply Step.Drain result }
+        ensures becomes_due { IsReachable A self.old → BecomesDue self.old Step.Drain result self.new }
+        ensures possible_reply { PossibleReply Step.Drain result }
         ensures space { self.old.space ≤ self.new.space }
         ensures drained { (list : Vec T A) → result ≡ Reply.Drained list
             → (list.items ≡ self.old.queue)
@@ -124,8 +123,7 @@ impl<T: Drop, S: Drop, A: Allocator + Copy> Chan<T, S, A> {
         Reply::Drained(list)
     }
 
-    // Takes the message at the front. The queue has room for the blocked messages too, so nothing
-    // is allocated.
+    // The queue has room for the blocked messages too, so nothing is allocated.
     #[inline(always)]
     pub(super) fn take_front(&mut self) -> Option<T>
         ensures some { IfSome result (λ message. (rest : List T)

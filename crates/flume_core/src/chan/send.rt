@@ -4,7 +4,7 @@ ghost use Rattle.std.specs.Prelude.{length, Option, Some, None, true, false};
 ghost use Rattle.std.specs.FinMap.{get, insert, remove};
 ghost use Rattle.flume_model.specs.Limits.{IsOpen, IsClosed, IsAtCapacity, most};
 ghost use Rattle.flume_state.specs.Notices.{with_signal};
-ghost use Rattle.flume_state.specs.Sends.{blocked, noticed_send};
+ghost use Rattle.flume_state.specs.Sends.{newly_blocked, noticed_send};
 ghost use Rattle.flume_model.specs.Entries.{some_wait};
 ghost use Rattle.flume_state.specs.Effects.{Joins, Returns};
 ghost use Rattle.std.specs.List.{All};
@@ -20,12 +20,10 @@ use std::alloc::Allocator;
 
 impl<T: Drop, S: Drop, A: Allocator + Copy> Chan<T, S, A> {
     /// Offers a message without waiting. `Sent`: it is at the queue's end, at any capacity if a
-    /// receiver waits. A wake round follows: it wakes streams up to the first receiver of another
-    /// kind, and wakes that one too; a blocking receiver it hands the front of the queue, and names
-    /// its ticket. `Full`: no receiver waits, and the queue is at its capacity. `Closed`: all
-    /// senders or all receivers have been dropped. `NoMemory`: there was no room for the message
-    /// (`room`), and none could be had. The last three hand the message back and leave the channel
-    /// as it was.
+    /// receiver waits, and a wake round follows: `filled` is the receiver that it handed the front
+    /// of the queue, if any. `Full`: no receiver waits, and the queue is at its capacity. `Closed`:
+    /// all senders or all receivers have been dropped. `NoMemory`: there was no room for the
+    /// message, and none could be had. The last three hand the message back and change nothing.
     ///
     /// ```
     /// let mut chan: Chan<u64, ()> = Chan::new(alloc, None);
@@ -36,9 +34,9 @@ impl<T: Drop, S: Drop, A: Allocator + Copy> Chan<T, S, A> {
     #[inline(always)]
     pub fn try_send(&mut self, message: T) -> Reply<T, A>
         ensures step { Extends self.old (Step.TrySend message) result self.new }
-        ensures dues { IsReachable A self.old
+        ensures becomes_due { IsReachable A self.old
             → BecomesDue self.old (Step.TrySend message) result self.new }
-        ensures comes { PossibleReply (Step.TrySend message) result }
+        ensures possible_reply { PossibleReply (Step.TrySend message) result }
         ensures space { self.old.space ≤ self.new.space }
         ensures closed { (result ≡ Reply.Closed message)
             ↔ IsClosed self.old.senders self.old.receivers }
@@ -64,11 +62,11 @@ impl<T: Drop, S: Drop, A: Allocator + Copy> Chan<T, S, A> {
         Reply::Sent { filled }
     }
 
-    /// Offers a message, and blocks if the queue is at its capacity. `Sent`, `Closed` as
-    /// `try_send`. `Pending`: the message is behind the queue under this ticket, with the signal.
-    /// `Spent`: the greatest ticket was reached. `NoMemory`: as `try_send`, or no room for the
-    /// ticket of a message that would block. The last two and `Closed` hand the message back and
-    /// leave the channel as it was.
+    /// Offers a message, and blocks if the queue is at its capacity. `Sent`, `Closed`: as
+    /// `try_send`. `Pending`: the message is behind the queue under this ticket. `Spent`: every
+    /// ticket was issued. `NoMemory`: as `try_send`, or no room to block. `Closed` and the last two
+    /// hand the message back and change nothing.
+    ///
     /// ```
     /// let mut chan: Chan<u64, u32> = Chan::new(alloc, Some(0));
     /// chan.send(7, 10);                  // Pending(1), with the signal 10
@@ -77,9 +75,9 @@ impl<T: Drop, S: Drop, A: Allocator + Copy> Chan<T, S, A> {
     /// ```
     pub fn send(&mut self, message: T, signal: S) -> Reply<T, A>
         ensures step { Extends self.old (Step.Send message) result self.new }
-        ensures dues { IsReachable A self.old
+        ensures becomes_due { IsReachable A self.old
             → BecomesDue self.old (Step.Send message) result self.new }
-        ensures comes { PossibleReply (Step.Send message) result }
+        ensures possible_reply { PossibleReply (Step.Send message) result }
         ensures space { self.old.space ≤ self.new.space }
         ensures closed { (result ≡ Reply.Closed message)
             ↔ IsClosed self.old.senders self.old.receivers }
@@ -95,7 +93,7 @@ impl<T: Drop, S: Drop, A: Allocator + Copy> Chan<T, S, A> {
           blocked = self.old.blocked
               ++ record { ticket = self.old.next; message = message } ∷ [];
           space = self.new.space;
-          sends = insert self.old.sends self.old.next (blocked signal);
+          sends = insert self.old.sends self.old.next (newly_blocked signal);
           next = self.old.next + 1;
         } }
         ensures unchanged { IsRefusal result → self.new ≡ self.old }
@@ -118,15 +116,14 @@ impl<T: Drop, S: Drop, A: Allocator + Copy> Chan<T, S, A> {
 
 impl<T: Drop, S: Drop, A: Allocator + Copy> Chan<T, S, A> {
     /// Asks for the state of the blocked send with this ticket. `Accepted`: its message was taken
-    /// in, and the ticket is spent. `Waiting`: it is still blocked; a signal given here replaces
-    /// the one that the send left. `Returned`: the channel is closed, the message comes back, and
-    /// the ticket is spent. `NoTicket`: no live send has this ticket, and nothing changes. Doesn't
-    /// allocate.
+    /// in. `Returned`: the channel is closed, and the message comes back. Both spend the ticket.
+    /// `Waiting`: it is still blocked; a signal given here replaces the one that the send left.
+    /// `NoTicket`: no live send has this ticket, and nothing changes. Doesn't allocate.
     pub fn poll_send(&mut self, ticket: u64, signal: Option<S>) -> Reply<T, A>
         ensures step { Extends self.old (Step.PollSend ticket) result self.new }
-        ensures dues { IsReachable A self.old
+        ensures becomes_due { IsReachable A self.old
             → BecomesDue self.old (Step.PollSend ticket) result self.new }
-        ensures comes { PossibleReply (Step.PollSend ticket) result }
+        ensures possible_reply { PossibleReply (Step.PollSend ticket) result }
         ensures space { self.old.space ≤ self.new.space }
         ensures no_ticket { get self.old.sends ticket ≡ None → result ≡ Reply.NoTicket }
         ensures accepted { (result ≡ Reply.Accepted)
@@ -145,7 +142,7 @@ impl<T: Drop, S: Drop, A: Allocator + Copy> Chan<T, S, A> {
     {
         match self.line.accepted(ticket) {
             None => Reply::NoTicket,
-            Some(true) => self.learn(ticket),
+            Some(true) => self.answer_accepted(ticket),
             Some(false) if !self.is_open() => self.take_back(ticket),
             Some(false) => {
                 self.replace_signal(ticket, signal);
@@ -154,14 +151,14 @@ impl<T: Drop, S: Drop, A: Allocator + Copy> Chan<T, S, A> {
         }
     }
 
-    /// Takes back the message of the blocked send with this ticket. `Returned`: it comes back, with
-    /// whether the channel is closed. `Accepted`: it was taken in before. Both spend the ticket.
-    /// `NoTicket`: no live send has this ticket, and nothing changes. Doesn't allocate.
+    /// Takes back the message of the blocked send with this ticket. `Returned`: it comes back.
+    /// `Accepted`: it was taken in before. Both spend the ticket. `NoTicket`: no live send has it,
+    /// and nothing changes. Doesn't allocate.
     pub fn withdraw_send(&mut self, ticket: u64) -> Reply<T, A>
         ensures step { Extends self.old (Step.WithdrawSend ticket) result self.new }
-        ensures dues { IsReachable A self.old
+        ensures becomes_due { IsReachable A self.old
             → BecomesDue self.old (Step.WithdrawSend ticket) result self.new }
-        ensures comes { PossibleReply (Step.WithdrawSend ticket) result }
+        ensures possible_reply { PossibleReply (Step.WithdrawSend ticket) result }
         ensures space { self.old.space ≤ self.new.space }
         ensures no_ticket { get self.old.sends ticket ≡ None → result ≡ Reply.NoTicket }
         ensures accepted { (result ≡ Reply.Accepted)
@@ -174,12 +171,12 @@ impl<T: Drop, S: Drop, A: Allocator + Copy> Chan<T, S, A> {
     {
         match self.line.accepted(ticket) {
             None => Reply::NoTicket,
-            Some(true) => self.learn(ticket),
+            Some(true) => self.answer_accepted(ticket),
             Some(false) => self.take_back(ticket),
         }
     }
 
-    fn learn(&mut self, ticket: u64) -> Reply<T, A>
+    fn answer_accepted(&mut self, ticket: u64) -> Reply<T, A>
         requires known { accepted_at self.old ticket ≡ Some true }
         ensures accepted { result ≡ Reply.Accepted }
         ensures removed { self.new ≡ record self.old { sends = remove self.old.sends ticket } }

@@ -1,5 +1,4 @@
-//! Whether a call would have to wait if its step were made now. None of these is a step: the
-//! channel stays as it is, and nothing is allocated.
+//! Whether a call would have to wait if its step were made now. None of these is a step.
 ghost use Rattle.std.specs.Prelude.{IsTrue, ◌↔◌};
 ghost use Rattle.flume_core.specs.Waiting.{FindsNothing, FindsNoRoom, IsHeldBack};
 
@@ -7,9 +6,7 @@ use super::Chan;
 use std::alloc::Allocator;
 
 impl<T: Drop, S: Drop, A: Allocator + Copy> Chan<T, S, A> {
-    /// Whether a receive would find nothing: no message is queued or blocked, and the channel is
-    /// open. `try_recv` answers `Empty` then, `recv` parks, and a parked receiver that doesn't
-    /// block waits on.
+    /// Whether a receive would find nothing: `try_recv` answers `Empty` then, and `recv` parks.
     ///
     /// ```
     /// let mut chan: Chan<u64, u32> = Chan::new(alloc, None);
@@ -24,8 +21,7 @@ impl<T: Drop, S: Drop, A: Allocator + Copy> Chan<T, S, A> {
         self.is_open() && self.line.queued_len() == 0 && self.line.blocked_len() == 0
     }
 
-    /// Whether an offer would find no room: the channel is open, no receiver waits, and the queue
-    /// is at its capacity. `try_send` answers `Full` then, and `send` blocks.
+    /// Whether an offer would find no room: `try_send` answers `Full` then, and `send` blocks.
     ///
     /// ```
     /// let mut chan: Chan<u64, u32> = Chan::new(alloc, Some(1));
@@ -40,8 +36,7 @@ impl<T: Drop, S: Drop, A: Allocator + Copy> Chan<T, S, A> {
         self.is_open() && !self.entries.some_wait() && !self.has_room()
     }
 
-    /// Whether the send with this ticket is blocked, in an open channel: `poll_send` answers
-    /// `Waiting` then.
+    /// Whether this send is blocked, in an open channel: `poll_send` answers `Waiting` then.
     ///
     /// ```
     /// let mut chan: Chan<u64, u32> = Chan::new(alloc, Some(0));

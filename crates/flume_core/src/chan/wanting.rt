@@ -1,7 +1,7 @@
 //! Whether a step may be answered with `NoMemory`, by the rule for all channels.
 ghost use Rattle.std.specs.Prelude.{◌≡◌, true, IsTrue, ◌↔◌};
 ghost use Rattle.flume_state.specs.Receivers.{receiver_status, only_leaves};
-ghost use Rattle.flume_core.specs.Wanting.{MayWant};
+ghost use Rattle.flume_core.specs.Wanting.{NoMemoryIsLawful};
 
 use super::Chan;
 use flume_model::step::Step;
@@ -9,20 +9,18 @@ use flume_state::entries::ReceiverStatus;
 use std::alloc::Allocator;
 
 impl<T: Drop, S: Drop, A: Allocator + Copy> Chan<T, S, A> {
-    /// Whether an abstract channel in this state may answer the step with `NoMemory`. True for an
-    /// offer that is taken in or blocks, a receiver that parks, a drain of some message, and, if a
-    /// message is blocked, for a receive too: a channel may need memory to let that one into the
-    /// queue, though a `Chan` never does. No step; the channel stays as it is, and nothing is
-    /// allocated.
+    /// Whether an abstract channel in this state may answer the step with `NoMemory`. It may answer
+    /// a receive so if a message is blocked: letting that one into the queue may need memory,
+    /// though it never does in a `Chan`. No step; doesn't allocate.
     ///
     /// ```
     /// let mut chan: Chan<u64, u32> = Chan::new(alloc, Some(0));
-    /// chan.may_want_memory(&Step::TryRecv);    // false
+    /// chan.no_memory_is_lawful(&Step::TryRecv);    // false
     /// chan.send(7, 10);                        // Pending(1)
-    /// chan.may_want_memory(&Step::TryRecv);    // true
+    /// chan.no_memory_is_lawful(&Step::TryRecv);    // true
     /// ```
-    pub fn may_want_memory(&self, step: &Step<T>) -> bool
-        ensures wants { IsTrue result ↔ MayWant self.now step.now }
+    pub fn no_memory_is_lawful(&self, step: &Step<T>) -> bool
+        ensures wants { IsTrue result ↔ NoMemoryIsLawful self.now step.now }
     {
         match step {
             Step::TrySend(_) => self.is_open() && !self.send_would_wait(),

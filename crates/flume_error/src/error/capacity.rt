@@ -26,7 +26,6 @@ impl CapacityError {
     }
 }
 
-/// One text for each case, padded and cut as text is.
 impl fmt::Display for CapacityError {
     ghost output = { λ e. Some (capacity_text e) };
 

@@ -1,15 +1,10 @@
-//! Conversions to std's errors, which `?` makes: so a `main` that answers `io::Result<()>` can use
-//! `?` on each call of a channel, and one that answers `Result<(), AllocError>` on each that fails
-//! by memory alone. The io error has the text of the error that it was made of. A message that
-//! wasn't sent is dropped. A crate that uses them lists `flume_error` among its libraries, in
-//! addition to `flume`: the orphan rule puts each of them here, the compiler finds an
-//! implementation on a type of std only in a library that the crate lists, and `flume` can't
-//! re-export it.
+//! Conversions to std's errors, which `?` makes. A message that wasn't sent is dropped. A crate
+//! that uses them lists `flume_error` among its libraries too: the compiler finds an implementation
+//! on a type of std only in a library that the crate lists, and `flume` can't re-export it.
 //!
-//! The kinds are those of a pipe: a closed channel is `BrokenPipe` to a send and `UnexpectedEof` to
-//! a receive. Only `NoMemory` becomes an `AllocError`, since each other error may say something
-//! else. That the io error has the error's text is tested, since std's contract of `io::Error::new`
-//! says the kind alone.
+//! The kinds are those of a pipe, and in `specs/Kinds.antt`. Only `NoMemory` becomes an
+//! `AllocError`. That the io error has the error's text is tested: std's contract of
+//! `io::Error::new` says only the kind.
 ghost use Rattle.std.specs.Prelude.{◌≡◌};
 ghost use Rattle.std.specs.Allocator.{alloc_error};
 ghost use Rattle.std.specs.IoError.{error_kind};
@@ -26,7 +21,6 @@ use std::alloc::AllocError;
 use std::io;
 use std::io::ErrorKind;
 
-/// `NoMemory` as std's `AllocError`.
 impl From<NoMemory> for AllocError {
     ghost from_gives = { λ _ error. error ≡ alloc_error };
 
@@ -35,7 +29,6 @@ impl From<NoMemory> for AllocError {
     }
 }
 
-/// `OutOfMemory`.
 impl From<NoMemory> for io::Error {
     ghost from_gives = { λ _ error. error_kind error ≡ OutOfMemory };
 
@@ -44,7 +37,6 @@ impl From<NoMemory> for io::Error {
     }
 }
 
-/// `BrokenPipe` if the channel is closed, `OutOfMemory` if memory ran out.
 impl<T: Drop> From<SendError<T>> for io::Error {
     ghost from_gives = { λ e error. error_kind error ≡ send_kind e };
 
@@ -57,8 +49,6 @@ impl<T: Drop> From<SendError<T>> for io::Error {
     }
 }
 
-/// `WouldBlock` if the channel is full, `BrokenPipe` if it is closed, `OutOfMemory` if memory ran
-/// out.
 impl<T: Drop> From<TrySendError<T>> for io::Error {
     ghost from_gives = { λ e error. error_kind error ≡ try_send_kind e };
 
@@ -72,8 +62,6 @@ impl<T: Drop> From<TrySendError<T>> for io::Error {
     }
 }
 
-/// `TimedOut` if the deadline was reached, `BrokenPipe` if the channel is closed, `OutOfMemory` if
-/// memory ran out.
 impl<T: Drop> From<SendTimeoutError<T>> for io::Error {
     ghost from_gives = { λ e error. error_kind error ≡ send_timeout_kind e };
 
@@ -87,7 +75,6 @@ impl<T: Drop> From<SendTimeoutError<T>> for io::Error {
     }
 }
 
-/// `UnexpectedEof` if the channel is closed and empty, `OutOfMemory` if memory ran out.
 impl From<RecvError> for io::Error {
     ghost from_gives = { λ e error. error_kind error ≡ receive_kind e };
 
@@ -100,8 +87,6 @@ impl From<RecvError> for io::Error {
     }
 }
 
-/// `WouldBlock` if the channel is empty, `UnexpectedEof` if it is closed too, `OutOfMemory` if
-/// memory ran out.
 impl From<TryRecvError> for io::Error {
     ghost from_gives = { λ e error. error_kind error ≡ try_receive_kind e };
 
@@ -115,8 +100,6 @@ impl From<TryRecvError> for io::Error {
     }
 }
 
-/// `TimedOut` if the deadline was reached, `UnexpectedEof` if the channel is closed and empty,
-/// `OutOfMemory` if memory ran out.
 impl From<RecvTimeoutError> for io::Error {
     ghost from_gives = { λ e error. error_kind error ≡ receive_timeout_kind e };
 
@@ -130,7 +113,6 @@ impl From<RecvTimeoutError> for io::Error {
     }
 }
 
-/// `TimedOut` if the deadline was reached, `OutOfMemory` if memory ran out.
 impl From<SelectError> for io::Error {
     ghost from_gives = { λ e error. error_kind error ≡ select_kind e };
 
@@ -143,7 +125,6 @@ impl From<SelectError> for io::Error {
     }
 }
 
-/// `Unsupported` if the channel is unbounded, `BrokenPipe` if it is closed.
 impl From<CapacityError> for io::Error {
     ghost from_gives = { λ e error. error_kind error ≡ capacity_kind e };
 

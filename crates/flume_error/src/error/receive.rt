@@ -38,7 +38,6 @@ pub enum RecvTimeoutError {
     NoMemory,
 }
 
-/// Each case becomes the one of its name.
 impl From<RecvError> for TryRecvError {
     ghost from_gives = { λ error result. result ≡ as_try_receive error };
 
@@ -50,7 +49,6 @@ impl From<RecvError> for TryRecvError {
     }
 }
 
-/// Each case becomes the one of its name.
 impl From<RecvError> for RecvTimeoutError {
     ghost from_gives = { λ error result. result ≡ as_receive_timeout error };
 
@@ -73,7 +71,6 @@ impl RecvError {
     }
 }
 
-/// One text for each case, padded and cut as text is.
 impl fmt::Display for RecvError {
     ghost output = { λ e. Some (receive_text e) };
 
@@ -96,7 +93,6 @@ impl TryRecvError {
     }
 }
 
-/// One text for each case, padded and cut as text is.
 impl fmt::Display for TryRecvError {
     ghost output = { λ e. Some (try_receive_text e) };
 
@@ -119,7 +115,6 @@ impl RecvTimeoutError {
     }
 }
 
-/// One text for each case, padded and cut as text is.
 impl fmt::Display for RecvTimeoutError {
     ghost output = { λ e. Some (receive_timeout_text e) };
 

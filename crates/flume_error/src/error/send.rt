@@ -120,7 +120,6 @@ impl<T> SendTimeoutError<T> {
     }
 }
 
-/// Each case becomes the one of its name, with the same message.
 impl<T> From<SendError<T>> for TrySendError<T> {
     ghost from_gives = { λ error result. result ≡ as_try_send error };
 
@@ -132,7 +131,6 @@ impl<T> From<SendError<T>> for TrySendError<T> {
     }
 }
 
-/// Each case becomes the one of its name, with the same message.
 impl<T> From<SendError<T>> for SendTimeoutError<T> {
     ghost from_gives = { λ error result. result ≡ as_send_timeout error };
 
@@ -144,7 +142,6 @@ impl<T> From<SendError<T>> for SendTimeoutError<T> {
     }
 }
 
-/// One text for each case, padded and cut as text is. The message isn't shown.
 impl<T> fmt::Display for SendError<T> {
     ghost output = { λ e. Some (send_text e) };
 
@@ -155,7 +152,6 @@ impl<T> fmt::Display for SendError<T> {
     }
 }
 
-/// One text for each case, padded and cut as text is. The message isn't shown.
 impl<T> fmt::Display for TrySendError<T> {
     ghost output = { λ e. Some (try_send_text e) };
 
@@ -166,7 +162,6 @@ impl<T> fmt::Display for TrySendError<T> {
     }
 }
 
-/// One text for each case, padded and cut as text is. The message isn't shown.
 impl<T> fmt::Display for SendTimeoutError<T> {
     ghost output = { λ e. Some (send_timeout_text e) };
 
@@ -177,7 +172,7 @@ impl<T> fmt::Display for SendTimeoutError<T> {
     }
 }
 
-/// `"SendError(..)"` for each case, with the quotation marks: the message needn't be `Debug`.
+/// Not derived: the message needn't be `Debug`. The text has its quotation marks.
 impl<T> fmt::Debug for SendError<T> {
     ghost debug_output = { λ _. Some send_debug_text };
 
@@ -186,7 +181,6 @@ impl<T> fmt::Debug for SendError<T> {
     }
 }
 
-/// The case's name and `(..)` in quotation marks: the message needn't be `Debug`.
 impl<T> fmt::Debug for TrySendError<T> {
     ghost debug_output = { λ e. Some (try_send_debug_text e) };
 
@@ -200,8 +194,6 @@ impl<T> fmt::Debug for TrySendError<T> {
     }
 }
 
-/// `"SendTimeoutError(..)"` for each case, with the quotation marks: the message needn't be
-/// `Debug`.
 impl<T> fmt::Debug for SendTimeoutError<T> {
     ghost debug_output = { λ _. Some send_timeout_debug_text };
 

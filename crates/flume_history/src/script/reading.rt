@@ -1,4 +1,4 @@
-//! The lines of a history, read to steps and what was said of their replies.
+//! Reads the lines of a history to steps and the texts of their replies.
 ghost use Rattle.flume_history.specs.HistoryText.{IsNoPair, IsPairLine, PairsUpTo};
 ghost use Rattle.flume_history.specs.HistoryReading.{IsHistoryReading, pairs_of};
 ghost use Rattle.std.specs.List.{All, AllZip};
@@ -11,24 +11,22 @@ use flume_model::step::Step;
 use flume_script::reading::{next_line, opening_of, part_at, step_of};
 use std::alloc::{AllocError, Allocator};
 
-/// A history as it was read.
+/// A history, or its first wrong line.
 #[derive(Drop)]
 pub(crate) enum History<'s, A: Allocator> {
-    /// Every line is right.
     Right {
-        /// The capacity, or `None` if unbounded.
+        /// `None` if unbounded.
         capacity: Option<usize>,
-        /// The steps with what was said of their replies, in the order of their lines.
+        /// Each step with the text of its reply.
         pairs: Vec<(Step<u64>, &'s [u8]), A>,
     },
-    /// Some line is wrong.
     Wrong {
-        /// The first wrong line, counted from 1.
+        /// Counted from 1.
         line: usize,
     },
 }
 
-// The parts before and after the first ` -> `; `None` if another `-` is before it.
+// What is before the first ` -> `, and after it; `None` if another `-` is before it.
 fn parts_of(line: &[u8]) -> Option<(&[u8], &[u8])>
     ensures parts { IfSome result (λ r. line.now ≡ r.0.now ++ codes " -> " ++ r.1.now) }
     ensures first { IfSome result (λ r. All (λ x. (x == 45) ≡ false) r.0.now) }
@@ -50,7 +48,7 @@ fn pair_of(line: &[u8]) -> Option<(Step<u64>, &[u8])>
     Some((step, said))
 }
 
-// The pairs of the lines, or how many are before the first line that is none.
+// The pairs, or how many there are before the first line that is none.
 fn read_pairs<A: Allocator + Copy>(
     alloc: A,
     mut rest: &[u8],
@@ -71,8 +69,7 @@ fn read_pairs<A: Allocator + Copy>(
     Ok(Ok(pairs))
 }
 
-/// Reads a history, up to its first wrong line. `NoMemory`: the pairs couldn't be allocated. The
-/// time is linear in the length of the input.
+// Reads a history up to its first wrong line. Linear in the length of the input.
 pub(crate) fn read_history<A: Allocator + Copy>(
     alloc: A,
     input: &[u8],

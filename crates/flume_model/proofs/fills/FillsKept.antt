@@ -1,7 +1,7 @@
 -- A filled receiver's entry holds its message through every change but its own leaving, and a wake round fills with the front.
 use Rattle.flume_model.proofs.Common.{◌≡◌, ℕ, Bool, true, false, if◌then◌else◌, eqb, List, [], ◌∷◌, ◌++◌, Option, Some, None, refl, sym}
 use Rattle.flume_model.proofs.Common.{◌∙◌, ap, eq-eqb, ne_eqb, Channel, is_filled, is_woken, round, round_fills, round_for, all_woken}
-use Rattle.flume_model.proofs.Common.{entry_of, without, held_in, held_by, Change, Queues, Takes, Parks, Asks, Collects, Leaves}
+use Rattle.flume_model.proofs.Common.{entry_of, without_ticket, held_in, held_by, Change, Queues, Takes, Parks, Asks, Collects, Leaves}
 use Rattle.flume_model.proofs.Common.{SenderLeaves, ReceiverLeaves, is_ticket, LogEntry, same_notice, entries_after, Apart, Entry, Mark, Waiting}
 use Rattle.flume_model.proofs.Common.{Woken, Filled, Kind, Block, Plain, Stream, Arm, arith, common_steps}
 use Rattle.flume_model.proofs.EntryLists.{fills_none_else, round_for_push, again_cases, leave_cases}
@@ -30,7 +30,7 @@ module _ {T N : Type 0} where
   held_woken tell t m (x ∷ es) h = grind (arith, common_steps, held_woken tell t m es)
 
   -- the leaving of another takes no message from an entry
-  pub held_without : (u t : ℕ) (m : T) (es : List (Entry T N)) → eqb u t ≡ false → IsHeld t m es → IsHeld t m (without u es)
+  pub held_without : (u t : ℕ) (m : T) (es : List (Entry T N)) → eqb u t ≡ false → IsHeld t m es → IsHeld t m (without_ticket u es)
   held_without u t m [] other h = h
   held_without u t m (x ∷ es) other h = grind (arith, common_steps, held_without u t m es)
 
@@ -68,7 +68,7 @@ module _ {T : Type 0} where
       held_without u t m c.entries (unlike u t m h.1.entry c.entries h.1.found nothing held) held
   held_by_change c closes (Parks u kind) t m h stays held = held_push t m c.entries _ held
   held_by_change c closes (Asks u) t m h stays held =
-      again_cases (IsHeld t m) u c.entries held (λ e found woken. held_push t m (without u c.entries) _
+      again_cases (IsHeld t m) u c.entries held (λ e found woken. held_push t m (without_ticket u c.entries) _
       (held_without u t m c.entries (unlike u t m e c.entries found (woken_holds e.mark woken) held) held))
   held_by_change c closes (Collects u) t m h stays held =
       held_without u t m c.entries (ne_eqb u t (λ same.
@@ -77,7 +77,7 @@ module _ {T : Type 0} where
       let nothing = empty_holds h.0.entry.mark h.0.empty in
       let others = held_without u t m c.entries (unlike u t m h.0.entry c.entries h.0.found nothing held) held in
       leave_cases (λ es f. IsHeld t m es) same_notice u c.queue c.entries (λ none. others)
-      (λ passes front rest e. held_round same_notice front t m (without u c.entries) others)
+      (λ passes front rest e. held_round same_notice front t m (without_ticket u c.entries) others)
   held_by_change c closes SenderLeaves t m h stays held = held_close closes t m c.entries held
   held_by_change c closes ReceiverLeaves t m h stays held = held_close closes t m c.entries held
   held_by_change c closes _ t m h stays held = held
@@ -129,7 +129,7 @@ module _ {T : Type 0} where
         front,
         rest,
         e,
-        round_holds front c.next t (without u c.entries) (apart_without c.next u c.entries apart) by,
+        round_holds front c.next t (without_ticket u c.entries) (apart_without c.next u c.entries apart) by,
       )) (sym h.1 ∙ is)
   filled_holds c closes _ t h apart is = absurd (let none : ⊥ = cc in none)
 

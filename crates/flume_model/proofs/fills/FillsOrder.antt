@@ -3,7 +3,7 @@ use Rattle.flume_model.proofs.Common.{◌≡◌, ℕ, ◌+◌, Bool, false, not,
 use Rattle.flume_model.proofs.Common.{refl, sym, ◌∙◌, ap, arith, inl, inr, ◌⊎◌, map, cond-false, append-nil, drop-append-le, map-append}
 use Rattle.flume_model.proofs.Common.{take_all, take-append-drop, slice_get_within, slice_get, channel, is_over, entry_of, held_by, FillIs}
 use Rattle.flume_model.proofs.Common.{IsOf, shows_to, shown, InOrder, line, boundary, queue, messages, Log, Opening, Offer, HandOut, Shown}
-use Rattle.flume_model.proofs.Common.{FilledIn, Change, Queues, Takes, Collects, Leaves, change, fill, handed, kept, handed_out, hand_outs}
+use Rattle.flume_model.proofs.Common.{FilledIn, Change, Queues, Takes, Collects, Leaves, change, fill, hands_out, kept, handed_out, hand_outs}
 use Rattle.flume_model.proofs.Common.{LogEntry, entries_after, entries, is_closed_after, IsRun, Reply, Step, common_steps}
 use Rattle.flume_model.proofs.EntryChanges.{fills}
 use Rattle.flume_model.proofs.fills.FillsKept.{held_by_change, first_up, filled_holds, filled_stood}
@@ -30,7 +30,7 @@ module _ {T : Type 0} where
   fill_is filled k t e = grind (arith, common_steps)
 
   -- a change that hands out to a receiver that it fills hands out nothing else
-  fill_at : (done : Change T) (k t : ℕ) → slice_get (handed done) k ≡ Some (FilledIn t) → (fills done ≡ Some t) × (k ≡ 0)
+  fill_at : (done : Change T) (k t : ℕ) → slice_get (hands_out done) k ≡ Some (FilledIn t) → (fills done ≡ Some t) × (k ≡ 0)
   fill_at done k t e = grind (arith, common_steps, fill_is, shown_fills_none)
 
   -- if the message was shown, the hand-out is of it
@@ -170,14 +170,14 @@ module _ {T A : Type 0} where
       → slice_get (kept log) j ≡ Some offer → Fill o log t offer.message
   fill_placed o [] run j t offer given at = absurd (let none : ⊥ = cc in none)
   fill_placed o (p ∷ past) run j t offer given at =
-      by_cases (fill_placed o past run.1) (at_either (handed_out past) (handed (change past p.0 p.1)) j (FilledIn t) given)
+      by_cases (fill_placed o past run.1) (at_either (handed_out past) (hands_out (change past p.0 p.1)) j (FilledIn t) given)
     where
       Placed : Type 0
       Placed = (j t : ℕ) (offer : Offer T) → slice_get (handed_out past) j ≡ Some (FilledIn t) → slice_get (kept past) j ≡ Some offer
           → Fill o past t offer.message
 
       by_cases : Placed → (slice_get (handed_out past) j ≡ Some (FilledIn t))
-          ⊎ ((k : ℕ) × (j ≡ hand_outs past + k) × (slice_get (handed (change past p.0 p.1)) k ≡ Some (FilledIn t)))
+          ⊎ ((k : ℕ) × (j ≡ hand_outs past + k) × (slice_get (hands_out (change past p.0 p.1)) k ≡ Some (FilledIn t)))
           → Fill o (p ∷ past) t offer.message
       by_cases earlier (inl before) =
           let within = slice_get_within (handed_out past) j (FilledIn t) before in

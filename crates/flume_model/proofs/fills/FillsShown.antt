@@ -2,7 +2,7 @@
 -- message that it holds as it leaves.
 use Rattle.flume_model.proofs.Common.{◌≡◌, ℕ, ◌≤◌, Bool, true, false, not, ◌&&◌, if◌then◌else◌, eqb, [], ◌∷◌, Option, Some, None, refl, sym}
 use Rattle.flume_model.proofs.Common.{◌∙◌, ap, arith, inl, inr, ◌⊎◌, eqb-true, eq-eqb, subst, cond-false, IsPolledMark, IsPolled}
-use Rattle.flume_model.proofs.Common.{IsGoneMark, IsGone, Channel, channel, is_over, entry_of, without, held_in, held_by, or_else, shows_to}
+use Rattle.flume_model.proofs.Common.{IsGoneMark, IsGone, Channel, channel, is_over, entry_of, without_ticket, held_in, held_by, or_else, shows_to}
 use Rattle.flume_model.proofs.Common.{shown, next_ticket, queue, Log, Opening, Change, Takes, Parks, Collects, was_filled, change, LogEntry}
 use Rattle.flume_model.proofs.Common.{entries_after, entries, is_closed_after, IsReply, IsRun, Mark, Kind, Reply, Got, Step, Poll, Withdraw}
 use Rattle.flume_model.proofs.Common.{common_steps}
@@ -101,7 +101,7 @@ module _ {T A : Type 0} where
       → shows_to t p.0 p.1 ≡ Some x → entry_of t (entries_after (queue o past) closes (entries o past) (change past p.0 p.1)) ≡ None
   shows_goes o past p t x closes run shows = by_change (shows_leaves past p.0 p.1 t x shows)
     where
-      gone : entry_of t (without t (entries o past)) ≡ None
+      gone : entry_of t (without_ticket t (entries o past)) ≡ None
       gone = left_out (next_ticket o past) t (entries o past) (entries_apart o past run.1)
 
       by_change : (change past p.0 p.1 ≡ Collects t) ⊎ (change past p.0 p.1 ≡ Takes x (Some t))

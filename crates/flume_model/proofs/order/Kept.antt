@@ -3,7 +3,7 @@ use Rattle.flume_model.proofs.Common.{◌≡◌, ℕ, ◌≤◌, Bool, true, fal
 use Rattle.flume_model.proofs.Common.{None, refl, sym, ◌∙◌, ap, map, length-append, drop-drop, length-take-le, drop_at, or_from, cond-false}
 use Rattle.flume_model.proofs.Common.{append_assoc, append-nil, take-append-drop, drop-append-le, length-map, filter-append, filter}
 use Rattle.flume_model.proofs.Common.{is_over, Rising, line, how_many, Log, Offer, HandOut, Shown, Change, Queues, Blocks, Withdraws, Takes}
-use Rattle.flume_model.proofs.Common.{Drains, Leaves, is_ticket, change, offered, withdraws, fill, handed, offers, withdrawn, kept}
+use Rattle.flume_model.proofs.Common.{Drains, Leaves, is_ticket, change, offers_made, withdraws, fill, hands_out, offers, withdrawn, kept}
 use Rattle.flume_model.proofs.Common.{handed_out, hand_outs, arith, common_steps}
 use Rattle.flume_model.proofs.Tickets.{filter_two, filter_one, apart, rising_filter}
 
@@ -15,11 +15,11 @@ length_fill T (Some t) = refl
 module _ {T A : Type 0} where
   -- the kept offers after a change
   abbrev pub kept_by : Log T A → Change T → List (Offer T)
-  kept_by past done = filter (λ offer. not (withdraws done offer || withdrawn past offer)) (offers past ++ offered done)
+  kept_by past done = filter (λ offer. not (withdraws done offer || withdrawn past offer)) (offers past ++ offers_made done)
 
   -- the hand-outs after a change
   abbrev pub handed_by : Log T A → Change T → List (HandOut T)
-  handed_by past done = handed_out past ++ handed done
+  handed_by past done = handed_out past ++ hands_out done
 
   -- the offers not handed out
   abbrev pub open_line : Log T A → List (Offer T)
@@ -82,10 +82,10 @@ module _ {T A : Type 0} where
 
   -- what a change hands out leaves the front of what was there
   line_moved : (past : Log T A) (done : Change T)
-      → line_by past done ≡ drop (length (handed done)) (drop (hand_outs past) (kept_by past done))
+      → line_by past done ≡ drop (length (hands_out done)) (drop (hand_outs past) (kept_by past done))
   line_moved past done =
-      ap (λ n. drop n (kept_by past done)) (length-append (handed_out past) (handed done))
-      ∙ sym (drop-drop (length (handed done)) (hand_outs past) (kept_by past done))
+      ap (λ n. drop n (kept_by past done)) (length-append (handed_out past) (hands_out done))
+      ∙ sym (drop-drop (length (hands_out done)) (hand_outs past) (kept_by past done))
 
   -- one more offer comes last, and the front one goes if a receiver is filled
   pub line_queued : (past : Log T A) (m : T) (filled : Option ℕ) → hand_outs past ≤ length (kept past)

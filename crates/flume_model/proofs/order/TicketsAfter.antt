@@ -1,7 +1,7 @@
 -- Each change that fits leaves the tickets rising, and withdraws an offer with one that was issued.
 use Rattle.flume_model.proofs.Common.{◌≡◌, ℕ, ◌+◌, ◌<◌, ◌≤◌, false, not, [], ◌∷◌, ◌++◌, Some, refl, sym, ◌∙◌, ap, arith, ne_eqb}
-use Rattle.flume_model.proofs.Common.{append_assoc, append-nil, channel, Rising, issued, next_ticket, Log, Opening, Change, Queues, Blocks}
-use Rattle.flume_model.proofs.Common.{Withdraws, Parks, offered, withdraws, offers, withdrawn, kept}
+use Rattle.flume_model.proofs.Common.{append_assoc, append-nil, channel, Rising, tickets_issued, next_ticket, Log, Opening, Change, Queues, Blocks}
+use Rattle.flume_model.proofs.Common.{Withdraws, Parks, offers_made, withdraws, offers, withdrawn, kept}
 use Rattle.flume_model.proofs.Tickets.{below_earlier, earlier_none, rising_filter, rising_below, rising_push, rising_more}
 use Rattle.flume_model.proofs.Fits.{Fits}
 use Rattle.flume_model.proofs.order.Parts.{Shape, withdrawn_at}
@@ -14,7 +14,7 @@ module _ {T A : Type 0} where
 
   -- the tickets after a change that fits
   pub rising_after : (o : Opening) (past : Log T A) (done : Change T) → Shape o past → Fits (channel o past) done
-      → Rising (next_ticket o past + issued done) (offers past ++ offered done)
+      → Rising (next_ticket o past + tickets_issued done) (offers past ++ offers_made done)
   rising_after o past (Queues m filled) shape h =
       rising_push (next_ticket o past) (next_ticket o past + 0) _ (offers past) (omega arith) tt (λ u lt. earlier_none u) shape.rising
   rising_after o past (Blocks m t) shape h =
@@ -27,7 +27,7 @@ module _ {T A : Type 0} where
 
   -- what a change that fits withdraws was issued
   pub unissued_after : (o : Opening) (past : Log T A) (done : Change T) → Shape o past → Fits (channel o past) done
-      → (t : ℕ) (m : T) → next_ticket o past + issued done ≤ t → withdraws done (record { message = m; ticket = Some t }) ≡ false
+      → (t : ℕ) (m : T) → next_ticket o past + tickets_issued done ≤ t → withdraws done (record { message = m; ticket = Some t }) ≡ false
   unissued_after o past (Withdraws u) shape h t m le =
       let at = withdrawn_at o past u h.0 shape h.1 in
       let rest = shape.parts.gone ++ at.front in

@@ -3,10 +3,10 @@
 use Rattle.flume_model.proofs.Common.{◌≡◌, ℕ, ◌+◌, ◌≤◌, Bool, true, false, if◌then◌else◌, List, [], ◌∷◌, ◌++◌, Some, None, refl, sym, ◌∙◌}
 use Rattle.flume_model.proofs.Common.{ap, arith, inl, inr, drop, take, length, sum_by, length-take-le, cases_lt, take-append-drop}
 use Rattle.flume_model.proofs.Common.{map-append, drop-map, take_all, length-map, sum_by-cons, sum_by-append, sum_by_push, channel, held}
-use Rattle.flume_model.proofs.Common.{is_over, is_woken, is_filled, some_wait, round_fills, all_woken, entry_of, without, again}
+use Rattle.flume_model.proofs.Common.{is_over, is_woken, is_filled, some_wait, round_fills, all_woken, entry_of, without_ticket, again}
 use Rattle.flume_model.proofs.Common.{after_leave, leave_fills, HasRoom, line, capacity, boundary, queue, messages, how_many, Log, Opening, Offer}
 use Rattle.flume_model.proofs.Common.{Change, Queues, Blocks, Withdraws, Takes, Drains, Parks, Asks, Collects, Leaves, SenderLeaves}
-use Rattle.flume_model.proofs.Common.{ReceiverLeaves, change, offered, LogEntry, same_notice, parks, entries_after, entries, IsRun, Mark}
+use Rattle.flume_model.proofs.Common.{ReceiverLeaves, change, offers_made, LogEntry, same_notice, new_entry, entries_after, entries, IsRun, Mark}
 use Rattle.flume_model.proofs.Common.{Waiting, Reply, Step, common_steps}
 use Rattle.flume_model.proofs.Fits.{Fits}
 use Rattle.flume_model.proofs.EntryLists.{again_cases, leave_cases}
@@ -52,7 +52,7 @@ module _ {T : Type 0} where
       (λ e found woken.
       (let left = held_without weight t e es found in
       let none = woken_weighs weight e.mark woken in
-      let pushed = held_push weight (without t es) (record e { mark = Waiting }) in
+      let pushed = held_push weight (without_ticket t es) (record e { mark = Waiting }) in
       omega arith))
 
 module _ {T A : Type 0} where
@@ -107,16 +107,16 @@ module _ {T A : Type 0} where
       (let all : messages (line past) ≡ front ∷ rest ++ messages (drop (boundary o past) (line past)) = queue_behind o past
       ∙ ap (λ l. l ++ messages (drop (boundary o past) (line past))) queued in
       let rounded = round_front weight same_notice front (rest ++ messages (drop (boundary o past) (line past)))
-      (without t (entries o past)) in
+      (without_ticket t (entries o past)) in
       let whole = ap (sum_by weight) all in
-      let dropped = ap (λ l. sum_by weight (drop (how_many (round_fills (without t (entries o past)))) l)) all in
+      let dropped = ap (λ l. sum_by weight (drop (how_many (round_fills (without_ticket t (entries o past)))) l)) all in
       omega arith))
 
   -- a step of a run keeps the balance, by its change
   pub balanced_by : (weight : T → ℕ) (o : Opening) (past : Log T A) (p : Step T × Reply T A) (closes : Bool) (done : Change T)
       → change past p.0 p.1 ≡ done → IsRun o past → Fits (channel o past) done → (given : List T) → GivesOut (channel o past) done given
       → is_over past ≡ false → is_over (p ∷ past) ≡ false
-      → Balanced weight o past p (offered done) given (entries_after (queue o past) closes (entries o past) done)
+      → Balanced weight o past p (offers_made done) given (entries_after (queue o past) closes (entries o past) done)
   balanced_by weight o past p closes (Queues m filled) e run h given g open_ still =
       let whole = queue_whole o past run h.0.1 in
       let x : Offer T = record { message = m; ticket = None } in
@@ -183,7 +183,7 @@ module _ {T A : Type 0} where
       omega arith
   balanced_by weight o past p closes (Parks t kind) e run h given g open_ still =
       let none = ap (sum_by weight) g in
-      let pushed = held_push weight (entries o past) (parks t kind) in
+      let pushed = held_push weight (entries o past) (new_entry t kind) in
       balanced_same weight o past p closes (Parks t kind) e refl run open_ still given (omega arith)
   balanced_by weight o past p closes (Asks t) e run h given g open_ still =
       let none = ap (sum_by weight) g in

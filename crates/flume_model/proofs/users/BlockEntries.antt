@@ -1,7 +1,7 @@
 -- Lists of entries that all block: what changes leave of them, and what wake rounds do to them.
 use Rattle.flume_model.proofs.Common.{◌≡◌, ℕ, Bool, true, false, if◌then◌else◌, List, [], ◌∷◌, ◌++◌, Some, refl, arith, some_wait}
-use Rattle.flume_model.proofs.Common.{woken_count, round, round_for, round_fills, all_woken, entry_of, without, how_many, Change, Queues}
-use Rattle.flume_model.proofs.Common.{Takes, Parks, Asks, Collects, Leaves, SenderLeaves, ReceiverLeaves, LogEntry, same_notice, parks}
+use Rattle.flume_model.proofs.Common.{woken_count, round, round_for, round_fills, all_woken, entry_of, without_ticket, how_many, Change, Queues}
+use Rattle.flume_model.proofs.Common.{Takes, Parks, Asks, Collects, Leaves, SenderLeaves, ReceiverLeaves, LogEntry, same_notice, new_entry}
 use Rattle.flume_model.proofs.Common.{entries_after, is_block, block_woken, Entry, common_steps}
 use Rattle.flume_model.proofs.EntryLists.{again_cases, leave_cases}
 
@@ -21,7 +21,7 @@ module _ {T N : Type 0} where
   block_round_for tell queue_ es h = grind (arith, common_steps, block_round tell)
 
   -- after one left
-  block_without : (t : ℕ) (es : List (Entry T N)) → AllBlock es → AllBlock (without t es)
+  block_without : (t : ℕ) (es : List (Entry T N)) → AllBlock es → AllBlock (without_ticket t es)
   block_without t [] h = tt
   block_without t (x ∷ es) h = grind (arith, common_steps, block_without t es)
 
@@ -65,13 +65,13 @@ module _ {T : Type 0} where
       → AllBlock (entries_after queue_ closes es done)
   block_after queue_ closes es (Queues m filled) h e = block_round_for same_notice (queue_ ++ m ∷ []) es h
   block_after queue_ closes es (Takes m (Some t)) h e = block_without t es h
-  block_after queue_ closes es (Parks t kind) h e = block_push es (parks t kind) h e
+  block_after queue_ closes es (Parks t kind) h e = block_push es (new_entry t kind) h e
   block_after queue_ closes es (Asks t) h e =
-      again_cases AllBlock t es h (λ x found woken. block_push (without t es) _ (block_without t es h) (block_found t x es h found))
+      again_cases AllBlock t es h (λ x found woken. block_push (without_ticket t es) _ (block_without t es h) (block_found t x es h found))
   block_after queue_ closes es (Collects t) h e = block_without t es h
   block_after queue_ closes es (Leaves t filled) h e =
       leave_cases (λ after f. AllBlock after) same_notice t queue_ es (λ none. block_without t es h)
-      (λ passes front rest same. block_round same_notice front (without t es) (block_without t es h))
+      (λ passes front rest same. block_round same_notice front (without_ticket t es) (block_without t es h))
   block_after queue_ closes es SenderLeaves h e = block_closes closes es h
   block_after queue_ closes es ReceiverLeaves h e = block_closes closes es h
   block_after queue_ closes es _ h e = h

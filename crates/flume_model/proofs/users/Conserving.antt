@@ -2,7 +2,7 @@
 use Rattle.flume_model.proofs.Common.{◌≡◌, ℕ, ◌+◌, ◌≤◌, Bool, true, false, List, [], ◌∷◌, Some, None, refl, ◌∙◌, ap, arith, take, sum_by}
 use Rattle.flume_model.proofs.Common.{subst, take-nil, sum_by-append, channel, held, gives, given_out, IsConserved, Conserved, is_over}
 use Rattle.flume_model.proofs.Common.{entry_of, line, boundary, messages, Log, Opening, Change, Withdraws, Takes, Drains, Collects}
-use Rattle.flume_model.proofs.Common.{SenderJoins, ReceiverJoins, SenderLeaves, ReceiverLeaves, change, offered, offers, entries, IsRun}
+use Rattle.flume_model.proofs.Common.{SenderJoins, ReceiverJoins, SenderLeaves, ReceiverLeaves, change, offers_made, offers, entries, IsRun}
 use Rattle.flume_model.proofs.Common.{Reply, Step}
 use Rattle.flume_model.proofs.Fits.{Fits, not_over_yet}
 use Rattle.flume_model.proofs.EntryShape.{told_filled, fits_run}
@@ -55,8 +55,8 @@ module _ {T A : Type 0} where
       → IsConserved o past weight (is_over past) → IsConserved o (p ∷ past) weight (is_over (p ∷ past))
   conserved_more weight o past p run before = by_case (is_over (p ∷ past)) refl
     where
-      more : weighs weight (offers (p ∷ past)) ≡ weighs weight (offers past) + weighs weight (offered (change past p.0 p.1))
-      more = weighs-append weight (offers past) (offered (change past p.0 p.1))
+      more : weighs weight (offers (p ∷ past)) ≡ weighs weight (offers past) + weighs weight (offers_made (change past p.0 p.1))
+      more = weighs-append weight (offers past) (offers_made (change past p.0 p.1))
 
       given_more : sum_by weight (given_out (p ∷ past)) ≡ sum_by weight (gives p.1) + sum_by weight (given_out past)
       given_more = sum_by-append weight (gives p.1) (given_out past)

@@ -1,6 +1,6 @@
 -- What wake rounds, leaves and one more entry do to the weight of the messages that entries hold.
 use Rattle.flume_model.proofs.Common.{◌≡◌, ℕ, ◌+◌, List, [], ◌∷◌, ◌++◌, Option, Some, None, refl, arith, drop, sum_by, sum_by-cons}
-use Rattle.flume_model.proofs.Common.{messages_in, held, round, round_fills, round_for, all_woken, entry_of, without, how_many, Entry, Mark}
+use Rattle.flume_model.proofs.Common.{messages_in, held, round, round_fills, round_for, all_woken, entry_of, without_ticket, how_many, Entry, Mark}
 use Rattle.flume_model.proofs.Common.{Filled, common_steps}
 
 -- what fills a receiver weighs so much, if one is filled
@@ -33,7 +33,7 @@ module _ {T N : Type 0} where
 
   -- an entry that leaves takes along what it holds
   pub held_without : (weight : T → ℕ) (t : ℕ) (e : Entry T N) (es : List (Entry T N)) → entry_of t es ≡ Some e
-      → sum_by weight (held es) ≡ mark_weighs weight e.mark + sum_by weight (held (without t es))
+      → sum_by weight (held es) ≡ mark_weighs weight e.mark + sum_by weight (held (without_ticket t es))
   held_without weight t e [] h = absurd (let none : ⊥ = cc in none)
   held_without weight t e (x ∷ es) h = grind (arith, common_steps, held_without weight t e es, held_cons)
 

@@ -2,10 +2,10 @@
 -- and the most that waited at once.
 use Rattle.flume_model.proofs.Common.{◌≡◌, ℕ, ◌+◌, ◌-◌, ◌≤◌, Bool, true, false, if◌then◌else◌, List, [], ◌∷◌, length, Option, Some, None}
 use Rattle.flume_model.proofs.Common.{refl, sym, ◌∙◌, ap, arith, max, subst, subst₂, cond-true, Channel, channel, is_over, is_woken}
-use Rattle.flume_model.proofs.Common.{some_wait, waiting_count, round, round_fills, all_woken, entry_of, without, HasRoom, boundary, capacity}
+use Rattle.flume_model.proofs.Common.{some_wait, waiting_count, round, round_fills, all_woken, entry_of, without_ticket, HasRoom, boundary, capacity}
 use Rattle.flume_model.proofs.Common.{boundary_after, capacity_after, greater, greatest, how_many, Log, Opening, Change, Queues, Takes, Drains, Parks, Asks, Collects, Leaves}
 use Rattle.flume_model.proofs.Common.{SenderLeaves, ReceiverLeaves, Resizes, change, capped, LogEntry, same_notice, entries_after, entries, peak, IsRun}
-use Rattle.flume_model.proofs.Common.{IsWithin, Bounded, Reply, Step, common_steps}
+use Rattle.flume_model.proofs.Common.{IsWithinCapacity, Bounded, Reply, Step, common_steps}
 use Rattle.flume_model.proofs.Fits.{Fits}
 use Rattle.flume_model.proofs.WaitingCounts.{wait_woken}
 use Rattle.flume_model.proofs.WaitLists.{fills_waiting}
@@ -20,11 +20,11 @@ data LeavesWithin (capacity : Option ℕ) (was queued waits : ℕ) : Type 0 wher
   -- nothing is queued
   OnlyWaits : queued ≡ 0 → LeavesWithin capacity was queued waits
   -- nobody waits, and no more is queued than the capacity, or than before
-  NoneWaits : waits ≡ 0 → IsWithin capacity was queued → LeavesWithin capacity was queued waits
+  NoneWaits : waits ≡ 0 → IsWithinCapacity capacity was queued → LeavesWithin capacity was queued waits
 
 -- queued messages and waiting receivers, left within the bound so, are within it
-within_after : (most capacity : Option ℕ) (highest was queued waits : ℕ) → IsWithin most highest was
-    → LeavesWithin capacity was queued waits → IsWithin (greater most capacity) (max highest waits) (queued + waits)
+within_after : (most capacity : Option ℕ) (highest was queued waits : ℕ) → IsWithinCapacity most highest was
+    → LeavesWithin capacity was queued waits → IsWithinCapacity (greater most capacity) (max highest waits) (queued + waits)
 within_after None capacity highest was queued waits before leaves = tt
 within_after (Some n) None highest was queued waits before leaves = tt
 within_after (Some n) (Some c) highest was queued waits before (NoMore le) = omega arith
@@ -32,19 +32,19 @@ within_after (Some n) (Some c) highest was queued waits before (OnlyWaits none) 
 within_after (Some n) (Some c) highest was queued waits before (NoneWaits none le) = omega arith
 
 -- if the queue has room, one more is within the capacity
-room_within : (capacity : Option ℕ) (was n : ℕ) → HasRoom capacity n → IsWithin capacity was (n + 1)
+room_within : (capacity : Option ℕ) (was n : ℕ) → HasRoom capacity n → IsWithinCapacity capacity was (n + 1)
 room_within capacity was n room = grind (arith, common_steps)
 
 -- if one was taken, what is queued is within the capacity, or was queued before
-taken_within : (capacity : Option ℕ) (long n was : ℕ) → n ≤ was → IsWithin capacity was (max (n - 1) (capped capacity long))
+taken_within : (capacity : Option ℕ) (long n was : ℕ) → n ≤ was → IsWithinCapacity capacity was (max (n - 1) (capped capacity long))
 taken_within capacity long n was le = grind (arith, common_steps)
 
 -- if the capacity was set, what is queued is within it, or was queued before
-resized_within : (new long n was : ℕ) → n ≤ was → IsWithin (Some new) was (max n (capped (Some new) long))
+resized_within : (new long n was : ℕ) → n ≤ was → IsWithinCapacity (Some new) was (max n (capped (Some new) long))
 resized_within new long n was le = omega arith
 
 -- if all that was queued was drained, what is queued then is within the capacity
-drained_within : (capacity : Option ℕ) (long was : ℕ) → IsWithin capacity was (capped capacity long)
+drained_within : (capacity : Option ℕ) (long was : ℕ) → IsWithinCapacity capacity was (capped capacity long)
 drained_within capacity long was = grind (arith, common_steps)
 
 module _ {T : Type 0} where
@@ -58,7 +58,7 @@ module _ {T : Type 0} where
 
   -- if an entry leaves, no more wait
   fewer_without : (t : ℕ) (e : LogEntry T) (es : List (LogEntry T)) → entry_of t es ≡ Some e
-      → waiting_count (without t es) ≤ waiting_count es
+      → waiting_count (without_ticket t es) ≤ waiting_count es
   fewer_without t e es found = let counts = without_counts t e es found in let waiting = counts.waiting in omega arith
 
   -- if an end leaves
@@ -70,7 +70,7 @@ module _ {T : Type 0} where
   -- if nobody more waits, and no more is queued than the capacity and, while a receiver waits, than
   -- before
   leaves_fewer : (c : Channel T) (queued waits : ℕ) → waits ≤ waiting_count c.entries → (some_wait c.entries ≡ true → queued ≤ c.boundary)
-      → IsWithin c.capacity (c.boundary + waiting_count c.entries) queued
+      → IsWithinCapacity c.capacity (c.boundary + waiting_count c.entries) queued
       → LeavesWithin c.capacity (c.boundary + waiting_count c.entries) queued waits
   leaves_fewer c queued waits few some within = by_case (some_wait c.entries) refl
     where
@@ -93,7 +93,7 @@ module _ {T : Type 0} where
           let no_more = (round_counts same_notice front c.entries).no_more in
           let fills = fills_nobody c.entries e in
           let same : c.boundary + 1 ≡ c.boundary + 1 - how_many (round_fills c.entries) = omega arith in
-          let Within : ℕ → Type 0 = λ n. IsWithin c.capacity (c.boundary + waiting_count c.entries) n in
+          let Within : ℕ → Type 0 = λ n. IsWithinCapacity c.capacity (c.boundary + waiting_count c.entries) n in
           NoneWaits (omega arith) (subst Within same (room_within c.capacity (c.boundary + waiting_count c.entries) c.boundary (room e)))
 
   -- after a change that fits
@@ -112,7 +112,7 @@ module _ {T : Type 0} where
       leaves_fewer c _ (waiting_count c.entries) (omega arith) (λ some. (let whole = stood.whole some in omega arith))
       (taken_within c.capacity n c.boundary _ (omega arith))
   leaves_by c closes (Takes m (Some t)) n stood h long within =
-      leaves_fewer c _ (waiting_count (without t c.entries)) (fewer_without t h.1.entry c.entries h.1.found)
+      leaves_fewer c _ (waiting_count (without_ticket t c.entries)) (fewer_without t h.1.entry c.entries h.1.found)
       (λ some. (let whole = stood.whole some in omega arith)) (taken_within c.capacity n c.boundary _ (omega arith))
   leaves_by c closes (Drains list) n stood h long within =
       leaves_fewer c _ (waiting_count c.entries) (omega arith) (λ some. (let whole = stood.whole some in omega arith))
@@ -134,7 +134,7 @@ module _ {T : Type 0} where
       NoMore (leave_cases (λ es f. c.boundary - how_many filled + waiting_count es ≤ c.boundary + waiting_count c.entries)
       same_notice t c.queue c.entries (λ none. omega arith)
       (λ passes front rest e.
-      (let no_more = (round_counts same_notice front (without t c.entries)).no_more in omega arith)))
+      (let no_more = (round_counts same_notice front (without_ticket t c.entries)).no_more in omega arith)))
   leaves_by c closes SenderLeaves n stood h long within = leaves_close c closes
   leaves_by c closes ReceiverLeaves n stood h long within = leaves_close c closes
   leaves_by c closes (Resizes new) n stood h long within =
@@ -143,7 +143,7 @@ module _ {T : Type 0} where
   leaves_by c closes _ n stood h long within = NoMore (omega arith)
 
 -- nothing is within each bound
-none_within : (capacity : Option ℕ) (other n : ℕ) → n ≡ 0 → IsWithin capacity other n
+none_within : (capacity : Option ℕ) (other n : ℕ) → n ≡ 0 → IsWithinCapacity capacity other n
 none_within capacity other n e = grind (arith, common_steps)
 
 module _ {T A : Type 0} where

@@ -1,7 +1,7 @@
 -- While a receiver waits, at least as many are woken as messages are queued.
 use Rattle.flume_model.proofs.Common.{◌≡◌, ℕ, ◌+◌, ◌-◌, ◌≤◌, Bool, true, false, if◌then◌else◌, [], ◌∷◌, length, Some, None, refl, sym, ◌∙◌}
 use Rattle.flume_model.proofs.Common.{◌⊎◌, inl, inr, ap, arith, Channel, channel, is_over, is_woken, some_wait, woken_count, round}
-use Rattle.flume_model.proofs.Common.{round_fills, all_woken, entry_of, without, passes_on, after_leave, leave_fills, boundary}
+use Rattle.flume_model.proofs.Common.{round_fills, all_woken, entry_of, without_ticket, passes_on, after_leave, leave_fills, boundary}
 use Rattle.flume_model.proofs.Common.{boundary_after, capacity_after, how_many, Log, Opening, Change, Queues, Blocks, Takes, Drains, Parks, Asks, Collects}
 use Rattle.flume_model.proofs.Common.{Leaves, SenderLeaves, ReceiverLeaves, Resizes, change, LogEntry, same_notice, entries_after, entries, IsRun}
 use Rattle.flume_model.proofs.Common.{Covered, Mark, Filled, Reply, Step, common_steps}
@@ -27,26 +27,26 @@ module _ {T : Type 0} where
   -- one that leaves with no wake to pass on, if nothing is queued if it was woken
   covered_left : (c : Channel T) (t : ℕ) (e : LogEntry T) → Stood c → entry_of t c.entries ≡ Some e
       → (passes_on (entry_of t c.entries) ≡ true → c.queue ≡ []) → c.boundary ≤ woken_count c.entries
-      → c.boundary ≤ woken_count (without t c.entries)
+      → c.boundary ≤ woken_count (without_ticket t c.entries)
   covered_left c t e stood found none le =
       let counts = without_counts t e c.entries found in
       let woken = counts.woken in
-      elim (woken_is e.mark) as (λ _. c.boundary ≤ woken_count (without t c.entries)) [
+      elim (woken_is e.mark) as (λ _. c.boundary ≤ woken_count (without_ticket t c.entries)) [
         | inl is ↦ (let empty = ap length (none (ap passes_on found ∙ is)) in let queued = stood.queued in omega arith)
         | inr is ↦ omega arith
       ]
 
   -- one that leaves and passes its wake on
   covered_passed : (c : Channel T) (t : ℕ) (e : LogEntry T) (front : T) → entry_of t c.entries ≡ Some e
-      → c.boundary ≤ woken_count c.entries → some_wait (round same_notice front (without t c.entries)) ≡ true
-      → c.boundary - how_many (round_fills (without t c.entries)) ≤ woken_count (round same_notice front (without t c.entries))
+      → c.boundary ≤ woken_count c.entries → some_wait (round same_notice front (without_ticket t c.entries)) ≡ true
+      → c.boundary - how_many (round_fills (without_ticket t c.entries)) ≤ woken_count (round same_notice front (without_ticket t c.entries))
   covered_passed c t e front found le some =
       let left_ = without_counts t e c.entries found in
       let woken = left_.woken in
       let one = woken_at_most e.mark in
-      let rounded = round_counts same_notice front (without t c.entries) in
+      let rounded = round_counts same_notice front (without_ticket t c.entries) in
       let total = rounded.total in
-      let fewer = rounded.fewer (wait_round same_notice front (without t c.entries) some) in
+      let fewer = rounded.fewer (wait_round same_notice front (without_ticket t c.entries) some) in
       omega arith
 
   -- if an end leaves
@@ -103,7 +103,7 @@ module _ {T : Type 0} where
       (let le = covered_left c t unfilled.entry stood unfilled.found none (before (wait_without t c.entries waits)) in omega arith))
       (λ passes front rest e waits.
       covered_passed c t unfilled.entry front unfilled.found
-      (before (wait_without t c.entries (wait_round same_notice front (without t c.entries) waits))) waits) some in
+      (before (wait_without t c.entries (wait_round same_notice front (without_ticket t c.entries) waits))) waits) some in
       omega arith
   covered_by c closes SenderLeaves n stood h long within before some = covered_close c closes before some
   covered_by c closes ReceiverLeaves n stood h long within before some = covered_close c closes before some

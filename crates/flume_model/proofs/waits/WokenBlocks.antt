@@ -2,7 +2,7 @@
 use Rattle.flume_model.proofs.Common.{◌≡◌, ℕ, ◌≤◌, Bool, true, false, not, ◌&&◌, if◌then◌else◌, List, [], ◌∷◌, ◌++◌, length, Some, refl}
 use Rattle.flume_model.proofs.Common.{sym, ◌∙◌, ◌⊎◌, inl, inr, ap, arith, min, eqb-true, and_parts, list_any-append, Channel}
 use Rattle.flume_model.proofs.Common.{channel, senders, receivers, senders_after, receivers_after, is_over, is_woken, some_wait, all_woken}
-use Rattle.flume_model.proofs.Common.{without, round, IsClosed, is_closed, line, boundary, boundary_after, capacity_after, blocked, Log, Opening, Change}
+use Rattle.flume_model.proofs.Common.{without_ticket, round, IsClosed, is_closed, line, boundary, boundary_after, capacity_after, blocked, Log, Opening, Change}
 use Rattle.flume_model.proofs.Common.{Queues, Blocks, Takes, Parks, Asks, Collects, Leaves, SenderLeaves, ReceiverLeaves, Resizes, change, LogEntry}
 use Rattle.flume_model.proofs.Common.{same_notice, entries_after, entries, IsRun, block_woken, WokenBlockWhileClosed, Reply, Step}
 use Rattle.flume_model.proofs.Common.{common_steps}
@@ -22,7 +22,7 @@ module _ {T : Type 0} where
   block_round front (x ∷ es) h = grind (arith, common_steps, block_round front es)
 
   -- one of the others
-  block_without : (t : ℕ) (es : List (LogEntry T)) → block_woken (without t es) ≡ true → block_woken es ≡ true
+  block_without : (t : ℕ) (es : List (LogEntry T)) → block_woken (without_ticket t es) ≡ true → block_woken es ≡ true
   block_without t [] h = h
   block_without t (x ∷ es) h = grind (arith, common_steps, block_without t es)
 
@@ -78,14 +78,14 @@ module _ {T : Type 0} where
       (λ x found woken goes.
       (let same : h.0 ≡ x = cc in
       let is_open = (h.2 (ap (λ y. is_woken y.mark) same ∙ woken)).1 in
-      let closed = (before (block_without t c.entries (block_push (without t c.entries) _ refl goes))).0 in
+      let closed = (before (block_without t c.entries (block_push (without_ticket t c.entries) _ refl goes))).0 in
       absurd (omega arith))) some
   closed_by c closes (Collects t) n stood h long e before some =
       let was = before (block_without t c.entries some) in (was.0, let le = was.1 in omega arith)
   closed_by c closes (Leaves t filled) n stood h long e before some =
       let was = before (leave_cases (λ es f. block_woken es ≡ true → block_woken c.entries ≡ true) same_notice t c.queue c.entries
       (λ none others. block_without t c.entries others)
-      (λ passes front rest e2 others. block_without t c.entries (block_round front (without t c.entries) others)) some) in
+      (λ passes front rest e2 others. block_without t c.entries (block_round front (without_ticket t c.entries) others)) some) in
       (was.0, let le = was.1 in omega arith)
   closed_by c closes SenderLeaves n stood h long e before some =
       closed_close c _ _ n closes stood long e (λ closed. omega arith) before some

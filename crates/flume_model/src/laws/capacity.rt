@@ -7,23 +7,20 @@ ghost use Rattle.flume_model.specs.Resized.{set_to, IsResized, queued_at, StaysB
 
 use std::alloc::Allocator;
 
-/// Of each run that ends as the capacity is set, the line, the parked receivers and the tickets are
-/// as before, the capacity is this one, and as many messages are queued as were, and as many more
-/// of the line as the capacity allows.
+/// In each run, setting the capacity changes only it, and how much of the line is queued.
 pub fn setting_the_capacity_lets_blocked_messages_in<T, A: Allocator>()
     ensures law { (opening : Opening) (past : Log T A) (new : ℕ) → IsRun opening (set_to new past)
         → IsResized opening past (set_to new past) new (queued_at opening past new) }
 {}
 
-/// Of each run that ends as the capacity is set to what it was, nothing was changed.
+/// In each run, setting the capacity to what it was changes nothing.
 pub fn setting_the_same_capacity_changes_nothing<T, A: Allocator>()
     ensures law { (opening : Opening) (past : Log T A) (same : ℕ)
         → IsRun opening (set_to same past) → capacity opening past ≡ Some same
         → IsResized opening past (set_to same past) same (boundary opening past) }
 {}
 
-/// Of each run that ends as the capacity is set, and then set to no more, all that was queued by
-/// the first stays queued; the line, the parked receivers and the tickets are as before both.
+/// In each run, what a raised capacity let in stays queued after the capacity is lowered.
 pub fn lowering_keeps_what_raising_let_in<T, A: Allocator>()
     ensures law { (opening : Opening) (past : Log T A) (high low : ℕ) → low ≤ high
         → IsRun opening (set_to low (set_to high past))
@@ -31,8 +28,7 @@ pub fn lowering_keeps_what_raising_let_in<T, A: Allocator>()
         (queued_at opening past high) }
 {}
 
-/// Of each run, a channel that was opened without a capacity has none, and one that was opened with
-/// one has one.
+/// In each run, a channel stays bounded or unbounded, as it was opened.
 pub fn a_channel_stays_bounded_or_unbounded<T, A: Allocator>()
     ensures law { (opening : Opening) (log : Log T A)
         → IsRun opening log → StaysBoundedOrNot opening log }

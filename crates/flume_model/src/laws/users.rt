@@ -9,22 +9,19 @@ ghost use Rattle.flume_model.specs.AllBlock.{OnlyBlockingReceivers, IsAtMostCapa
 
 use std::alloc::Allocator;
 
-/// Of each run, by any weight of messages, what was offered weighs as much as what replies gave
-/// out, what is in line and what parked receivers hold, together; once the channel is over, at
-/// least as much as what was given out. So no message is lost, and none is given out twice.
+/// In each run, no message is lost, and none is given out twice, by any weight of messages. After
+/// both sides have disconnected, only the second is said.
 pub fn messages_are_conserved<T, A: Allocator>()
     ensures law { (opening : Opening) (log : Log T A)
         → IsRun opening log → Conserved opening log }
 {}
 
-/// Of each run, messages are handed out in the order in which they were offered, and none that
-/// wasn't withdrawn is left behind: so too of the offers of one producer.
+/// In each run, messages are handed out in the order of their offers: so too one producer's.
 pub fn each_producers_offers_keep_their_order<T, A: Allocator>()
     ensures law { (opening : Opening) (log : Log T A) → IsRun opening log → HandedOutInOrder log }
 {}
 
-/// Of each run whose receivers all block, no more messages are queued than the greatest capacity so
-/// far; so if the capacity was never above 0, none is ever queued.
+/// If all receivers block, a run queues no more messages than the greatest capacity so far.
 pub fn blocking_receivers_keep_the_queue_within_capacity<T, A: Allocator>()
     ensures law { (opening : Opening) (log : Log T A) → IsRun opening log
         → OnlyBlockingReceivers log

@@ -12,9 +12,7 @@ ghost use Rattle.flume_model.specs.WakeRule.{IsWakeRound};
 
 use std::alloc::Allocator;
 
-/// A wake round, over any entries and with any front, follows its rule, and nothing else does: the
-/// waiting entries before the first waiting one that is no stream are woken; that one is filled
-/// with the front if it blocks, and else woken; all others stay as they are.
+/// A wake round follows its rule, and nothing else does.
 pub fn wake_rounds_follow_their_rule<T, N>()
     ensures law { (tell : N → N) (front : T) (entries : List (Entry T N))
         → IsWakeRound tell front entries (round tell front entries) (round_fills entries) }
@@ -23,41 +21,37 @@ pub fn wake_rounds_follow_their_rule<T, N>()
         → (new ≡ round tell front old) × (filled ≡ round_fills old) }
 {}
 
-/// Of each run, while a receiver waits, at least as many receivers are woken as messages are
-/// queued.
+/// In each run, while a receiver waits, at least as many are woken as messages are queued.
 pub fn waiting_receivers_are_covered<T, A: Allocator>()
     ensures law { (opening : Opening) (log : Log T A) → IsRun opening log → Covered opening log }
 {}
 
-/// Of each run, the messages that are queued and the receivers that wait are together at most as
-/// many as the greatest capacity so far, or as ever waited at once, whichever is greater.
+/// In each run, queued messages and waiting receivers are together within the greatest capacity or
+/// the most that ever waited at once.
 pub fn queued_and_waiting_are_bounded<T, A: Allocator>()
     ensures law { (opening : Opening) (log : Log T A) → IsRun opening log → Bounded opening log }
 {}
 
-/// Of each run, a receiver waits only while the channel is open and no sender is blocked.
+/// In each run, a receiver waits only while the channel is open and no sender is blocked.
 pub fn receivers_wait_only_while_open<T, A: Allocator>()
     ensures law { (opening : Opening) (log : Log T A)
         → IsRun opening log → WaitsWhileOpen opening log }
 {}
 
-/// Of each run, once every receiver that was woken has looked, nobody waits for a message or for
-/// room that is there: a receiver waits only in an open channel that has no message, and a sender
-/// is blocked only while the queue is at capacity and no receiver waits.
+/// Once every woken receiver of a run has looked, nobody waits for a message or room that is there.
 pub fn nobody_is_stuck<T, A: Allocator>()
     ensures law { (opening : Opening) (log : Log T A) → IsRun opening log
         → woken_count (entries opening log) ≡ 0 → NobodyStuck opening log }
 {}
 
-/// Of each run, a receiver that blocks is woken, with no message, only if the channel is closed and
-/// no sender is blocked.
+/// In each run, a blocking receiver is woken with no message only if the channel is closed and no
+/// sender is blocked.
 pub fn blocking_receivers_are_woken_only_by_closing<T, A: Allocator>()
     ensures law { (opening : Opening) (log : Log T A)
         → IsRun opening log → WokenBlockWhileClosed opening log }
 {}
 
-/// Of each run, the tickets of parked receivers differ from one another and from those of live
-/// sends, and all of them were issued.
+/// In each run, tickets of parked receivers differ from each other and from those of live sends.
 pub fn tickets_of_receivers_are_apart<T, A: Allocator>()
     ensures entries { (opening : Opening) (log : Log T A)
         → IsRun opening log → EntriesApart opening log }
@@ -65,13 +59,12 @@ pub fn tickets_of_receivers_are_apart<T, A: Allocator>()
         → IsRun opening log → SidesApart opening log }
 {}
 
-/// Of each run, a parked receiver holds a message exactly if some reply named it as filled.
+/// In each run, a parked receiver holds a message exactly if some reply named it as filled.
 pub fn receivers_are_filled_just_where_told<T, A: Allocator>()
     ensures law { (opening : Opening) (log : Log T A) → IsRun opening log → ToldFilled opening log }
 {}
 
-/// Of each run, once all senders and all receivers have been dropped, no message, no parked
-/// receiver and no live send is left.
+/// In each run, nothing is left once both sides have disconnected.
 pub fn nothing_is_left_once_over<T, A: Allocator>()
     ensures law { (opening : Opening) (log : Log T A)
         → IsRun opening log → NothingOnceOver opening log }

@@ -1,15 +1,14 @@
--- How the parked receivers lie in their chain, first those that neither wait nor are due, then those
--- that are due, then those that wait. Of these the view of a channel has `entries_in`.
+-- How the parked receivers lie in their chain. Of these the view of a channel has `entries_in`.
 use Rattle.std.specs.Prelude.{◌≡◌, ℕ, ◌≤◌, ◌==◌, Bool, true, false, ⊤, if◌then◌else◌}
 use Rattle.std.specs.Prelude.{List, [], ◌∷◌, ◌++◌, Option, Some, None, length}
-use Rattle.flume_chain.specs.Chained.{Placed, times, places, first_place}
+use Rattle.flume_chain.specs.ChainState.{ChainItem, times, places, first_place}
 use Rattle.flume_model.specs.Entries.{is_waiting, waiting_count, marked}
 use Rattle.flume_model.specs.declared.entry.Entry.{Entry}
 use Rattle.flume_model.specs.declared.entry.Mark.{Mark}
 use Rattle.flume_model.specs.declared.entry.Mark.TheVariants.{Waiting, Filled}
 use Rattle.flume_state.specs.declared.entries.Parked.{Parked}
 use Rattle.flume_state.specs.declared.notice.Notice.{Notice}
-use Rattle.flume_state.specs.layout.Ticketed.{Ticketed}
+use Rattle.flume_state.specs.layout.WithTicket.{WithTicket}
 use Rattle.flume_state.specs.Receivers.{EntryList, waits_on}
 
 -- a boundary once the element at a place, which has this one behind it, has left
@@ -37,7 +36,7 @@ module _ {T S : Type 0} where
   after_asking _ signal p = record p { mark = Waiting; notice = waits_on signal p.notice }
 
   -- an element of the chain as an entry
-  abbrev pub entry_in : Placed (Ticketed (Parked T S)) → Entry T (Notice S)
+  abbrev pub entry_in : ChainItem (WithTicket (Parked T S)) → Entry T (Notice S)
   entry_in x = record {
     ticket = x.element.label;
     kind = x.element.value.kind;
@@ -46,12 +45,12 @@ module _ {T S : Type 0} where
   }
 
   -- the elements of the chain as entries
-  abbrev pub entries_in : List (Placed (Ticketed (Parked T S))) → EntryList T S
+  abbrev pub entries_in : List (ChainItem (WithTicket (Parked T S))) → EntryList T S
   entries_in [] = []
   entries_in (x ∷ items) = entry_in x ∷ entries_in items
 
   -- each waits, and is due, as these say
-  abbrev pub Each : Bool → Bool → List (Placed (Ticketed (Parked T S))) → Type 0
+  abbrev pub Each : Bool → Bool → List (ChainItem (WithTicket (Parked T S))) → Type 0
   Each waits due [] = ⊤
   Each waits due (x ∷ items) =
       (is_waiting x.element.value.mark ≡ waits)
@@ -59,11 +58,11 @@ module _ {T S : Type 0} where
       × Each waits due items
 
   -- the elements in their order, the boundaries, and how many wait
-  pub record EntryLayout (items : List (Placed (Ticketed (Parked T S)))) (due waits : Option ℕ)
+  pub record EntryLayout (items : List (ChainItem (WithTicket (Parked T S)))) (due waits : Option ℕ)
       (waiting : ℕ) : Type 0 where
-    pub quiet : List (Placed (Ticketed (Parked T S)))
-    pub dues : List (Placed (Ticketed (Parked T S)))
-    pub last : List (Placed (Ticketed (Parked T S)))
+    pub quiet : List (ChainItem (WithTicket (Parked T S)))
+    pub dues : List (ChainItem (WithTicket (Parked T S)))
+    pub last : List (ChainItem (WithTicket (Parked T S)))
     pub is : items ≡ quiet ++ (dues ++ last)
     pub are_quiet : Each false false quiet
     pub are_due : Each false true dues

@@ -1,12 +1,11 @@
--- Each blocked message and its send, which name each other's places. Of these the view of a channel
--- has `under_tickets` and `live_sends`.
+-- Each blocked message and its send. The view of a channel has `under_tickets` and `live_sends`.
 use Rattle.std.specs.Prelude.{◌≡◌, ◌==◌, ℕ, Bool, false, ◌||◌, List, [], ◌∷◌, map}
 use Rattle.std.specs.Prelude.{Option, Some, None, if◌then◌else◌}
 use Rattle.std.specs.List.{All}
 use Rattle.std.specs.Option.{option_map, option_map_or}
-use Rattle.flume_chain.specs.Chained.{Placed, found}
+use Rattle.flume_chain.specs.ChainState.{ChainItem, found}
 use Rattle.flume_state.specs.declared.sends.PlacedSend.{PlacedSend}
-use Rattle.flume_state.specs.layout.Ticketed.{Ticketed}
+use Rattle.flume_state.specs.layout.WithTicket.{WithTicket}
 use Rattle.flume_state.specs.layout.SendLayout.{Element, by_ticket}
 use Rattle.flume_state.specs.layout.MessageLayout.{BlockedAt}
 use Rattle.flume_state.specs.Messages.{Blocked}
@@ -14,10 +13,9 @@ use Rattle.flume_state.specs.Sends.{SendMap}
 
 -- the sends of a channel in the order of their chain, each with the place of its message
 abbrev pub SendList : Type 0 → Type 0
-SendList S = List (Placed (Ticketed (PlacedSend S)))
+SendList S = List (ChainItem (WithTicket (PlacedSend S)))
 
--- what of a send its message is tied to: the ticket, the message's place, and whether the message
--- was accepted
+-- what ties a send to its message
 pub record Link : Type 0 where
   pub ticket : ℕ
   pub message : ℕ
@@ -33,7 +31,7 @@ accepting accepts l = record l { accepted = accepts || l.accepted }
 
 module _ {S : Type 0} where
   -- a send without the place of its message
-  abbrev pub send_in : Placed (Ticketed (PlacedSend S)) → Element S
+  abbrev pub send_in : ChainItem (WithTicket (PlacedSend S)) → Element S
   send_in x = record {
     place = x.place;
     element = record { label = x.element.label; value = x.element.value.send };
@@ -52,7 +50,7 @@ module _ {S : Type 0} where
   ticket_at items k = option_map_or (λ send. send.label) (found items k) 0
 
   -- the link of a send
-  abbrev pub link_of : Ticketed (PlacedSend S) → Link
+  abbrev pub link_of : WithTicket (PlacedSend S) → Link
   link_of e = record {
     ticket = e.label;
     message = e.value.message;
@@ -63,29 +61,28 @@ module _ {S : Type 0} where
   abbrev pub link_at : SendList S → ℕ → Option Link
   link_at items k = option_map link_of (found items k)
 
--- the owner of the first of these blocked messages that has this place
-abbrev pub owner_at : {T : Type 0} → List (BlockedAt T) → ℕ → Option ℕ
-owner_at [] k = None
-owner_at (b ∷ blocked) k = if b.place == k then Some b.owner else owner_at blocked k
+-- the place of the send of the first of these blocked messages that has this place
+abbrev pub send_place_at : {T : Type 0} → List (BlockedAt T) → ℕ → Option ℕ
+send_place_at [] k = None
+send_place_at (b ∷ blocked) k = if b.place == k then Some b.send_place else send_place_at blocked k
 
 module _ {T S : Type 0} where
   -- a blocked message under the ticket of its send
   abbrev pub under_ticket : SendList S → BlockedAt T → Blocked T
-  under_ticket sends b = record { ticket = ticket_at sends b.owner; message = b.message }
+  under_ticket sends b = record { ticket = ticket_at sends b.send_place; message = b.message }
 
   -- blocked messages, each under the ticket of its send
   abbrev pub under_tickets : SendList S → List (BlockedAt T) → List (Blocked T)
   under_tickets sends blocked = map (under_ticket sends) blocked
 
-  -- the owner of a blocked message is a live send that isn't accepted and names its place
+  -- the send of a blocked message is live, isn't accepted, and names its place
   pub record HasLink (sends : SendList S) (b : BlockedAt T) : Type 0 where
     pub ticket : ℕ
-    pub is : link_at sends b.owner
+    pub is : link_at sends b.send_place
         ≡ Some (record { ticket = ticket; message = b.place; accepted = false })
 
-  -- each blocked message has a send that isn't accepted, and each such send a blocked message; and
-  -- they name each other's places
+  -- blocked messages and sends that aren't accepted pair up, and name each other's places
   pub record Pairing (blocked : List (BlockedAt T)) (sends : SendList S) : Type 0 where
     pub held : All (HasLink sends) blocked
     pub owns : (k : ℕ) (l : Link) → link_at sends k ≡ Some l → l.accepted ≡ false
-        → owner_at blocked l.message ≡ Some k
+        → send_place_at blocked l.message ≡ Some k

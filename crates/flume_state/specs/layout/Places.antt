@@ -1,5 +1,4 @@
--- For this crate alone: the places of tickets as a finite map, and how they lie, a lone one by
--- itself and the others in a table.
+-- For this crate alone: the places of tickets, a lone one by itself, the others in a table.
 use Rattle.std.specs.Prelude.{◌≡◌, ℕ, List, Option, Some, None, IfSome}
 use Rattle.std.specs.FinMap.{FinMap, from_entries, get, insert}
 use Rattle.std.specs.Ordering.{nat_cmp}

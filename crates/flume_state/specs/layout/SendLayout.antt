@@ -1,22 +1,21 @@
--- How the live sends lie in their chain, those that aren't due first. Of these the view of a channel
--- has `by_ticket`.
+-- How the live sends lie in their chain. The view of a channel has `by_ticket`.
 use Rattle.std.specs.Prelude.{◌≡◌, ℕ, Bool, true, false, ◌||◌, List, [], ◌∷◌, ◌++◌}
 use Rattle.std.specs.Prelude.{Option, ⊤}
 use Rattle.std.specs.Ordering.{nat_cmp}
 use Rattle.std.specs.FinMap.{FinMap, empty, insert}
-use Rattle.flume_chain.specs.Chained.{Placed, first_place}
-use Rattle.flume_state.specs.layout.Ticketed.{Ticketed}
+use Rattle.flume_chain.specs.ChainState.{ChainItem, first_place}
+use Rattle.flume_state.specs.layout.WithTicket.{WithTicket}
 use Rattle.flume_state.specs.Notices.{due_now}
 use Rattle.flume_state.specs.declared.sends.LiveSend.{LiveSend}
 
 -- the values of the elements, each under its ticket
-abbrev pub by_ticket : {X : Type 0} → List (Placed (Ticketed X)) → FinMap nat_cmp X
+abbrev pub by_ticket : {X : Type 0} → List (ChainItem (WithTicket X)) → FinMap nat_cmp X
 by_ticket [] = empty
 by_ticket (x ∷ items) = insert (by_ticket items) x.element.label x.element.value
 
 -- a live send of the chain, without the place of its message
 abbrev pub Element : Type 0 → Type 0
-Element S = Placed (Ticketed (LiveSend S))
+Element S = ChainItem (WithTicket (LiveSend S))
 
 module _ {S : Type 0} where
   -- a send that becomes due, and is accepted if this is true
@@ -28,8 +27,7 @@ module _ {S : Type 0} where
   EachDueIs due [] = ⊤
   EachDueIs due (x ∷ xs) = (x.element.value.notice.due ≡ due) × EachDueIs due xs
 
-  -- the elements are those that aren't due, and then those that are, of which the first is at this
-  -- place
+  -- the elements are those that aren't due, and then those that are, from `due` on
   pub record SendLayout (items : List (Element S)) (due : Option ℕ) : Type 0 where
     pub quiet : List (Element S)
     pub late : List (Element S)

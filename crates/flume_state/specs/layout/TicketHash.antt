@@ -11,12 +11,12 @@ hash_of ticket = bit_xor
     ((ticket % 8 * 2 ^ 29) % 2 ^ 64)
 
 -- the number of the first eight bytes, the lowest first
-abbrev pub ticket_of : List ℕ → ℕ
-ticket_of bytes = from_le_bytes w64 (
+abbrev pub number_of_bytes : List ℕ → ℕ
+number_of_bytes bytes = from_le_bytes w64 (
     slice_index bytes 0 ∷ slice_index bytes 1 ∷ slice_index bytes 2 ∷ slice_index bytes 3
     ∷ slice_index bytes 4 ∷ slice_index bytes 5 ∷ slice_index bytes 6 ∷ slice_index bytes 7 ∷ [])
 
 -- the hasher after these bytes, of which a ticket has eight
 abbrev pub after_write : TicketHasher → List ℕ → TicketHasher
 after_write hasher bytes =
-    if nat_lt (length bytes) 8 then hasher else record { hash = hash_of (ticket_of bytes) }
+    if nat_lt (length bytes) 8 then hasher else record { hash = hash_of (number_of_bytes bytes) }

@@ -14,10 +14,9 @@ use flume_model::step::Kind;
 use std::alloc::Allocator;
 
 impl<T: Drop, S: Drop, A: Allocator + Copy> Entries<T, S, A> {
-    /// A wake round: the waiting receivers are woken in order, up to the first that isn't a stream;
-    /// this one, if it blocks, is handed the front of the queue. All that were met are due. Answers
-    /// the ticket that was filled, if one was. If nothing is queued or nobody waits, nothing
-    /// changes, and only two counts are read.
+    /// A wake round: the waiting receivers are woken in order, up to the first that isn't a stream.
+    /// If that one blocks, it is handed the front of the queue, and its ticket is the answer. All
+    /// that were met are due. If nothing is queued or nobody waits, only two counts are read.
     #[inline(always)]
     pub fn wake(&mut self, line: &mut Line<T, S, A>) -> Option<u64>
         ensures fills { result ≡ round_for_fills line.old.queued self.old }
@@ -98,26 +97,24 @@ impl<T: Drop, S: Drop, A: Allocator + Copy> Entries<T, S, A> {
         }
     }
 
-    /// The ticket of a receiver that was due, and isn't afterwards. `None` if none is due: then
-    /// nothing changes, and only two places are read. It looks at no other receiver.
+    /// A receiver's ticket that was due, and isn't afterwards. `None` if none is. Searches nothing.
     #[inline(always)]
     pub fn next_due(&mut self) -> Option<u64>
-        ensures told { IfSome result (λ ticket. NamesReceiver self.old self.new ticket) }
+        ensures named { IfSome result (λ ticket. NamesReceiver self.old self.new ticket) }
         ensures none_due { IfNone result (NoDueReceiver self.old) }
         ensures unchanged { IfNone result (self.new ≡ self.old) }
     {
         if self.due == self.waits {
             return None;
         }
-        self.tell_first()
+        self.take_first_due()
     }
 
-    // The out-of-line part of `next_due`. It compares the two places again, so that its contract
-    // needs no premise.
+    // Out of line. It compares the two places again, so that its contract needs no premise.
     #[cold]
     #[inline(never)]
-    fn tell_first(&mut self) -> Option<u64>
-        ensures told { IfSome result (λ ticket. NamesReceiver self.old self.new ticket) }
+    fn take_first_due(&mut self) -> Option<u64>
+        ensures named { IfSome result (λ ticket. NamesReceiver self.old self.new ticket) }
         ensures none_due { IfNone result (NoDueReceiver self.old) }
         ensures unchanged { IfNone result (self.new ≡ self.old) }
     {

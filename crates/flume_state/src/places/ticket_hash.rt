@@ -4,11 +4,10 @@ ghost use Rattle.flume_state.specs.layout.TicketHash.{hash_of};
 
 use std::hash::Hasher;
 
-/// Hashes a ticket. Eight that were issued in a row lie in one group of the table, so that what
-/// parks and is served in turn is found in few cache lines. The groups are spread by multiplication
-/// (D. Knuth, The Art of Computer Programming, volume 3, 6.4), so that tickets a power of two apart
-/// don't meet in few groups. No caller chooses a ticket, so none can make tickets collide. No
-/// contract depends on the hash.
+/// Hashes a ticket. Eight that were issued in a row lie in one group of the table, and so in few
+/// cache lines. The groups are spread by multiplication (D. Knuth, The Art of Computer Programming,
+/// volume 3, 6.4), so that tickets a power of two apart don't meet in few groups. No caller chooses
+/// a ticket, so none can make tickets collide.
 #[derive(Clone, Copy)]
 pub(super) struct TicketHasher {
     hash: u64,
@@ -49,8 +48,7 @@ impl Hasher for TicketHasher {
     }
 }
 
-// The low bits choose a group of the table. Bits 29 to 31, by which a group distinguishes its
-// tickets, say which of the eight it is.
+// The low bits choose a group of the table; bits 29 to 31 distinguish the tickets of a group.
 #[inline(always)]
 fn hash(ticket: u64) -> u64
     ensures hash { result ≡ hash_of ticket }

@@ -11,10 +11,9 @@ use std::marker::Model;
 
 type Table<A> = HashMap<u64, u32, BuildHasherDefault<TicketHasher>, A>;
 
-/// The place of each of some tickets, found by the ticket's hash. The table is allocated when the
-/// first ticket comes: a channel on which nobody parks while another is parked has none. A channel
-/// has two of these, and a table in place of the pointer takes some 85 bytes more, which costs time
-/// if a channel is made, used once and dropped. Only `insert` allocates.
+/// The place of each of some tickets. Only `insert` allocates. The table is boxed, since most
+/// channels have none, and it would take some 85 bytes more in place: that costs time if a
+/// channel is made, used once and dropped.
 #[derive(Drop)]
 pub(super) struct TicketTable<A: Allocator> {
     made: Option<Box<Table<A>, A>>,
@@ -73,8 +72,7 @@ impl<A: Allocator + Copy> TicketTable<A> {
         }
     }
 
-    /// Gives `ticket` a place, instead of the one that it had, if any; replacing one doesn't
-    /// allocate. If memory runs out, nothing changes.
+    /// Gives `ticket` a place; replacing one doesn't allocate. If memory runs out, nothing changes.
     #[tactic(auto, using(crate::proofs::TableLemmas::nothing_found))]
     #[inline(never)]
     pub fn insert(&mut self, ticket: u64, place: u32) -> Result<(), AllocError>

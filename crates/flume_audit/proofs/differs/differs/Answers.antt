@@ -1,8 +1,8 @@
 -- Up to the least misplaced number, or the history's end, each entry is looked for.
 use Rattle.std.proofs.Common.{arith, below_more, map, refl}
 use Rattle.std.proofs.lemmas.Option.{slice_get_read}
-use Rattle.flume_audit.proofs.Disagreements.{bound_within, rises_below, untold, end_some, end_none}
-use Rattle.flume_audit.proofs.Disagreements.{agree_here}
+use Rattle.flume_audit.proofs.DisagreementLemmas.{bound_within, rises_below, untold, end_some, end_none}
+use Rattle.flume_audit.proofs.DisagreementLemmas.{agree_here}
 use Rattle.flume_audit.proofs.differs.differs.Invariants.{same_entry}
 use Rattle.flume_audit.proofs.differs.differs.Goals as goal
 
@@ -18,15 +18,15 @@ bounds-history-number g c =
     c.first_misplaced-end.ensures.least in
     let bound = c.unwrap_or-number-end.ensures in omega (arith, within)
 
-pub is_told_at-requires : goal.is_told_at-requires
-is_told_at-requires g c = record {
+pub has_receipt_at-requires : goal.has_receipt_at-requires
+has_receipt_at-requires g c = record {
   before = rises_below c.args.history.now (map g.H.AsSlice.items c.args.seats.now) _
       c.first_misplaced-end.ensures.least c.loop-number.number
       (let bound = c.unwrap_or-number-end.ensures in omega arith);
 }
 
-pub returns-then-not-is_told_at-clause-some : goal.returns-then-not-is_told_at-clause-some
-returns-then-not-is_told_at-clause-some g c =
+pub returns-then-not-has_receipt_at-clause-some : goal.returns-then-not-has_receipt_at-clause-some
+returns-then-not-has_receipt_at-clause-some g c =
     let history = c.args.history.now in
     let within = bound_within history (map g.H.AsSlice.items c.args.seats.now) _
     c.first_misplaced-end.ensures.least in
@@ -34,14 +34,14 @@ returns-then-not-is_told_at-clause-some g c =
     untold history (map g.H.AsSlice.items c.args.seats.now) (same_entry g) _
     c.first_misplaced-end.ensures.least c.loop-number.number c.index-history-number.result
     (omega arith) (slice_get_read history _ c.loop-number.number c.index-history-number.result
-    refl (omega (arith, within)) c.index-history-number.is) c.if-not-is_told_at.ensures.told
+    refl (omega (arith, within)) c.index-history-number.is) c.if-not-has_receipt_at.ensures.sole
     c.loop-number.invariant.agree
 
 pub loop-number-preserved : goal.loop-number-preserved
 loop-number-preserved g c = record {
   agree = below_more _ _ c.loop-number.invariant.agree (agree_here c.args.history.now
       (map g.H.AsSlice.items c.args.seats.now) (same_entry g) c.loop-number.number
-      c.index-history-number.result c.index-history-number.is c.if-not-is_told_at.ensures.told);
+      c.index-history-number.result c.index-history-number.is c.if-not-has_receipt_at.ensures.sole);
 }
 
 pub returns-clause-some : goal.returns-clause-some

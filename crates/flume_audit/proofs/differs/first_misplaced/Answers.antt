@@ -1,8 +1,8 @@
 -- The lesser of those of the lists before, of the next list, and of those after.
 use Rattle.std.proofs.Common.{None}
 use Rattle.flume_audit.specs.Misplaced.{Misplaced}
-use Rattle.flume_audit.proofs.Leasts.{lesser_none, lesser_assoc, least_of_any, least_of_none}
-use Rattle.flume_audit.proofs.Froms.{from_here, from_end}
+use Rattle.flume_audit.proofs.LeastLemmas.{lesser_none, lesser_assoc, least_of_any, least_of_none}
+use Rattle.flume_audit.proofs.FromLemmas.{from_here, from_end}
 use Rattle.flume_audit.proofs.differs.first_misplaced.Goals as goal
 
 pub loop-seat-preserved : goal.loop-seat-preserved

@@ -1,7 +1,7 @@
 -- Each receipt is compared with the one before it.
 use Rattle.std.proofs.Common.{None}
-use Rattle.flume_audit.proofs.Leasts.{lesser_none, lesser_assoc}
-use Rattle.flume_audit.proofs.Neighbours.{least_with_second, least_of_rest, none_of_one}
+use Rattle.flume_audit.proofs.LeastLemmas.{lesser_none, lesser_assoc}
+use Rattle.flume_audit.proofs.NeighbourLemmas.{least_with_second, least_of_rest, none_of_one}
 use Rattle.flume_audit.proofs.differs.first_not_above.Goals as goal
 use Rattle.flume_audit.proofs.differs.first_not_above.Goals.{then-receipt-before}
 use Rattle.flume_audit.proofs.differs.first_not_above.Goals.{else-receipt-before}

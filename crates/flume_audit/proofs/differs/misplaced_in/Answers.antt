@@ -2,7 +2,7 @@
 use Rattle.std.proofs.Common.{◌≡◌, ◌≤◌, ℕ, Any, Some, None, refl, le_of_eq, sym}
 use Rattle.std.proofs.lemmas.Bool.{false≢true}
 use Rattle.flume_audit.specs.Settled.{NotAbove}
-use Rattle.flume_audit.proofs.Leasts.{least_either}
+use Rattle.flume_audit.proofs.LeastLemmas.{least_either}
 use Rattle.flume_audit.proofs.differs.misplaced_in.Goals as goal
 use Rattle.flume_audit.proofs.differs.misplaced_in.Goals.{then-is_past, else-is_past}
 

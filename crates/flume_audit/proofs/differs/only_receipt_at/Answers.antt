@@ -1,9 +1,9 @@
 -- The receipts of each list are those before, its own, and those after.
 use Rattle.std.proofs.Common.{◌≡◌, Option, Some, None, is_some, option_map, Bor, refl, sym, ◌∙◌}
 use Rattle.flume_audit.specs.Settled.{NotAbove}
-use Rattle.flume_audit.proofs.Anys.{is_at}
-use Rattle.flume_audit.proofs.Froms.{from_end}
-use Rattle.flume_audit.proofs.Tellings.{none_here, first_here, another_here, only_with_none}
+use Rattle.flume_audit.proofs.AnyLemmas.{is_at}
+use Rattle.flume_audit.proofs.FromLemmas.{from_end}
+use Rattle.flume_audit.proofs.OnlyReceiptLemmas.{none_here, first_here, another_here, only_with_none}
 use Rattle.flume_audit.proofs.differs.only_receipt_at.Goals as goal
 use Rattle.flume_audit.proofs.differs.only_receipt_at.Goals.{in-Some+else-is_some, in_default}
 
@@ -25,7 +25,7 @@ returns-then-is_some g c = record {
   only = sym (another_here g.H.AsSlice.items c.args.number c.args.seats.now
       c.loop-seat.seat-index c.seat-item.result c.loop-seat-test.true c.seat-item.is _
       c.loop-seat.invariant.only c.as_slice.result.now c.as_slice.ensures c.in-Some.receipt.now
-      c.in-Some.ensures.told (sym (is_some_now c.loop-seat.only) ∙ sym c.if-is_some.ensures));
+      c.in-Some.ensures.sole (sym (is_some_now c.loop-seat.only) ∙ sym c.if-is_some.ensures));
 }
 
 pub loop-seat-preserved : goal.loop-seat-preserved
@@ -35,12 +35,12 @@ loop-seat-preserved g c = record {
         rw w.only-is (first_here g.H.AsSlice.items c.args.number c.args.seats.now
         c.loop-seat.seat-index c.seat-item.result c.loop-seat-test.true c.seat-item.is _
         c.loop-seat.invariant.only c.as_slice.result.now c.as_slice.ensures w.in-Some.receipt.now
-        w.in-Some.ensures.told (sym (is_some_now c.loop-seat.only) ∙ sym w.if-is_some.ensures))
+        w.in-Some.ensures.sole (sym (is_some_now c.loop-seat.only) ∙ sym w.if-is_some.ensures))
     | in_default w ↦
         rw w.only-is (none_here g.H.AsSlice.items c.args.number c.args.seats.now
         c.loop-seat.seat-index c.seat-item.result c.loop-seat-test.true c.seat-item.is _
         c.loop-seat.invariant.only c.as_slice.result.now c.as_slice.ensures
-        w.in_default.ensures.told)
+        w.in_default.ensures.sole)
   ];
 }
 

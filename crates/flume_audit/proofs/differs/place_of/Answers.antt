@@ -1,7 +1,7 @@
 -- The numbers below this one come first.
 use Rattle.std.proofs.Common.{ltb-true, ltb-false, rules}
 use Rattle.std.proofs.lemmas.List.Sorted.{IsPartitionPoint-from_clause}
-use Rattle.flume_audit.proofs.Risings.{lower_come_first, is_lower}
+use Rattle.flume_audit.proofs.RisingLemmas.{lower_come_first, is_lower}
 use Rattle.flume_audit.proofs.differs.place_of.Goals as goal
 
 pub returns : goal.returns

@@ -39,14 +39,14 @@ use Rattle.flume_model.specs.contracts.step.Reply as reply
 use Rattle.flume_audit.specs.declared.weigh.Weigh as weigh
 use Rattle.flume_audit.specs.contracts.tally.add_weight as agreed
 use Rattle.flume_audit.specs.contracts.tally.add_weight.Key.{name as #self}
-use Rattle.flume_audit.proofs.tally.Opening.{tokens_raised}
+use Rattle.flume_audit.proofs.tally.OpeningLemmas.{tokens_raised}
 use Rattle.flume_audit.proofs.tally.add_weight.Statement.{statement}
 use Rattle.flume_audit.proofs.tally.add_weight.Code as code
 
 -- three facts at once
-told : {M : Type 1} {𝓤 : Ura M} (𝓛 : Logic 𝓤) (φ ψ χ : Type 0) → φ → ψ → χ
+all_three : {M : Type 1} {𝓤 : Ura M} (𝓛 : Logic 𝓤) (φ ψ χ : Type 0) → φ → ψ → χ
     → ent 𝓤 (emp 𝓤) (sep 𝓤 (fact 𝓤 φ) (sep 𝓤 (fact 𝓤 ψ) (fact 𝓤 χ)))
-told {𝓤 = 𝓤} 𝓛 φ ψ χ x y z = qed 𝓛 [] ∵
+all_three {𝓤 = 𝓤} 𝓛 φ ψ χ x y z = qed 𝓛 [] ∵
     use0 𝓛 (raw (fact 𝓤 φ)) (fact_i 𝓤 φ (emp 𝓤) x) $ frame ! $
     use0 𝓛 (raw (fact 𝓤 ψ)) (fact_i 𝓤 ψ (emp 𝓤) y) $ frame ! $ by ! (fact_i 𝓤 χ (emp 𝓤) z)
 
@@ -171,7 +171,7 @@ module _ (T A L W : RattleType)
           move ! (1 ∷ 0 ∷ []) $ fjoin ! $ move ! (1 ∷ 0 ∷ []) $ fjoin ! $
           move ! (1 ∷ 2 ∷ 3 ∷ []) $ group ! 3 $ frame ! $ frame ! $
           feq_i ! (List Val) (vunit ∷ []) (vunit ∷ []) refl $ frame ! $
-          by ! (told 𝓛 (book_after.total ≡ the_book.now.total + weight)
+          by ! (all_three 𝓛 (book_after.total ≡ the_book.now.total + weight)
           (share_after.amount ≡ the_share.now.amount + weight)
           (share_after.parts ≡ the_share.now.parts) refl refl refl)))))
 

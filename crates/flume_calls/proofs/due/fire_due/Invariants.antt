@@ -2,14 +2,14 @@ use Rattle.std.proofs.Common.{◌+◌}
 use Rattle.std.specs.FinMap.{keys}
 use Rattle.flume_core.specs.Represents.{SameLogs}
 use Rattle.flume_calls.specs.Rings.{Rings}
-use Rattle.flume_calls.proofs.DueCounts.{DueIn, due_sends, due_entries}
+use Rattle.flume_calls.proofs.DueCountLemmas.{DueIn, due_sends, due_entries}
 use Rattle.flume_calls.proofs.due.fire_due.Given as goal
 
 -- every round of rings from here is the end of a round of the call
 abbrev pub invariant-loop-ticket : goal.invariant-loop-ticket
 invariant-loop-ticket g l = record {
   from_here : (new : _) (end : _) → Rings g.B.Bell.rings l.chan l.bell new end → Rings g.B.Bell.rings l.fn.chan l.fn.bell new end;
-  stands : SameLogs g.row.A.Denot l.fn.chan l.chan;
+  represents : SameLogs g.row.A.Denot l.fn.chan l.chan;
   before : DueIn l.chan.sends l.fn.chan.sends;
 }
 

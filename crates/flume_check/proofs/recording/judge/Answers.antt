@@ -7,12 +7,12 @@ use Rattle.flume_model.specs.Log.{opens}
 use Rattle.flume_explain.specs.Search.{BreaksAfter}
 use Rattle.flume_concurrent.specs.declared.event.Event.{Event}
 use Rattle.flume_recording.specs.Recordings.{IsRecordingText, names_of}
-use Rattle.flume_check.specs.CallsText.{AreExplained, BreaksOff, Explains, JudgesCalls, LeavesOpen, ShowsSteps}
+use Rattle.flume_check.specs.CallsText.{AreExplained, BreaksOff, Explains, JudgesCalls, GivesUp, ShowsSteps}
 use Rattle.flume_check.proofs.recording.judge.Goals as goal
 
 -- If the steps are to be shown, they are, or the search for them was given up.
 shown_or_open : (A : Type 0) (input text : List ℕ) (status : ℕ) (shows : Bool) → shows ≡ true
-    → ShowsSteps A input text status ⊎ LeavesOpen A input text status → JudgesCalls A shows input text status
+    → ShowsSteps A input text status ⊎ GivesUp A input text status → JudgesCalls A shows input text status
 shown_or_open A input text status shows is (inl shown) =
     inl (subst (λ b. MatchBool b (ShowsSteps A input text status) (Explains A input text status)) (sym is) shown)
 shown_or_open A input text status shows is (inr leaves) = inr (inr (inl leaves))
@@ -24,7 +24,7 @@ returns-in-Explained g c =
       judges = IfOk-weaker c.show.result
           (λ script. (input : List ℕ) (rest : List (List ℕ)) → lines input ≡ c.args.first.now ∷ rest
           → IsRecordingText (lines input) c.args.capacity c.deref-in-Explained.result.now (names_of c.args.names.now)
-          → ShowsSteps A input script.text.items script.status ⊎ LeavesOpen A input script.text.items script.status)
+          → ShowsSteps A input script.text.items script.status ⊎ GivesUp A input script.text.items script.status)
           (λ script. (input : List ℕ) (rest : List (List ℕ)) → lines input ≡ c.args.first.now ∷ rest
           → IsRecordingText (lines input) c.args.capacity c.args.events.items (names_of c.args.names.now)
           → JudgesCalls A c.args.shows input script.text.items script.status)
@@ -73,10 +73,10 @@ returns-in-Unexplained g c =
 
 pub returns : goal.returns
 returns g c = record {
-  judges = IfOk-weaker c.leave_open.result
+  judges = IfOk-weaker c.give_up.result
       (λ script. (input : List ℕ) (capacity : Option ℕ) (events : List (Event ℕ g.row.A.Denot)) (names : List (List ℕ))
       → IsRecordingText (lines input) capacity events names → AreExplained capacity (take c.in-GaveUp.place events)
-      → LeavesOpen g.row.A.Denot input script.text.items script.status)
+      → GivesUp g.row.A.Denot input script.text.items script.status)
       (λ script. (input : List ℕ) (rest : List (List ℕ)) → lines input ≡ c.args.first.now ∷ rest
       → IsRecordingText (lines input) c.args.capacity c.args.events.items (names_of c.args.names.now)
       → JudgesCalls g.row.A.Denot c.args.shows input script.text.items script.status)
@@ -84,5 +84,5 @@ returns g c = record {
       inr (inr (inl (leaves input c.args.capacity c.args.events.items (names_of c.args.names.now) reads
       (subst (λ l. AreExplained c.args.capacity (take c.in-GaveUp.place l)) c.deref.ensures.value
       (c.in-GaveUp.ensures.gave_up c.in-GaveUp.place refl).explained)))))
-      c.leave_open.ensures.leaves_open;
+      c.give_up.ensures.leaves_open;
 }

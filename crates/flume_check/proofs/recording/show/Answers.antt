@@ -4,7 +4,7 @@ use Rattle.std.specs.Str.Lines.{lines}
 use Rattle.std.proofs.lemmas.Result.{IfOk-weaker}
 use Rattle.flume_concurrent.specs.declared.event.Event.{Event}
 use Rattle.flume_recording.specs.Recordings.{IsRecordingText, names_of}
-use Rattle.flume_check.specs.CallsText.{AreExplained, LeavesOpen, ShowsSteps}
+use Rattle.flume_check.specs.CallsText.{AreExplained, GivesUp, ShowsSteps}
 use Rattle.flume_check.specs.ItemLines.{item_lines}
 use Rattle.flume_check.proofs.recording.show.Goals as goal
 
@@ -29,8 +29,8 @@ returns-in_ok-text-in-Explained g c = record {
       });
 }
 
-pub leave_open-requires : goal.leave_open-requires
-leave_open-requires g c =
+pub give_up-requires : goal.give_up-requires
+give_up-requires g c =
     let far = c.in-GaveUp.ensures.gave_up c.in-GaveUp.place refl in
     let within = far.within in
     let room = c.requires.room in
@@ -38,14 +38,14 @@ leave_open-requires g c =
 
 pub returns-in-GaveUp : goal.returns-in-GaveUp
 returns-in-GaveUp g c = record {
-  shows = IfOk-weaker c.leave_open.result
+  shows = IfOk-weaker c.give_up.result
       (λ script. (input : List ℕ) (capacity : _) (events : List (Event ℕ g.row.A.Denot)) (names : List (List ℕ))
       → IsRecordingText (lines input) capacity events names → AreExplained capacity (take c.in-GaveUp.place events)
-      → LeavesOpen g.row.A.Denot input script.text.items script.status)
+      → GivesUp g.row.A.Denot input script.text.items script.status)
       (λ script. (input : List ℕ) (rest : List (List ℕ)) → lines input ≡ c.args.first.now ∷ rest
       → IsRecordingText (lines input) c.args.capacity c.args.events.now (names_of c.args.names.now)
-      → ShowsSteps g.row.A.Denot input script.text.items script.status ⊎ LeavesOpen g.row.A.Denot input script.text.items script.status)
+      → ShowsSteps g.row.A.Denot input script.text.items script.status ⊎ GivesUp g.row.A.Denot input script.text.items script.status)
       (λ script leaves input rest begins reads. inr (leaves input c.args.capacity c.args.events.now (names_of c.args.names.now) reads
       (c.in-GaveUp.ensures.gave_up c.in-GaveUp.place refl).explained))
-      c.leave_open.ensures.leaves_open;
+      c.give_up.ensures.leaves_open;
 }

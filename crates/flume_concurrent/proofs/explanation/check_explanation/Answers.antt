@@ -6,27 +6,27 @@ use Rattle.std.specs.Map.{lookup}
 use Rattle.std.specs.Ordering.{nat_cmp}
 use Rattle.flume_model.specs.Log.{opens}
 use Rattle.flume_history.proofs.Follows.{with_next}
-use Rattle.flume_concurrent.specs.Told.{AreTold, BreaksAt}
+use Rattle.flume_concurrent.specs.Descriptions.{DescribeEach, BreaksAt}
 use Rattle.flume_concurrent.proofs.Unique.{beginning, breaks_at, explained}
 use Rattle.flume_concurrent.proofs.explanation.check_explanation.Goals as goal
 
-pub returns-in-Some-false-clause-breaks : goal.returns-in-Some-false-clause-breaks
-returns-in-Some-false-clause-breaks g c = λ place e.
+pub returns-in-Unlawful-clause-breaks : goal.returns-in-Unlawful-clause-breaks
+returns-in-Unlawful-clause-breaks g c = λ place e.
     let same : c.loop-place.place ≡ place = cc in
     let so_far = c.loop-place.invariant.followed in
     let broken : BreaksAt g.T.PartialEq.eq (opens c.args.capacity 1) c.args.items.now c.loop-place.place =
     breaks_at g.T.PartialEq.eq (opens c.args.capacity 1) c.args.items.now c.loop-place.place
     c.index-items-place.result (search rules) c.index-items-place.is so_far.0 so_far.1 so_far.2
-    (c.goes_on.ensures.otherwise (search rules) (opens c.args.capacity 1) so_far.0 so_far.3) in
+    (c.take_item.ensures.not_lawful c.in-Unlawful.is (opens c.args.capacity 1) so_far.0 so_far.3) in
     subst (λ n. BreaksAt g.T.PartialEq.eq (opens c.args.capacity 1) c.args.items.now n) same broken
 
-pub returns-in-Some-false-clause-explains : goal.returns-in-Some-false-clause-explains
-returns-in-Some-false-clause-explains g c = λ known.
+pub returns-in-Unlawful-clause-explains : goal.returns-in-Unlawful-clause-explains
+returns-in-Unlawful-clause-explains g c = λ known.
     let so_far = c.loop-place.invariant.followed in
     let broken : BreaksAt g.T.PartialEq.eq (opens c.args.capacity 1) c.args.items.now c.loop-place.place =
     breaks_at g.T.PartialEq.eq (opens c.args.capacity 1) c.args.items.now c.loop-place.place
     c.index-items-place.result (search rules) c.index-items-place.is so_far.0 so_far.1 so_far.2
-    (c.goes_on.ensures.otherwise (search rules) (opens c.args.capacity 1) so_far.0 so_far.3) in (
+    (c.take_item.ensures.not_lawful c.in-Unlawful.is (opens c.args.capacity 1) so_far.0 so_far.3) in (
       λ e. absurd (let none : ⊥ = cc in none),
       λ whole. absurd (broken.not_on
           (beginning g.T.PartialEq.eq (opens c.args.capacity 1) (c.loop-place.place + 1) c.args.items.now whole)),
@@ -38,12 +38,12 @@ loop-place-preserved g c =
     let item = c.index-items-place.result in
     let next : reverse (take (c.loop-place.place + 1) c.args.items.now) ≡ item ∷ reverse (take c.loop-place.place c.args.items.now) =
     with_next c.args.items.now c.loop-place.place item (search rules) c.index-items-place.is in
-    let on = c.goes_on.ensures.so (search rules) (opens c.args.capacity 1) so_far.0 so_far.3 in
+    let on = c.take_item.ensures.lawful (search rules) (opens c.args.capacity 1) so_far.0 so_far.3 in
     record {
       followed = (
         on.own ∷ so_far.0,
-        subst (λ l. AreTold g.T.PartialEq.eq l (on.own ∷ so_far.0)) (sym next) (on.told, so_far.1),
-        record { calls = (on.fits, so_far.2.calls); run = on.leads.stands.run },
+        subst (λ l. DescribeEach g.T.PartialEq.eq l (on.own ∷ so_far.0)) (sym next) (on.describes, so_far.1),
+        record { calls = (on.fits, so_far.2.calls); run = on.leads.represents.run },
         on.leads,
       );
     }
@@ -53,7 +53,7 @@ returns-clause-explains g c = λ known.
     let so_far = c.loop-place.invariant.followed in
     let all : take c.loop-place.place c.args.items.now ≡ c.args.items.now =
     take_all c.loop-place.place c.args.items.now (search rules) in (
-      λ e. (so_far.0, subst (λ l. AreTold g.T.PartialEq.eq (reverse l) so_far.0) all so_far.1, so_far.2),
+      λ e. (so_far.0, subst (λ l. DescribeEach g.T.PartialEq.eq (reverse l) so_far.0) all so_far.1, so_far.2),
       λ whole. refl,
     )
 
@@ -63,7 +63,7 @@ returns-clause-explained g c = λ e.
     let all : take c.loop-place.place c.args.items.now ≡ c.args.items.now =
     take_all c.loop-place.place c.args.items.now (search rules) in
     explained g.T.PartialEq.eq (opens c.args.capacity 1) c.args.items.now
-    (so_far.0, subst (λ l. AreTold g.T.PartialEq.eq (reverse l) so_far.0) all so_far.1, so_far.2)
+    (so_far.0, subst (λ l. DescribeEach g.T.PartialEq.eq (reverse l) so_far.0) all so_far.1, so_far.2)
 
 pub loop-place-init : goal.loop-place-init
 loop-place-init g c = record {
@@ -73,7 +73,7 @@ loop-place-init g c = record {
     record { calls = tt; run = tt },
     record {
       has = λ t. ap (lookup (is_at (nat_cmp t))) c.new-calls.ensures.empty;
-      stands = c.new-chan.ensures.stands;
+      represents = c.new-chan.ensures.represents;
     },
   );
 }

@@ -3,13 +3,13 @@ use Rattle.std.proofs.Common.{refl, rules}
 use Rattle.flume_concurrent.specs.declared.event.Item.TheVariants.{Happens}
 use Rattle.flume_concurrent.proofs.explanation.happens.Goals as goal
 
-pub returns-then-take_event-clause-so : goal.returns-then-take_event-clause-so
-returns-then-take_event-clause-so g c is o past led = record {
+pub returns-then-take_event-clause-lawful : goal.returns-then-take_event-clause-lawful
+returns-then-take_event-clause-lawful g c is o past reachable = record {
   own = Happens c.args.event.now;
-  told = refl;
-  fits = (c.may_happen.ensures.fits past led.has).0 (search rules);
+  describes = refl;
+  fits = (c.may_happen.ensures.fits past reachable.has).0 (search rules);
   leads = record {
-    has = c.take_event.ensures.open_after (search rules) past led.has;
-    stands = led.stands;
+    has = c.take_event.ensures.open_after (search rules) past reachable.has;
+    represents = reachable.represents;
   };
 }

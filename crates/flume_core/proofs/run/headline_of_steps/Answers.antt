@@ -6,5 +6,5 @@ pub returns : goal.returns
 returns g c = record {
   headline = λ opening log h. headline opening log c.args.chan.now h;
   throughout = λ opening log h. throughout opening log h.run;
-  headline_throughout = λ opening log h before is s stands. headline opening before s stands;
+  headline_throughout = λ opening log h before is s represents. headline opening before s represents;
 }

@@ -23,7 +23,7 @@ pub returns-clause-throughout : goal.returns-clause-throughout
 returns-clause-throughout g c o log h = throughout o _ (returns-clause-steps g c o log h).run
 
 pub returns-clause-headline_throughout : goal.returns-clause-headline_throughout
-returns-clause-headline_throughout g c o log h before is s stands = headline o before s stands
+returns-clause-headline_throughout g c o log h before is s represents = headline o before s represents
 
 pub loop-step-init : goal.loop-step-init
 loop-step-init g c = record {
@@ -39,8 +39,8 @@ loop-step-preserved g c = record {
       (one_more c.args.chan.now c.loop-step.chan c.step.new.self c.args.steps.items c.pop_front.new.self.items c.loop-step.replies.items
       c.in-Some.step c.step.result (rw c.in-Some.ensures.items at c.loop-step.invariant.done) (record {
         extends = c.step.ensures.step;
-        dues = c.step.ensures.dues;
-        comes = c.step.ensures.comes;
+        becomes_due = c.step.ensures.becomes_due;
+        possible_reply = c.step.ensures.possible_reply;
         space = c.step.ensures.space;
         refused = c.step.ensures.refused;
         unchanged = c.step.ensures.unchanged;

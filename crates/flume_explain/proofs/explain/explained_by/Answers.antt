@@ -2,7 +2,7 @@
 use Rattle.std.proofs.Common.{◌≡◌, length, refl, sym, ap, ◌∙◌, subst}
 use Rattle.flume_model.specs.Log.{opens}
 use Rattle.flume_concurrent.specs.Explanations.{events_in, IsExplained}
-use Rattle.flume_concurrent.specs.Told.{TellExplanation}
+use Rattle.flume_concurrent.specs.Descriptions.{DescribeExplanation}
 use Rattle.flume_explain.specs.Reached.{AreExplained}
 use Rattle.flume_explain.proofs.Beginnings.{all_of}
 use Rattle.flume_explain.proofs.explain.explained_by.Goals as goal
@@ -10,9 +10,9 @@ use Rattle.flume_explain.proofs.explain.explained_by.Goals as goal
 pub returns-in-Explains-clause-explains : goal.returns-in-Explains-clause-explains
 returns-in-Explains-clause-explains g c = λ items is.
     let same : items ≡ c.in-Ok.items = cc in
-    let told = (c.in-Explains.ensures.explains (λ e. let none : ⊥ = cc in none)).0 refl in
-    subst (λ v. TellExplanation g.T.PartialEq.eq (opens c.args.capacity 1) v.items) (sym same)
-    (subst (TellExplanation g.T.PartialEq.eq (opens c.args.capacity 1)) c.as_slice.ensures.value told)
+    let recorded_answer = (c.in-Explains.ensures.explains (λ e. let none : ⊥ = cc in none)).0 refl in
+    subst (λ v. DescribeExplanation g.T.PartialEq.eq (opens c.args.capacity 1) v.items) (sym same)
+    (subst (DescribeExplanation g.T.PartialEq.eq (opens c.args.capacity 1)) c.as_slice.ensures.value recorded_answer)
 
 pub returns-in-Explains-clause-explained : goal.returns-in-Explains-clause-explained
 returns-in-Explains-clause-explained g c = λ items is.

@@ -2,4 +2,4 @@
 use Rattle.flume_explain.proofs.replies.reply_for.Goals as goal
 
 pub returns-in_default : goal.returns-in_default
-returns-in_default g c = record { alike = c.plain_reply.ensures.alike c.args.events.now c.args.queue.now }
+returns-in_default g c = record { corresponds = c.plain_reply.ensures.corresponds c.args.events.now c.args.queue.now }

@@ -2,7 +2,7 @@
 use Rattle.std.proofs.Common.{◌≡◌, sym, ◌∙◌, subst, arith}
 use Rattle.std.proofs.lemmas.List.Elements.{All-nil}
 use Rattle.std.specs.List.{All}
-use Rattle.flume_explain.specs.declared.search.Turn.TheVariants.{GoesOn}
+use Rattle.flume_explain.specs.declared.search.Entered.TheVariants.{GoesOn}
 use Rattle.std.proofs.lemmas.Bool.{false≢true}
 use Rattle.flume_explain.specs.Dead.{IsDead}
 use Rattle.flume_explain.specs.Reached.{AreExplained, IsReached}
@@ -13,24 +13,24 @@ use Rattle.flume_explain.proofs.search.find_path.Goals.{in-GoesOn, in_default-ma
 
 pub loop-init : goal.loop-init
 loop-init g c = record {
-  goes_on = λ is. c.enter-turn.ensures.goes_on is c.args.start (record {
+  goes_on = λ is. c.enter-advance.ensures.goes_on is c.args.start (record {
     way = subst (λ l. AreOnTheWay g.T.PartialEq.eq c.args.events.now (IsDead g.T.PartialEq.eq c.args.events.now 0 c.args.start) l
         (IsDead g.T.PartialEq.eq c.args.events.now 0 c.args.start)) (sym c.new-search.ensures.no_frames) (λ gone. gone);
     dead = subst (All (λ d. IsDead g.T.PartialEq.eq c.args.events.now d.place d.configuration)) (sym c.new-search.ensures.none_dead) (All-nil _);
   });
-  nowhere = λ is. absurd (c.enter-turn.ensures.goes is);
-  reached = λ is o r. c.enter-turn.ensures.reached is o (record {
+  nowhere = λ is. absurd (c.enter-advance.ensures.goes is);
+  reached = λ is o r. c.enter-advance.ensures.reached is o (record {
     frames = subst (All (λ f. IsReached g.T.PartialEq.eq c.args.events.now o f.place f.configuration)) (sym c.new-search.ensures.no_frames) (All-nil _);
     furthest = subst (AreExplained g.T.PartialEq.eq c.args.events.now o) (sym c.new-search.ensures.no_way)
         (reached_explained g.T.PartialEq.eq c.args.events.now o 0 c.args.start (omega arith) r);
   }) r;
-  at_end = λ is o r. c.enter-turn.ensures.at_end is o r;
-  furthest = λ is. absurd (c.enter-turn.ensures.goes is);
+  at_end = λ is o r. c.enter-advance.ensures.at_end is o r;
+  furthest = λ is. absurd (c.enter-advance.ensures.goes is);
 }
 
-pub turn-turn-requires : goal.turn-turn-requires
-turn-turn-requires g c =
-    let going : c.loop.turn ≡ GoesOn = elim c.match-matches.branch [
+pub advance-advance-requires : goal.advance-advance-requires
+advance-advance-requires g c =
+    let going : c.loop.advance ≡ GoesOn = elim c.match-matches.branch [
       | in-GoesOn w ↦ w.in-GoesOn.is
       | in_default-matches w ↦ absurd (false≢true (sym w.matches-is ∙ c.if-not-matches.false))
     ] in
@@ -38,16 +38,16 @@ turn-turn-requires g c =
 
 pub loop-preserved : goal.loop-preserved
 loop-preserved g c =
-    let going : c.loop.turn ≡ GoesOn = elim c.match-matches.branch [
+    let going : c.loop.advance ≡ GoesOn = elim c.match-matches.branch [
       | in-GoesOn w ↦ w.in-GoesOn.is
       | in_default-matches w ↦ absurd (false≢true (sym w.matches-is ∙ c.if-not-matches.false))
     ] in
     record {
-      goes_on = λ is. c.turn-turn.ensures.goes_on is c.args.start (c.loop.invariant.goes_on going);
-      nowhere = λ is. c.turn-turn.ensures.nowhere is c.args.start (c.loop.invariant.goes_on going);
-      reached = λ is o r. c.turn-turn.ensures.reached is o (c.loop.invariant.reached going o r);
-      at_end = λ is o r. c.turn-turn.ensures.at_end is o (c.loop.invariant.reached going o r);
-      furthest = λ is o r. c.turn-turn.ensures.furthest is o (c.loop.invariant.reached going o r);
+      goes_on = λ is. c.advance-advance.ensures.goes_on is c.args.start (c.loop.invariant.goes_on going);
+      nowhere = λ is. c.advance-advance.ensures.nowhere is c.args.start (c.loop.invariant.goes_on going);
+      reached = λ is o r. c.advance-advance.ensures.reached is o (c.loop.invariant.reached going o r);
+      at_end = λ is o r. c.advance-advance.ensures.at_end is o (c.loop.invariant.reached going o r);
+      furthest = λ is o r. c.advance-advance.ensures.furthest is o (c.loop.invariant.reached going o r);
     }
 
 pub returns-in-Nowhere-clause-nothing : goal.returns-in-Nowhere-clause-nothing
@@ -58,10 +58,10 @@ returns-in-Nowhere-clause-furthest g c = λ furthest is o r.
     let same : furthest ≡ c.loop.search.furthest = cc in
     subst (AreExplained g.T.PartialEq.eq c.args.events.now o) (sym same) (c.loop.invariant.furthest c.in-Nowhere.is o r)
 
-pub returns-in-GoesOn-turn-clause-gave_up : goal.returns-in-GoesOn-turn-clause-gave_up
-returns-in-GoesOn-turn-clause-gave_up g c = λ furthest is o r.
+pub returns-in-GoesOn-advance-clause-gave_up : goal.returns-in-GoesOn-advance-clause-gave_up
+returns-in-GoesOn-advance-clause-gave_up g c = λ furthest is o r.
     let same : furthest ≡ c.loop.search.furthest = cc in
-    subst (AreExplained g.T.PartialEq.eq c.args.events.now o) (sym same) (c.loop.invariant.reached c.in-GoesOn-turn.is o r).furthest
+    subst (AreExplained g.T.PartialEq.eq c.args.events.now o) (sym same) (c.loop.invariant.reached c.in-GoesOn-advance.is o r).furthest
 
 pub returns-in-AtEnd-clause-path : goal.returns-in-AtEnd-clause-path
 returns-in-AtEnd-clause-path g c = λ path is o r. c.loop.invariant.at_end c.in-AtEnd.is o r

@@ -1,5 +1,5 @@
 use Rattle.std.proofs.Common.{◌≡◌}
-use Rattle.flume_explain.specs.declared.search.Turn.TheVariants.{GoesOn, AtEnd, Nowhere}
+use Rattle.flume_explain.specs.declared.search.Entered.TheVariants.{GoesOn, AtEnd, Nowhere}
 use Rattle.flume_model.specs.Log.{Opening}
 use Rattle.flume_concurrent.specs.Explanations.{IsExplained}
 use Rattle.flume_explain.specs.Dead.{IsDead}
@@ -11,12 +11,12 @@ use Rattle.flume_explain.proofs.search.find_path.Given as goal
 -- reached, so is what is on the way, and past the last event all are explained
 abbrev pub invariant-loop : goal.invariant-loop
 invariant-loop g l = record {
-  goes_on : l.turn ≡ GoesOn → Searches g.T.PartialEq.eq l.events l.fn.start (Unit {0}) l.search;
-  nowhere : l.turn ≡ Nowhere → IsDead g.T.PartialEq.eq l.events 0 l.fn.start;
-  reached : l.turn ≡ GoesOn → (opening : Opening) → IsReached g.T.PartialEq.eq l.events opening 0 l.fn.start
+  goes_on : l.advance ≡ GoesOn → Searches g.T.PartialEq.eq l.events l.fn.start (Unit {0}) l.search;
+  nowhere : l.advance ≡ Nowhere → IsDead g.T.PartialEq.eq l.events 0 l.fn.start;
+  reached : l.advance ≡ GoesOn → (opening : Opening) → IsReached g.T.PartialEq.eq l.events opening 0 l.fn.start
       → HasReached g.T.PartialEq.eq l.events opening l.search;
-  at_end : l.turn ≡ AtEnd → (opening : Opening) → IsReached g.T.PartialEq.eq l.events opening 0 l.fn.start
+  at_end : l.advance ≡ AtEnd → (opening : Opening) → IsReached g.T.PartialEq.eq l.events opening 0 l.fn.start
       → IsExplained g.T.PartialEq.eq opening l.events;
-  furthest : l.turn ≡ Nowhere → (opening : Opening) → IsReached g.T.PartialEq.eq l.events opening 0 l.fn.start
+  furthest : l.advance ≡ Nowhere → (opening : Opening) → IsReached g.T.PartialEq.eq l.events opening 0 l.fn.start
       → AreExplained g.T.PartialEq.eq l.events opening l.search.furthest;
 }

@@ -14,9 +14,9 @@ use Rattle.flume_history.proofs.laws.replies_are_equal_by_case.Goals as goal
 module _ (g : given.Over) where
   -- the comparison of this reply with any other is the one of the table
   abbrev IsTabled : Reply g.row.T.Denot g.row.A.Denot → Type 0
-  IsTabled told = (reply : Reply g.row.T.Denot g.row.A.Denot)
-      → (replies.ghosts g.row.T g.row.A g.A.Allocator g.A.Allocator-dict g.T.PartialEq g.T.PartialEq-dict g.A.Destruct-dict).eq told reply
-      ≡ equal_replies g.T.PartialEq.eq told reply
+  IsTabled recorded = (reply : Reply g.row.T.Denot g.row.A.Denot)
+      → (replies.ghosts g.row.T g.row.A g.A.Allocator g.A.Allocator-dict g.T.PartialEq g.T.PartialEq-dict g.A.Destruct-dict).eq recorded reply
+      ≡ equal_replies g.T.PartialEq.eq recorded reply
 
   sent : (x : Option ℕ) → IsTabled (Sent x)
   sent x (Sent y) = refl
@@ -110,7 +110,7 @@ module _ (g : given.Over) where
   unbounded Unbounded = refl
   unbounded _ = refl
 
-  tabled : (told : Reply g.row.T.Denot g.row.A.Denot) → IsTabled told
+  tabled : (recorded : Reply g.row.T.Denot g.row.A.Denot) → IsTabled recorded
   tabled (Sent x) = sent x
   tabled (Full x) = full x
   tabled (Closed x) = closed x

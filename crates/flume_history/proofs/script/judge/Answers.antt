@@ -26,10 +26,10 @@ returns-in-Some g c = record {
       let p : Step ℕ × Bor (List ℕ) = get_or pairs place past_end in
       let within : place < length pairs = search rules in
       let inside : place < length (pairs_of pairs) = subst (λ n. place < n) (sym (pairs_length pairs)) within in
-      let is_text : c.in_ok-text.text.items ≡ break_text (place + 2) p.1.now c.in-Some.should.items = search rules in
-      let shows = rw c.in-Some.is at c.in_ok-should.ensures.otherwise in
+      let is_text : c.in_ok-text.text.items ≡ break_text (place + 2) p.1.now c.in-Some.expected.items = search rules in
+      let shows = rw c.in-Some.is at c.in_ok-expected.ensures.not_lawful in
       inr (inl (told_break input c.args.capacity (pairs_of pairs) place p.0 p.1.now reads inside (pair_at pairs place past_end within)
-      so_far.0 so_far.1.run so_far.2 c.in-Some.should.items
+      so_far.0 so_far.1.run so_far.2 c.in-Some.expected.items
       (shows (opens c.args.capacity 1) so_far.0 so_far.1)
       c.in_ok-text.text.items 1 is_text refl));
 }
@@ -43,7 +43,7 @@ loop-place-preserved g c =
     let within : place < length pairs = search rules in
     let inside : place < length (pairs_of pairs) = subst (λ n. place < n) (sym (pairs_length pairs)) within in
     let next = with_next (pairs_of pairs) place (p.0, p.1.now) inside (pair_at pairs place past_end within) in
-    let follows = rw c.in_default.is at c.in_ok-should.ensures.so in
+    let follows = rw c.in_default.is at c.in_ok-expected.ensures.lawful in
     let on = follows (opens c.args.capacity 1) so_far.0 so_far.1 in
     record {
       followed = (

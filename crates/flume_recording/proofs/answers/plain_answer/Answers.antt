@@ -7,8 +7,8 @@ use Rattle.flume_recording.specs.Texts.{IsAnswerText}
 use Rattle.flume_recording.proofs.Cuts.{has_byte}
 use Rattle.flume_recording.proofs.answers.plain_answer.Goals as goal
 
-pub returns-else-is-14-clause-value : goal.returns-else-is-14-clause-value
-returns-else-is-14-clause-value g c = λ answer. elim answer as (λ a. IsAnswerText c.args.word.now a → ⊥) [
+pub returns-else-is_text-14-clause-value : goal.returns-else-is_text-14-clause-value
+returns-else-is_text-14-clause-value g c = λ answer. elim answer as (λ a. IsAnswerText c.args.word.now a → ⊥) [
   | Got n ↦ λ h. has_byte 32 (codes "got") (decimal n) c.args.word.now (sym h.0) c.requires.no_space
   | Drained messages ↦ λ h. c.requires.no_list messages h.0
   | Number n ↦ λ h. c.requires.no_number n h.1 h.0

@@ -4,8 +4,8 @@ use Rattle.flume_recording.specs.Texts.{IsAnswerText}
 use Rattle.flume_recording.proofs.AnswerWords.{cut_answer}
 use Rattle.flume_recording.proofs.answers.short_answer.Goals as goal
 
-pub returns-then-not-is : goal.returns-then-not-is
-returns-then-not-is g c = record {
+pub returns-then-not-is_text : goal.returns-then-not-is_text
+returns-then-not-is_text g c = record {
   value = λ answer h.
       let parts = c.in-Some.ensures in
       let got = cut_answer c.in-Some.word.now c.in-Some.digits.now parts.first (λ list e. c.requires.no_list list (parts.parts ∙ e)) answer

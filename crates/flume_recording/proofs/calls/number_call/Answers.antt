@@ -6,8 +6,8 @@ use Rattle.flume_recording.specs.Texts.{call_word, call_number}
 use Rattle.flume_recording.proofs.CallWords.{word_without, cut_worded}
 use Rattle.flume_recording.proofs.calls.number_call.Goals as goal
 
-pub returns-else-is-5 : goal.returns-else-is-5
-returns-else-is-5 c = record {
+pub returns-else-is_text-5 : goal.returns-else-is_text-5
+returns-else-is_text-5 c = record {
   value = λ call h.
       let cut = cut_worded c.args.word.now (decimal c.args.number) (call_word call) (call_number call) c.requires.no_space (word_without call) h.0 in
       (elim call as (λ k. call_number k ≡ Some cut.0 → c.args.word.now ≡ call_word k → ⊥) [

@@ -8,8 +8,8 @@ use Rattle.flume_recording.specs.Texts.{IsCallText}
 use Rattle.flume_recording.proofs.Cuts.{has_byte}
 use Rattle.flume_recording.proofs.calls.plain_call.Goals as goal
 
-pub returns-else-is-16 : goal.returns-else-is-16
-returns-else-is-16 c = record {
+pub returns-else-is_text-16 : goal.returns-else-is_text-16
+returns-else-is_text-16 c = record {
   value = λ call. elim call as (λ k. IsCallText c.args.word.now k → ⊥) [
     | Send n ↦ λ h. has_byte 32 (codes "send") (decimal n) c.args.word.now (sym h.0) c.requires.no_space
     | SendTimeout n ↦ λ h. has_byte 32 (codes "send_timeout") (decimal n) c.args.word.now (sym h.0) c.requires.no_space

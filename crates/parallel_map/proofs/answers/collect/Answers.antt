@@ -1,13 +1,13 @@
 -- Which error comes.
 use Rattle.std.proofs.Common.{◌∙◌, subst}
 use Rattle.std.proofs.lemmas.Result.{IfErr-weaker}
-use Rattle.parallel_map.specs.Answered.{IsTo, WantsMemory}
-use Rattle.parallel_map.specs.Worked.{IsRefused, Lacks}
-use Rattle.parallel_map.proofs.Received.{error_is, one_more, refused, lacking, served}
+use Rattle.parallel_map.specs.RightAnswers.{IsTo, OutOfMemory}
+use Rattle.parallel_map.specs.SlotValues.{IsRefused, Lacks}
+use Rattle.parallel_map.proofs.ReceivedLemmas.{error_is, one_more, refused, lacking, only_no_memory}
 use Rattle.parallel_map.proofs.answers.collect.Goals as goal
 
 pub returns-in_err-slots-clause-error : goal.returns-in_err-slots-clause-error
-returns-in_err-slots-clause-error g c = error_is c.from_residual.result _ _ WantsMemory c.from_residual.ensures.1
+returns-in_err-slots-clause-error g c = error_is c.from_residual.result _ _ OutOfMemory c.from_residual.ensures.1
 
 pub loop-answer-preserved : goal.loop-answer-preserved
 loop-answer-preserved g c =
@@ -38,12 +38,12 @@ returns-clause-error g c =
     (c.next.new.self, (c.loop-answer.answer-iterator, yielded, c.in-None.ensures.steps)) now.filled
     (subst (λ jobs. Lacks jobs c.loop-answer.slots.values.items error) now.jobs why)) c.in_order.ensures.missing
 
-pub returns-in_err-put-clause-served : goal.returns-in_err-put-clause-served
-returns-in_err-put-clause-served g c all gives complete =
-    IfErr-weaker _ _ _ (λ error brings. served g.I.Iterator.next_gives (λ answer. (answer.number, answer.job)) c.args.jobs.now c.args.answers error all brings gives complete)
+pub returns-in_err-put-clause-only_no_memory : goal.returns-in_err-put-clause-only_no_memory
+returns-in_err-put-clause-only_no_memory g c all gives complete =
+    IfErr-weaker _ _ _ (λ error brings. only_no_memory g.I.Iterator.next_gives (λ answer. (answer.number, answer.job)) c.args.jobs.now c.args.answers error all brings gives complete)
     (returns-in_err-put-clause-error g c)
 
-pub returns-clause-served : goal.returns-clause-served
-returns-clause-served g c all gives complete =
-    IfErr-weaker _ _ _ (λ error brings. served g.I.Iterator.next_gives (λ answer. (answer.number, answer.job)) c.args.jobs.now c.args.answers error all brings gives complete)
+pub returns-clause-only_no_memory : goal.returns-clause-only_no_memory
+returns-clause-only_no_memory g c all gives complete =
+    IfErr-weaker _ _ _ (λ error brings. only_no_memory g.I.Iterator.next_gives (λ answer. (answer.number, answer.job)) c.args.jobs.now c.args.answers error all brings gives complete)
     (returns-clause-error g c)

@@ -1,7 +1,7 @@
 -- Why some job has no value.
 use Rattle.std.proofs.Common.{◌∙◌, sym, arith}
-use Rattle.parallel_map.specs.Worked.{NoRoom, FirstEmpty}
-use Rattle.parallel_map.proofs.Received.{error_is}
+use Rattle.parallel_map.specs.SlotValues.{NoRoom, FirstEmpty}
+use Rattle.parallel_map.proofs.ReceivedLemmas.{error_is}
 use Rattle.parallel_map.proofs.answers.in_order.Goals as goal
 
 pub returns-in_err-push-in-Some-clause-missing : goal.returns-in_err-push-in-Some-clause-missing

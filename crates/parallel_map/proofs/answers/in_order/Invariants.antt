@@ -1,5 +1,5 @@
 use Rattle.std.proofs.Common.{◌≡◌, ℕ, ◌≤◌, ◌<◌, map, take}
-use Rattle.parallel_map.specs.Worked.{held}
+use Rattle.parallel_map.specs.SlotValues.{held}
 use Rattle.parallel_map.proofs.answers.in_order.Given as goal
 
 -- so far the wanted values, in order; the places behind are as they were, and those before were full

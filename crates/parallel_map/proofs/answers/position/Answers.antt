@@ -1,13 +1,13 @@
 -- Which error comes.
 use Rattle.std.proofs.Common.{◌∙◌, subst}
 use Rattle.std.proofs.lemmas.Result.{IfErr-weaker}
-use Rattle.parallel_map.specs.Answered.{IsTo, WantsMemory}
-use Rattle.parallel_map.specs.Worked.{IsRefused, Lacks}
-use Rattle.parallel_map.proofs.Received.{error_is, one_more, refused, lacking, served}
+use Rattle.parallel_map.specs.RightAnswers.{IsTo, OutOfMemory}
+use Rattle.parallel_map.specs.SlotValues.{IsRefused, Lacks}
+use Rattle.parallel_map.proofs.ReceivedLemmas.{error_is, one_more, refused, lacking, only_no_memory}
 use Rattle.parallel_map.proofs.answers.position.Goals as goal
 
 pub returns-in_err-slots-clause-error : goal.returns-in_err-slots-clause-error
-returns-in_err-slots-clause-error g c = error_is c.from_residual.result _ _ WantsMemory c.from_residual.ensures.1
+returns-in_err-slots-clause-error g c = error_is c.from_residual.result _ _ OutOfMemory c.from_residual.ensures.1
 
 pub loop-answer-preserved : goal.loop-answer-preserved
 loop-answer-preserved g c =
@@ -40,12 +40,12 @@ returns-in_err-values-clause-error g c =
     (subst (λ jobs. Lacks jobs c.loop-answer.slots.values.items c.in_err-values.field-0.0) now.jobs c.in_err-values.ensures.missing))
     c.from_residual-in_err-values.ensures.1
 
-pub returns-in_err-put-clause-served : goal.returns-in_err-put-clause-served
-returns-in_err-put-clause-served g c all gives complete =
-    IfErr-weaker _ _ _ (λ error brings. served g.I.Iterator.next_gives (λ answer. (answer.number, answer.job)) c.args.jobs.now c.args.answers error all brings gives complete)
+pub returns-in_err-put-clause-only_no_memory : goal.returns-in_err-put-clause-only_no_memory
+returns-in_err-put-clause-only_no_memory g c all gives complete =
+    IfErr-weaker _ _ _ (λ error brings. only_no_memory g.I.Iterator.next_gives (λ answer. (answer.number, answer.job)) c.args.jobs.now c.args.answers error all brings gives complete)
     (returns-in_err-put-clause-error g c)
 
-pub returns-in_err-values-clause-served : goal.returns-in_err-values-clause-served
-returns-in_err-values-clause-served g c all gives complete =
-    IfErr-weaker _ _ _ (λ error brings. served g.I.Iterator.next_gives (λ answer. (answer.number, answer.job)) c.args.jobs.now c.args.answers error all brings gives complete)
+pub returns-in_err-values-clause-only_no_memory : goal.returns-in_err-values-clause-only_no_memory
+returns-in_err-values-clause-only_no_memory g c all gives complete =
+    IfErr-weaker _ _ _ (λ error brings. only_no_memory g.I.Iterator.next_gives (λ answer. (answer.number, answer.job)) c.args.jobs.now c.args.answers error all brings gives complete)
     (returns-in_err-values-clause-error g c)

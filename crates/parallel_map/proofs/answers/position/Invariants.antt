@@ -1,5 +1,5 @@
 use Rattle.std.proofs.Common.{◌≡◌}
-use Rattle.parallel_map.proofs.Received.{Filled}
+use Rattle.parallel_map.proofs.ReceivedLemmas.{Filled}
 use Rattle.parallel_map.proofs.answers.position.Given as goal
 
 -- the slots are those of the jobs, and filled by the answers that came

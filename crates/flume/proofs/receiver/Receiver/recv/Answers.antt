@@ -5,8 +5,8 @@ use Rattle.flume_calls.specs.ReceiveTurns.{IsFirst}
 use Rattle.flume.proofs.StepLemmas.{one_step}
 use Rattle.flume.proofs.receiver.Receiver.recv.Goals as goal
 
-pub call_once-requires : goal.call_once-requires
-call_once-requires g c = record { one_step = λ old new answer does. one_step does.0 }
+pub call_step-requires : goal.call_step-requires
+call_step-requires g c = record { one_step = λ old new answer does. one_step does.0 }
 
 pub receive_answer-requires : goal.receive_answer-requires
 receive_answer-requires g c = record {

@@ -8,10 +8,10 @@ use Rattle.flume.proofs.receiver.Receiver.recv_from_empty.Goals as goal
 pub receive_answer-requires : goal.receive_answer-requires
 receive_answer-requires g c =
     let run = rw c.new-gate.ensures.deadline at c.waiting_receive.ensures.run in
-    record { in_time = receive_in_time (run Never (record { same = refl; answers = tt; served = tt; made = c.requires.none })) refl }
+    record { in_time = receive_in_time (run Never (record { same = refl; answers = tt; not_refused = tt; made = c.requires.none })) refl }
 
 pub returns : goal.returns
 returns g c =
     let run = rw c.new-gate.ensures.deadline at c.waiting_receive.ensures.run in
-    let whole = run Never (record { same = refl; answers = tt; served = tt; made = c.requires.none }) in
+    let whole = run Never (record { same = refl; answers = tt; not_refused = tt; made = c.requires.none }) in
     record { made = subst (λ ended. Receives _ _ ended) c.receive_answer.ensures.ended (_, whole) }

@@ -7,13 +7,13 @@ use Rattle.flume.specs.LockedTurns.{HasMade}
 use Rattle.flume.proofs.StepLemmas.{one_step, step_made}
 use Rattle.flume.proofs.receiver.Receiver.try_recv.Goals as goal
 
-pub call_once-requires : goal.call_once-requires
-call_once-requires g c = record { one_step = λ old new answer does. one_step does.0 }
+pub call_step-requires : goal.call_step-requires
+call_step-requires g c = record { one_step = λ old new answer does. one_step does.0 }
 
 pub returns-clause-made : goal.returns-clause-made
 returns-clause-made g c =
-    subst (λ turn. HasMade TryRecv after_try_recv turn) c.try_receive_answer.ensures.turn (step_made c.call_once.ensures.made)
+    subst (λ turn. HasMade TryRecv after_try_recv turn) c.try_receive_answer.ensures.turn (step_made c.call_step.ensures.made)
 
 pub returns-clause-never_no_memory : goal.returns-clause-never_no_memory
 returns-clause-never_no_memory g c said =
-    subst (λ turn. IsntRefused turn) (c.try_receive_answer.ensures.turn ∙ ap try_receive_as_turn said) c.call_once.ensures.answers.1
+    subst (λ turn. IsntRefused turn) (c.try_receive_answer.ensures.turn ∙ ap try_receive_as_turn said) c.call_step.ensures.answers.1

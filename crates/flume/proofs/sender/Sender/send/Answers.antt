@@ -5,8 +5,8 @@ use Rattle.flume_calls.specs.SendTurns.{IsFirst}
 use Rattle.flume.proofs.StepLemmas.{one_step}
 use Rattle.flume.proofs.sender.Sender.send.Goals as goal
 
-pub call_once-requires : goal.call_once-requires
-call_once-requires g c = record { one_step = λ old new answer does. one_step does.0 }
+pub call_step-requires : goal.call_step-requires
+call_step-requires g c = record { one_step = λ old new answer does. one_step does.0 }
 
 pub send_answer-requires : goal.send_answer-requires
 send_answer-requires g c = record {

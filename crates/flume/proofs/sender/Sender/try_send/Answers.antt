@@ -7,21 +7,21 @@ use Rattle.flume.specs.LockedTurns.{HasMade}
 use Rattle.flume.proofs.StepLemmas.{one_step, step_made}
 use Rattle.flume.proofs.sender.Sender.try_send.Goals as goal
 
-pub call_once-requires : goal.call_once-requires
-call_once-requires g c = record { one_step = λ old new answer does. one_step does.0 }
+pub call_step-requires : goal.call_step-requires
+call_step-requires g c = record { one_step = λ old new answer does. one_step does.0 }
 
 pub returns-clause-made : goal.returns-clause-made
 returns-clause-made g c =
-    subst (λ turn. HasMade (TrySend c.args.message) after_try_send turn) c.try_send_answer.ensures.turn (step_made c.call_once.ensures.made)
+    subst (λ turn. HasMade (TrySend c.args.message) after_try_send turn) c.try_send_answer.ensures.turn (step_made c.call_step.ensures.made)
 
 pub returns-clause-full : goal.returns-clause-full
 returns-clause-full g c = λ back said.
-    subst (λ turn. IsFirst c.args.message turn) (c.try_send_answer.ensures.turn ∙ ap try_send_as_turn said) c.call_once.ensures.answers
+    subst (λ turn. IsFirst c.args.message turn) (c.try_send_answer.ensures.turn ∙ ap try_send_as_turn said) c.call_step.ensures.answers
 
 pub returns-clause-disconnected : goal.returns-clause-disconnected
 returns-clause-disconnected g c = λ back said.
-    subst (λ turn. IsFirst c.args.message turn) (c.try_send_answer.ensures.turn ∙ ap try_send_as_turn said) c.call_once.ensures.answers
+    subst (λ turn. IsFirst c.args.message turn) (c.try_send_answer.ensures.turn ∙ ap try_send_as_turn said) c.call_step.ensures.answers
 
 pub returns-clause-no_memory : goal.returns-clause-no_memory
 returns-clause-no_memory g c = λ back said.
-    subst (λ turn. IsFirst c.args.message turn) (c.try_send_answer.ensures.turn ∙ ap try_send_as_turn said) c.call_once.ensures.answers
+    subst (λ turn. IsFirst c.args.message turn) (c.try_send_answer.ensures.turn ∙ ap try_send_as_turn said) c.call_step.ensures.answers

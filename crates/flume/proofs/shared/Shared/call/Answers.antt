@@ -3,12 +3,12 @@ use Rattle.flume.proofs.shared.Shared.call.Goals as goal
 
 pub returns-clause-made : goal.returns-clause-made
 returns-clause-made g c =
-    let led = c.facts.ensures.led in
+    let reachable = c.facts.ensures.reachable in
     record {
-      opening = led.0;
-      log = led.1;
+      opening = reachable.0;
+      log = reachable.1;
       old = _;
       new = _;
-      represents = led.2;
+      represents = reachable.2;
       turn = c.make.ensures.call.turn;
     }

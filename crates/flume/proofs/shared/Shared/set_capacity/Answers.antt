@@ -3,14 +3,14 @@ use Rattle.flume.proofs.shared.Shared.set_capacity.Goals as goal
 
 pub returns : goal.returns
 returns g c =
-    let led = c.facts.ensures.led in
+    let reachable = c.facts.ensures.reachable in
     let turn = c.make-answer.ensures.call.turn.0 in
     record {
       made = record {
-        opening = led.0;
-        log = led.1;
+        opening = reachable.0;
+        log = reachable.1;
         reply = turn.reply;
-        run = (turn.stepped.extends led.0 led.1 led.2).run;
+        run = (turn.stepped.extends reachable.0 reachable.1 reachable.2).run;
         answered = turn.answered;
       };
     }

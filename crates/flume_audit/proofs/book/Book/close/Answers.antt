@@ -1,5 +1,5 @@
 use Rattle.std.proofs.Common.{rules, ◌≡◌, vec_len}
-use Rattle.flume_audit.proofs.Closings.{this_differs, not_settled, none_differs, is_settled}
+use Rattle.flume_audit.proofs.ClosingLemmas.{this_differs, not_settled, none_differs, is_settled}
 use Rattle.flume_audit.proofs.book.Book.close.Goals.{in-Some, in-None}
 use Rattle.flume_audit.proofs.book.Book.close.Goals as goal
 
@@ -7,7 +7,7 @@ use Rattle.flume_audit.proofs.book.Book.close.Goals as goal
 pub returns-clause-differs : goal.returns-clause-differs
 returns-clause-differs g c number =
     let all : vec_len c.args.seats ≡ g.L.Ledger.parts = search rules in
-    let law = c.settled_where_nothing_differs.ensures.law c.self.inside.history.items
+    let law = c.settled_if_nothing_differs.ensures.law c.self.inside.history.items
     c.args.seats.items in
     elim c.match-differs.branch [
       | in-Some w ↦
@@ -21,7 +21,7 @@ returns-clause-differs g c number =
 pub returns-clause-settled : goal.returns-clause-settled
 returns-clause-settled g c =
     let all : vec_len c.args.seats ≡ g.L.Ledger.parts = search rules in
-    let law = c.settled_where_nothing_differs.ensures.law c.self.inside.history.items
+    let law = c.settled_if_nothing_differs.ensures.law c.self.inside.history.items
     c.args.seats.items in
     elim c.match-differs.branch [
       | in-Some w ↦

@@ -3,7 +3,7 @@ use Rattle.flume_model.specs.declared.step.Step.{Step}
 use Rattle.flume_model.specs.declared.step.Reply.{Reply}
 use Rattle.flume_state.proofs.MessageLemmas.{on_err}
 use Rattle.flume_audit.specs.declared.receipt.Receipt.{Receipt}
-use Rattle.flume_audit.proofs.Steps.{room_serves, pushed, written, entry_weighs, receipt_weighs}
+use Rattle.flume_audit.proofs.StepLemmas.{room_serves, pushed, written, entry_weighs, receipt_weighs}
 use Rattle.flume_audit.proofs.book.Book.step.Goals as goal
 
 -- a history with room for one more is the same history
@@ -18,17 +18,17 @@ returns-in_err-try_reserve-2-clause-unchanged g c =
     }) c.try_reserve.ensures.items ∙ c.self.view_is)
 
 -- the drained list has as many messages as were queued
-pub copied-told-requires-clause-room : goal.copied-told-requires-clause-room
-copied-told-requires-clause-room g c =
+pub copy_reply-receipt_reply-requires-clause-room : goal.copy_reply-receipt_reply-requires-clause-room
+copy_reply-receipt_reply-requires-clause-room g c =
     room_serves _ _ _ c.step-reply.new.self c.args.step c.step-reply.result _ _
-    c.self.invariant.0 c.step-reply.ensures.step c.step-reply.ensures.comes
-    c.drained_by-drained.ensures.drain c.in_ok-room.ensures.capacity
+    c.self.invariant.0 c.step-reply.ensures.step c.step-reply.ensures.possible_reply
+    c.drain_len-drained.ensures.drain c.in_ok-room.ensures.capacity
 
-pub copied-answer-requires-clause-room : goal.copied-answer-requires-clause-room
-copied-answer-requires-clause-room g c =
+pub copy_reply-answer-requires-clause-room : goal.copy_reply-answer-requires-clause-room
+copy_reply-answer-requires-clause-room g c =
     room_serves _ _ _ c.step-reply.new.self c.args.step c.step-reply.result _ _
-    c.self.invariant.0 c.step-reply.ensures.step c.step-reply.ensures.comes
-    c.drained_by-drained.ensures.drain c.in_ok-more.ensures.capacity
+    c.self.invariant.0 c.step-reply.ensures.step c.step-reply.ensures.possible_reply
+    c.drain_len-drained.ensures.drain c.in_ok-more.ensures.capacity
 
 -- the entry is at the end of the history, and its weight is in the total
 pub invariant_of-self-2 : goal.invariant_of-self-2
@@ -46,12 +46,12 @@ invariant_of-self-2 g c =
 pub invariant_of-seat-2 : goal.invariant_of-seat-2
 invariant_of-seat-2 g c =
     let receipt : Receipt g.row.T.Denot g.row.A.Denot =
-    record { number = c.len-number.result; step = c.args.step; reply = c.copied-told.result } in (
+    record { number = c.len-number.result; step = c.args.step; reply = c.copy_reply-receipt_reply.result } in (
       c.add_weight.ensures.parts ∙ c.seat.invariant.0,
       receipt_weighs g.W.Weigh.weight c.seat.inside.receipts.items c.push_reserved.new.self.items
-          c.len-number.result c.args.step c.step-reply.result c.copied-told.result
+          c.len-number.result c.args.step c.step-reply.result c.copy_reply-receipt_reply.result
           c.seat.inside.share.amount c.add_weight.new.share.amount
-          g.W.Weigh.by_messages c.copied-told.ensures.same
+          g.W.Weigh.by_messages c.copy_reply-receipt_reply.ensures.same
           (pushed receipt c.try_reserve-2.ensures.items c.push_reserved.ensures.items)
           c.seat.invariant.1 c.add_weight.ensures.amount,
     )
@@ -60,23 +60,23 @@ invariant_of-seat-2 g c =
 pub returns-clause-step : goal.returns-clause-step
 returns-clause-step g c =
     let receipt : ℕ → Receipt g.row.T.Denot g.row.A.Denot = λ number.
-    record { number = number; step = c.args.step; reply = c.copied-told.result } in
+    record { number = number; step = c.args.step; reply = c.copy_reply-receipt_reply.result } in
     let numbered : c.len-number.result ≡ length c.self.inside.history.items = search rules in
     rw (← c.self.view_is, ← c.seat.view_is) (record {
       reply = c.step-reply.result;
-      told = c.copied-told.result;
+      receipt_reply = c.copy_reply-receipt_reply.result;
       channel =
           let said = c.step-reply.ensures in
           record {
             stepped = record {
               extends = said.step;
-              dues = said.dues;
-              comes = said.comes;
+              becomes_due = said.becomes_due;
+              possible_reply = said.possible_reply;
               space = said.space;
               refused = said.refused;
               unchanged = said.unchanged;
             };
-            dues = said.dues (_, _, c.self.invariant.0);
+            becomes_due = said.becomes_due (_, _, c.self.invariant.0);
           };
       history = pushed (c.args.step, c.step-reply.result) c.try_reserve.ensures.items
           c.push_reserved-2.ensures.items;
@@ -85,6 +85,6 @@ returns-clause-step g c =
           pushed (receipt c.len-number.result) c.try_reserve-2.ensures.items
           c.push_reserved.ensures.items
           ∙ ap (λ number. c.seat.inside.receipts.items ++ receipt number ∷ []) numbered;
-      told_same = c.copied-told.ensures.same;
-      answer_same = c.copied-answer.ensures.same;
+      receipt_same = c.copy_reply-receipt_reply.ensures.same;
+      answer_same = c.copy_reply-answer.ensures.same;
     })

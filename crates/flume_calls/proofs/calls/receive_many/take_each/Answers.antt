@@ -3,12 +3,12 @@ use Rattle.std.proofs.Common.{◌<◌, [], refl, sym, arith}
 use Rattle.std.proofs.lemmas.List.{append-nil}
 use Rattle.flume_state.specs.State.{message_count}
 use Rattle.flume_calls.specs.Batches.{NoSteps}
-use Rattle.flume_calls.proofs.Available.{front, one_less, received, takes_one}
+use Rattle.flume_calls.proofs.AvailableLemmas.{front, one_less, received, takes_one}
 use Rattle.flume_calls.proofs.calls.receive_many.take_each.Goals as goal
 
 pub loop-taken-init : goal.loop-taken-init
 loop-taken-init g c = record {
-  took = record { taken = []; led = NoSteps; items = sym (append-nil _); number = refl };
+  took = record { taken = []; reachable = NoSteps; items = sym (append-nil _); number = refl };
   left = omega arith;
   len = omega arith;
   capacity = refl;
@@ -24,7 +24,7 @@ pub loop-taken-preserved : goal.loop-taken-preserved
 loop-taken-preserved g c =
     let some : 0 < message_count c.loop-taken.chan = omega arith in
     let got = c.in-Got.ensures in
-    let made = received got.step got.dues got.comes got.space got.unchanged in
+    let made = received got.step got.becomes_due got.possible_reply got.space got.unchanged in
     let less = one_less c.loop-taken.chan c.try_recv.new.self some c.try_recv.ensures.got in
     record {
       took = takes_one _ {after = c.push_reserved.new.self.items} c.in-Got.message c.loop-taken.invariant.took made c.push_reserved.ensures.items;

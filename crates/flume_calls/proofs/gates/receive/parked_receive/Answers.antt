@@ -8,7 +8,7 @@ returns-in-Done-clause-run g c = c.loop.invariant.from_here _ _ (Asked c.in-Done
 
 pub returns-in-Refused-clause-run : goal.returns-in-Refused-clause-run
 returns-in-Refused-clause-run g c =
-    let back = c.withdrawn.ensures.withdraws in c.loop.invariant.from_here _ _ (Withdrawn c.in-Refused.ensures.does back.1 back.2)
+    let back = c.withdraw_refused.ensures.withdraws in c.loop.invariant.from_here _ _ (Withdrawn c.in-Refused.ensures.does back.1 back.2)
 
 pub returns-then-wait-clause-run : goal.returns-then-wait-clause-run
 returns-then-wait-clause-run g c =
@@ -17,12 +17,12 @@ returns-then-wait-clause-run g c =
 pub loop-preserved : goal.loop-preserved
 loop-preserved g c = record {
   from_here = λ new result rest. c.loop.invariant.from_here _ _ (Waited c.in-Park.ensures.does c.if-wait.ensures.does rest);
-  armed = c.if-wait.ensures.armed (c.in-Park.ensures.armed _ (inl refl));
+  ready = c.if-wait.ensures.ready (c.in-Park.ensures.ready _ (inl refl));
   on = (tt, tt);
 }
 
-pub withdrawn-requires : goal.withdrawn-requires
-withdrawn-requires g c = record { armed = c.in-Refused.ensures.armed _ (inr refl) }
+pub withdraw_refused-requires : goal.withdraw_refused-requires
+withdraw_refused-requires g c = record { ready = c.in-Refused.ensures.ready _ (inr refl) }
 
 pub again-requires-then-wait : goal.again-requires-then-wait
-again-requires-then-wait g c = record { armed = c.if-wait.ensures.armed (c.in-Park.ensures.armed _ (inl refl)) }
+again-requires-then-wait g c = record { ready = c.if-wait.ensures.ready (c.in-Park.ensures.ready _ (inl refl)) }

@@ -1,11 +1,11 @@
 -- Which way each turn takes a receive.
 use Rattle.std.proofs.Common.{refl, inl, inr}
-use Rattle.flume_calls.specs.ReceiveGates.{Unarmed, AtPark, Parked}
+use Rattle.flume_calls.specs.ReceiveGates.{NoWaiter, AtPark, Parked}
 use Rattle.flume_calls.proofs.gates.receive.waiting_receive.Goals as goal
 
 pub returns-in_default : goal.returns-in_default
 returns-in_default g c = record {
-  run = λ start first. Unarmed first c.in_default.ensures.does refl;
+  run = λ start first. NoWaiter first c.in_default.ensures.does refl;
   no_memory = λ start first never e. inr (_, first, inl c.in_default.ensures.does);
 }
 

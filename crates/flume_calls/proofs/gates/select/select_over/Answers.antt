@@ -1,9 +1,9 @@
 -- Which way a selection takes after its first round, in which the arms are started.
-use Rattle.flume_calls.specs.SelectGates.{Unmade, Won, Refused, Started}
+use Rattle.flume_calls.specs.SelectGates.{NoWaiter, Won, Refused, Started}
 use Rattle.flume_calls.proofs.gates.select.select_over.Goals as goal
 
 pub returns-in_default-clause-run : goal.returns-in_default-clause-run
-returns-in_default-clause-run g c = Unmade c.in_default.ensures.does
+returns-in_default-clause-run g c = NoWaiter c.in_default.ensures.does
 
 pub returns-in-AllWait-clause-run : goal.returns-in-AllWait-clause-run
 returns-in-AllWait-clause-run g c =

@@ -8,9 +8,9 @@ returns-in_default g c =
       run = known.from_here _ _ (Ended
           (rw known.kept at c.round-polled.ensures.round)
           c.in_default.not-AllWait
-          (rw (c.round-polled.ensures.kept, known.kept) at c.ended.ensures.ends));
-      completed = rw (c.round-polled.ensures.kept, known.kept) at c.ended.ensures.completed;
-      in_time = λ never late. c.in_default.not-AllWait (c.ended.ensures.late late);
+          (rw (c.round-polled.ensures.kept, known.kept) at c.end_selection.ensures.ends));
+      completed = rw (c.round-polled.ensures.kept, known.kept) at c.end_selection.ensures.completed;
+      in_time = λ never late. c.in_default.not-AllWait (c.end_selection.ensures.late late);
       kept = cc;
     }
 
@@ -23,7 +23,7 @@ returns-then-wait-clause-run g c =
     c.if-wait.ensures.does
     (rw (c.if-wait.ensures.kept, polled.kept, known.kept) at c.round-last.ensures.round)
     (rw (c.round-last.ensures.kept, c.if-wait.ensures.kept, polled.kept, known.kept)
-    at c.ended-then-wait.ensures.ends))
+    at c.end_selection-then-wait.ensures.ends))
 
 pub returns-then-wait-clause-in_time : goal.returns-then-wait-clause-in_time
 returns-then-wait-clause-in_time g c =

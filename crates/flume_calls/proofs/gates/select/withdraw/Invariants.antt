@@ -10,7 +10,7 @@ invariant-loop g l =
       within : l.arm < count;
       withdrawn : Withdraws g.G.SelectGate.withdraws count start l.spared l.fn.gate l.counter
           l.arm l.gate;
-      spared : (arm : ℕ) → l.spared ≡ Some arm → g.G.SelectGate.holds l.fn.gate arm
-          → g.G.SelectGate.holds l.gate arm;
+      spared : (arm : ℕ) → l.spared ≡ Some arm → g.G.SelectGate.is_done l.fn.gate arm
+          → g.G.SelectGate.is_done l.gate arm;
       kept : g.G.SelectGate.kept l.gate ≡ g.G.SelectGate.kept l.fn.gate;
     }

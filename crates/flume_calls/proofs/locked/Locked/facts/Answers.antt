@@ -5,9 +5,9 @@ pub returns : goal.returns
 returns g c =
     let rest = c.self.invariant in
     rw (sym c.self.view_is) (record {
-      led = rest.led;
-      facts = c.facts.ensures.facts rest.led;
-      rest = c.facts.ensures.rest rest.led;
+      reachable = rest.reachable;
+      facts = c.facts.ensures.facts rest.reachable;
+      rest = c.facts.ensures.rest rest.reachable;
       no_send_is_due = rest.sends;
       no_receiver_is_due = rest.receivers;
     })

@@ -1,5 +1,5 @@
 -- No ticket is due after the turn.
-use Rattle.flume_calls.proofs.Quiet.{stays_at_rest}
+use Rattle.flume_calls.proofs.QuietLemmas.{stays_at_rest}
 use Rattle.flume_calls.proofs.locked.Locked.make_quietly.Goals as goal
 
 pub invariant_of-self : goal.invariant_of-self
@@ -7,4 +7,4 @@ invariant_of-self g c =
     let one_step = rw (← c.self.view_is) at c.requires.one_step in
     let quiet = rw (← c.self.view_is) at c.requires.quiet in
     stays_at_rest _ _ c.self.invariant quiet (one_step _ _ c.apply-made.ensures.does)
-    (λ led. (_, (c.facts.ensures.facts led).receiver_tickets_are_apart))
+    (λ reachable. (_, (c.facts.ensures.facts reachable).receiver_tickets_are_apart))

@@ -7,7 +7,7 @@ use Rattle.flume_calls.proofs.locked.Locked.new.Goals as goal
 
 pub invariant_of-result : goal.invariant_of-result
 invariant_of-result g c = rw c.new.ensures.state record {
-  led = search rules;
+  reachable = search rules;
   sends = λ t. ap send_due_in (get-empty nat_cmp t);
   receivers = search rules;
 }

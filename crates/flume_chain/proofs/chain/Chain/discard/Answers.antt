@@ -9,14 +9,14 @@ returns-in_default-clause-left g c =
     let none = missing _ _ c.in_default.ensures.value ∙ found_kept c.self.inside.links c.self.inside.len c.args.self.now c.self.invariant c.args.place c.self.view_is in
     sym (without_missing c.args.self.now.items c.args.place (sym none))
 
-pub bypass-requires-clause-next : goal.bypass-requires-clause-next
-bypass-requires-clause-next g c =
+pub unlink_and_free-requires-clause-next : goal.unlink_and_free-requires-clause-next
+unlink_and_free-requires-clause-next g c =
     let e = standing _ _ _ c.in-Some.ensures.value in
     (beside_emptied c.self.inside.links c.discard.new.self c.self.inside.len c.args.place e.element c.self.invariant
     e.is c.discard.ensures.discarded).next
 
-pub bypass-requires-clause-previous : goal.bypass-requires-clause-previous
-bypass-requires-clause-previous g c =
+pub unlink_and_free-requires-clause-previous : goal.unlink_and_free-requires-clause-previous
+unlink_and_free-requires-clause-previous g c =
     let e = standing _ _ _ c.in-Some.ensures.value in
     (beside_emptied c.self.inside.links c.discard.new.self c.self.inside.len c.args.place e.element c.self.invariant
     e.is c.discard.ensures.discarded).previous
@@ -25,16 +25,16 @@ pub invariant_of-self : goal.invariant_of-self
 invariant_of-self g c =
     let e = standing _ _ _ c.in-Some.ensures.value in
     left_kept c.self.inside.links c.discard.new.self c.self.inside.len c.args.place e.element c.self.invariant
-    e.is c.discard.ensures.discarded c.bypass.new.self c.bypass.ensures.linked
+    e.is c.discard.ensures.discarded c.unlink_and_free.new.self c.unlink_and_free.ensures.linked
 
 pub returns-clause-left : goal.returns-clause-left
 returns-clause-left g c =
     let e = standing _ _ _ c.in-Some.ensures.value in
     left_items c.self.inside.links c.discard.new.self c.self.inside.len c.args.place e.element c.self.invariant
-    e.is c.discard.ensures.discarded c.bypass.new.self c.bypass.ensures.linked c.args.self.now c.self.view_is
+    e.is c.discard.ensures.discarded c.unlink_and_free.new.self c.unlink_and_free.ensures.linked c.args.self.now c.self.view_is
 
 pub returns-clause-room : goal.returns-clause-room
 returns-clause-room g c =
     let e = standing _ _ _ c.in-Some.ensures.value in
     left_room c.self.inside.links c.discard.new.self c.self.inside.len c.args.place e.element c.self.invariant
-    e.is c.discard.ensures.discarded c.bypass.new.self c.bypass.ensures.linked c.args.self.now c.self.view_is
+    e.is c.discard.ensures.discarded c.unlink_and_free.new.self c.unlink_and_free.ensures.linked c.args.self.now c.self.view_is

@@ -1,6 +1,6 @@
 use Rattle.std.proofs.Common.{◌+◌, ◌++◌, ◌∷◌, length, length-append, sym, ap, subst, ◌∙◌, arith}
 use Rattle.std.proofs.lemmas.Result.{IfOk-weaker}
-use Rattle.flume_chain.specs.Chained.{Holds, table_of, found, put_before}
+use Rattle.flume_chain.specs.ChainState.{HoldsItems, table_of, found, put_before}
 use Rattle.flume_chain.proofs.Tables.{item, put_before_none}
 use Rattle.flume_chain.proofs.Kept.{standing, missing, same_kept, same_chain, kept_items, found_split, neighbours, place_below, put_items, walked}
 use Rattle.flume_chain.proofs.Puts.{insert_holds, free_stands, put_room, not_full, on_err}
@@ -25,7 +25,7 @@ link_before-requires-clause-next g c =
     let k = c.self.invariant in
     let e = standing _ _ _ c.in-Some.ensures.value in
     let r = found_split c.self.inside.links k.items k.frees c.args.next e.element k.holds e.is in
-    λ stands. place_below c.self.inside.links k.items k.frees c.args.next e.element r k.holds
+    λ occupied. place_below c.self.inside.links k.items k.frees c.args.next e.element r k.holds
 
 pub link_before-requires-clause-previous : goal.link_before-requires-clause-previous
 link_before-requires-clause-previous g c =
@@ -33,7 +33,7 @@ link_before-requires-clause-previous g c =
     let e = standing _ _ _ c.in-Some.ensures.value in
     let r = found_split c.self.inside.links k.items k.frees c.args.next e.element k.holds e.is in
     (neighbours (table_of c.self.inside.links) r.before r.after c.args.next e.element k.frees
-    (subst (λ l. Holds (table_of c.self.inside.links) l k.frees) r.is k.holds)).previous
+    (subst (λ l. HoldsItems (table_of c.self.inside.links) l k.frees) r.is k.holds)).previous
 
 pub invariant_of-self : goal.invariant_of-self
 invariant_of-self g c =

@@ -1,5 +1,5 @@
 use Rattle.std.proofs.Common.{sym, subst, refl, ◌∙◌, IsSome}
-use Rattle.flume_chain.specs.Chained.{Holds, table_of}
+use Rattle.flume_chain.specs.ChainState.{HoldsItems, table_of}
 use Rattle.flume_chain.proofs.Kept.{standing, missing, found_split, neighbours}
 use Rattle.flume_chain.proofs.Edits.{found_kept}
 use Rattle.flume_chain.proofs.Firsts.{last_stands, moved_kept, moved_items}
@@ -22,7 +22,7 @@ unlink-requires-clause-next g c =
     let e = standing _ _ _ c.in-Some.ensures.value in
     let r = found_split c.self.inside.links k.items k.frees c.args.place e.element k.holds e.is in
     (neighbours (table_of c.self.inside.links) r.before r.after c.args.place e.element k.frees
-    (subst (λ l. Holds (table_of c.self.inside.links) l k.frees) r.is k.holds)).next
+    (subst (λ l. HoldsItems (table_of c.self.inside.links) l k.frees) r.is k.holds)).next
 
 pub unlink-requires-clause-previous : goal.unlink-requires-clause-previous
 unlink-requires-clause-previous g c =
@@ -30,7 +30,7 @@ unlink-requires-clause-previous g c =
     let e = standing _ _ _ c.in-Some.ensures.value in
     let r = found_split c.self.inside.links k.items k.frees c.args.place e.element k.holds e.is in
     (neighbours (table_of c.self.inside.links) r.before r.after c.args.place e.element k.frees
-    (subst (λ l. Holds (table_of c.self.inside.links) l k.frees) r.is k.holds)).previous
+    (subst (λ l. HoldsItems (table_of c.self.inside.links) l k.frees) r.is k.holds)).previous
 
 pub link_last-requires-clause-last : goal.link_last-requires-clause-last
 link_last-requires-clause-last g c =

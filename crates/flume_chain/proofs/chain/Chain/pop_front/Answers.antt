@@ -1,5 +1,5 @@
 use Rattle.std.proofs.Common.{◌-◌, [], ◌∷◌, IsSome, length, refl, sym, ap, subst, ◌∙◌, arith}
-use Rattle.flume_chain.specs.Chained.{Holds, table_of, first_element, behind_first}
+use Rattle.flume_chain.specs.ChainState.{HoldsItems, table_of, first_element, behind_first}
 use Rattle.flume_chain.proofs.Kept.{same_kept, same_chain, kept_items, neighbours, place_below, walked}
 use Rattle.flume_chain.proofs.Firsts.{begun, begun_split, none_begun, first_taken}
 use Rattle.flume_chain.proofs.chain.Chain.pop_front.Goals as goal
@@ -15,13 +15,13 @@ take_first-requires-clause-next g c = λ ne.
     let k = c.self.invariant in
     let b = begun c.self.inside.links k.items k.frees k.holds ne in
     (neighbours (table_of c.self.inside.links) [] b.rest c.self.inside.links.first b.element k.frees
-    (subst (λ l. Holds (table_of c.self.inside.links) l k.frees) b.is k.holds)).next
+    (subst (λ l. HoldsItems (table_of c.self.inside.links) l k.frees) b.is k.holds)).next
 
 pub take_first-requires-clause-element : goal.take_first-requires-clause-element
 take_first-requires-clause-element g c = λ ne.
     let k = c.self.invariant in
     let b = begun c.self.inside.links k.items k.frees k.holds ne in
-    subst IsSome (sym b.stands) refl
+    subst IsSome (sym b.occupied) refl
 
 pub invariant_of-self : goal.invariant_of-self
 invariant_of-self g c =
@@ -63,7 +63,7 @@ pub returns-clause-first : goal.returns-clause-first
 returns-clause-first g c =
     let k = c.self.invariant in
     let b = begun c.self.inside.links k.items k.frees k.holds c.in_ok-element.ensures.some in
-    sym c.in_ok-element.ensures.element ∙ b.stands
+    sym c.in_ok-element.ensures.element ∙ b.occupied
     ∙ sym (ap first_element (sym (kept_items c.self.inside.links c.self.inside.len c.args.self.now k c.self.view_is) ∙ b.is))
 
 pub returns-clause-taken : goal.returns-clause-taken

@@ -1,5 +1,5 @@
 use Rattle.std.proofs.Common.{◌+◌, ◌++◌, ◌∷◌, [], length, length-append, sym, ap, ◌∙◌, arith, append-nil}
-use Rattle.flume_chain.specs.Chained.{found, table_of}
+use Rattle.flume_chain.specs.ChainState.{found, table_of}
 use Rattle.flume_chain.proofs.Tables.{item}
 use Rattle.flume_chain.proofs.Steps.{last_below}
 use Rattle.flume_chain.proofs.Kept.{same_kept, same_chain, kept_items, walked}

@@ -1,5 +1,5 @@
 use Rattle.std.proofs.Common.{ap, ◌∙◌}
-use Rattle.flume_chain.specs.Chained.{found}
+use Rattle.flume_chain.specs.ChainState.{found}
 use Rattle.flume_chain.proofs.Kept.{none_taken, same_kept, same_chain, kept_items, beside_emptied, left_kept, left_items}
 use Rattle.flume_chain.proofs.chain.Chain.remove.Goals as goal
 
@@ -18,20 +18,20 @@ returns-in_default-clause-unchanged g c =
     same_chain c.self.inside.links c.take.new.self c.self.inside.len c.args.self.now
     (none_taken c.self.inside.links c.take.new.self c.args.place c.take.ensures.taken c.in_default.ensures.element) c.self.view_is
 
-pub bypass-requires-clause-next : goal.bypass-requires-clause-next
-bypass-requires-clause-next g c =
+pub unlink_and_free-requires-clause-next : goal.unlink_and_free-requires-clause-next
+unlink_and_free-requires-clause-next g c =
     (beside_emptied c.self.inside.links c.take.new.self c.self.inside.len c.args.place c.in-Some.element c.self.invariant
     c.in-Some.ensures.element c.take.ensures.taken).next
 
-pub bypass-requires-clause-previous : goal.bypass-requires-clause-previous
-bypass-requires-clause-previous g c =
+pub unlink_and_free-requires-clause-previous : goal.unlink_and_free-requires-clause-previous
+unlink_and_free-requires-clause-previous g c =
     (beside_emptied c.self.inside.links c.take.new.self c.self.inside.len c.args.place c.in-Some.element c.self.invariant
     c.in-Some.ensures.element c.take.ensures.taken).previous
 
 pub invariant_of-self-2 : goal.invariant_of-self-2
 invariant_of-self-2 g c =
     left_kept c.self.inside.links c.take.new.self c.self.inside.len c.args.place c.in-Some.element c.self.invariant
-    c.in-Some.ensures.element c.take.ensures.taken c.bypass.new.self c.bypass.ensures.linked
+    c.in-Some.ensures.element c.take.ensures.taken c.unlink_and_free.new.self c.unlink_and_free.ensures.linked
 
 pub returns-clause-found : goal.returns-clause-found
 returns-clause-found g c =
@@ -41,4 +41,4 @@ returns-clause-found g c =
 pub returns-clause-taken : goal.returns-clause-taken
 returns-clause-taken g c =
     left_items c.self.inside.links c.take.new.self c.self.inside.len c.args.place c.in-Some.element c.self.invariant
-    c.in-Some.ensures.element c.take.ensures.taken c.bypass.new.self c.bypass.ensures.linked c.args.self.now c.self.view_is
+    c.in-Some.ensures.element c.take.ensures.taken c.unlink_and_free.new.self c.unlink_and_free.ensures.linked c.args.self.now c.self.view_is

@@ -7,5 +7,5 @@ use Rattle.flume_core.proofs.chan.Chan.capacity.Goals as goal
 pub returns-clause-step : goal.returns-clause-step
 returns-clause-step g c o log h = still o log _ _ _ h (search rules) refl refl
 
-pub returns-clause-dues : goal.returns-clause-dues
-returns-clause-dues g c = unchanged _ _ _ _ (λ t. refl) refl
+pub returns-clause-becomes_due : goal.returns-clause-becomes_due
+returns-clause-becomes_due g c = unchanged _ _ _ _ (λ t. refl) refl

@@ -16,13 +16,13 @@ returns-in_default-clause-step g c o log h =
     counts_open o log _ SenderJoins c.args.self.now _ c.args.self.now.sends c.args.self.now.entries h (search rules) refl refl
     (search rules) (λ t. refl) refl (omega arith) refl (omega arith)
 
-pub returns-in-0-clause-dues : goal.returns-in-0-clause-dues
-returns-in-0-clause-dues g c = λ led. unchanged _ _ _ _ (λ t. refl) (search rules)
+pub returns-in-0-clause-becomes_due : goal.returns-in-0-clause-becomes_due
+returns-in-0-clause-becomes_due g c = λ reachable. unchanged _ _ _ _ (λ t. refl) (search rules)
 
-pub returns-in-18446744073709551615-clause-dues : goal.returns-in-18446744073709551615-clause-dues
-returns-in-18446744073709551615-clause-dues g c = λ led. unchanged _ _ _ _ (λ t. refl) (search rules)
+pub returns-in-18446744073709551615-clause-becomes_due : goal.returns-in-18446744073709551615-clause-becomes_due
+returns-in-18446744073709551615-clause-becomes_due g c = λ reachable. unchanged _ _ _ _ (λ t. refl) (search rules)
 
-pub returns-in_default-clause-dues : goal.returns-in_default-clause-dues
-returns-in_default-clause-dues g c = λ led.
+pub returns-in_default-clause-becomes_due : goal.returns-in_default-clause-becomes_due
+returns-in_default-clause-becomes_due g c = λ reachable.
     counted c.args.self.now _ _ _ (c.args.self.now.senders + 1) c.args.self.now.receivers (λ t. refl) (omega arith) (omega arith)
     (search rules)

@@ -24,8 +24,8 @@ returns-clause-space g c =
     let same = space_filled_up rest c.fill_up.new.self is in
     omega (arith, same)
 
-pub returns-in_default-clause-dues : goal.returns-in_default-clause-dues
-returns-in_default-clause-dues g c = λ led. unchanged _ _ _ _ (λ t. refl) (search rules)
+pub returns-in_default-clause-becomes_due : goal.returns-in_default-clause-becomes_due
+returns-in_default-clause-becomes_due g c = λ reachable. unchanged _ _ _ _ (λ t. refl) (search rules)
 
-pub returns-clause-dues : goal.returns-clause-dues
-returns-clause-dues g c = λ led. drained c.args.self.now _ _ _ (λ t. refl) led (search rules)
+pub returns-clause-becomes_due : goal.returns-clause-becomes_due
+returns-clause-becomes_due g c = λ reachable. drained c.args.self.now _ _ _ (λ t. refl) reachable (search rules)

@@ -12,9 +12,9 @@ returns-then-self-eq0-clause-step g c o log h = still o log _ _ _ h (search rule
 pub returns-clause-step : goal.returns-clause-step
 returns-clause-step g c o log h = leaves o log _ SenderLeaves c.args.self.now _ h (search rules) refl refl (search rules)
 
-pub returns-then-self-eq0-clause-dues : goal.returns-then-self-eq0-clause-dues
-returns-then-self-eq0-clause-dues g c = λ led. unchanged _ _ _ _ (λ t. refl) (search rules)
+pub returns-then-self-eq0-clause-becomes_due : goal.returns-then-self-eq0-clause-becomes_due
+returns-then-self-eq0-clause-becomes_due g c = λ reachable. unchanged _ _ _ _ (λ t. refl) (search rules)
 
-pub returns-clause-dues : goal.returns-clause-dues
-returns-clause-dues g c = λ led.
-    leaves_due c.args.self.now _ _ _ (c.args.self.now.senders - 1) c.args.self.now.receivers (λ t. refl) led (search rules)
+pub returns-clause-becomes_due : goal.returns-clause-becomes_due
+returns-clause-becomes_due g c = λ reachable.
+    leaves_due c.args.self.now _ _ _ (c.args.self.now.senders - 1) c.args.self.now.receivers (λ t. refl) reachable (search rules)

@@ -3,13 +3,13 @@ use Rattle.std.proofs.Common.{rules, refl}
 use Rattle.flume_core.proofs.Telling.{stands_told, same_marks_told, told_bare}
 use Rattle.flume_core.proofs.chan.Chan.next_due.Goals as goal
 
-pub returns-in-Some-clause-stands : goal.returns-in-Some-clause-stands
-returns-in-Some-clause-stands g c o log h =
+pub returns-in-Some-clause-represents : goal.returns-in-Some-clause-represents
+returns-in-Some-clause-represents g c o log h =
     stands_told o log c.args.self.now _ c.next_due.new.self.sends c.args.self.now.entries h (search rules)
     (same_marks_told c.args.self.now.sends c.next_due.new.self.sends c.next_due.result (search rules) (search rules)) refl
 
-pub returns-clause-stands : goal.returns-clause-stands
-returns-clause-stands g c o log h =
+pub returns-clause-represents : goal.returns-clause-represents
+returns-clause-represents g c o log h =
     stands_told o log c.args.self.now _ c.next_due.new.self.sends c.next_due-2.new.self h (search rules)
     (same_marks_told c.args.self.now.sends c.next_due.new.self.sends c.next_due.result (search rules) (search rules))
     (told_bare c.args.self.now.entries c.next_due-2.new.self c.next_due-2.result (search rules) (search rules))

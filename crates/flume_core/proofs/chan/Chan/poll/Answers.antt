@@ -29,8 +29,8 @@ returns-in-Some-take_front g c =
     record {
       step = λ o log h. poll_takes o log c.args.self.now _ c.args.ticket st c.in-Some-take_front.message front.0 h is looking front.1
           (search rules);
-      dues = λ led. took_parked c.args.self.now _ _ _ front.0 c.args.ticket (λ t. refl) led (search rules);
-      comes = tt;
+      becomes_due = λ reachable. took_parked c.args.self.now _ _ _ front.0 c.args.ticket (λ t. refl) reachable (search rules);
+      possible_reply = tt;
       space = search rules;
       no_ticket = search (rules, is);
       collected = search (rules, is, looking);
@@ -52,8 +52,8 @@ returns-then-is_open g c =
     record {
       step = λ o log h. poll_waits_on o log c.args.self.now _ c.args.ticket st (waits_on c.args.signal) h is looking none open_
           (search rules);
-      dues = λ led. waits c.args.self.now _ c.args.ticket c.args.signal led (search rules);
-      comes = tt;
+      becomes_due = λ reachable. waits c.args.self.now _ c.args.ticket c.args.signal reachable (search rules);
+      possible_reply = tt;
       space = search rules;
       no_ticket = search (rules, is);
       collected = search (rules, is, looking);
@@ -74,8 +74,8 @@ returns g c =
     let closed : IsClosed c.args.self.now.senders c.args.self.now.receivers = closed_where _ _ (search rules) in
     record {
       step = λ o log h. poll_ends o log c.args.self.now _ c.args.ticket st h is looking none closed (search rules);
-      dues = λ led. left c.args.self.now _ _ _ c.args.ticket (λ t. refl) led (search rules);
-      comes = tt;
+      becomes_due = λ reachable. left c.args.self.now _ _ _ c.args.ticket (λ t. refl) reachable (search rules);
+      possible_reply = tt;
       space = search rules;
       no_ticket = search (rules, is);
       collected = search (rules, is, looking);
@@ -87,13 +87,13 @@ returns g c =
       unchanged = search rules;
     }
 
-pub returns-in_default-clause-dues : goal.returns-in_default-clause-dues
-returns-in_default-clause-dues g c = λ led. unchanged _ _ _ _ (λ t. refl) (search rules)
+pub returns-in_default-clause-becomes_due : goal.returns-in_default-clause-becomes_due
+returns-in_default-clause-becomes_due g c = λ reachable. unchanged _ _ _ _ (λ t. refl) (search rules)
 
-pub returns-in-Filled-clause-dues : goal.returns-in-Filled-clause-dues
-returns-in-Filled-clause-dues g c = λ led.
+pub returns-in-Filled-clause-becomes_due : goal.returns-in-Filled-clause-becomes_due
+returns-in-Filled-clause-becomes_due g c = λ reachable.
     let got = c.collect.ensures.got in
-    rw got.2 (left c.args.self.now _ _ _ c.args.ticket (λ t. refl) led (search rules))
+    rw got.2 (left c.args.self.now _ _ _ c.args.ticket (λ t. refl) reachable (search rules))
 
-pub returns-in-BlockWaiting-clause-dues : goal.returns-in-BlockWaiting-clause-dues
-returns-in-BlockWaiting-clause-dues g c = λ led. waits c.args.self.now _ c.args.ticket c.args.signal led (search rules)
+pub returns-in-BlockWaiting-clause-becomes_due : goal.returns-in-BlockWaiting-clause-becomes_due
+returns-in-BlockWaiting-clause-becomes_due g c = λ reachable. waits c.args.self.now _ c.args.ticket c.args.signal reachable (search rules)

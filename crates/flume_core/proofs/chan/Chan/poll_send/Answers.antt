@@ -16,7 +16,7 @@ returns-in-None-clause-step g c o log h = still o log _ _ _ h (unknown o log c.a
 
 pub returns-in-Some-true-clause-step : goal.returns-in-Some-true-clause-step
 returns-in-Some-true-clause-step g c o log h =
-    rw c.learn.ensures.accepted
+    rw c.answer_accepted.ensures.accepted
     (accepts o log _ _ _ c.args.ticket h (known o log c.args.self.now c.args.ticket h cc) refl (search rules))
 
 pub returns-in-Some-false-clause-step : goal.returns-in-Some-false-clause-step
@@ -35,18 +35,18 @@ returns-in-Some-false-2-clause-step g c o log h =
     (waiting, open_at_log h (search rules)) refl c.replace_signal.ensures.replaced
     (same_marks_noticed (with_signal c.args.signal) c.args.self.now.sends c.args.ticket)
 
-pub returns-in-None-clause-dues : goal.returns-in-None-clause-dues
-returns-in-None-clause-dues g c = λ led. unchanged _ _ _ _ (λ t. refl) (search rules)
+pub returns-in-None-clause-becomes_due : goal.returns-in-None-clause-becomes_due
+returns-in-None-clause-becomes_due g c = λ reachable. unchanged _ _ _ _ (λ t. refl) (search rules)
 
-pub returns-in-Some-true-clause-dues : goal.returns-in-Some-true-clause-dues
-returns-in-Some-true-clause-dues g c = λ led.
-    rw c.learn.ensures.accepted (spent c.args.self.now _ _ _ c.args.ticket c.args.self.now.blocked (λ t. refl) (search rules))
+pub returns-in-Some-true-clause-becomes_due : goal.returns-in-Some-true-clause-becomes_due
+returns-in-Some-true-clause-becomes_due g c = λ reachable.
+    rw c.answer_accepted.ensures.accepted (spent c.args.self.now _ _ _ c.args.ticket c.args.self.now.blocked (λ t. refl) (search rules))
 
-pub returns-in-Some-false-2-clause-dues : goal.returns-in-Some-false-2-clause-dues
-returns-in-Some-false-2-clause-dues g c = λ led.
+pub returns-in-Some-false-2-clause-becomes_due : goal.returns-in-Some-false-2-clause-becomes_due
+returns-in-Some-false-2-clause-becomes_due g c = λ reachable.
     signalled c.args.self.now _ _ _ c.args.ticket c.args.signal (λ t. refl) c.replace_signal.ensures.replaced
 
-pub returns-in-Some-false-clause-dues : goal.returns-in-Some-false-clause-dues
-returns-in-Some-false-clause-dues g c = λ led.
+pub returns-in-Some-false-clause-becomes_due : goal.returns-in-Some-false-clause-becomes_due
+returns-in-Some-false-clause-becomes_due g c = λ reachable.
     given_back c.args.self.now _ _ c.take_back.result c.args.ticket (λ t. refl) c.take_back.ensures.returned
     c.take_back.ensures.unchanged c.take_back.ensures.either

@@ -12,8 +12,8 @@ pub returns-in_default-clause-step : goal.returns-in_default-clause-step
 returns-in_default-clause-step g c o log h =
     recv_as_try o log c.args.kind c.try_recv.result _ (c.try_recv.ensures.step o log h) c.in_default.not-Empty
 
-pub returns-in_default-clause-comes : goal.returns-in_default-clause-comes
-returns-in_default-clause-comes g c = recv_comes c.args.kind c.try_recv.result c.try_recv.ensures.comes c.in_default.not-Empty
+pub returns-in_default-clause-possible_reply : goal.returns-in_default-clause-possible_reply
+returns-in_default-clause-possible_reply g c = recv_comes c.args.kind c.try_recv.result c.try_recv.ensures.possible_reply c.in_default.not-Empty
 
 pub returns-clause-step : goal.returns-clause-step
 returns-clause-step g c o log h =
@@ -25,9 +25,9 @@ returns-clause-step g c o log h =
     (empty_line o log c.args.self.now h found.0, open_at_log h found.1, omega (arith, h.next_is, some_left), next ∙ h.next_is)
     (rw next refl) (search rules)
 
-pub returns-in_default-clause-dues : goal.returns-in_default-clause-dues
-returns-in_default-clause-dues g c = λ led.
-    (let due = c.try_recv.ensures.dues led in record { sends = due.sends; receivers = due.receivers })
+pub returns-in_default-clause-becomes_due : goal.returns-in_default-clause-becomes_due
+returns-in_default-clause-becomes_due g c = λ reachable.
+    (let due = c.try_recv.ensures.becomes_due reachable in record { sends = due.sends; receivers = due.receivers })
 
-pub returns-clause-dues : goal.returns-clause-dues
-returns-clause-dues g c = λ led. parked c.args.self.now _ _ _ c.args.kind c.args.signal (λ t. refl) led (search rules)
+pub returns-clause-becomes_due : goal.returns-clause-becomes_due
+returns-clause-becomes_due g c = λ reachable. parked c.args.self.now _ _ _ c.args.kind c.args.signal (λ t. refl) reachable (search rules)

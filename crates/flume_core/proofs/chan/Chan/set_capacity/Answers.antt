@@ -28,8 +28,8 @@ returns-clause-step g c o log h =
     let open_ : IsOpen c.args.self.now.senders c.args.self.now.receivers = search rules in
     resizes o log _ c.args.self.now _ c.args.capacity h (subst IsBounded h.capacity_is some, open_at_log h open_) refl (search rules)
 
-pub returns-clause-dues : goal.returns-clause-dues
-returns-clause-dues g c = λ led. resized_due c.args.self.now _ _ _ c.args.capacity (λ t. refl) led (search rules)
+pub returns-clause-becomes_due : goal.returns-clause-becomes_due
+returns-clause-becomes_due g c = λ reachable. resized_due c.args.self.now _ _ _ c.args.capacity (λ t. refl) reachable (search rules)
 
 pub returns-clause-space : goal.returns-clause-space
 returns-clause-space g c =

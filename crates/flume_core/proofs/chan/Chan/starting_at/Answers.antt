@@ -3,5 +3,5 @@ use Rattle.std.proofs.Common.{rules}
 use Rattle.flume_core.proofs.Start.{stands_at_start}
 use Rattle.flume_core.proofs.chan.Chan.starting_at.Goals as goal
 
-pub returns-clause-stands : goal.returns-clause-stands
-returns-clause-stands g c = stands_at_start _ _ (search rules)
+pub returns-clause-represents : goal.returns-clause-represents
+returns-clause-represents g c = stands_at_start _ _ (search rules)

@@ -26,12 +26,12 @@ returns-in-None-2-clause-step g c o log h =
     still o log _ c.args.self.now c.take_front.new.self h
     (empty_line o log c.args.self.now h none, closed_at_log h (closed_where _ _ (search rules))) refl (search rules)
 
-pub returns-in-Some-clause-dues : goal.returns-in-Some-clause-dues
-returns-in-Some-clause-dues g c = λ led.
-    took c.args.self.now _ _ _ c.in-Some.ensures.some.0 (λ t. refl) led c.in-Some.ensures.some.2
+pub returns-in-Some-clause-becomes_due : goal.returns-in-Some-clause-becomes_due
+returns-in-Some-clause-becomes_due g c = λ reachable.
+    took c.args.self.now _ _ _ c.in-Some.ensures.some.0 (λ t. refl) reachable c.in-Some.ensures.some.2
 
-pub returns-in-None-clause-dues : goal.returns-in-None-clause-dues
-returns-in-None-clause-dues g c = λ led. unchanged _ _ _ _ (λ t. refl) (search rules)
+pub returns-in-None-clause-becomes_due : goal.returns-in-None-clause-becomes_due
+returns-in-None-clause-becomes_due g c = λ reachable. unchanged _ _ _ _ (λ t. refl) (search rules)
 
-pub returns-in-None-2-clause-dues : goal.returns-in-None-2-clause-dues
-returns-in-None-2-clause-dues g c = λ led. unchanged _ _ _ _ (λ t. refl) (search rules)
+pub returns-in-None-2-clause-becomes_due : goal.returns-in-None-2-clause-becomes_due
+returns-in-None-2-clause-becomes_due g c = λ reachable. unchanged _ _ _ _ (λ t. refl) (search rules)

@@ -26,15 +26,15 @@ returns-clause-step g c o log h =
     (takes_in h (search rules) (search rules), fills ∙ fills_at_log h c.args.message) refl fills
     (search rules)
 
-pub returns-then-not-is_open-clause-dues : goal.returns-then-not-is_open-clause-dues
-returns-then-not-is_open-clause-dues g c = λ led. unchanged _ _ _ _ (λ t. refl) (search rules)
+pub returns-then-not-is_open-clause-becomes_due : goal.returns-then-not-is_open-clause-becomes_due
+returns-then-not-is_open-clause-becomes_due g c = λ reachable. unchanged _ _ _ _ (λ t. refl) (search rules)
 
-pub returns-then-not-has_room-clause-dues : goal.returns-then-not-has_room-clause-dues
-returns-then-not-has_room-clause-dues g c = λ led. unchanged _ _ _ _ (λ t. refl) (search rules)
+pub returns-then-not-has_room-clause-becomes_due : goal.returns-then-not-has_room-clause-becomes_due
+returns-then-not-has_room-clause-becomes_due g c = λ reachable. unchanged _ _ _ _ (λ t. refl) (search rules)
 
-pub returns-in-Err-clause-dues : goal.returns-in-Err-clause-dues
-returns-in-Err-clause-dues g c = λ led. unchanged _ _ _ _ (λ t. refl) (search rules)
+pub returns-in-Err-clause-becomes_due : goal.returns-in-Err-clause-becomes_due
+returns-in-Err-clause-becomes_due g c = λ reachable. unchanged _ _ _ _ (λ t. refl) (search rules)
 
-pub returns-clause-dues : goal.returns-clause-dues
-returns-clause-dues g c = λ led.
+pub returns-clause-becomes_due : goal.returns-clause-becomes_due
+returns-clause-becomes_due g c = λ reachable.
     woken c.args.self.now _ _ _ (c.args.self.now.queue ++ c.args.message ∷ []) c.push_queued.new.self.space (λ t. refl) (search rules)

@@ -36,22 +36,22 @@ returns-clause-step g c o log h =
     withdraw_leaves o log c.args.self.now _ c.args.ticket c.in-Some.status _ h (search rules)
     (blocks_else c.in-Some.status else_.not-Filled else_.not-Waiting else_.not-Woken) (search rules) (search rules) (search rules)
 
-pub returns-in_default-clause-dues : goal.returns-in_default-clause-dues
-returns-in_default-clause-dues g c = λ led. unchanged _ _ _ _ (λ t. refl) (search rules)
+pub returns-in_default-clause-becomes_due : goal.returns-in_default-clause-becomes_due
+returns-in_default-clause-becomes_due g c = λ reachable. unchanged _ _ _ _ (λ t. refl) (search rules)
 
-pub returns-in-Filled-clause-dues : goal.returns-in-Filled-clause-dues
-returns-in-Filled-clause-dues g c = λ led. left c.args.self.now _ _ _ c.args.ticket (λ t. refl) led (search rules)
+pub returns-in-Filled-clause-becomes_due : goal.returns-in-Filled-clause-becomes_due
+returns-in-Filled-clause-becomes_due g c = λ reachable. left c.args.self.now _ _ _ c.args.ticket (λ t. refl) reachable (search rules)
 
-pub returns-in-Waiting-clause-dues : goal.returns-in-Waiting-clause-dues
-returns-in-Waiting-clause-dues g c = λ led. passed c.args.self.now _ _ _ c.args.ticket (λ t. refl) led (search rules)
+pub returns-in-Waiting-clause-becomes_due : goal.returns-in-Waiting-clause-becomes_due
+returns-in-Waiting-clause-becomes_due g c = λ reachable. passed c.args.self.now _ _ _ c.args.ticket (λ t. refl) reachable (search rules)
 
-pub returns-in-Woken-clause-dues : goal.returns-in-Woken-clause-dues
-returns-in-Woken-clause-dues g c = λ led. passed c.args.self.now _ _ _ c.args.ticket (λ t. refl) led (search rules)
+pub returns-in-Woken-clause-becomes_due : goal.returns-in-Woken-clause-becomes_due
+returns-in-Woken-clause-becomes_due g c = λ reachable. passed c.args.self.now _ _ _ c.args.ticket (λ t. refl) reachable (search rules)
 
-pub returns-in-Some-front-clause-dues : goal.returns-in-Some-front-clause-dues
-returns-in-Some-front-clause-dues g c = λ led.
+pub returns-in-Some-front-clause-becomes_due : goal.returns-in-Some-front-clause-becomes_due
+returns-in-Some-front-clause-becomes_due g c = λ reachable.
     let front = c.in-Some-front.ensures.some in
-    took_parked c.args.self.now _ _ _ front.0 c.args.ticket (λ t. refl) led (search rules)
+    took_parked c.args.self.now _ _ _ front.0 c.args.ticket (λ t. refl) reachable (search rules)
 
-pub returns-clause-dues : goal.returns-clause-dues
-returns-clause-dues g c = λ led. left c.args.self.now _ _ _ c.args.ticket (λ t. refl) led (search rules)
+pub returns-clause-becomes_due : goal.returns-clause-becomes_due
+returns-clause-becomes_due g c = λ reachable. left c.args.self.now _ _ _ c.args.ticket (λ t. refl) reachable (search rules)

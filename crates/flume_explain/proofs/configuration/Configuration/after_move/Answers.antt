@@ -4,12 +4,12 @@ use denote.Enum.Bare.{same_true}
 use Rattle.flume_explain.specs.contracts.configuration.Progress.{the_type}
 use Rattle.flume_explain.specs.declared.configuration.OpenCall.{OpenCall}
 use Rattle.flume_explain.specs.declared.configuration.Progress.{Progress}
-use Rattle.flume_explain.specs.Configurations.{State, progressed}
+use Rattle.flume_explain.specs.Configurations.{State, calls_with_progress}
 use Rattle.flume_explain.specs.Leads.{CallLeadsTo}
-use Rattle.flume_explain.specs.Mirrors.{IsAlike}
+use Rattle.flume_explain.specs.Mirrors.{Corresponds}
 use Rattle.flume_explain.specs.declared.place_reply.PlaceReply.{PlaceReply}
 use Rattle.std.specs.Option.{option_copied}
-use Rattle.flume_explain.specs.Made.{made}
+use Rattle.flume_explain.specs.Outcomes.{outcome}
 use Rattle.flume_explain.specs.Progresses.{progress_of}
 use Rattle.flume_explain.proofs.MoveLeads.{leads, leads_same, leads_wrong, left_with}
 use Rattle.flume_explain.proofs.Reaching.{move_reaches}
@@ -18,17 +18,17 @@ use Rattle.flume_explain.proofs.configuration.Configuration.after_move.Goals as 
 pub returns-then-is_wrong-clause-nowhere : goal.returns-then-is_wrong-clause-nowhere
 returns-then-is_wrong-clause-nowhere g c = λ e.
     leads_wrong g.T.PartialEq.eq c.args.events.now c.args.self.now (option_copied c.args.recorded) c.args.one c.args.call.now c.args.mv
-    c.in-Some-make.told c.make.new.self
-    (c.in-Some-make.ensures.made ∙ ap (made c.args.mv c.args.one.place) c.in-Some.ensures.same) 0 c.in-Some-reply_to.reply
-    c.in-Some-reply_to.ensures.alike c.stage.result c.stage_after-stage.result c.stage.ensures.stage c.stage_after-stage.ensures.stage
+    c.in-Some-make.reply_by_place c.make.new.self
+    (c.in-Some-make.ensures.outcome ∙ ap (outcome c.args.mv c.args.one.place) c.in-Some.ensures.same) 0 c.in-Some-reply_to.reply
+    c.in-Some-reply_to.ensures.corresponds c.stage.result c.stage_after-stage.result c.stage.ensures.stage c.stage_after-stage.ensures.stage
     (sym c.is_wrong.ensures.wrong ∙ c.if-is_wrong.true)
 
 pub returns-then-is_same-clause-same : goal.returns-then-is_same-clause-same
 returns-then-is_same-clause-same g c = λ e.
     leads_same g.T.PartialEq.eq c.args.events.now c.args.self.now (option_copied c.args.recorded) c.args.one c.args.call.now c.args.mv
-    c.in-Some-make.told c.make.new.self
-    (c.in-Some-make.ensures.made ∙ ap (made c.args.mv c.args.one.place) c.in-Some.ensures.same) 0 c.in-Some-reply_to.reply
-    c.in-Some-reply_to.ensures.alike c.stage.result c.stage_after-stage.result c.stage.ensures.stage c.stage_after-stage.ensures.stage
+    c.in-Some-make.reply_by_place c.make.new.self
+    (c.in-Some-make.ensures.outcome ∙ ap (outcome c.args.mv c.args.one.place) c.in-Some.ensures.same) 0 c.in-Some-reply_to.reply
+    c.in-Some-reply_to.ensures.corresponds c.stage.result c.stage_after-stage.result c.stage.ensures.stage c.stage_after-stage.ensures.stage
     (sym c.is_wrong.ensures.wrong ∙ c.if-is_wrong.false)
     (sym c.progress_of-progress.ensures.progress
     ∙ same_true the_type (search rules) c.progress_of-progress.result c.args.one.progress (sym c.eq.ensures ∙ c.if-eq.true))
@@ -37,24 +37,24 @@ returns-then-is_same-clause-same g c = λ e.
 pub returns-in-Some-calls_with-clause-leads : goal.returns-in-Some-calls_with-clause-leads
 returns-in-Some-calls_with-clause-leads g c = λ new e.
     let same : c.with_calls.result ≡ new = cc in
-    let calls : c.in-Some-calls_with.calls.items ≡ progressed c.args.one.place (progress_of c.stage_after-stage.result) c.args.self.now.calls =
-    c.in-Some-calls_with.ensures.progressed
-    ∙ ap (λ (p : Progress). progressed c.args.one.place p c.args.self.now.calls) c.progress_of-progress.ensures.progress in
+    let calls : c.in-Some-calls_with.calls.items ≡ calls_with_progress c.args.one.place (progress_of c.stage_after-stage.result) c.args.self.now.calls =
+    c.in-Some-calls_with.ensures.calls_with_progress
+    ∙ ap (λ (p : Progress). calls_with_progress c.args.one.place p c.args.self.now.calls) c.progress_of-progress.ensures.progress in
     let so : left_with c.args.self.now c.args.one (progress_of c.stage_after-stage.result) c.make.new.self ≡ new =
     ap (λ (l : List OpenCall). let d : State = record c.make.new.self { calls = l } in d) (sym calls) ∙ sym c.with_calls.ensures.calls ∙ same in
     subst (λ (d : State). CallLeadsTo g.T.PartialEq.eq c.args.events.now c.args.self.now (option_copied c.args.recorded) c.args.one
     c.args.call.now c.args.mv false d) so
     (leads g.T.PartialEq.eq c.args.events.now c.args.self.now (option_copied c.args.recorded) c.args.one c.args.call.now c.args.mv
-    c.in-Some-make.told c.make.new.self
-    (c.in-Some-make.ensures.made ∙ ap (made c.args.mv c.args.one.place) c.in-Some.ensures.same) 0 c.in-Some-reply_to.reply
-    c.in-Some-reply_to.ensures.alike c.stage.result c.stage_after-stage.result c.stage.ensures.stage c.stage_after-stage.ensures.stage
+    c.in-Some-make.reply_by_place c.make.new.self
+    (c.in-Some-make.ensures.outcome ∙ ap (outcome c.args.mv c.args.one.place) c.in-Some.ensures.same) 0 c.in-Some-reply_to.reply
+    c.in-Some-reply_to.ensures.corresponds c.stage.result c.stage_after-stage.result c.stage.ensures.stage c.stage_after-stage.ensures.stage
     (sym c.is_wrong.ensures.wrong ∙ c.if-is_wrong.false))
 
 pub returns-in-Some-calls_with-clause-reaches : goal.returns-in-Some-calls_with-clause-reaches
 returns-in-Some-calls_with-clause-reaches g c = λ new e place.
-    let told : c.in-Some-make.told ≡ (made c.args.mv c.args.one.place c.args.self.now).0 =
-    ap (λ (x : PlaceReply × State). x.0) (c.in-Some-make.ensures.made ∙ ap (made c.args.mv c.args.one.place) c.in-Some.ensures.same) in
+    let reply_by_place : c.in-Some-make.reply_by_place ≡ (outcome c.args.mv c.args.one.place c.args.self.now).0 =
+    ap (λ (x : PlaceReply × State). x.0) (c.in-Some-make.ensures.outcome ∙ ap (outcome c.args.mv c.args.one.place) c.in-Some.ensures.same) in
     move_reaches g.T.PartialEq.eq c.args.events.now place c.args.self.now (option_copied c.args.recorded) c.args.one c.args.call.now c.args.mv
     0 c.in-Some-reply_to.reply new
-    (subst (λ (x : PlaceReply). IsAlike c.args.events.now 0 c.args.self.now.queue x c.in-Some-reply_to.reply) told c.in-Some-reply_to.ensures.alike)
+    (subst (λ (x : PlaceReply). Corresponds c.args.events.now 0 c.args.self.now.queue x c.in-Some-reply_to.reply) reply_by_place c.in-Some-reply_to.ensures.corresponds)
     (returns-in-Some-calls_with-clause-leads g c new e)

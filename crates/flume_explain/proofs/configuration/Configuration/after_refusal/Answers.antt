@@ -33,7 +33,7 @@ returns-in-Some-clause-leads g c = λ events new e.
     let same : c.in-Some.new ≡ new = cc in
     let so : with_progress c.args.one.place (progress_of c.stage_after-stage.result) c.args.self.now ≡ new =
     ap (λ (p : Progress). with_progress c.args.one.place p c.args.self.now) (sym c.progress_of-progress.ensures.progress)
-    ∙ sym c.in-Some.ensures.progressed ∙ same in
+    ∙ sym c.in-Some.ensures.calls_with_progress ∙ same in
     subst (λ (d : State). CallLeadsTo g.T.PartialEq.eq events c.args.self.now (option_copied c.args.recorded) c.args.one c.args.call.now c.args.mv
     true d) so
     (refusal_leads g.T.PartialEq.eq events c.args.self.now (option_copied c.args.recorded) c.args.one c.args.call.now c.args.mv c.stage.result

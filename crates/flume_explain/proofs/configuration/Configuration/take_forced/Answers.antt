@@ -31,8 +31,8 @@ returns-in-Some-clause-reaches g c = λ next own is o r.
     let at : next ≡ c.loop-next.next = cc in
     subst (λ n. IsReached g.T.PartialEq.eq c.args.events.now o n c.loop-next.self) (sym at) (c.loop-next.invariant.reaches o r)
 
-pub returns-then-not-may_take_event-clause-far : goal.returns-then-not-may_take_event-clause-far
-returns-then-not-may_take_event-clause-far g c = λ next is o r.
+pub returns-then-not-may_take_event-clause-explained_before : goal.returns-then-not-may_take_event-clause-explained_before
+returns-then-not-may_take_event-clause-explained_before g c = λ next is o r.
     let at : next ≡ c.loop-next.next = cc in
     subst (AreExplained g.T.PartialEq.eq c.args.events.now o) (sym at)
     (reached_explained g.T.PartialEq.eq c.args.events.now o c.loop-next.next c.loop-next.self (let within = c.loop-next-test.true in omega arith)

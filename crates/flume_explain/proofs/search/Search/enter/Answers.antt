@@ -38,7 +38,7 @@ returns-in-Dead-clause-reached g c = λ e o s r. record {
   frames = s.frames;
   furthest = subst (AreExplained g.T.PartialEq.eq c.args.events.now o) (sym c.max-self-in-Dead.ensures)
       (further_explained g.T.PartialEq.eq c.args.events.now o c.args.self.now.furthest c.in-Dead.at s.furthest
-      (c.in-Dead.ensures.far c.in-Dead.at refl o r));
+      (c.in-Dead.ensures.explained_before c.in-Dead.at refl o r));
 }
 
 pub returns-in-AtEnd-clause-at_end : goal.returns-in-AtEnd-clause-at_end

@@ -5,8 +5,8 @@ use Rattle.flume_recorder.proofs.recorder.Recorder.keep.Goals as goal
 pub returns-then-is_err : goal.returns-then-is_err
 returns-then-is_err g c = record {
   added = record {
-    thread = (c.lose.ensures.added []).thread;
-    complete = λ whole. absurd (c.lose.ensures.lost whole);
-    added = λ whole. absurd (c.lose.ensures.lost whole);
+    thread = (c.mark_incomplete.ensures.added []).thread;
+    complete = λ whole. absurd (c.mark_incomplete.ensures.lost whole);
+    added = λ whole. absurd (c.mark_incomplete.ensures.lost whole);
   };
 }

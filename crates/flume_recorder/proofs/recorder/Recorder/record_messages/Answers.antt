@@ -2,4 +2,4 @@
 use Rattle.flume_recorder.proofs.recorder.Recorder.record_messages.Goals as goal
 
 pub returns-in_default : goal.returns-in_default
-returns-in_default g c = record { recorded = c.lose.ensures.added _ }
+returns-in_default g c = record { recorded = c.mark_incomplete.ensures.added _ }

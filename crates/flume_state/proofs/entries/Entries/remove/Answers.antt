@@ -1,5 +1,5 @@
 use Rattle.std.proofs.Common.{arith, ap, sym, ◌∙◌}
-use Rattle.flume_model.specs.Entries.{is_waiting, held_by, held_in, entry_of, without}
+use Rattle.flume_model.specs.Entries.{is_waiting, held_by, held_in, entry_of, without_ticket}
 use Rattle.flume_state.specs.layout.EntryLayout.{entries_in}
 use Rattle.flume_state.proofs.EntryListLemmas.{not_waiting}
 use Rattle.flume_state.proofs.EntryParts.{read_some, read_value, without_written}
@@ -64,7 +64,7 @@ pub returns-clause-removed : goal.returns-clause-removed
 returns-clause-removed g c =
     let s = seated _ c.args.ticket _ c.self.invariant.apart (sym c.in_ok-place.ensures.place) in
     let left = ap entries_in (c.discard.ensures.left ∙ without_written c.self.inside.chain.items c.in_ok-place.place _)
-    ∙ seat_without _ _ _ s ∙ ap (without c.args.ticket) c.self.view_is in
+    ∙ seat_without _ _ _ s ∙ ap (without_ticket c.args.ticket) c.self.view_is in
     elim c.match-mark.branch [
       | in-Waiting w ↦ rw w.self-is left
       | in_default w ↦ rw w.self-is left

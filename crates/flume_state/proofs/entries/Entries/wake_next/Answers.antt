@@ -1,7 +1,7 @@
 use Rattle.std.proofs.Common.{ap, sym, ◌∙◌}
 use Rattle.flume_state.specs.Notices.{due_now}
 use Rattle.flume_state.specs.layout.EntryLayout.{entries_in, with_first_marked}
-use Rattle.flume_chain.specs.Edited.{with_value_at}
+use Rattle.flume_chain.specs.ChangedAt.{with_value_at}
 use Rattle.flume_state.proofs.EntryParts.{read_some, read_value}
 use Rattle.flume_state.proofs.EntryDues.{nobody_marked, sorted_woken, waits_at, waits_some, woken_entries, woken_value}
 use Rattle.flume_state.proofs.entries.Entries.wake_next.Goals as goal

@@ -24,9 +24,9 @@ returns-in-Err-clause-unchanged g c =
     let old = c.self.inside.sends in
     let mid = c.block.new.self in
     let list = c.self.inside.messages in
-    let links = undone c.spend.new.self mid old c.in-Ok.owner _ c.in-Ok.ensures.link c.spend.ensures.link c.in-Ok.ensures.fresh in
+    let links = undone c.spend.new.self mid old c.in-Ok.send_place _ c.in-Ok.ensures.link c.spend.ensures.link c.in-Ok.ensures.fresh in
     let names = (keeps c.spend.new.self old list.blocked links c.self.invariant).names in
-    let live = removed_at _ c.args.ticket _ _ (ap (option_map (λ l. l.ticket)) (at_one mid old c.in-Ok.owner _ c.in-Ok.ensures.link)) c.spend.ensures.live
+    let live = removed_at _ c.args.ticket _ _ (ap (option_map (λ l. l.ticket)) (at_one mid old c.in-Ok.send_place _ c.in-Ok.ensures.link)) c.spend.ensures.live
     ∙ ap (λ m. remove m c.args.ticket) c.in-Ok.ensures.live ∙ remove-insert _ c.args.ticket _ c.in-Ok.ensures.absent in
     rw (← c.self.view_is) (ap (λ m. line_of m c.spend.new.self) c.in-Err.ensures.unchanged
     ∙ (λ i. record { queued = list.queued; blocked = names i; space = list.space; sends = live i }))

@@ -5,7 +5,7 @@ use Rattle.flume_state.specs.layout.Pairing.{live_sends, under_tickets}
 use Rattle.flume_state.proofs.MessageMarks.{Marks, Stepped, left_from, walk_begins, walk_steps, walk_ends}
 use Rattle.flume_state.proofs.messages.MessageChain.mark_blocked.Given.{Over}
 use Rattle.flume_state.proofs.messages.MessageChain.mark_blocked.Goals as goal
-use Rattle.flume_state.proofs.messages.MessageChain.mark_blocked.Goals.{in-Some-owner_at, in_default-owner_at}
+use Rattle.flume_state.proofs.messages.MessageChain.mark_blocked.Goals.{in-Some-send_place_at, in_default-send_place_at}
 
 pub loop-next-init : goal.loop-next-init
 loop-next-init g c =
@@ -25,12 +25,12 @@ loop-next-smaller g c =
 
 pub loop-next-preserved : goal.loop-next-preserved
 loop-next-preserved g c =
-    let marked : Marks c.owner_at.result c.loop-next.sends c.match-owner_at.sends =
-    elim c.match-owner_at.branch [
-      | in-Some-owner_at w ↦ rw (w.in-Some-owner_at.is, w.sends-is) (w.mark_due.ensures.live, w.mark_due.ensures.links)
-      | in_default-owner_at w ↦ rw w.in_default-owner_at.is w.sends-is
+    let marked : Marks c.send_place_at.result c.loop-next.sends c.match-send_place_at.sends =
+    elim c.match-send_place_at.branch [
+      | in-Some-send_place_at w ↦ rw (w.in-Some-send_place_at.is, w.sends-is) (w.mark_due.ensures.live, w.mark_due.ensures.links)
+      | in_default-send_place_at w ↦ rw w.in_default-send_place_at.is w.sends-is
     ] in
-    rw c.next-next.ensures.next ((stepped g c).on c.match-owner_at.sends (rw (← c.owner_at.ensures.owner) marked))
+    rw c.next-next.ensures.next ((stepped g c).on c.match-send_place_at.sends (rw (← c.send_place_at.ensures.send_place) marked))
 
 pub returns : goal.returns
 returns g c = record {

@@ -5,9 +5,9 @@ use Rattle.flume_state.proofs.Withdrawals.{Withdrawn, absent, some_holds, withdr
 use Rattle.flume_state.proofs.messages.MessageChain.withdraw.Given.{Over}
 use Rattle.flume_state.proofs.messages.MessageChain.withdraw.Goals as goal
 
-pub returns-in_err-owner_at-clause-absent : goal.returns-in_err-owner_at-clause-absent
-returns-in_err-owner_at-clause-absent g c =
-    rw c.from_residual.ensures (absent _ _ _ _ c.self.view_is c.facts.ensures.apart c.in_err-owner_at.ensures.owner)
+pub returns-in_err-send_place_at-clause-absent : goal.returns-in_err-send_place_at-clause-absent
+returns-in_err-send_place_at-clause-absent g c =
+    rw c.from_residual.ensures (absent _ _ _ _ c.self.view_is c.facts.ensures.apart c.in_err-send_place_at.ensures.send_place)
 
 pub returns-in_err-element-clause-absent : goal.returns-in_err-element-clause-absent
 returns-in_err-element-clause-absent g c =
@@ -18,13 +18,13 @@ pub invariant_of-self : goal.invariant_of-self
 invariant_of-self g c = rw c.in_err-element.ensures.unchanged c.self.invariant
 
 pub overflow_sub-self : goal.overflow_sub-self
-overflow_sub-self g c = some_holds _ _ _ _ _ c.self.invariant c.in_ok-owner_at.ensures.owner
+overflow_sub-self g c = some_holds _ _ _ _ _ c.self.invariant c.in_ok-send_place_at.ensures.send_place
 
 message_leaves : (g : Over) (c : goal.After-self-1 g)
     → Withdrawn c.self.inside.chain.items c.remove.new.self.items c.first_without-first.result (c.self.inside.blocked_len - 1) (space_of c.self.inside.chain) c.args.place c.args.self.now
 message_leaves g c =
     let e = c.first_without-first.ensures in
-    withdraws _ _ _ _ _ _ _ _ _ c.self.invariant c.self.view_is c.facts.ensures.apart c.in_ok-owner_at.ensures.owner (e.next, e.same) c.in_ok-element.ensures.taken
+    withdraws _ _ _ _ _ _ _ _ _ c.self.invariant c.self.view_is c.facts.ensures.apart c.in_ok-send_place_at.ensures.send_place (e.next, e.same) c.in_ok-element.ensures.taken
 
 pub invariant_of-self-2 : goal.invariant_of-self-2
 invariant_of-self-2 g c = (message_leaves g c).layout

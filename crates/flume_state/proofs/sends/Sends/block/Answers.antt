@@ -1,7 +1,7 @@
 use Rattle.std.proofs.Common.{refl, sym, ap, ◌∙◌}
 use Rattle.flume_state.specs.layout.Pairing.{sends_in}
 use Rattle.flume_state.specs.layout.SendLayout.{by_ticket}
-use Rattle.flume_state.specs.Sends.{blocked}
+use Rattle.flume_state.specs.Sends.{newly_blocked}
 use Rattle.flume_state.proofs.SendLines.{put_lined}
 use Rattle.flume_state.proofs.SendSteps.{get_none, put_view}
 use Rattle.flume_state.proofs.Links.{put_sends, place_sends, apart_sends, link_put}
@@ -13,7 +13,7 @@ invariant_of-self g c =
     let items = c.self.inside.chain.items in
     elim c.match-insert.branch [
       | in-Ok w ↦ rw w.in-Ok.ensures.inserted (rw (put_sends items c.self.inside.due _)
-          (put_lined (sends_in items) _ _ c.args.ticket (blocked c.args.signal) refl c.self.invariant (apart_sends items c.facts.ensures.apart)))
+          (put_lined (sends_in items) _ _ c.args.ticket (newly_blocked c.args.signal) refl c.self.invariant (apart_sends items c.facts.ensures.apart)))
       | in-Err w ↦ rw w.in-Err.ensures.unchanged c.self.invariant
     ]
 
@@ -23,7 +23,7 @@ returns-clause-live g c =
     elim c.match-insert.branch [
       | in-Ok w ↦ rw w.result-is (rw (sym c.self.view_is)
           (ap by_ticket (ap sends_in w.in-Ok.ensures.inserted ∙ put_sends items c.self.inside.due _)
-          ∙ put_view (sends_in items) _ c.args.ticket _ (blocked c.args.signal) c.self.invariant (apart_sends items c.facts.ensures.apart)
+          ∙ put_view (sends_in items) _ c.args.ticket _ (newly_blocked c.args.signal) c.self.invariant (apart_sends items c.facts.ensures.apart)
           (place_sends c.args.ticket items ∙ w.in-Ok.ensures.new_ticket)))
       | in-Err w ↦ rw w.result-is tt
     ]

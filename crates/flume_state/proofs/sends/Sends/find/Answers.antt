@@ -1,8 +1,8 @@
 use Rattle.std.proofs.Common.{sym}
-use Rattle.flume_state.proofs.Links.{told}
+use Rattle.flume_state.proofs.Links.{named}
 use Rattle.flume_state.proofs.sends.Sends.find.Goals as goal
 
 pub returns : goal.returns
 returns g c =
-    let s = told _ c.args.ticket _ c.facts.ensures.apart c.facts.ensures.single c.find.ensures.place in
+    let s = named _ c.args.ticket _ c.facts.ensures.apart c.facts.ensures.single c.find.ensures.place in
     rw (sym c.self.view_is) (record { found = s.0; accepted = s.1; absent = s.2 })

@@ -19,5 +19,5 @@ pub returns : goal.returns
 returns g c = record {
   value = rw (sym c.self.view_is) (sym (stands_value c.args.ticket _ _ _
       (seat_at _ c.in_ok-place.place c.args.ticket _ c.facts.ensures.apart c.facts.ensures.single
-      (sym c.find.ensures.place ∙ c.in_ok-place.was) c.in_ok-get.ensures.found).stands));
+      (sym c.find.ensures.place ∙ c.in_ok-place.was) c.in_ok-get.ensures.found).occupied));
 }

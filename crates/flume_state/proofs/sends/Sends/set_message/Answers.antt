@@ -10,12 +10,12 @@ pub invariant_of-self-2 : goal.invariant_of-self-2
 invariant_of-self-2 g c =
     let items = c.self.inside.chain.items in
     let s = seat items c.args.place _ c.facts.ensures.apart c.facts.ensures.single c.in-Some.ensures.value in
-    rw (written_sends items c.args.place _) (written_kept (sends_in items) _ _ _ _ _ refl s.1.stands c.self.invariant)
+    rw (written_sends items c.args.place _) (written_kept (sends_in items) _ _ _ _ _ refl s.1.occupied c.self.invariant)
 
 pub returns-clause-live : goal.returns-clause-live
 returns-clause-live g c =
     let items = c.self.inside.chain.items in
-    let s = (seat items c.args.place _ c.facts.ensures.apart c.facts.ensures.single c.in-Some.ensures.value).1.stands in
+    let s = (seat items c.args.place _ c.facts.ensures.apart c.facts.ensures.single c.in-Some.ensures.value).1.occupied in
     rw (sym c.self.view_is) (ap by_ticket (written_sends items c.args.place _ ∙ stands_written _ _ _ _ _ s ∙ sym s.is))
 
 pub returns-clause-link : goal.returns-clause-link

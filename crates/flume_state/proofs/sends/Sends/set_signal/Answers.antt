@@ -20,13 +20,13 @@ pub invariant_of-self-2 : goal.invariant_of-self-2
 invariant_of-self-2 g c =
     let items = c.self.inside.chain.items in
     let s = seat_at items _ _ _ c.facts.ensures.apart c.facts.ensures.single (sym c.find.ensures.place ∙ c.in-Some.is) c.in-Some-get_mut.ensures.value in
-    rw (written_sends items c.in-Some.place _) (written_kept (sends_in items) _ _ _ _ _ refl s.stands c.self.invariant)
+    rw (written_sends items c.in-Some.place _) (written_kept (sends_in items) _ _ _ _ _ refl s.occupied c.self.invariant)
 
 pub returns-clause-live : goal.returns-clause-live
 returns-clause-live g c =
     let s = seat_at _ _ _ _ c.facts.ensures.apart c.facts.ensures.single (sym c.find.ensures.place ∙ c.in-Some.is) c.in-Some-get_mut.ensures.value in
     rw (sym c.self.view_is)
-    (live_written c.self.inside.chain.items _ _ c.in-Some-get_mut.placed.now _ (with_notice (with_signal (Some c.args.signal))) refl s.stands)
+    (live_written c.self.inside.chain.items _ _ c.in-Some-get_mut.placed.now _ (with_notice (with_signal (Some c.args.signal))) refl s.occupied)
 
 pub returns-clause-links : goal.returns-clause-links
 returns-clause-links g c =

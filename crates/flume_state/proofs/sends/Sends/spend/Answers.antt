@@ -1,5 +1,5 @@
 use Rattle.std.proofs.Common.{◌≡◌, sym, ap, subst, ◌∙◌}
-use Rattle.flume_chain.specs.Chained.{without}
+use Rattle.flume_chain.specs.ChainState.{without_place}
 use Rattle.flume_state.specs.layout.SendLayout.{SendLayout}
 use Rattle.flume_state.specs.layout.Pairing.{sends_in}
 use Rattle.flume_state.proofs.SendSteps.{spent_kept, bounded_same, bounded_other}
@@ -16,7 +16,7 @@ invariant_of-self g c =
     ] in
     let e = rw same at c.discard.ensures in
     let taken = ap sends_in e.left ∙ without_sends items c.args.place in
-    let kept = SendLayout (without (sends_in items) c.args.place) in
+    let kept = SendLayout (without_place (sends_in items) c.args.place) in
     let left = spent_kept (sends_in items) c.self.inside.due c.args.place (apart_sends items c.facts.ensures.apart) c.self.invariant in
     elim c.if-eq.branch [
       | then-eq w ↦

@@ -1,8 +1,8 @@
 -- Whether a job is under a number, and whether its place is empty.
 use Rattle.std.proofs.Common.{◌<◌, length, sym, ◌∙◌, arith}
 use Rattle.std.proofs.lemmas.List.{length-map}
-use Rattle.parallel_map.specs.Worked.{NoJob, NotEmpty}
-use Rattle.parallel_map.proofs.Received.{past_end, no_job, its_job, full, empty}
+use Rattle.parallel_map.specs.SlotValues.{NoJob, NotEmpty}
+use Rattle.parallel_map.proofs.ReceivedLemmas.{past_end, no_job, its_job, full, empty}
 use Rattle.parallel_map.proofs.slots.Slots.look.Goals.{then-number-self-via-then-number-self, then-number-self-via-else-number-self+then-ne}
 use Rattle.parallel_map.proofs.slots.Slots.look.Goals as goal
 
@@ -17,7 +17,7 @@ returns-then-number-self-clause-refused g c =
 
 pub returns-then-is_some-clause-refused : goal.returns-then-is_some-clause-refused
 returns-then-is_some-clause-refused g c =
-    let long = c.args.self.now.worked.each ∙ length-map c.args.self.now.jobs.now g.W.Work.meaning in
+    let long = c.args.self.now.right_values.each ∙ length-map c.args.self.now.jobs.now g.W.Work.meaning in
     let within : c.args.number < length c.args.self.now.values.items = omega (arith, long, c.if-number-self.false) in
     NotEmpty
     (its_job g.W.Job.PartialEq.eq g.met.W.Work.exact _ _ c.index-self-number.result _ c.if-number-self.false c.index-self-number.is
@@ -31,6 +31,6 @@ returns-clause-right g c =
 
 pub returns-clause-empty : goal.returns-clause-empty
 returns-clause-empty g c =
-    let long = c.args.self.now.worked.each ∙ length-map c.args.self.now.jobs.now g.W.Work.meaning in
+    let long = c.args.self.now.right_values.each ∙ length-map c.args.self.now.jobs.now g.W.Work.meaning in
     let within : c.args.number < length c.args.self.now.values.items = omega (arith, long, c.if-number-self.false) in
     empty c.args.self.now.values.items c.args.number c.index.result.now within c.index.ensures (sym c.is_some.ensures ∙ c.if-is_some.false)

@@ -1,6 +1,6 @@
 -- A parked receive gets what filled it, or the front if it may.
 use Rattle.std.proofs.Common.{rules}
-use Rattle.flume_calls.proofs.Got.{same_got}
+use Rattle.flume_calls.proofs.GotLemmas.{same_got}
 use Rattle.flume_calls.proofs.calls.receive.AgainReceiveTurn.apply.Goals as goal
 
 pub returns-in-Got-clause-does : goal.returns-in-Got-clause-does

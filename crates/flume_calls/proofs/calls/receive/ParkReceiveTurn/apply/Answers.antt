@@ -1,7 +1,7 @@
 -- A receive that may park gets the front, or parks if there is none.
 use Rattle.std.proofs.Common.{◌≡◌, refl, subst, rules}
 use Rattle.flume_state.specs.Effects.{Begins}
-use Rattle.flume_calls.proofs.Got.{same_got}
+use Rattle.flume_calls.proofs.GotLemmas.{same_got}
 use Rattle.flume_calls.proofs.calls.receive.ParkReceiveTurn.apply.Goals as goal
 
 pub returns-in-Got-clause-does : goal.returns-in-Got-clause-does

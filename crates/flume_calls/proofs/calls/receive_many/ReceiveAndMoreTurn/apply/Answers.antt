@@ -1,7 +1,7 @@
 -- A turn, and what is taken behind it.
 use Rattle.std.proofs.Common.{[], refl}
 use Rattle.flume_calls.specs.Batches.{NoSteps}
-use Rattle.flume_calls.proofs.ManyReceiving.{gives_none, gives_some, no_message}
+use Rattle.flume_calls.proofs.ManyReceiveLemmas.{gives_none, gives_some, no_message}
 use Rattle.flume_calls.proofs.calls.receive_many.ReceiveAndMoreTurn.apply.Goals as goal
 
 pub returns-in-Ok-clause-does : goal.returns-in-Ok-clause-does
@@ -12,7 +12,7 @@ returns-in-Ok-clause-does g c =
       first = c.apply.result;
       taken = took.taken;
       turn = c.apply.ensures.does;
-      led = took.led;
+      reachable = took.reachable;
       gives = gives_some _ _ _ took.taken _ _ c.apply.result c.in-Ok.message c.in-Ok.ensures.message c.push_reserved.ensures.items took.items took.number c.take_more-taken.ensures.at_most;
       none_behind = λ none. absurd (no_message c.apply.result c.in-Ok.message c.in-Ok.ensures.message none);
       all_behind = λ message is. rw took.number c.take_more-taken.ensures.all;
@@ -37,7 +37,7 @@ returns-in-Err-clause-does g c =
       first = c.apply.result;
       taken = [];
       turn = c.apply.ensures.does;
-      led = NoSteps;
+      reachable = NoSteps;
       gives = gives_none _ _ _ c.apply.result c.in-Err.next none.0 refl none.1;
       none_behind = λ _. refl;
       all_behind = λ message is. absurd (no_message c.apply.result message is none.0);

@@ -22,39 +22,39 @@ module _ {T A S : Type 0} where
   asked : {old new : State T S} {ticket : ℕ} {reply : Reply T A} → Extends old (PollSend ticket) reply new
       → (IsReachable A old → BecomesDue old (PollSend ticket) reply new) → PossibleReply (PollSend ticket) reply → old.space ≤ new.space
       → (IsRefusal reply → new ≡ old) → IsTransition old (PollSend ticket) reply new
-  asked extends dues comes space unchanged = record {
+  asked extends becomes_due possible_reply space unchanged = record {
     extends = extends;
-    dues = dues;
-    comes = comes;
+    becomes_due = becomes_due;
+    possible_reply = possible_reply;
     space = space;
-    refused = λ back is. rw is at comes;
+    refused = λ back is. rw is at possible_reply;
     unchanged = unchanged;
   }
 
   withdrawn : {old new : State T S} {ticket : ℕ} {reply : Reply T A} → Extends old (WithdrawSend ticket) reply new
       → (IsReachable A old → BecomesDue old (WithdrawSend ticket) reply new) → PossibleReply (WithdrawSend ticket) reply → old.space ≤ new.space
       → (IsRefusal reply → new ≡ old) → IsTransition old (WithdrawSend ticket) reply new
-  withdrawn extends dues comes space unchanged = record {
+  withdrawn extends becomes_due possible_reply space unchanged = record {
     extends = extends;
-    dues = dues;
-    comes = comes;
+    becomes_due = becomes_due;
+    possible_reply = possible_reply;
     space = space;
-    refused = λ back is. rw is at comes;
+    refused = λ back is. rw is at possible_reply;
     unchanged = unchanged;
   }
 
 pub returns-in-NoTicket-clause-does : goal.returns-in-NoTicket-clause-does
 returns-in-NoTicket-clause-does g c = rw (← c.call.view_is) (
   (let said = c.in-NoTicket.ensures in
-      let made = withdrawn said.step said.dues said.comes said.space said.unchanged in search rules),
+      let made = withdrawn said.step said.becomes_due said.possible_reply said.space said.unchanged in search rules),
   record {
     waits = search rules;
     replaced = search rules;
     accepted = search rules;
     no_ticket = search rules;
-    taken_in = λ led _.
-        let run = rw c.in-NoTicket.is at (c.withdraw_send.ensures.step led.0 led.1 led.2).run.0 in
-        unblocked _ _ _ run (led.2.sends_are c.call.inside.ticket);
+    taken_in = λ reachable _.
+        let run = rw c.in-NoTicket.is at (c.withdraw_send.ensures.step reachable.0 reachable.1 reachable.2).run.0 in
+        unblocked _ _ _ run (reachable.2.sends_are c.call.inside.ticket);
     timeout = search rules;
     disconnected = search rules;
   },
@@ -63,15 +63,15 @@ returns-in-NoTicket-clause-does g c = rw (← c.call.view_is) (
 pub returns-in-NoTicket-poll_send-clause-does : goal.returns-in-NoTicket-poll_send-clause-does
 returns-in-NoTicket-poll_send-clause-does g c = rw (← c.call-else-late.view_is) (
   (let said = c.in-NoTicket-poll_send.ensures in
-      let made = asked said.step said.dues said.comes said.space said.unchanged in search rules),
+      let made = asked said.step said.becomes_due said.possible_reply said.space said.unchanged in search rules),
   record {
     waits = search rules;
     replaced = search rules;
     accepted = search rules;
     no_ticket = search rules;
-    taken_in = λ led _.
-        let run = rw c.in-NoTicket-poll_send.is at (c.poll_send.ensures.step led.0 led.1 led.2).run.0 in
-        unblocked _ _ _ run (led.2.sends_are c.call-else-late.inside.ticket);
+    taken_in = λ reachable _.
+        let run = rw c.in-NoTicket-poll_send.is at (c.poll_send.ensures.step reachable.0 reachable.1 reachable.2).run.0 in
+        unblocked _ _ _ run (reachable.2.sends_are c.call-else-late.inside.ticket);
     timeout = search rules;
     disconnected = search rules;
   },
@@ -89,13 +89,13 @@ returns-in-Returned-poll_send-clause-does g c = (
     timeout = search rules;
     disconnected = λ back e.
         let found : Returns c.args.chan.now c.poll_send.new.self c.args.self.call back c.in-Returned-poll_send.closed = search rules in
-        (c.in-Returned-poll_send.closed, found, λ led. (c.in-Returned-poll_send.ensures.step led.0 led.1 led.2).run.0.2);
+        (c.in-Returned-poll_send.closed, found, λ reachable. (c.in-Returned-poll_send.ensures.step reachable.0 reachable.1 reachable.2).run.0.2);
   },
 )
 
 pub returns-in-Returned-2-clause-does : goal.returns-in-Returned-2-clause-does
 returns-in-Returned-2-clause-does g c = rw (← c.call.view_is) (
   (let said = c.in-Returned.ensures in
-      let made = rw c.if-closed.false at (withdrawn said.step said.dues said.comes said.space said.unchanged) in search rules),
+      let made = rw c.if-closed.false at (withdrawn said.step said.becomes_due said.possible_reply said.space said.unchanged) in search rules),
   search rules,
 )

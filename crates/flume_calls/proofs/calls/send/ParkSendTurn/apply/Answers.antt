@@ -11,9 +11,9 @@ returns-in-Pending-clause-does g c = (
     waits = search rules;
     refused = search rules;
     parked = search rules;
-    ticket = λ led ticket e.
-        let run = (c.in-Pending.ensures.step led.0 led.1 led.2).run.0 in
-        let same : ticket ≡ c.in-Pending.ticket = cc in same ∙ run.2 ∙ sym led.2.next_is;
+    ticket = λ reachable ticket e.
+        let run = (c.in-Pending.ensures.step reachable.0 reachable.1 reachable.2).run.0 in
+        let same : ticket ≡ c.in-Pending.ticket = cc in same ∙ run.2 ∙ sym reachable.2.next_is;
     unchanged = search rules;
   },
 )

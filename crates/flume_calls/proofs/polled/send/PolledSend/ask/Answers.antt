@@ -7,7 +7,7 @@ use Rattle.flume_calls.proofs.polled.send.PolledSend.ask.Goals as goal
 pub returns-clause-row : goal.returns-clause-row
 returns-clause-row g c =
     let again = c.again.ensures in
-    Asks _ c.args.call _ refl (search rules) (search rules) again.turn again.answers again.outcome c.settle.ensures.settles
+    Asks _ c.args.call _ refl (search rules) (search rules) again.turn again.answers again.outcome c.finish_poll.ensures.finishes
 
 pub returns-clause-step : goal.returns-clause-step
 returns-clause-step g c =

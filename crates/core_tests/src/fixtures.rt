@@ -1,0 +1,22 @@
+//! What several tests use. What can't be had fails the test here: a `?` in a test costs the prover
+//! a second, and an abort none.
+use std::fmt::Debug;
+use std::process::Abort;
+
+pub(crate) fn is<T: Debug + PartialEq + Drop>(rt: &impl Abort, answer: T, wanted: T) {
+    assert_eq!(rt; answer, wanted);
+}
+
+/// The result of a call that fails for memory alone.
+pub(crate) fn unwrap<T, E: Debug + Drop>(rt: &impl Abort, answer: Result<T, E>) -> T {
+    answer.expect(rt, "there is memory")
+}
+
+pub(crate) fn is_titled<T: Debug + PartialEq + Drop>(
+    rt: &impl Abort,
+    title: &str,
+    answer: T,
+    wanted: T,
+) {
+    assert_eq!(rt; answer, wanted, "{title}");
+}

@@ -1,0 +1,29 @@
+-- A run led to the channel that the turn was made of.
+use Rattle.flume.proofs.shared.Shared.call_step.Goals as goal
+
+pub make_quietly-requires-clause-one_step : goal.make_quietly-requires-clause-one_step
+make_quietly-requires-clause-one_step g c = λ new answer does. c.requires.one_step _ new answer does
+
+pub returns-then-is_quiet-clause-made : goal.returns-then-is_quiet-clause-made
+returns-then-is_quiet-clause-made g c =
+    let reachable = c.facts.ensures.reachable in
+    record {
+      opening = reachable.0;
+      log = reachable.1;
+      old = _;
+      new = _;
+      represents = reachable.2;
+      turn = c.make_quietly.ensures.does;
+    }
+
+pub returns-clause-made : goal.returns-clause-made
+returns-clause-made g c =
+    let reachable = c.facts.ensures.reachable in
+    record {
+      opening = reachable.0;
+      log = reachable.1;
+      old = _;
+      new = _;
+      represents = reachable.2;
+      turn = c.make.ensures.call.turn;
+    }

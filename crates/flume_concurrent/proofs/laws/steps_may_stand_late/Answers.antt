@@ -1,6 +1,0 @@
--- Each step waits for an event of its thread.
-use Rattle.flume_concurrent.proofs.Late.{explained_late}
-use Rattle.flume_concurrent.proofs.laws.steps_may_stand_late.Goals as goal
-
-pub returns : goal.returns
-returns g c = record { late = explained_late g.T.PartialEq.eq }

@@ -1,9 +1,0 @@
--- Step by step.
-use Rattle.flume_history.proofs.Wanting.{want_allowed, want_only}
-use Rattle.flume_history.proofs.laws.memory_may_be_wanted_as_defined.Goals as goal
-
-pub returns : goal.returns
-returns g c = record {
-  allowed = λ o log s step h. (want_allowed h step, λ lawful. (want_only h step _ lawful).0);
-  no_other = λ o log s step back h lawful. (want_only h step back lawful).1;
-}

@@ -1,0 +1,32 @@
+//! What the definition of a fill says after worked logs in which receivers are filled.
+ghost use Rattle.std.specs.Prelude.{None};
+ghost use Rattle.flume_model_examples.specs.Rows.{Runs};
+ghost use Rattle.flume_model_examples.specs.FillRows.{IsFillOfOnly, IsLeftOut, holds, collects, leaves};
+ghost use Rattle.flume_model_examples.specs.FillRows.{holds_when_closed, two_filled};
+ghost use Rattle.flume_model_examples.specs.FillRows.{collects_before_the_end, holds_until_the_end};
+ghost use Rattle.flume_model_examples.specs.FillRows.{filled_with_front, wake_passed_on};
+
+/// Worked rows in which receivers are filled are runs.
+pub fn fill_rows_are_runs()
+    ensures holds { Runs None holds }
+    ensures collects { Runs None collects }
+    ensures leaves { Runs None leaves }
+    ensures holds_when_closed { Runs None holds_when_closed }
+    ensures two_filled { Runs None two_filled }
+    ensures collects_before_the_end { Runs None collects_before_the_end }
+    ensures holds_until_the_end { Runs None holds_until_the_end }
+{}
+
+/// After such rows a fill is of one message only. If both sides have disconnected before it was
+/// collected, the definition says nothing.
+pub fn fills_are_of_what_was_handed_out()
+    ensures holds { IsFillOfOnly holds 1 7 }
+    ensures collects { IsFillOfOnly collects 1 7 }
+    ensures leaves { IsFillOfOnly leaves 1 7 }
+    ensures holds_when_closed { IsFillOfOnly holds_when_closed 1 7 }
+    ensures two_filled { IsFillOfOnly two_filled 1 7 × IsFillOfOnly two_filled 2 8 }
+    ensures filled_with_front { IsFillOfOnly filled_with_front 2 1 }
+    ensures wake_passed_on { IsFillOfOnly wake_passed_on 2 5 }
+    ensures collects_before_the_end { IsFillOfOnly collects_before_the_end 1 7 }
+    ensures holds_until_the_end { IsLeftOut holds_until_the_end 1 }
+{}

@@ -1,5 +1,0 @@
-use Rattle.flume_state.proofs.TicketLemmas.{empty_agrees}
-use Rattle.flume_state.proofs.ticketed.TicketChain.clear.Goals as goal
-
-pub invariant_of-self : goal.invariant_of-self
-invariant_of-self g c = empty_agrees _ _ _ c.clear.ensures.empty c.clear-2.ensures.empty

@@ -1,5 +1,0 @@
-use Rattle.flume_state.proofs.TicketEdits.{written_agrees}
-use Rattle.flume_state.proofs.ticketed.TicketChain.get_mut.Goals as goal
-
-pub invariant_of-self-lent : goal.invariant_of-self-lent
-invariant_of-self-lent g c w = written_agrees w _ _ c.args.place c.self.invariant

@@ -1,5 +1,0 @@
-use Rattle.flume_state.proofs.TicketEdits.{moved_agrees}
-use Rattle.flume_state.proofs.ticketed.TicketChain.move_back.Goals as goal
-
-pub invariant_of-self : goal.invariant_of-self
-invariant_of-self g c = rw (c.move_back.ensures.moved) (moved_agrees _ _ c.args.place c.self.invariant)

@@ -1,8 +1,0 @@
--- The place of a `true`, found in a list.
-use Rattle.std.specs.Prelude.{◌≡◌, ℕ, Bool, true, false, List, Option, Some, All, IfNone, IfSome}
-use Rattle.std.specs.List.{slice_get}
-
--- it is at the place that was found; if none was found, it is nowhere
-pub record IsFound (values : List Bool) (found : Option ℕ) : Type 0 where
-  pub some : IfSome found (λ number. slice_get values number ≡ Some true)
-  pub none : IfNone found (All (λ value. value ≡ false) values)

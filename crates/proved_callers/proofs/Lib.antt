@@ -1,0 +1,6 @@
+mod ReturnLemmas
+mod TurnLemmas
+mod SendLemmas
+mod ReceiveLemmas
+mod CountLemmas
+mod PassLemmas

@@ -1,0 +1,45 @@
+//! What a thread of a run begins with.
+
+use crate::caller::Caller;
+use crate::ends::{TestReceiver, TestSender};
+use crate::random::Random;
+use flume::Waits;
+use flume_recorder::Recorder;
+use futures::test::MockTask;
+use std::alloc::Global;
+
+/// The recorder of a thread, its first ends, and its random numbers.
+#[derive(Drop)]
+pub struct CallerSetup<'h, R: Waits> {
+    pub recorder: Recorder<u64>,
+    pub sender: Option<TestSender<'h, R>>,
+    pub receiver: Option<TestReceiver<'h, R>>,
+    pub random: Random,
+    /// How many calls it makes.
+    pub calls: u64,
+    /// The number before its first message.
+    pub message: u64,
+}
+
+impl<R: Waits> CallerSetup<'_, R> {
+    /// Makes the calls, and drops the first ends.
+    pub fn serve(self, alloc: Global, task: &MockTask) -> Recorder<u64> {
+        let CallerSetup {
+            recorder,
+            sender,
+            receiver,
+            random,
+            calls,
+            message,
+        } = self;
+        let caller = Caller::new(alloc, (recorder, random, message), &sender, &receiver);
+        let mut recorder = caller.run(task, calls);
+        if let Some(sender) = sender {
+            recorder.drop_sender(sender);
+        }
+        if let Some(receiver) = receiver {
+            recorder.drop_receiver(receiver);
+        }
+        recorder
+    }
+}

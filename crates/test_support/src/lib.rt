@@ -1,0 +1,13 @@
+//! What crates of tests share: clocks, an allocator that refuses, threads, a watchdog, and
+//! selections. A library may not abort: so what fails a test is in the fixtures of each crate.
+#![tactic(auto)]
+
+pub mod arms;
+pub mod capacities;
+pub mod clocks;
+pub mod counting;
+pub mod ends;
+pub mod selections;
+pub mod stoppable_clock;
+pub mod watchdog;
+pub mod work;

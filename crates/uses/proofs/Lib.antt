@@ -1,6 +1,0 @@
-mod Returning
-mod Turns
-mod Sending
-mod Receiving
-mod Counting
-mod Passing
